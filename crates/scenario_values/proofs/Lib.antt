@@ -1,0 +1,10 @@
+pub mod NameLaws
+pub mod Finding
+pub mod Chains
+pub mod Weights
+pub mod Limits
+pub mod Walking
+pub mod Sets
+pub mod KeptAgain
+pub mod OriginLaws
+pub mod KeptNamed

@@ -1,0 +1,7 @@
+use Rattle.std.proofs.Common.{◌≡◌, ◌+◌, ◌≤◌, length, option_map}
+use Rattle.scenario_values.specs.Scenario.{entry_of}
+use Rattle.scenario_values.proofs.Finding.{Seeking}
+use Rattle.scenario_values.proofs.found.find_entry.Given as goal
+
+abbrev pub invariant-loop-other : goal.invariant-loop-other
+invariant-loop-other l = Seeking l.entries.entries l.other-iterator l.name l.entry

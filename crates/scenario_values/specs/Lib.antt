@@ -1,0 +1,9 @@
+pub mod Words
+pub mod Scenario
+pub mod Printed
+pub mod Faults
+pub mod Keep
+pub mod Tidied
+pub mod Walks
+pub mod Built
+pub mod Origins
