@@ -1,0 +1,10 @@
+pub mod Words
+pub mod FirstFault
+pub mod Spelling
+pub mod FaultText
+pub mod Built
+pub use Rattle.scenario_values.specs.Scenario
+pub use Rattle.scenario_values.specs.Printed
+pub use Rattle.scenario_values.specs.Faults
+pub use Rattle.scenario_values.specs.Keep
+pub use Rattle.scenario_values.specs.Tidied
