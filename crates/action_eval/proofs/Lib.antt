@@ -1,0 +1,17 @@
+pub mod Machine
+pub mod Shut
+pub mod Chains
+pub mod Tidied
+pub mod Kept
+pub mod Alike
+pub mod TidiedEntries
+pub mod Clean
+pub mod KeptFaults
+pub mod Dropped
+pub mod Trials
+pub mod NamedCounts
+pub mod Renumbered
+pub mod Histories
+pub mod Steps
+pub mod CallerLemmas
+pub mod RunLaws

@@ -1,0 +1,64 @@
+-- How a session keeps its run: the chain of each point, what is left of the counts, and what the hits came to.
+use Rattle.std.specs.Prelude.{◌≡◌, ℕ, zero, suc, ◌+◌, ◌-◌, ◌*◌, ◌^◌, ◌<◌, ◌≤◌, List, [], ◌∷◌, ◌++◌, length, map, Option, Some, None, option_map, slice_index_or, slice_index, slice_set}
+use Rattle.std.specs.Option.{option_map_or}
+use Rattle.scenario_values.specs.declared.term.Term.{Term}
+use Rattle.scenario_values.specs.declared.term.Task.{Task}
+use Rattle.scenario_values.specs.Scenario.{Entries, IsScenario, entry_of, chain_at}
+use Rattle.action_eval.specs.declared.answer.Stop.{Stop}
+use Rattle.action_eval.specs.declared.answer.Note.{Note}
+use Rattle.action_eval.specs.declared.found.Found.{Found}
+use Rattle.action_eval.specs.Answers.{Hit, Run, acted, words_of, history_of, notes_of, total_millis, stopped}
+
+-- ---- the chain of a point
+
+-- how many terms stand in the entries before one
+abbrev pub start_of : Entries → ℕ → ℕ
+start_of [] e = 0
+start_of (x ∷ xs) zero = 0
+start_of (x ∷ xs) (suc e) = length x.1 + start_of xs e
+
+-- the chain of a name, and how many terms stand before it
+abbrev pub found_of : Entries → List ℕ → Option (List Term × ℕ)
+found_of s name = option_map (λ e. (chain_at s e, start_of s e)) (entry_of s name)
+
+abbrev pub seen : Option Found → Option (List Term × ℕ)
+seen found = option_map (λ f. (f.chain.now, f.start)) found
+
+-- ---- what is left of the counts
+
+-- what is left of a term's count; of none, nothing
+abbrev pub left_of : ℕ → Term → ℕ
+left_of times t = option_map_or (λ count. count - times) t.count 0
+
+-- what is left of the counts of terms, from place i on
+abbrev pub left_row : (ℕ → ℕ) → ℕ → List Term → List ℕ
+left_row times i [] = []
+left_row times i (t ∷ ts) = left_of (times i) t ∷ left_row times (i + 1) ts
+
+-- the same of entries, chain after chain
+abbrev pub left_counts : List Hit → Entries → List ℕ
+left_counts history [] = []
+left_counts history (x ∷ xs) = left_row (acted history x.0) 0 x.1 ++ left_counts history xs
+
+-- one is taken off a count
+abbrev pub with_one_less : List ℕ → ℕ → List ℕ
+with_one_less left i = slice_set left i (slice_index left i - 1)
+
+-- the counts after the term at a place of a chain acted, where that chain's counts begin at `start`
+abbrev pub left_after : List ℕ → ℕ → Option ℕ → List ℕ
+left_after left start None = left
+left_after left start (Some i) = with_one_less left (start + i)
+
+-- ---- the fields of a session keep a run
+
+pub record Keeps (r : Run) (found : List (Option (List Term × ℕ))) (left : List ℕ) (taken : ℕ) (notes : List Note) (millis : ℕ) (stop : Option Stop) : Type 0 where
+  pub scenario : IsScenario r.given.scenario
+  pub found_is : found ≡ map (found_of r.given.scenario) r.given.catalogue
+  pub left_is : left ≡ left_counts (history_of r) r.given.scenario
+  pub taken_is : taken ≡ words_of (history_of r)
+  pub notes_are : notes ≡ notes_of (history_of r)
+  pub millis_are : millis ≡ total_millis (history_of r)
+  pub stop_is : stop ≡ stopped r
+  pub few_hits : length r.hits ≤ r.given.limit + 1
+  pub few_words : words_of (history_of r) ≤ 256 * length r.hits
+  pub few_millis : total_millis (history_of r) ≤ 2 ^ 32 * length r.hits

@@ -1,0 +1,102 @@
+//! The random words of a run, taken in order.
+ghost use Rattle.std.specs.Prelude.{◌≡◌, ◌+◌, ◌<◌, ◌^◌};
+ghost use Rattle.action_eval.specs.Words.{seed_bytes, at_word, word};
+
+use rand_chacha::ChaCha8Rng;
+use rand_core::SeedableRng;
+use rand_core::utils::NextWord;
+use std::marker::Model;
+
+/// A seed of eight bytes, low byte first, and then zeros.
+fn seed_bytes(seed: u64) -> [u8; 32]
+    ensures { result ≡ seed_bytes seed }
+{
+    let mut bytes = [0; 32];
+    bytes[..8].copy_from_slice(&seed.to_le_bytes());
+    bytes
+}
+
+/// The generator of a run, which gives the word of this number next.
+#[tactic(auto, unfolding(crate::specs::Words::at_word))]
+#[inline(never)]
+fn generator_at(seed: u64, stream: u64, number: u64) -> ChaCha8Rng
+    ensures { result ≡ at_word seed stream number }
+{
+    let mut generator = ChaCha8Rng::from_seed(seed_bytes(seed));
+    generator.set_stream(stream);
+    generator.set_word_pos(u128::from(number));
+    generator
+}
+
+/// The words of a run. Most runs take none, so the generator is made for the first one.
+#[derive(Drop)]
+pub struct Draws {
+    seed: u64,
+    stream: u64,
+    taken: u64,
+    generator: Option<ChaCha8Rng>,
+}
+
+impl Model for Draws {
+    ghost use Rattle.std.specs.Prelude.{◌≡◌};
+    ghost use Rattle.std.specs.Option.{ForSome};
+    ghost use Rattle.action_eval.specs.Words.{Drawn, at_word};
+
+    ghost Value = { Drawn };
+
+    ghost view = { λ d. record {
+      seed = d.seed;
+      stream = d.stream;
+      taken = d.taken;
+    } };
+
+    ghost invariant = { λ d. ForSome d.generator (λ g. g ≡ at_word d.seed d.stream d.taken) };
+}
+
+impl Draws {
+    pub fn new(seed: u64, stream: u64) -> Self
+        ensures { result ≡ record { seed = seed; stream = stream; taken = 0 } }
+    {
+        Draws {
+            seed,
+            stream,
+            taken: 0,
+            generator: None,
+        }
+    }
+
+    /// How many words were taken.
+    pub fn taken(&self) -> u64
+        ensures { result ≡ self.now.taken }
+    {
+        self.taken
+    }
+
+    /// Takes the next word.
+    #[tactic(auto, unfolding(crate::specs::Words::at_word, crate::specs::Words::word))]
+    pub fn take(&mut self) -> u32
+        requires { self.old.taken + 1 < 2 ^ 64 }
+        ensures value { result ≡ word self.old.seed self.old.stream self.old.taken }
+        ensures moved { self.new ≡ record self.old { taken = self.old.taken + 1 } }
+    {
+        let word = match &mut self.generator {
+            Some(generator) => generator.next_word(),
+            None => {
+                let mut generator = generator_at(self.seed, self.stream, self.taken);
+                let word = generator.next_word();
+                self.generator = Some(generator);
+                word
+            }
+        };
+        self.taken += 1;
+        word
+    }
+
+    /// Gives back the words from this number on: the next word is the one of this number.
+    pub fn go_back(&mut self, taken: u64)
+        ensures { self.new ≡ record self.old { taken = taken } }
+    {
+        self.taken = taken;
+        self.generator = None;
+    }
+}

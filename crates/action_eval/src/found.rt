@@ -1,0 +1,54 @@
+//! Where the chains of the points stand.
+ghost use Rattle.std.specs.Prelude.{◌≡◌, ◌<◌, length, map, IfOk};
+ghost use Rattle.scenario_values.specs.Scenario.{IsScenario};
+ghost use Rattle.action_eval.specs.Answers.{texts};
+ghost use Rattle.action_eval.specs.Session.{seen, found_of, start_of};
+
+use scenario_values::{Scenario, Term};
+use std::alloc::{AllocError, Global};
+
+/// A chain, and where its counts begin among those of all chains.
+#[derive(Clone, Copy)]
+pub struct Found<'a> {
+    pub chain: &'a [Term],
+    pub start: usize,
+}
+
+/// How many terms stand in the entries before one.
+fn start_of(scenario: &Scenario, entry: usize) -> usize
+    requires { entry < length scenario.now }
+    ensures { result ≡ start_of scenario.now entry }
+{
+    let _ = scenario.entries();
+    let mut start = 0;
+    for before in 0..entry {
+        start += scenario.chain(before).len();
+    }
+    start
+}
+
+/// Where the chain of a name stands.
+fn find<'a>(scenario: &'a Scenario, name: &str) -> Option<Found<'a>>
+    ensures { seen result ≡ found_of scenario.now name.now }
+{
+    let entry = scenario.entry_of(name)?;
+    Some(Found {
+        chain: scenario.chain(entry),
+        start: start_of(scenario, entry),
+    })
+}
+
+/// Where the chain of each point stands.
+pub fn find_all<'a>(
+    alloc: Global,
+    scenario: &'a Scenario,
+    catalogue: &[&str],
+) -> Result<Vec<Option<Found<'a>>>, AllocError>
+    ensures { IfOk result (λ found. map seen found.items ≡ map (found_of scenario.now) (texts catalogue.now)) }
+{
+    let mut found = Vec::with_capacity(alloc, catalogue.len())?;
+    for name in catalogue {
+        found.push(find(scenario, name))?;
+    }
+    Ok(found)
+}

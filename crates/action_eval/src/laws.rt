@@ -1,0 +1,67 @@
+//! Laws of runs, as contracts of functions that do nothing.
+ghost use Rattle.std.specs.Prelude.{◌≡◌, ◌<◌, ℕ, List, [], take, remove, slice_index};
+ghost use Rattle.std.specs.List.{AllByRecursion, range_with_len};
+ghost use Rattle.scenario_values.specs.Scenario.{all_faults};
+ghost use Rattle.scenario_values.specs.Keep.{kept, members_at};
+ghost use Rattle.scenario_values.specs.Origins.{origins};
+ghost use Rattle.scenario_values.specs.Tidied.{tidied};
+ghost use Rattle.action_eval.specs.Answers.{Run, run_of, history_of};
+ghost use Rattle.action_eval.specs.FullShares.{HasFullShares, NoFaultActed};
+ghost use Rattle.action_eval.specs.LeftFrom.{left_from};
+ghost use Rattle.action_eval.specs.LeftTerms.{OnlyLeftActed};
+ghost use Rattle.action_eval.specs.SameMeaning.{MeansTheSame, meaning_of};
+
+use scenario_values::Scenario;
+
+/// A tidied scenario means what the scenario means.
+pub fn tidy_keeps_meaning(scenario: &Scenario)
+    ensures { MeansTheSame (tidied scenario.now) scenario.now }
+{
+    let _ = scenario.entries();
+}
+
+/// A scenario with the faults of a set means what the tidied scenario means with its faults that come from the set.
+pub fn keep_then_tidy(scenario: &Scenario, set: &[u32])
+    ensures { MeansTheSame (kept set.now scenario.now) (kept (left_from set.now scenario.now) (tidied scenario.now)) }
+{
+    let _ = scenario.entries();
+}
+
+/// The tidied scenario with a set of its own faults means what the scenario means with the faults that they come from.
+pub fn keep_of_tidied(scenario: &Scenario, set: &[u32])
+    requires { AllByRecursion (λ i. i < all_faults (tidied scenario.now)) set.now }
+    ensures { MeansTheSame (kept set.now (tidied scenario.now)) (kept (members_at (origins scenario.now) set.now) scenario.now) }
+{
+    let _ = scenario.entries();
+}
+
+/// The tidied scenario without one of its faults means what the scenario means without the fault that this one comes from.
+pub fn tidied_without_a_fault(scenario: &Scenario, fault: u32)
+    requires { fault < all_faults (tidied scenario.now) }
+    ensures origin { slice_index (origins scenario.now) fault < all_faults scenario.now }
+    ensures meaning { MeansTheSame (kept (remove (range_with_len 0 (all_faults (tidied scenario.now))) fault) (tidied scenario.now)) (kept (remove (range_with_len 0 (all_faults scenario.now)) (slice_index (origins scenario.now) fault)) scenario.now) }
+{
+    let _ = scenario.entries();
+}
+
+/// A term that tidying drops never acts.
+pub fn dropped_terms_never_act(scenario: &Scenario)
+    ensures { (catalogue : List (List ℕ)) (seed stream limit : ℕ) (hits : List ℕ) → OnlyLeftActed scenario.now (history_of (run_of scenario.now catalogue seed stream limit hits)) }
+{
+}
+
+/// Up to the first hit at which a fault acts, a scenario whose shares are all full means what the empty scenario means: the first n hits
+/// do, where at none of them a fault acts.
+pub fn clean_until_a_fault_acts(scenario: &Scenario)
+    requires { HasFullShares scenario.now }
+    ensures { (catalogue : List (List ℕ)) (seed stream limit : ℕ) (hits : List ℕ) (n : ℕ)
+        → NoFaultActed (take n (history_of (run_of scenario.now catalogue seed stream limit hits)))
+        → meaning_of scenario.now catalogue seed stream limit (take n hits) ≡ meaning_of [] catalogue seed stream limit (take n hits) }
+{
+}
+
+/// The answered hits of a part of a run are that part of its answered hits.
+pub fn history_of_a_part()
+    ensures { (r : Run) (n : ℕ) → history_of (record r { hits = take n r.hits }) ≡ take n (history_of r) }
+{
+}

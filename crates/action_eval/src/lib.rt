@@ -1,0 +1,14 @@
+//! How the hits of a run are answered under a scenario.
+#![tactic(auto)]
+
+mod answer;
+mod counts;
+mod draws;
+mod found;
+mod laws;
+mod session;
+mod terms;
+
+pub use answer::{Answer, Note, Stop};
+pub use laws::{clean_until_a_fault_acts, dropped_terms_never_act, history_of_a_part, keep_of_tidied, keep_then_tidy, tidied_without_a_fault, tidy_keeps_meaning};
+pub use session::Session;

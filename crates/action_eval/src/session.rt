@@ -1,0 +1,205 @@
+//! A session: one run, hit by hit.
+ghost use Rattle.std.specs.Prelude.{◌≡◌, ◌+◌, ◌<◌, ◌≤◌, [], length, IfOk, OnOk, OnErr, None, ◌++◌, ◌∷◌};
+ghost use Rattle.std.specs.Option.{ForSome};
+ghost use Rattle.action_eval.specs.Answers.{did, task_at, replies, GoesOn, reply_to, reply_of_answer, hit, stopped, notes_of_task, asked, history_of, notes_of, total_millis, words_of, start, given_of, texts};
+
+use crate::answer::{Answer, Note, Stop, answer_of, millis_of, push_note, stop_of};
+use crate::counts::{full_counts, spend};
+use crate::draws::Draws;
+use crate::found::{Found, find_all};
+use crate::terms::try_terms;
+use scenario_values::{Scenario, Task, Term};
+use std::alloc::{AllocError, Global};
+use std::marker::Model;
+
+/// What the term of a place does; without one, nothing.
+fn task_at(chain: &[Term], place: Option<usize>) -> Option<&Task>
+    requires { ForSome place (λ i. i < length chain.now) }
+    ensures { did result ≡ task_at chain.now place }
+{
+    let term = chain.get(place?)?;
+    Some(&term.task)
+}
+
+/// Keeps a hit and its note, or neither.
+fn keep(
+    hits: &mut Vec<u32>,
+    notes: &mut Vec<Note>,
+    point: u32,
+    task: Option<&Task>,
+) -> Result<(), AllocError>
+    ensures ok_hits { OnOk result (hits.new.items ≡ hits.old.items ++ point ∷ []) }
+    ensures ok_notes { OnOk result (notes.new.items ≡ notes.old.items ++ notes_of_task point (did task.entry)) }
+    ensures err_hits { OnErr result (hits.new.items ≡ hits.old.items) }
+    ensures err_notes { OnErr result (notes.new.items ≡ notes.old.items) }
+{
+    hits.push(point)?;
+    let Some(task) = task else {
+        return Ok(());
+    };
+    let noted = push_note(notes, point, task);
+    if noted.is_err() {
+        hits.pop();
+    }
+    noted
+}
+
+/// One run under a scenario: what it is given, and the hits so far. It borrows the scenario and the names of the points.
+///
+/// Contracts see it as what it is given and the list of points that were hit: all else follows from these.
+#[derive(Drop)]
+pub struct Session<'a> {
+    scenario: &'a Scenario,
+    catalogue: &'a [&'a str],
+    max_hits: u32,
+    hits: Vec<u32>,
+    found: Vec<Option<Found<'a>>>,
+    left: Vec<u32>,
+    draws: Draws,
+    notes: Vec<Note>,
+    millis: u64,
+    stopped: Option<Stop>,
+}
+
+impl<'a> Model for Session<'a> {
+    ghost use Rattle.std.specs.Prelude.{map};
+    ghost use Rattle.action_eval.specs.Answers.{Run};
+    ghost use Rattle.action_eval.specs.Session.{Keeps, seen};
+
+    ghost Value = { Run };
+
+    ghost view = { λ s. record {
+      given = record {
+        scenario = s.scenario.now;
+        catalogue = map (λ n. n.now) s.catalogue.now;
+        seed = s.draws.seed;
+        stream = s.draws.stream;
+        limit = s.max_hits;
+      };
+      hits = s.hits.items;
+    } };
+
+    ghost invariant = { λ s. Keeps (record {
+      given = record {
+        scenario = s.scenario.now;
+        catalogue = map (λ n. n.now) s.catalogue.now;
+        seed = s.draws.seed;
+        stream = s.draws.stream;
+        limit = s.max_hits;
+      };
+      hits = s.hits.items;
+    }) (map seen s.found.items) s.left.items s.draws.taken s.notes.items s.millis s.stopped };
+}
+
+impl<'a> Session<'a> {
+    /// A session with no hit yet, under a seed and a stream number. It answers `max_hits` hits.
+    pub fn new(
+        alloc: Global,
+        scenario: &'a Scenario,
+        catalogue: &'a [&'a str],
+        seed: u64,
+        stream: u64,
+        max_hits: u32,
+    ) -> Result<Self, AllocError>
+        ensures { IfOk result (λ s. s ≡ start (given_of scenario.now (texts catalogue.now) seed stream max_hits)) }
+    {
+        let left = full_counts(alloc, scenario)?;
+        let found = find_all(alloc, scenario, catalogue)?;
+        Ok(Session {
+            scenario,
+            catalogue,
+            max_hits,
+            hits: Vec::new(alloc),
+            found,
+            left,
+            draws: Draws::new(seed, stream),
+            notes: Vec::new(alloc),
+            millis: 0,
+            stopped: None,
+        })
+    }
+
+    /// Hits the point of this number in the catalogue. The answer follows from all the hits before, by the terms of the point's chain
+    /// in order; the hit after `max_hits` answered ones is answered `Halt`, and isn't asked.
+    ///
+    /// Want of memory leaves the session as it was, its stream of words too.
+    pub fn hit(&mut self, point: u32) -> Result<Answer<'a>, AllocError>
+        requires known { point < length self.old.given.catalogue }
+        requires running { stopped self.old ≡ None }
+        ensures answer { IfOk result (λ a. reply_of_answer a ≡ reply_to self.old point) }
+        ensures ok { OnOk result (self.new ≡ hit self.old point) }
+        ensures told { IfOk result (λ a. replies self.new ≡ replies self.old ++ reply_of_answer a ∷ []) }
+        ensures goes_on { IfOk result (λ a. GoesOn (reply_of_answer a) self.new) }
+        ensures err { OnErr result (self.new ≡ self.old) }
+    {
+        if self.hits.len() >= self.max_hits as usize {
+            self.hits.push(point)?;
+            self.stopped = Some(Stop::Limit);
+            return Ok(Answer::Halt);
+        }
+        let Some(found) = self.found[point as usize] else {
+            self.hits.push(point)?;
+            return Ok(Answer::Go);
+        };
+        let end = found.start + found.chain.len();
+        let taken = self.draws.taken();
+        let place = try_terms(found.chain, &self.left[found.start..end], &mut self.draws);
+        let task = task_at(found.chain, place);
+        if let Err(refused) = keep(&mut self.hits, &mut self.notes, point, task) {
+            self.draws.go_back(taken);
+            return Err(refused);
+        }
+        spend(&mut self.left, found.start, place);
+        self.millis += u64::from(millis_of(task));
+        self.stopped = stop_of(task);
+        Ok(answer_of(task))
+    }
+
+    /// The points that were asked, in order.
+    pub fn trace(&self) -> &[u32]
+        ensures value { result.now ≡ asked self.now }
+        ensures within { length self.now.hits ≤ self.now.given.limit + 1 }
+    {
+        let limit = self.max_hits as usize;
+        if self.hits.len() > limit {
+            &self.hits.as_slice()[..limit]
+        } else {
+            self.hits.as_slice()
+        }
+    }
+
+    /// The notes so far.
+    pub fn notes(&self) -> &[Note]
+        ensures { result.now ≡ notes_of (history_of self.now) }
+    {
+        self.notes.as_slice()
+    }
+
+    /// The notes so far, taken out of the session.
+    pub fn into_notes(self) -> Vec<Note>
+        ensures { result.items ≡ notes_of (history_of self.entry) }
+    {
+        self.notes
+    }
+
+    /// The simulated milliseconds so far.
+    pub fn millis(&self) -> u64
+        ensures { result ≡ total_millis (history_of self.now) }
+    {
+        self.millis
+    }
+
+    /// How many words were taken.
+    pub fn words(&self) -> u64
+        ensures { result ≡ words_of (history_of self.now) }
+    {
+        self.draws.taken()
+    }
+
+    /// What stopped the session.
+    pub fn stopped(&self) -> Option<Stop>
+        ensures { result ≡ stopped self.now }
+    {
+        self.stopped
+    }
+}

@@ -1,0 +1,29 @@
+//! How the terms of a chain are tried.
+ghost use Rattle.std.specs.Prelude.{◌≡◌, ◌+◌, ◌<◌, ◌^◌, length, IfSome};
+ghost use Rattle.action_eval.specs.Words.{word};
+ghost use Rattle.action_eval.specs.Trial.{tried, is_spent};
+
+use crate::draws::Draws;
+use scenario_values::Term;
+
+/// The share of a term that acts at each hit that reaches it: a million millionths.
+const FULL_SHARE: u32 = 1_000_000;
+
+/// The place of the term that acts, if one does, by what is left of the counts. The terms that draw take their words.
+pub fn try_terms(terms: &[Term], left: &[u32], draws: &mut Draws) -> Option<usize>
+    requires rows { length left.now ≡ length terms.now }
+    requires room { draws.old.taken + length terms.now < 2 ^ 64 }
+    ensures within { IfSome result (λ i. i < length terms.now) }
+    ensures place { result ≡ (tried (word draws.old.seed draws.old.stream) (is_spent left.now) 0 terms.now draws.old.taken).place }
+    ensures next { draws.new ≡ record draws.old { taken = (tried (word draws.old.seed draws.old.stream) (is_spent left.now) 0 terms.now draws.old.taken).next } }
+{
+    for (place, term) in terms.iter().enumerate() {
+        if term.count.is_some() && left[place] == 0 {
+            continue;
+        }
+        if term.share == FULL_SHARE || draws.take() % FULL_SHARE < term.share {
+            return Some(place);
+        }
+    }
+    None
+}
