@@ -1,0 +1,73 @@
+-- A whole run in which just the points that were asked were hit is the play.
+use Rattle.std.proofs.Common.{◌≡◌, ℕ, zero, suc, ◌+◌, ◌-◌, ◌≤◌, List, [], ◌∷◌, ◌++◌, length, refl, ap, sym, ◌∙◌, arith, zero-add, append_assoc, Option}
+use Rattle.std.proofs.lemmas.List.{append-nil}
+use Rattle.scenario_values.specs.Scenario.{Entries}
+use Rattle.action_eval.specs.declared.answer.Stop.{Stop}
+use Rattle.action_eval.specs.declared.answer.Note.{Note}
+use Rattle.action_eval.specs.Answers.{Given, Run, Reply, given_of, hit, start, replies, stopped, asked, history_of, notes_of, total_millis, words_of}
+use Rattle.target_trait.specs.declared.judgement.Judgement.{Judgement}
+use Rattle.target_trait.specs.declared.judgement.Verdict.{Verdict}
+use Rattle.target_trait.specs.Play.{Move, Ask, Done, Follows, IsPlay}
+use Rattle.target_trait.specs.Outcomes.{play, moved, Told, told, outcome, verdict_of}
+
+ended : (asks : List Reply → Move) (r : Run) (j : Judgement) (m : ℕ) → asks (replies r) ≡ Done j → play m asks r ≡ r
+unfolding play
+ended asks r j zero e = refl
+ended asks r j (suc m) e = ap (λ move. moved move r (λ p. play m asks (hit r p))) e
+
+one_more : (asks : List Reply → Move) (r : Run) (p m : ℕ) → asks (replies r) ≡ Ask p → play (suc m) asks r ≡ play m asks (hit r p)
+unfolding play
+one_more asks r p m e = ap (λ move. moved move r (λ q. play m asks (hit r q))) e
+
+sum_suc : (a b : ℕ) → suc a + b ≡ suc (a + b)
+sum_suc a b = omega arith
+
+follows : (asks : List Reply → Move) (g : Given) (done ps : List ℕ) (m : ℕ) → Follows asks g done ps → play (length ps + m) asks (record { given = g; hits = done }) ≡ play m asks (record { given = g; hits = done ++ ps })
+follows asks g done [] m f =
+    ap (λ n. play n asks (record { given = g; hits = done })) (zero-add m) ∙ ap (λ (l : List ℕ). play m asks (record { given = g; hits = l })) (sym (append-nil done))
+follows asks g done (p ∷ ps) m f =
+    ap (λ n. play n asks (record { given = g; hits = done })) (sum_suc (length ps) m) ∙ one_more asks (record { given = g; hits = done }) p (length ps + m) f.0
+    ∙ follows asks g (done ++ p ∷ []) ps m f.1 ∙ ap (λ (l : List ℕ). play m asks (record { given = g; hits = l })) (append_assoc done (p ∷ []) ps)
+
+-- whatever was asked, in at most n hits, is the play of n hits
+pub play_is : (asks : List Reply → Move) (r : Run) (j : Judgement) (n : ℕ) → IsPlay asks r j → length r.hits ≤ n → play n asks (start r.given) ≡ r
+play_is asks r j n is few =
+    let left : n ≡ length r.hits + (n - length r.hits) = omega arith in
+    ap (λ k. play k asks (start r.given)) left ∙ follows asks r.given [] r.hits (n - length r.hits) is.asked ∙ ended asks r j (n - length r.hits) is.ended
+
+-- one question more
+pub follows_more : (asks : List Reply → Move) (g : Given) (done ps : List ℕ) (p : ℕ) → Follows asks g done ps → asks (replies (record { given = g; hits = done ++ ps })) ≡ Ask p → Follows asks g done (ps ++ p ∷ [])
+follows_more asks g done [] p f e = (ap (λ (l : List ℕ). asks (replies (record { given = g; hits = l }))) (sym (append-nil done)) ∙ e, tt)
+follows_more asks g done (q ∷ ps) p f e =
+    (f.0, follows_more asks g (done ++ q ∷ []) ps p f.1 (ap (λ (l : List ℕ). asks (replies (record { given = g; hits = l }))) (append_assoc done (q ∷ []) ps) ∙ e))
+
+-- what is told of such a run is the outcome
+pub told_is : (asks : List Reply → Move) (r : Run) (j : Judgement) (g : Given) → r.given ≡ g → IsPlay asks r j → length r.hits ≤ r.given.limit + 1 → told asks r ≡ outcome asks g
+told_is asks r j g same is few =
+    ap (told asks) (sym (play_is asks r j (suc r.given.limit) is (omega arith))) ∙ ap (outcome asks) same
+
+-- what a run is given, by what its session began with
+pub given_is : (x : Given) (s : Run) (scenario : Entries) (catalogue names : List (List ℕ)) (seed stream limit : ℕ)
+    → x ≡ s.given → s ≡ start (given_of scenario catalogue seed stream limit) → catalogue ≡ names → x ≡ given_of scenario names seed stream limit
+given_is x s scenario catalogue names seed stream limit kept new same =
+    kept ∙ ap (λ (r : Run). r.given) new ∙ ap (λ (c : List (List ℕ)). given_of scenario c seed stream limit) same
+
+-- what is told of a run, part by part
+parts_told : (asks : List Reply → Move) (r : Run) (j : Judgement) → IsPlay asks r j → (v : Verdict) (points : List ℕ) (notes : List Note) (millis words : ℕ) (stop : Option Stop)
+    → v ≡ verdict_of stop (Done j) → stop ≡ stopped r → points ≡ asked r → notes ≡ notes_of (history_of r) → millis ≡ total_millis (history_of r) → words ≡ words_of (history_of r)
+    → record { verdict = v; asked = points; notes = notes; millis = millis; words = words } ≡ told asks r
+parts_told asks r j is v points notes millis words stop a b c d e f =
+    let verdict : v ≡ verdict_of (stopped r) (asks (replies r)) = a ∙ ap (λ s. verdict_of s (Done j)) b ∙ ap (verdict_of (stopped r)) (sym is.ended) in
+    ap (λ (x : Verdict). let t : Told = record { verdict = x; asked = points; notes = notes; millis = millis; words = words } in t) verdict
+    ∙ ap (λ (x : List ℕ). let t : Told = record { verdict = verdict_of (stopped r) (asks (replies r)); asked = x; notes = notes; millis = millis; words = words } in t) c
+    ∙ ap (λ (x : List Note). let t : Told = record { verdict = verdict_of (stopped r) (asks (replies r)); asked = asked r; notes = x; millis = millis; words = words } in t) d
+    ∙ ap (λ (x : ℕ). let t : Told = record { verdict = verdict_of (stopped r) (asks (replies r)); asked = asked r; notes = notes_of (history_of r); millis = x; words = words } in t) e
+    ∙ ap (λ (x : ℕ). let t : Told = record { verdict = verdict_of (stopped r) (asks (replies r)); asked = asked r; notes = notes_of (history_of r); millis = total_millis (history_of r); words = x } in t) f
+
+-- the parts that are told of a whole run are the outcome
+pub parts_outcome : (asks : List Reply → Move) (r : Run) (j : Judgement) (g : Given) → IsPlay asks r j → r.given ≡ g → length r.hits ≤ r.given.limit + 1
+    → (v : Verdict) (points : List ℕ) (notes : List Note) (millis words : ℕ) (stop : Option Stop)
+    → v ≡ verdict_of stop (Done j) → stop ≡ stopped r → points ≡ asked r → notes ≡ notes_of (history_of r) → millis ≡ total_millis (history_of r) → words ≡ words_of (history_of r)
+    → record { verdict = v; asked = points; notes = notes; millis = millis; words = words } ≡ outcome asks g
+parts_outcome asks r j g is given few v points notes millis words stop a b c d e f =
+    parts_told asks r j is v points notes millis words stop a b c d e f ∙ told_is asks r j g given is few

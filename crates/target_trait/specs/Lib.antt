@@ -1,0 +1,4 @@
+pub mod Catalogue
+pub mod Play
+pub mod Outcomes
+pub mod Output

@@ -1,0 +1,83 @@
+//! Where a text goes.
+ghost use Rattle.std.specs.Prelude.{◌≡◌, ◌≤◌, ◌||◌, ℕ, Bool, false, List, Option, IfOk, length};
+ghost use Rattle.std.specs.Io.KnownBytes.{WriteAppends};
+ghost use Rattle.target_trait.specs.Output.{fails};
+
+use std::io::Write;
+
+/// Where the bytes of a text go, a prefix at a time.
+///
+/// A sink remembers that a write failed. Whoever is lent a sink may ask that it hasn't failed before, and may answer a fault of
+/// writing only where it has failed then.
+pub trait Sink {
+    // The bytes that the sink has taken, where it tells them.
+    ghost told: { Self → Option (List ℕ) };
+
+    // Whether a write failed.
+    ghost has_failed: { Self → Bool };
+
+    /// Takes a prefix of the bytes and answers its length, at most `bytes.len()`. An error takes nothing.
+    ///
+    /// An error, and an answer of 0 where there are bytes, make the sink fail.
+    fn write(&mut self, bytes: &[u8]) -> Result<usize, ()>
+        ensures bound { IfOk result (λ count. count ≤ length bytes.now) }
+        ensures bytes { WriteAppends (told self.old) (told self.new) result bytes.now }
+        ensures failed { has_failed self.new ≡ (has_failed self.old || fails result bytes.now) };
+
+    /// Whether a write failed, or took nothing of a slice that had bytes. A sink that failed stays so.
+    fn failed(&self) -> bool
+        ensures { result ≡ has_failed self.now };
+}
+
+/// The sink over a writer: standard output, a file, or a `Vec<u8>`.
+///
+/// Each write is one write of the writer. An error of any kind counts as a failure, an interrupted write too. Nothing is flushed: give
+/// it a writer without a buffer, as standard output is here, or take the writer back by `into_writer` and flush it.
+#[derive(Drop)]
+pub struct Out<W: Write> {
+    writer: W,
+    has_failed: bool,
+}
+
+impl<W: Write> Out<W> {
+    /// The sink over a writer. It tells the bytes that the writer holds, and hasn't failed.
+    pub fn new(writer: W) -> Self
+        ensures told { ⟦<Out<W> as Sink>⟧.told result ≡ W.contents writer }
+        ensures sound { ⟦<Out<W> as Sink>⟧.has_failed result ≡ false }
+    {
+        Out {
+            writer,
+            has_failed: false,
+        }
+    }
+
+    /// The writer, given back.
+    pub fn into_writer(self) -> W
+        ensures { W.contents result ≡ ⟦<Out<W> as Sink>⟧.told self }
+    {
+        self.writer
+    }
+}
+
+impl<W: Write> Sink for Out<W> {
+    ghost told = { λ out. W.contents out.writer };
+
+    ghost has_failed = { λ out. out.has_failed };
+
+    fn write(&mut self, bytes: &[u8]) -> Result<usize, ()> {
+        match self.writer.write(bytes) {
+            Ok(count) => {
+                self.has_failed |= count == 0 && !bytes.is_empty();
+                Ok(count)
+            }
+            Err(_) => {
+                self.has_failed = true;
+                Err(())
+            }
+        }
+    }
+
+    fn failed(&self) -> bool {
+        self.has_failed
+    }
+}
