@@ -1,0 +1,76 @@
+-- What a list of effects on a file device means, the newest effect first: where names lead, and what files hold.
+-- The device is a disk with a cache, as seen by a program that calls fsync(2), rename(2), link(2) and unlink(2) of Linux: what was
+-- written to a file lasts once the file was synced, and a change of names lasts once the directory was synced.
+-- The list holds what the device accepted since it was made or last cleared. A call that is refused, and a rename of a name to itself, add nothing.
+use Rattle.std.specs.Prelude.{ℕ, ◌+◌, ◌==◌, if◌then◌else◌, Bool, false, List, [], ◌∷◌, ◌++◌, Option, Some, None, option_map}
+
+-- one accepted call. Names are numbers
+pub data Effect : Type 0 where
+  Create : ℕ → Effect
+  Append : ℕ → List ℕ → Effect
+  Sync : ℕ → Effect
+  Rename : ℕ → ℕ → Effect
+  Link : ℕ → ℕ → Effect
+  Unlink : ℕ → Effect
+  SyncDir : Effect
+  PowerCut : Effect
+
+-- what is there now, and what is there after a power cut
+pub data Side : Type 0 where
+  Live : Side
+  Lasting : Side
+
+-- how many files were created. A file's number is how many were created before it
+abbrev pub created : List Effect → ℕ
+created [] = 0
+created (Create m ∷ before) = created before + 1
+created (Append m bytes ∷ before) = created before
+created (Sync m ∷ before) = created before
+created (Rename a b ∷ before) = created before
+created (Link a b ∷ before) = created before
+created (Unlink m ∷ before) = created before
+created (SyncDir ∷ before) = created before
+created (PowerCut ∷ before) = created before
+
+-- the file that a name leads to. Live names change with each call that names them; lasting names are the live names of the last `SyncDir`; a power
+-- cut makes the lasting names live
+abbrev pub leads : List Effect → Side → ℕ → Option ℕ
+leads [] side n = None
+leads (Create m ∷ before) Live n = if n == m then Some (created before) else leads before Live n
+leads (Rename a b ∷ before) Live n = if n == b then leads before Live a else if n == a then None else leads before Live n
+leads (Link a b ∷ before) Live n = if n == b then leads before Live a else leads before Live n
+leads (Unlink m ∷ before) Live n = if n == m then None else leads before Live n
+leads (PowerCut ∷ before) Live n = leads before Lasting n
+leads (SyncDir ∷ before) Lasting n = leads before Live n
+leads (Append m bytes ∷ before) side n = leads before side n
+leads (Sync m ∷ before) side n = leads before side n
+leads (SyncDir ∷ before) Live n = leads before Live n
+leads (Create m ∷ before) Lasting n = leads before Lasting n
+leads (Rename a b ∷ before) Lasting n = leads before Lasting n
+leads (Link a b ∷ before) Lasting n = leads before Lasting n
+leads (Unlink m ∷ before) Lasting n = leads before Lasting n
+leads (PowerCut ∷ before) Lasting n = leads before Lasting n
+
+-- whether it is this file
+abbrev pub is_file : ℕ → Option ℕ → Bool
+is_file f None = false
+is_file f (Some g) = g == f
+
+-- what a file holds. Live contents are what lasted at the last power cut and all that was appended since; lasting contents are the live ones of
+-- the file's last `Sync`
+abbrev pub contents : List Effect → Side → ℕ → List ℕ
+contents [] side f = []
+contents (Create m ∷ before) side f = if f == created before then [] else contents before side f
+contents (Append m bytes ∷ before) Live f = if is_file f (leads before Live m) then contents before Live f ++ bytes else contents before Live f
+contents (Append m bytes ∷ before) Lasting f = contents before Lasting f
+contents (Sync m ∷ before) Live f = contents before Live f
+contents (Sync m ∷ before) Lasting f = if is_file f (leads before Live m) then contents before Live f else contents before Lasting f
+contents (PowerCut ∷ before) side f = contents before Lasting f
+contents (Rename a b ∷ before) side f = contents before side f
+contents (Link a b ∷ before) side f = contents before side f
+contents (Unlink m ∷ before) side f = contents before side f
+contents (SyncDir ∷ before) side f = contents before side f
+
+-- what a name reads, if it leads to a file
+abbrev pub held : List Effect → Side → ℕ → Option (List ℕ)
+held effects side n = option_map (contents effects side) (leads effects side n)

@@ -1,0 +1,5 @@
+pub mod FileEffects
+pub mod Disk
+pub mod Refusals
+pub mod Later
+pub mod LogEffects

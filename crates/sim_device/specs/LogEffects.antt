@@ -1,0 +1,37 @@
+-- What a list of effects on a record log means, the newest effect first: which records stand in the log.
+-- The log is the one of two-phase commit: a forced record is on stable storage before the call returns, and with it all records before it; a record that
+-- was only appended is lost at a restart, unless a later record was forced.
+use Rattle.std.specs.Prelude.{◌≡◌, List, [], ◌∷◌, ◌++◌}
+use Rattle.sim_device.specs.FileEffects.{Side, Live, Lasting}
+
+-- one accepted call
+pub data LogEffect (R : Type 0) : Type 0 where
+  Append : R → LogEffect R
+  Force : R → LogEffect R
+  Restart : LogEffect R
+
+-- the records in the log. Live records are what lasted at the last restart and all that was added since; lasting records are the live ones of the
+-- last `Force`
+abbrev pub records : {R : Type 0} → List (LogEffect R) → Side → List R
+records [] side = []
+records (Append r ∷ before) Live = records before Live ++ r ∷ []
+records (Append r ∷ before) Lasting = records before Lasting
+records (Force r ∷ before) side = records before Live ++ r ∷ []
+records (Restart ∷ before) side = records before Lasting
+
+-- a log as contracts see it
+pub record Log (R : Type 0) : Type 0 where
+  pub live : List R
+  pub lasting : List R
+
+-- the log is what this list of effects gives
+pub record LogStandsFor {R : Type 0} (l : Log R) (effects : List (LogEffect R)) : Type 0 where
+  pub live : l.live ≡ records effects Live
+  pub lasting : l.lasting ≡ records effects Lasting
+
+-- no `Force` is among these
+abbrev pub HasNoForce : {R : Type 0} → List (LogEffect R) → Type 0
+HasNoForce [] = Unit {0}
+HasNoForce (Append r ∷ later) = HasNoForce later
+HasNoForce (Force r ∷ later) = ⊥
+HasNoForce (Restart ∷ later) = HasNoForce later

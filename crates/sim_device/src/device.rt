@@ -1,0 +1,261 @@
+ghost use Rattle.std.specs.Prelude.{◌≡◌, ◌≤◌, ◌<◌, ◌+◌, ◌==◌, ◌++◌, ℕ, List, [], ◌∷◌, if◌then◌else◌, length, take, OnOk, OnErr, MatchResult, is_some, is_none, slice_set, Some, None};
+ghost use Rattle.sim_device.specs.FileEffects.{Effect, Create, Append, Sync, Rename, Link, Unlink, SyncDir, PowerCut, Live, held};
+ghost use Rattle.sim_device.specs.Disk.{entry_at, held_at, StandsFor};
+ghost use Rattle.sim_device.specs.Refusals.{Refuses, RefusesOnly, RefusesLink};
+
+use crate::fault::DeviceFault;
+use crate::file::File;
+use crate::names::Directory;
+use std::alloc::{AllocError, Global};
+use std::marker::Model;
+
+/// A simulated disk of files under names, on which a power cut keeps only what was synced.
+///
+/// A name is a small number that the component under test chooses, mostly through an enum of its own: the device
+/// keeps a table of all numbers up to the greatest one in use, so the memory of a device grows with that number.
+///
+/// A device stands for the list of the effects that it accepted since it was made or cleared. A call that is refused
+/// changes nothing, and adds no effect. `clear` keeps the memory of names and files for those to come.
+#[derive(Drop)]
+pub struct FileDevice {
+    alloc: Global,
+    directory: Directory,
+    // The first `used` files are in use, and the others are kept for their memory.
+    files: Vec<File>,
+    used: usize,
+}
+
+impl Model for FileDevice {
+    ghost use Rattle.std.specs.Prelude.{take, length};
+    ghost use Rattle.sim_device.specs.Disk.{Disk, Keeps};
+
+    ghost Value = { Disk };
+
+    ghost view = { λ d. record { names = d.directory; files = take d.used d.files.items } };
+
+    ghost invariant = { λ d. Keeps d.directory d.used (length d.files.items) };
+}
+
+/// Adds bytes to a file.
+fn append_at(files: &mut [File], file: usize, bytes: &[u8]) -> Result<(), AllocError>
+    requires { file < length files.old }
+    ensures ok { OnOk result (files.new ≡ slice_set files.old file (record { live = (held_at files.old file).live ++ bytes.now; lasting = (held_at files.old file).lasting })) }
+    ensures err { OnErr result (files.new ≡ files.old) }
+{
+    let file = &mut files[file];
+    file.append(bytes)
+}
+
+/// Makes what a file holds last.
+fn sync_at(files: &mut [File], file: usize)
+    requires { file < length files.old }
+    ensures { files.new ≡ slice_set files.old file (record { live = (held_at files.old file).live; lasting = (held_at files.old file).live }) }
+{
+    let file = &mut files[file];
+    file.sync();
+}
+
+/// Makes a file hold nothing.
+fn clear_at(files: &mut [File], file: usize)
+    requires { file < length files.old }
+    ensures { files.new ≡ slice_set files.old file (record { live = []; lasting = [] }) }
+{
+    let file = &mut files[file];
+    file.clear();
+}
+
+/// Makes a file that holds nothing the next one after those in use.
+fn ready(alloc: Global, files: &mut Vec<File>, used: usize) -> Result<(), AllocError>
+    requires { used ≤ length files.old.items }
+    ensures ok { OnOk result (take (used + 1) files.new.items ≡ take used files.old.items ++ record { live = []; lasting = [] } ∷ []) }
+    ensures room { OnOk result (used + 1 ≤ length files.new.items) }
+    ensures same { take used files.new.items ≡ take used files.old.items }
+    ensures few { length files.old.items ≤ length files.new.items }
+{
+    if used == files.len() {
+        files.push(File::new(alloc))?;
+        return Ok(());
+    }
+    clear_at(files, used);
+    Ok(())
+}
+
+/// Leaves only what lasts, in the first `used` files.
+fn cut_files(files: &mut [File], used: usize)
+    requires { used ≤ length files.old }
+    ensures { (f : ℕ) → f < used → held_at files.new f ≡ record { live = (held_at files.old f).lasting; lasting = (held_at files.old f).lasting } }
+{
+    for number in 0..used {
+        let file = &mut files[number];
+        file.cut();
+    }
+}
+
+impl FileDevice {
+    /// A device with no names. It takes no memory.
+    pub fn new(alloc: Global) -> Self
+        ensures { StandsFor result [] }
+    {
+        FileDevice {
+            alloc,
+            directory: Directory::new(alloc),
+            files: Vec::new(alloc),
+            used: 0,
+        }
+    }
+
+    /// A new device, with no names. It takes no memory, and keeps what it has for the files to come.
+    pub fn clear(&mut self)
+        ensures { StandsFor self.new [] }
+    {
+        self.directory.clear();
+        self.used = 0;
+    }
+
+    /// Makes a new, empty file under a name. Neither the name nor the file lasts yet.
+    ///
+    /// # Errors
+    ///
+    /// `Exists` where the name is there, and else only `Memory`.
+    pub fn create(&mut self, name: u32) -> Result<(), DeviceFault>
+        ensures ok { OnOk result ((es : List Effect) → StandsFor self.old es → StandsFor self.new (Create name ∷ es)) }
+        ensures err { OnErr result (self.new ≡ self.old) }
+        ensures fault { Refuses (is_some (entry_at self.old.names name).live) DeviceFault.Exists result }
+    {
+        if self.exists(name) {
+            return Err(DeviceFault::Exists);
+        }
+        ready(self.alloc, &mut self.files, self.used)?;
+        self.directory.point(name, self.used)?;
+        self.used += 1;
+        Ok(())
+    }
+
+    /// Adds bytes at the end of a name's file. They do not last yet.
+    ///
+    /// # Errors
+    ///
+    /// `NotFound` where the name is not there, and else only `Memory`.
+    pub fn append(&mut self, name: u32, bytes: &[u8]) -> Result<(), DeviceFault>
+        ensures ok { OnOk result ((es : List Effect) → StandsFor self.old es → StandsFor self.new (Append name bytes.now ∷ es)) }
+        ensures err { OnErr result (self.new ≡ self.old) }
+        ensures fault { Refuses (is_none (entry_at self.old.names name).live) DeviceFault.NotFound result }
+    {
+        let Some(file) = self.directory.live(name) else {
+            return Err(DeviceFault::NotFound);
+        };
+        append_at(&mut self.files, file, bytes)?;
+        Ok(())
+    }
+
+    /// Makes what a name's file holds last. No name lasts by it. It takes no memory.
+    ///
+    /// # Errors
+    ///
+    /// `NotFound` where the name is not there, and no other.
+    pub fn sync(&mut self, name: u32) -> Result<(), DeviceFault>
+        ensures ok { OnOk result ((es : List Effect) → StandsFor self.old es → StandsFor self.new (Sync name ∷ es)) }
+        ensures err { OnErr result (self.new ≡ self.old) }
+        ensures fault { RefusesOnly (is_none (entry_at self.old.names name).live) DeviceFault.NotFound result }
+    {
+        let Some(file) = self.directory.live(name) else {
+            return Err(DeviceFault::NotFound);
+        };
+        sync_at(&mut self.files, file);
+        Ok(())
+    }
+
+    /// Leads the name `to` to the file of `from`, in place of any other, and removes `from`. Equal names change nothing.
+    ///
+    /// # Errors
+    ///
+    /// `NotFound` where `from` is not there, and else only `Memory`.
+    pub fn rename(&mut self, from: u32, to: u32) -> Result<(), DeviceFault>
+        ensures ok { OnOk result ((es : List Effect) → StandsFor self.old es → StandsFor self.new (if from == to then es else Rename from to ∷ es)) }
+        ensures err { OnErr result (self.new ≡ self.old) }
+        ensures fault { Refuses (is_none (entry_at self.old.names from).live) DeviceFault.NotFound result }
+    {
+        let Some(file) = self.directory.live(from) else {
+            return Err(DeviceFault::NotFound);
+        };
+        if from == to {
+            return Ok(());
+        }
+        self.directory.carry(file, from, to)?;
+        Ok(())
+    }
+
+    /// Leads the name `to` to the file of `from` too.
+    ///
+    /// # Errors
+    ///
+    /// `NotFound` where `from` is not there, also where `to` is; else `Exists` where `to` is there; else only `Memory`.
+    pub fn link(&mut self, from: u32, to: u32) -> Result<(), DeviceFault>
+        ensures ok { OnOk result ((es : List Effect) → StandsFor self.old es → StandsFor self.new (Link from to ∷ es)) }
+        ensures err { OnErr result (self.new ≡ self.old) }
+        ensures fault { RefusesLink (entry_at self.old.names from).live (entry_at self.old.names to).live result }
+    {
+        let Some(file) = self.directory.live(from) else {
+            return Err(DeviceFault::NotFound);
+        };
+        if self.exists(to) {
+            return Err(DeviceFault::Exists);
+        }
+        self.directory.point(to, file)?;
+        Ok(())
+    }
+
+    /// Removes a name. Its file stays, under its other names and where the removed name lasts. It takes no memory.
+    ///
+    /// # Errors
+    ///
+    /// `NotFound` where the name is not there, and no other.
+    pub fn unlink(&mut self, name: u32) -> Result<(), DeviceFault>
+        ensures ok { OnOk result ((es : List Effect) → StandsFor self.old es → StandsFor self.new (Unlink name ∷ es)) }
+        ensures err { OnErr result (self.new ≡ self.old) }
+        ensures fault { RefusesOnly (is_none (entry_at self.old.names name).live) DeviceFault.NotFound result }
+    {
+        if !self.exists(name) {
+            return Err(DeviceFault::NotFound);
+        }
+        self.directory.remove(name);
+        Ok(())
+    }
+
+    /// Makes the names that are there last, and those that are gone stay away. No contents last by it. It takes no
+    /// memory, and a time by the names in the table from the first to the last that changed since the last sync.
+    pub fn sync_dir(&mut self)
+        ensures { (es : List Effect) → StandsFor self.old es → StandsFor self.new (SyncDir ∷ es) }
+    {
+        self.directory.sync();
+    }
+
+    /// Leaves only the names and contents that last. It takes no memory.
+    pub fn power_cut(&mut self)
+        ensures { (es : List Effect) → StandsFor self.old es → StandsFor self.new (PowerCut ∷ es) }
+    {
+        self.directory.cut();
+        cut_files(&mut self.files, self.used);
+    }
+
+    /// Lends what a name's file holds now. It takes no memory.
+    ///
+    /// # Errors
+    ///
+    /// `NotFound` where the name is not there, and no other.
+    pub fn read(&self, name: u32) -> Result<&[u8], DeviceFault>
+        ensures { (es : List Effect) → StandsFor self.now es → MatchResult result (λ bytes. held es Live name ≡ Some bytes.now) (λ e. (e ≡ DeviceFault.NotFound) × (held es Live name ≡ None)) }
+    {
+        let Some(file) = self.directory.live(name) else {
+            return Err(DeviceFault::NotFound);
+        };
+        Ok(self.files[file].read())
+    }
+
+    /// Whether a name is there now. It takes no memory.
+    pub fn exists(&self, name: u32) -> bool
+        ensures { result ≡ is_some (entry_at self.now.names name).live }
+    {
+        self.directory.live(name).is_some()
+    }
+}

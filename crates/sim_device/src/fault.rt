@@ -1,0 +1,37 @@
+ghost use Rattle.std.specs.Prelude.{◌≡◌};
+ghost use Rattle.sim_device.specs.declared.fault.DeviceFault.TheVariants.{Memory};
+
+use std::alloc::AllocError;
+use std::error::Error;
+use std::fmt;
+
+/// Why a device refused a call. The device is as it was before the call.
+#[derive(Clone, Copy, Debug, PartialEq, Eq)]
+pub enum DeviceFault {
+    /// The name to be made is there already, as `EEXIST` of open(2) and link(2).
+    Exists,
+    /// The name is not there, as `ENOENT`.
+    NotFound,
+    /// No memory was left for the call.
+    Memory,
+}
+
+impl fmt::Display for DeviceFault {
+    fn fmt<W: fmt::Write>(&self, f: &mut fmt::Formatter<W>) -> fmt::Result {
+        match self {
+            DeviceFault::Exists => write!(f, "the name exists"),
+            DeviceFault::NotFound => write!(f, "no such name"),
+            DeviceFault::Memory => write!(f, "out of memory"),
+        }
+    }
+}
+
+impl Error for DeviceFault {}
+
+impl From<AllocError> for DeviceFault {
+    ghost from_gives = { λ _ fault. fault ≡ Memory };
+
+    fn from(_: AllocError) -> DeviceFault {
+        DeviceFault::Memory
+    }
+}

@@ -1,0 +1,89 @@
+ghost use Rattle.std.specs.Prelude.{◌≡◌, List, [], ◌∷◌, OnOk, OnErr};
+ghost use Rattle.sim_device.specs.FileEffects.{Live};
+ghost use Rattle.sim_device.specs.LogEffects.{LogEffect, Append, Force, Restart, records, LogStandsFor};
+
+use std::alloc::{AllocError, Global};
+use std::marker::Model;
+
+/// A simulated log of records, which keeps over a restart only what was forced.
+///
+/// A log stands for the list of the effects that it accepted since it was made or cleared. A call that is refused
+/// changes nothing, and adds no effect.
+#[derive(Drop)]
+pub struct RecordLog<R: Copy> {
+    records: Vec<R>,
+    // Records are only added between restarts, so those that last are always a front of all.
+    lasting: usize,
+}
+
+impl<R: Copy> Model for RecordLog<R> {
+    ghost use Rattle.std.specs.Prelude.{◌≤◌, take, vec_len};
+    ghost use Rattle.sim_device.specs.LogEffects.{Log};
+
+    ghost Value = { Log R };
+
+    ghost view = { λ l. record { live = l.records.items; lasting = take l.lasting l.records.items } };
+
+    ghost invariant = { λ l. l.lasting ≤ vec_len l.records };
+}
+
+impl<R: Copy> RecordLog<R> {
+    /// A log with no records. It takes no memory.
+    pub fn new(alloc: Global) -> Self
+        ensures { LogStandsFor result [] }
+    {
+        RecordLog {
+            records: Vec::new(alloc),
+            lasting: 0,
+        }
+    }
+
+    /// A new log, with no records. It takes no memory, and keeps what it has for the records to come.
+    pub fn clear(&mut self)
+        ensures { LogStandsFor self.new [] }
+    {
+        self.records.clear();
+        self.lasting = 0;
+    }
+
+    /// Adds a record, which does not last yet.
+    ///
+    /// # Errors
+    ///
+    /// Only want of memory. The log is then as it was.
+    pub fn append(&mut self, entry: R) -> Result<(), AllocError>
+        ensures ok { OnOk result ((es : List (LogEffect R)) → LogStandsFor self.old es → LogStandsFor self.new (Append entry ∷ es)) }
+        ensures err { OnErr result (self.new ≡ self.old) }
+    {
+        self.records.push(entry)?;
+        Ok(())
+    }
+
+    /// Adds a record, and makes all records so far last.
+    ///
+    /// # Errors
+    ///
+    /// Only want of memory. The log is then as it was.
+    pub fn force(&mut self, entry: R) -> Result<(), AllocError>
+        ensures ok { OnOk result ((es : List (LogEffect R)) → LogStandsFor self.old es → LogStandsFor self.new (Force entry ∷ es)) }
+        ensures err { OnErr result (self.new ≡ self.old) }
+    {
+        self.append(entry)?;
+        self.lasting = self.records.len();
+        Ok(())
+    }
+
+    /// Leaves only the records that last. It takes no memory.
+    pub fn restart(&mut self)
+        ensures { (es : List (LogEffect R)) → LogStandsFor self.old es → LogStandsFor self.new (Restart ∷ es) }
+    {
+        self.records.truncate(self.lasting);
+    }
+
+    /// Lends all records that are there, the oldest first. It takes no memory.
+    pub fn records(&self) -> &[R]
+        ensures { (es : List (LogEffect R)) → LogStandsFor self.now es → result.now ≡ records es Live }
+    {
+        self.records.as_slice()
+    }
+}

@@ -1,0 +1,170 @@
+ghost use Rattle.std.specs.Prelude.{◌≡◌, ◌≢◌, ◌<◌, ◌==◌, ℕ, [], length, if◌then◌else◌, None, Some, OnOk, OnErr};
+ghost use Rattle.sim_device.specs.Disk.{entry_at, IsSettledOutside};
+
+use std::alloc::{AllocError, Global};
+use std::marker::Model;
+
+/// The files that a name leads to, by number: now, and after a power cut.
+#[derive(Clone, Copy, Debug)]
+pub struct Entry {
+    pub live: Option<usize>,
+    pub lasting: Option<usize>,
+}
+
+/// Where each name leads. A name is a place in the table.
+#[derive(Drop)]
+pub struct Directory {
+    entries: Vec<Entry>,
+    // All names whose two files may differ are in `first..end`, so that a sync walks what changed and not the table.
+    first: usize,
+    end: usize,
+}
+
+impl Model for Directory {
+    ghost use Rattle.std.specs.Prelude.{List};
+    ghost use Rattle.sim_device.specs.declared.names.Entry.{Entry};
+
+    ghost Value = { List Entry };
+
+    ghost use Rattle.sim_device.specs.Disk.{IsSettledOutside};
+
+    ghost view = { λ d. d.entries.items };
+
+    ghost invariant = { λ d. IsSettledOutside d.entries.items d.first d.end };
+}
+
+/// Makes what is there last, for the names in `first..end`.
+fn sync_entries(entries: &mut [Entry], first: usize, end: usize)
+    requires { IsSettledOutside entries.old first end }
+    ensures { (n : ℕ) → entry_at entries.new n ≡ record { live = (entry_at entries.old n).live; lasting = (entry_at entries.old n).live } }
+{
+    for place in first..end {
+        let entry = &mut entries[place];
+        entry.lasting = entry.live;
+    }
+}
+
+/// Leaves only what lasts, for the names in `first..end`.
+fn cut_entries(entries: &mut [Entry], first: usize, end: usize)
+    requires { IsSettledOutside entries.old first end }
+    ensures { (n : ℕ) → entry_at entries.new n ≡ record { live = (entry_at entries.old n).lasting; lasting = (entry_at entries.old n).lasting } }
+{
+    for place in first..end {
+        let entry = &mut entries[place];
+        entry.live = entry.lasting;
+    }
+}
+
+impl Directory {
+    /// A table in which no name leads anywhere.
+    pub fn new(alloc: Global) -> Self
+        ensures { result ≡ [] }
+    {
+        Directory {
+            entries: Vec::new(alloc),
+            first: usize::MAX,
+            end: 0,
+        }
+    }
+
+    /// No name leads anywhere from here on. The memory is kept.
+    pub fn clear(&mut self)
+        ensures { self.new ≡ [] }
+    {
+        self.entries.clear();
+        self.first = usize::MAX;
+        self.end = 0;
+    }
+
+    /// The file that a name leads to now.
+    pub fn live(&self, name: u32) -> Option<usize>
+        ensures { result ≡ (entry_at self.now name).live }
+    {
+        match self.entries.get(name as usize) {
+            Some(entry) => entry.live,
+            None => None,
+        }
+    }
+
+    /// Makes room for a name.
+    fn cover(&mut self, name: u32) -> Result<(), AllocError>
+        ensures same { (n : ℕ) → entry_at self.new n ≡ entry_at self.old n }
+        ensures room { OnOk result (name < length self.new) }
+        ensures err { OnErr result (self.new ≡ self.old) }
+    {
+        if name as usize >= self.entries.len() {
+            self.entries.resize(
+                name as usize + 1,
+                Entry {
+                    live: None,
+                    lasting: None,
+                },
+            )?;
+        }
+        Ok(())
+    }
+
+    /// Leads a name of the table to a file, or to none.
+    fn lead(&mut self, name: u32, file: Option<usize>)
+        requires { name < length self.old }
+        ensures { (n : ℕ) → entry_at self.new n ≡ (if n == name then record { live = file; lasting = (entry_at self.old n).lasting } else entry_at self.old n) }
+    {
+        let place = name as usize;
+        let entry = &mut self.entries[place];
+        entry.live = file;
+        if place < self.first {
+            self.first = place;
+        }
+        if self.end <= place {
+            self.end = place + 1;
+        }
+    }
+
+    /// Leads a name to a file.
+    pub fn point(&mut self, name: u32, file: usize) -> Result<(), AllocError>
+        ensures ok { OnOk result ((n : ℕ) → entry_at self.new n ≡ (if n == name then record { live = Some file; lasting = (entry_at self.old n).lasting } else entry_at self.old n)) }
+        ensures err { OnErr result (self.new ≡ self.old) }
+    {
+        self.cover(name)?;
+        self.lead(name, Some(file));
+        Ok(())
+    }
+
+    /// Leads a name nowhere.
+    pub fn remove(&mut self, name: u32)
+        ensures { (n : ℕ) → entry_at self.new n ≡ (if n == name then record { live = None; lasting = (entry_at self.old n).lasting } else entry_at self.old n) }
+    {
+        if (name as usize) < self.entries.len() {
+            self.lead(name, None);
+        }
+    }
+
+    /// Leads one name to a file, and another nowhere.
+    pub fn carry(&mut self, file: usize, from: u32, to: u32) -> Result<(), AllocError>
+        requires { from ≢ to }
+        ensures ok { OnOk result ((n : ℕ) → entry_at self.new n ≡ (if n == to then record { live = Some file; lasting = (entry_at self.old n).lasting } else (if n == from then record { live = None; lasting = (entry_at self.old n).lasting } else entry_at self.old n))) }
+        ensures err { OnErr result (self.new ≡ self.old) }
+    {
+        self.point(to, file)?;
+        self.remove(from);
+        Ok(())
+    }
+
+    /// The names that are there now last.
+    pub fn sync(&mut self)
+        ensures { (n : ℕ) → entry_at self.new n ≡ record { live = (entry_at self.old n).live; lasting = (entry_at self.old n).live } }
+    {
+        sync_entries(&mut self.entries, self.first, self.end);
+        self.first = usize::MAX;
+        self.end = 0;
+    }
+
+    /// Only the names that last are left.
+    pub fn cut(&mut self)
+        ensures { (n : ℕ) → entry_at self.new n ≡ record { live = (entry_at self.old n).lasting; lasting = (entry_at self.old n).lasting } }
+    {
+        cut_entries(&mut self.entries, self.first, self.end);
+        self.first = usize::MAX;
+        self.end = 0;
+    }
+}
