@@ -1,0 +1,6 @@
+pub mod Safe
+pub mod Bytes
+pub mod Counted
+pub mod Playing
+pub mod Never
+pub mod Readying

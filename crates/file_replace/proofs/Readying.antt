@@ -1,0 +1,96 @@
+-- Each step's step finds what it needs.
+use Rattle.std.proofs.Common.{◌≡◌, ℕ, false, List, [], ◌∷◌, Option, None, Some, is_some, is_none, refl, sym, subst}
+use Rattle.sim_device.specs.FileEffects.{Effect, Create, Sync, Unlink, SyncDir, Live, leads}
+use Rattle.sim_device.specs.Disk.{Disk, StandsFor, entry_at}
+use Rattle.action_eval.specs.Answers.{Run, Reply, Go, Return, Halt, replies}
+use Rattle.file_replace.specs.Seen.{Played}
+use Rattle.file_replace.specs.declared.variant.Variant.{Variant}
+use Rattle.file_replace.specs.declared.variant.Variant.TheVariants.{Sound, LateSync, IgnoreSync, RetryWrite}
+use Rattle.file_replace.specs.Work.{Work}
+use Rattle.file_replace.specs.Steps.{Step, Clearing, Creating, Writing, WritingAgain, Syncing, Renaming, SyncingDir, SyncingLate, Cleaning, Over, Tally, State, state, first_step, begun_of, acknowledged, is_there, write_step, after_half, after_no_sync, after_sync_dir, on_go, on_return, stepped, start_of, laid, prepared, before_all}
+use Rattle.file_replace.specs.Ready.{IsReady, IsReadyAfter, IsReadyOn}
+
+abbrev Ready : State → Type 0
+Ready s = IsReadyAfter s.tally.step s.effects
+
+first_ready : (target tmp : Option ℕ) (chunks : List (List ℕ)) → IsReady (first_step (is_some tmp) chunks) target tmp
+first_ready target None chunks = refl
+first_ready target (Some f) chunks = refl
+
+begun_ready : (t : Tally) (rest : List (List (List ℕ))) (es : List Effect) → Ready (state (begun_of (is_there es) t rest) es)
+begun_ready t [] es = tt
+begun_ready t (chunks ∷ more) es = first_ready (leads es Live 0) (leads es Live 1) chunks
+
+write_ready : (v : Variant) (cs : List (List ℕ)) (target tmp : Option ℕ) → is_none tmp ≡ false → IsReady (write_step v cs) target tmp
+write_ready Sound [] target tmp r = r
+write_ready LateSync [] target tmp r = r
+write_ready IgnoreSync [] target tmp r = r
+write_ready RetryWrite [] target tmp r = r
+write_ready v (c ∷ cs) target tmp r = r
+
+half_ready : (v : Variant) (c : List ℕ) (cs : List (List ℕ)) (target tmp : Option ℕ) → is_none tmp ≡ false → IsReady (after_half v c cs) target tmp
+half_ready Sound c cs target tmp r = r
+half_ready LateSync c cs target tmp r = r
+half_ready IgnoreSync c cs target tmp r = r
+half_ready RetryWrite c cs target tmp r = r
+
+no_sync_ready : (v : Variant) (target tmp : Option ℕ) → is_none tmp ≡ false → IsReady (after_no_sync v) target tmp
+no_sync_ready Sound target tmp r = r
+no_sync_ready LateSync target tmp r = r
+no_sync_ready IgnoreSync target tmp r = r
+no_sync_ready RetryWrite target tmp r = r
+
+sync_dir_ready : (v : Variant) (t : Tally) (es : List Effect) → is_none (leads es Live 0) ≡ false → Ready (after_sync_dir v t es)
+sync_dir_ready Sound t es r = begun_ready (acknowledged t) t.rest es
+sync_dir_ready LateSync t es r = r
+sync_dir_ready IgnoreSync t es r = begun_ready (acknowledged t) t.rest es
+sync_dir_ready RetryWrite t es r = begun_ready (acknowledged t) t.rest es
+
+go_ready : (v : Variant) (t : Tally) (es : List Effect) (step : Step) → IsReadyAfter step es → Ready (on_go v t es step)
+go_ready v t es (Clearing chunks) r = refl
+go_ready v t es (Creating chunks) r = write_ready v chunks (leads (Create 1 ∷ es) Live 0) (leads (Create 1 ∷ es) Live 1) refl
+go_ready v t es (Writing c cs) r = write_ready v cs (leads es Live 0) (leads es Live 1) r
+go_ready v t es (WritingAgain c cs) r = write_ready v cs (leads es Live 0) (leads es Live 1) r
+go_ready v t es Syncing r = r
+go_ready v t es Renaming r = r
+go_ready v t es SyncingDir r = sync_dir_ready v t (SyncDir ∷ es) r
+go_ready v t es SyncingLate r = begun_ready (acknowledged t) t.rest (Sync 0 ∷ es)
+go_ready v t es Cleaning r = begun_ready t t.rest (Unlink 1 ∷ es)
+go_ready v t es Over r = tt
+
+return_ready : (v : Variant) (t : Tally) (es : List Effect) (step : Step) → IsReadyAfter step es → Ready (on_return v t es step)
+return_ready v t es (Clearing chunks) r = begun_ready t t.rest es
+return_ready v t es (Creating chunks) r = begun_ready t t.rest es
+return_ready v t es (Writing c cs) r = half_ready v c cs (leads es Live 0) (leads es Live 1) r
+return_ready v t es (WritingAgain c cs) r = r
+return_ready v t es Syncing r = no_sync_ready v (leads es Live 0) (leads es Live 1) r
+return_ready v t es Renaming r = r
+return_ready v t es SyncingDir r = begun_ready t t.rest es
+return_ready v t es SyncingLate r = begun_ready t t.rest es
+return_ready v t es Cleaning r = begun_ready t t.rest es
+return_ready v t es Over r = tt
+
+step_ready : (v : Variant) (s : State) (a : Reply) → Ready s → Ready (stepped v s a)
+step_ready v s Go r = go_ready v s.tally s.effects s.tally.step r
+step_ready v s (Return text) r = return_ready v s.tally s.effects s.tally.step r
+step_ready v s Halt r = tt
+
+laid_ready : (v : Variant) (s : State) (answers : List Reply) → Ready s → Ready (laid v s answers)
+laid_ready v s [] r = r
+laid_ready v s (a ∷ answers) r = laid_ready v (stepped v s a) answers (step_ready v s a r)
+
+-- whatever was answered, the next step is not refused
+pub steps_ready : (v : Variant) (w : Work) (answers : List Reply) → Ready (laid v (start_of w) answers)
+steps_ready v w answers = laid_ready v (start_of w) answers (begun_ready (before_all w) w.replacements (prepared w.old))
+
+pub ready_on : (step : Step) (d : Disk) (es : List Effect) → StandsFor d es → IsReadyAfter step es → IsReadyOn step d.names
+ready_on step d es k r =
+    let P : Option ℕ → Type 0 = λ o. IsReady step o (leads es Live 1) in
+    let Q : Option ℕ → Type 0 = λ o. IsReady step (entry_at d.names 0).live o in
+    subst Q (sym (k.live 1)) (subst P (sym (k.live 0)) r)
+
+pub ready_now : (v : Variant) (w : Work) (r : Run) (t : Tally) (d : Disk) → Played v w r t d → IsReadyOn t.step d.names
+ready_now v w r t d k =
+    let s = laid v (start_of w) (replies r) in
+    let P : Tally → Type 0 = λ x. IsReadyAfter x.step s.effects in
+    ready_on t.step d s.effects k.shows.device (subst P (sym k.shows.tally) (steps_ready v w (replies r)))

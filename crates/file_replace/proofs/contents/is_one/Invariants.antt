@@ -1,0 +1,8 @@
+use Rattle.std.proofs.Common.{◌≡◌, drop, map}
+use Rattle.std.specs.List.{list_any}
+use Rattle.std.specs.Str.{bytes_eq}
+use Rattle.file_replace.specs.Work.{joined}
+use Rattle.file_replace.proofs.contents.is_one.Given as goal
+
+abbrev pub invariant-loop-replacement : goal.invariant-loop-replacement
+invariant-loop-replacement l = list_any (bytes_eq l.bytes) (map joined l.replacements) ≡ list_any (bytes_eq l.bytes) (map joined (drop l.replacement-index l.replacements))

@@ -1,0 +1,220 @@
+-- The steps of a run, laid against the list of answers: what is asked, what each answer does, and what comes next.
+use Rattle.std.specs.Prelude.{ℕ, ◌/◌, Bool, true, false, List, [], ◌∷◌, ◌++◌, Option, Some, None, is_some, take, length}
+use Rattle.sim_device.specs.FileEffects.{Effect, Create, Append, Sync, Rename, Unlink, SyncDir, Live, leads}
+use Rattle.action_eval.specs.Answers.{Reply, Go, Return, Halt}
+use Rattle.target_trait.specs.declared.judgement.Judgement.{Judgement}
+use Rattle.target_trait.specs.Play.{Move, Ask, Done, IsWithin, IsDone}
+use Rattle.std.proofs.Common.{arith}
+use Rattle.file_replace.specs.declared.variant.Variant.{Variant}
+use Rattle.file_replace.specs.declared.variant.Variant.TheVariants.{Sound, LateSync, IgnoreSync, RetryWrite}
+use Rattle.file_replace.specs.Words.{target, tmp, clear_point, create_point, write_point, sync_point, rename_point, sync_dir_point, unlink_point}
+use Rattle.file_replace.specs.Work.{Work, joined}
+use Rattle.file_replace.specs.Judgement.{Past, nothing_begun, with_begun, with_acknowledged, judged}
+
+-- the step whose question comes next, with the chunks that are left
+pub data Step : Type 0 where
+  -- `tmp`, left by a replacement that failed, is cleared
+  Clearing : List (List ℕ) → Step
+  Creating : List (List ℕ) → Step
+  Writing : List ℕ → List (List ℕ) → Step
+  WritingAgain : List ℕ → List (List ℕ) → Step
+  Syncing : Step
+  Renaming : Step
+  SyncingDir : Step
+  -- `target` is synced once it stands under its name
+  SyncingLate : Step
+  -- `tmp` is taken away after a failure
+  Cleaning : Step
+  Over : Step
+
+-- how far the replacements have come
+pub record Tally : Type 0 where
+  pub step : Step
+  -- the whole contents of the replacement under way, and the replacements after it
+  pub whole : List ℕ
+  pub rest : List (List (List ℕ))
+  pub past : Past
+
+-- that, and what the device accepted, the newest effect first
+pub record State : Type 0 where
+  pub tally : Tally
+  pub effects : List Effect
+
+abbrev pub state : Tally → List Effect → State
+state t es = record { tally = t; effects = es }
+
+abbrev pub at_step : Tally → Step → Tally
+at_step t step = record { step = step; whole = t.whole; rest = t.rest; past = t.past }
+
+-- ---- between replacements
+
+abbrev pub is_there : List Effect → Bool
+is_there es = is_some (leads es Live tmp)
+
+-- `tmp` is cleared only where it is there
+abbrev pub first_step : Bool → List (List ℕ) → Step
+first_step false chunks = Creating chunks
+first_step true chunks = Clearing chunks
+
+-- the next replacement is begun: its question is the next
+abbrev pub begun_of : Bool → Tally → List (List (List ℕ)) → Tally
+begun_of there t [] = record { step = Over; whole = t.whole; rest = []; past = t.past }
+begun_of there t (chunks ∷ more) = record { step = first_step there chunks; whole = joined chunks; rest = more; past = with_begun (joined chunks) t.past }
+
+abbrev pub begun : Bool → Tally → Tally
+begun there t = begun_of there t t.rest
+
+abbrev pub acknowledged : Tally → Tally
+acknowledged t = record { step = t.step; whole = t.whole; rest = t.rest; past = with_acknowledged t.whole t.past }
+
+-- the replacement under way fails, and the next is begun
+abbrev pub failed : Tally → List Effect → State
+failed t es = state (begun (is_there es) t) es
+
+-- the replacement under way is acknowledged, and the next is begun
+abbrev pub done : Tally → List Effect → State
+done t es = state (begun (is_there es) (acknowledged t)) es
+
+-- ---- where the variants differ
+
+-- late_sync syncs after the rename
+abbrev pub after_writes : Variant → Step
+after_writes Sound = Syncing
+after_writes LateSync = Renaming
+after_writes IgnoreSync = Syncing
+after_writes RetryWrite = Syncing
+
+abbrev pub write_step : Variant → List (List ℕ) → Step
+write_step v [] = after_writes v
+write_step v (c ∷ cs) = Writing c cs
+
+abbrev pub after_sync_dir : Variant → Tally → List Effect → State
+after_sync_dir Sound t es = done t es
+after_sync_dir LateSync t es = state (at_step t SyncingLate) es
+after_sync_dir IgnoreSync t es = done t es
+after_sync_dir RetryWrite t es = done t es
+
+-- retry_write writes the whole chunk again after its half
+abbrev pub after_half : Variant → List ℕ → List (List ℕ) → Step
+after_half Sound c cs = Cleaning
+after_half LateSync c cs = Cleaning
+after_half IgnoreSync c cs = Cleaning
+after_half RetryWrite c cs = WritingAgain c cs
+
+-- ignore_sync goes on as after a sync
+abbrev pub after_no_sync : Variant → Step
+after_no_sync Sound = Cleaning
+after_no_sync LateSync = Cleaning
+after_no_sync IgnoreSync = Renaming
+after_no_sync RetryWrite = Cleaning
+
+-- ---- the table of steps
+
+-- what a step does where it is answered to go on
+abbrev pub on_go : Variant → Tally → List Effect → Step → State
+on_go v t es (Clearing chunks) = state (at_step t (Creating chunks)) (Unlink tmp ∷ es)
+on_go v t es (Creating chunks) = state (at_step t (write_step v chunks)) (Create tmp ∷ es)
+on_go v t es (Writing c cs) = state (at_step t (write_step v cs)) (Append tmp c ∷ es)
+on_go v t es (WritingAgain c cs) = state (at_step t (write_step v cs)) (Append tmp c ∷ es)
+on_go v t es Syncing = state (at_step t Renaming) (Sync tmp ∷ es)
+on_go v t es Renaming = state (at_step t SyncingDir) (Rename tmp target ∷ es)
+on_go v t es SyncingDir = after_sync_dir v t (SyncDir ∷ es)
+on_go v t es SyncingLate = done t (Sync target ∷ es)
+on_go v t es Cleaning = failed t (Unlink tmp ∷ es)
+on_go v t es Over = state (at_step t Over) es
+
+-- the first half of a chunk, in whole bytes
+abbrev pub half : List ℕ → List ℕ
+half c = take (length c / 2) c
+
+-- what it does where it is answered that it fails
+abbrev pub on_return : Variant → Tally → List Effect → Step → State
+on_return v t es (Clearing chunks) = failed t es
+on_return v t es (Creating chunks) = failed t es
+on_return v t es (Writing c cs) = state (at_step t (after_half v c cs)) (Append tmp (half c) ∷ es)
+on_return v t es (WritingAgain c cs) = state (at_step t Cleaning) (Append tmp (half c) ∷ es)
+on_return v t es Syncing = state (at_step t (after_no_sync v)) es
+on_return v t es Renaming = state (at_step t Cleaning) es
+on_return v t es SyncingDir = failed t es
+on_return v t es SyncingLate = failed t es
+on_return v t es Cleaning = failed t es
+on_return v t es Over = state (at_step t Over) es
+
+-- after a halt nothing is done or asked
+abbrev pub stepped : Variant → State → Reply → State
+stepped v s Go = on_go v s.tally s.effects s.tally.step
+stepped v s (Return text) = on_return v s.tally s.effects s.tally.step
+stepped v s Halt = state (at_step s.tally Over) s.effects
+
+-- ---- a whole run
+
+-- before a run `target` has the old contents, and both last
+abbrev pub prepared : List ℕ → List Effect
+prepared old = SyncDir ∷ Sync target ∷ Append target old ∷ Create target ∷ []
+
+abbrev pub before_all : Work → Tally
+before_all w = record { step = Over; whole = w.old; rest = w.replacements; past = nothing_begun w.old }
+
+abbrev pub start_of : Work → State
+start_of w = state (begun false (before_all w)) (prepared w.old)
+
+abbrev pub laid : Variant → State → List Reply → State
+laid v s [] = s
+laid v s (a ∷ as') = laid v (stepped v s a) as'
+
+-- the point that a step asks
+abbrev pub point_at : Step → Option ℕ
+point_at (Clearing chunks) = Some clear_point
+point_at (Creating chunks) = Some create_point
+point_at (Writing c cs) = Some write_point
+point_at (WritingAgain c cs) = Some write_point
+point_at Syncing = Some sync_point
+point_at Renaming = Some rename_point
+point_at SyncingDir = Some sync_dir_point
+point_at SyncingLate = Some sync_point
+point_at Cleaning = Some unlink_point
+point_at Over = None
+
+-- a point is asked; without one the run is over, with this judgement
+abbrev pub move_by : Judgement → Option ℕ → Move
+move_by j (Some p) = Ask p
+move_by j None = Done j
+
+abbrev pub move_of : State → Move
+move_of s = move_by (judged s.tally.past s.effects) (point_at s.tally.step)
+
+-- what is asked after these answers
+abbrev pub asks_of : Variant → Work → List Reply → Move
+asks_of v w answers = move_of (laid v (start_of w) answers)
+
+-- ---- laws
+
+step_within : (j : Judgement) (step : Step) → IsWithin 7 (move_by j (point_at step))
+step_within j (Clearing chunks) = omega arith
+step_within j (Creating chunks) = omega arith
+step_within j (Writing c cs) = omega arith
+step_within j (WritingAgain c cs) = omega arith
+step_within j Syncing = omega arith
+step_within j Renaming = omega arith
+step_within j SyncingDir = omega arith
+step_within j SyncingLate = omega arith
+step_within j Cleaning = omega arith
+step_within j Over = tt
+
+-- each question is of one of the seven points
+pub asks-within : (v : Variant) (w : Work) (answers : List Reply) → IsWithin 7 (asks_of v w answers)
+asks-within v w answers = let s = laid v (start_of w) answers in step_within (judged s.tally.past s.effects) s.tally.step
+
+over_stays : (v : Variant) (t : Tally) (es : List Effect) (answers : List Reply) → IsDone (move_of (laid v (state (at_step t Over) es) answers))
+over_stays v t es [] = tt
+over_stays v t es (Go ∷ answers) = over_stays v t es answers
+over_stays v t es (Return text ∷ answers) = over_stays v t es answers
+over_stays v t es (Halt ∷ answers) = over_stays v t es answers
+
+halt_ends : (v : Variant) (s : State) (before after : List Reply) → IsDone (move_of (laid v s (before ++ Halt ∷ after)))
+halt_ends v s [] after = over_stays v s.tally s.effects after
+halt_ends v s (a ∷ before) after = halt_ends v (stepped v s a) before after
+
+-- no question follows a halt
+pub asks-halts : (v : Variant) (w : Work) (before after : List Reply) → IsDone (asks_of v w (before ++ Halt ∷ after))
+asks-halts v w before after = halt_ends v (start_of w) before after

@@ -1,0 +1,103 @@
+//! The calls of a run on its device. None of them is refused but for want of memory.
+ghost use Rattle.std.specs.Prelude.{◌≡◌, ◌∷◌, ℕ, List, OnOk, is_some, is_none, false, MatchOption, None, Some};
+ghost use Rattle.sim_device.specs.FileEffects.{Effect, Append, Create, Sync, Rename, Unlink, Live, held};
+ghost use Rattle.sim_device.specs.Disk.{StandsFor, entry_at};
+ghost use Rattle.file_replace.specs.Words.{number_of, target, tmp};
+
+use sim_device::{DeviceFault, FileDevice};
+use std::alloc::AllocError;
+
+/// A name on the device.
+#[derive(Clone, Copy)]
+pub enum Name {
+    /// What is replaced.
+    Target,
+    /// Where new contents are written before they take the place of the old ones.
+    Tmp,
+}
+
+impl Name {
+    /// The number that stands for the name on the device.
+    pub fn number(self) -> u32
+        ensures { result ≡ number_of self }
+    {
+        match self {
+            Name::Target => 0,
+            Name::Tmp => 1,
+        }
+    }
+}
+
+/// A new file.
+pub fn create(device: &mut FileDevice, name: Name) -> Result<(), AllocError>
+    requires { is_some (entry_at device.old.names (number_of name)).live ≡ false }
+    ensures { OnOk result ((es : List Effect) → StandsFor device.old es → StandsFor device.new (Create (number_of name) ∷ es)) }
+{
+    match device.create(name.number()) {
+        Ok(()) => Ok(()),
+        Err(DeviceFault::Memory) => Err(AllocError),
+        Err(DeviceFault::Exists | DeviceFault::NotFound) => unreachable!(),
+    }
+}
+
+/// More bytes at the end of a file.
+pub fn append(device: &mut FileDevice, name: Name, bytes: &[u8]) -> Result<(), AllocError>
+    requires { is_none (entry_at device.old.names (number_of name)).live ≡ false }
+    ensures { OnOk result ((es : List Effect) → StandsFor device.old es → StandsFor device.new (Append (number_of name) bytes.now ∷ es)) }
+{
+    match device.append(name.number(), bytes) {
+        Ok(()) => Ok(()),
+        Err(DeviceFault::Memory) => Err(AllocError),
+        Err(DeviceFault::Exists | DeviceFault::NotFound) => unreachable!(),
+    }
+}
+
+/// What a file holds lasts.
+pub fn sync(device: &mut FileDevice, name: Name) -> Result<(), AllocError>
+    requires { is_none (entry_at device.old.names (number_of name)).live ≡ false }
+    ensures { OnOk result ((es : List Effect) → StandsFor device.old es → StandsFor device.new (Sync (number_of name) ∷ es)) }
+{
+    match device.sync(name.number()) {
+        Ok(()) => Ok(()),
+        Err(DeviceFault::Memory) => Err(AllocError),
+        Err(DeviceFault::Exists | DeviceFault::NotFound) => unreachable!(),
+    }
+}
+
+/// A name is gone.
+pub fn unlink(device: &mut FileDevice, name: Name) -> Result<(), AllocError>
+    requires { is_none (entry_at device.old.names (number_of name)).live ≡ false }
+    ensures { OnOk result ((es : List Effect) → StandsFor device.old es → StandsFor device.new (Unlink (number_of name) ∷ es)) }
+{
+    match device.unlink(name.number()) {
+        Ok(()) => Ok(()),
+        Err(DeviceFault::Memory) => Err(AllocError),
+        Err(DeviceFault::Exists | DeviceFault::NotFound) => unreachable!(),
+    }
+}
+
+/// The file of `tmp` comes under `target`.
+pub fn rename(device: &mut FileDevice) -> Result<(), AllocError>
+    requires { is_none (entry_at device.old.names tmp).live ≡ false }
+    ensures { OnOk result ((es : List Effect) → StandsFor device.old es → StandsFor device.new (Rename tmp target ∷ es)) }
+{
+    match device.rename(Name::Tmp.number(), Name::Target.number()) {
+        Ok(()) => Ok(()),
+        Err(DeviceFault::Memory) => Err(AllocError),
+        Err(DeviceFault::Exists | DeviceFault::NotFound) => unreachable!(),
+    }
+}
+
+/// Whether a name is there.
+pub fn exists(device: &FileDevice, name: Name) -> bool
+    ensures { result ≡ is_some (entry_at device.now.names (number_of name)).live }
+{
+    device.exists(name.number())
+}
+
+/// What `target` holds, if it is there.
+pub fn target_contents(device: &FileDevice) -> Option<&[u8]>
+    ensures { (es : List Effect) → StandsFor device.now es → MatchOption result (held es Live target ≡ None) (λ bytes. held es Live target ≡ Some bytes.now) }
+{
+    device.read(Name::Target.number()).ok()
+}

@@ -1,0 +1,38 @@
+ghost use Rattle.std.specs.Prelude.{◌≡◌, ◌∷◌, ℕ, List, Some};
+ghost use Rattle.sim_device.specs.FileEffects.{Effect};
+ghost use Rattle.sim_device.specs.Disk.{StandsFor};
+ghost use Rattle.file_replace.specs.Judgement.{judged_by, judged};
+
+use crate::disk::target_contents;
+use crate::progress::Progress;
+use sim_device::FileDevice;
+use target_trait::Judgement;
+
+/// The code of contents that were never written whole, or of no file at all.
+pub const TORN: u32 = 0;
+/// The code of contents that are no longer allowed.
+pub const STALE: u32 = 1;
+
+/// The judgement of what `target` holds.
+fn judgement(progress: &Progress<'_>, bytes: &[u8]) -> Judgement
+    ensures { result ≡ judged_by progress.now.past (Some bytes.now) }
+{
+    if progress.allows(bytes) {
+        Judgement::Kept
+    } else if progress.knows(bytes) {
+        Judgement::Broken(STALE)
+    } else {
+        Judgement::Broken(TORN)
+    }
+}
+
+/// Cuts the power, and judges what `target` then holds.
+pub fn judge(device: &mut FileDevice, progress: &Progress<'_>) -> Judgement
+    ensures { (es : List Effect) → StandsFor device.old es → result ≡ judged progress.now.past es }
+{
+    device.power_cut();
+    match target_contents(device) {
+        Some(bytes) => judgement(progress, bytes),
+        None => Judgement::Broken(TORN),
+    }
+}

@@ -1,0 +1,19 @@
+//! Atomic replacement of a file, as a target, in four variants.
+#![tactic(auto)]
+
+mod contents;
+mod disk;
+mod judge;
+mod laws;
+mod progress;
+mod replace;
+mod stage;
+mod steps;
+mod variant;
+mod work;
+
+pub use judge::{STALE, TORN};
+pub use laws::sound_never_fails;
+pub use replace::Replace;
+pub use variant::Variant;
+pub use work::{Chunks, Replacements};

@@ -1,0 +1,106 @@
+ghost use Rattle.std.specs.Prelude.{◌≡◌};
+ghost use Rattle.file_replace.specs.Judgement.{is_among};
+ghost use Rattle.file_replace.specs.Steps.{begun, at_step, acknowledged, before_all, first_step};
+ghost use Rattle.file_replace.specs.Seen.{step_of};
+
+use crate::contents::is_among;
+use crate::stage::Stage;
+use crate::work::Replacements;
+use scenario_values::Text;
+use std::marker::Model;
+
+/// The first stage of a replacement.
+fn first_stage<'w>(tmp_is_there: bool, chunks: &'w [Text]) -> Stage<'w>
+    ensures { step_of result ≡ first_step tmp_is_there chunks.now }
+{
+    if tmp_is_there {
+        Stage::Clearing(chunks)
+    } else {
+        Stage::Creating(chunks)
+    }
+}
+
+/// How far the replacements of a workload have come. Contents are counted: 0 are the old ones, and 1 those of the first replacement.
+#[derive(Drop)]
+pub struct Progress<'w> {
+    workload: &'w Replacements,
+    stage: Stage<'w>,
+    begun: usize,
+    acknowledged: usize,
+}
+
+impl<'w> Model for Progress<'w> {
+    ghost use Rattle.std.specs.Prelude.{◌≤◌, [], length, drop, slice_index_or};
+    ghost use Rattle.file_replace.specs.Steps.{Tally};
+    ghost use Rattle.file_replace.specs.Seen.{step_of, all_contents, past_of};
+
+    ghost Value = { Tally };
+
+    ghost view = { λ p. record {
+      step = step_of p.stage;
+      whole = slice_index_or (all_contents p.workload.now.old p.workload.now.replacements) p.begun [];
+      rest = drop p.begun p.workload.now.replacements;
+      past = past_of (all_contents p.workload.now.old p.workload.now.replacements) p.acknowledged p.begun;
+    } };
+
+    ghost invariant = { λ p. (p.acknowledged ≤ p.begun) × (p.begun ≤ length p.workload.now.replacements) };
+}
+
+impl<'w> Progress<'w> {
+    /// Before the first replacement.
+    pub fn new(workload: &'w Replacements) -> Self
+        ensures { result ≡ before_all workload.now }
+    {
+        Progress {
+            workload,
+            stage: Stage::Over,
+            begun: 0,
+            acknowledged: 0,
+        }
+    }
+
+    /// Begins the next replacement, if there is one.
+    pub fn begin(&mut self, tmp_is_there: bool)
+        ensures { self.new ≡ begun tmp_is_there self.old }
+    {
+        let Some(next) = self.workload.as_slice().get(self.begun) else {
+            self.stage = Stage::Over;
+            return;
+        };
+        self.begun += 1;
+        self.stage = first_stage(tmp_is_there, next.as_slice());
+    }
+
+    /// The replacement under way is acknowledged.
+    pub fn acknowledge(&mut self)
+        ensures { self.new ≡ acknowledged self.old }
+    {
+        self.acknowledged = self.begun;
+    }
+
+    pub fn go_to(&mut self, stage: Stage<'w>)
+        ensures { self.new ≡ at_step self.old (step_of stage.entry) }
+    {
+        self.stage = stage;
+    }
+
+    pub fn stage(&self) -> Stage<'w>
+        ensures { step_of result ≡ self.now.step }
+    {
+        self.stage
+    }
+
+    /// Whether these contents are allowed.
+    pub fn allows(&self, bytes: &[u8]) -> bool
+        ensures { result ≡ is_among bytes.now self.now.past.allowed }
+    {
+        is_among(self.workload, self.acknowledged, self.begun, bytes)
+    }
+
+    /// Whether these contents are the old ones, or those of a replacement that was begun.
+    pub fn knows(&self, bytes: &[u8]) -> bool
+        ensures { result ≡ is_among bytes.now self.now.past.known }
+    {
+        is_among(self.workload, 0, self.begun, bytes)
+    }
+}

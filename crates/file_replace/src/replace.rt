@@ -1,0 +1,159 @@
+ghost use Rattle.std.specs.Prelude.{◌≡◌, IfOk};
+ghost use Rattle.std.proofs.Common.{rules};
+ghost use Rattle.action_eval.specs.Answers.{start};
+ghost use Rattle.target_trait.specs.Play.{IsPlay};
+ghost use Rattle.target_trait.specs.declared.judgement.Judgement.TheVariants.{Kept};
+ghost use Rattle.file_replace.specs.declared.variant.Variant.TheVariants.{Sound};
+ghost use Rattle.file_replace.specs.Words.{label, code_text, point_names};
+ghost use Rattle.file_replace.specs.Steps.{asks_of, point_at, asks-within, asks-halts};
+ghost use Rattle.file_replace.specs.Seen.{step_of};
+
+use crate::judge::{TORN, judge};
+use crate::progress::Progress;
+use crate::stage::Stage;
+use crate::steps::{fail, go, prepare};
+use crate::variant::Variant;
+use crate::work::Replacements;
+use sim_device::FileDevice;
+use std::alloc::{AllocError, Global};
+use std::marker::Model;
+use target_trait::{Answer, Judgement, Session, Target};
+
+/// The number of the point that a stage asks.
+fn point_of(stage: Stage<'_>) -> Option<u32>
+    ensures { result ≡ point_at (step_of stage.entry) }
+{
+    match stage {
+        Stage::Clearing(_) => Some(0),
+        Stage::Creating(_) => Some(1),
+        Stage::Writing(_, _) | Stage::WritingAgain(_, _) => Some(2),
+        Stage::Syncing | Stage::SyncingLate => Some(3),
+        Stage::Renaming => Some(4),
+        Stage::SyncingDir => Some(5),
+        Stage::Cleaning => Some(6),
+        Stage::Over => None,
+    }
+}
+
+/// Plays a run.
+fn play(
+    variant: Variant,
+    workload: &Replacements,
+    device: &mut FileDevice,
+    session: &mut Session<'_>,
+) -> Result<Judgement, AllocError>
+    requires new { session.old ≡ start session.old.given }
+    requires points { session.old.given.catalogue ≡ point_names }
+    ensures play { IfOk result (IsPlay (asks_of variant workload.now) session.new) }
+    ensures given { session.new.given ≡ session.old.given }
+{
+    prepare(device, workload.old())?;
+    let mut progress = Progress::new(workload);
+    progress.begin(false);
+    while let Some(point) = point_of(progress.stage()) {
+        match session.hit(point)? {
+            Answer::Go => go(variant, &mut progress, device)?,
+            Answer::Return(_) => fail(variant, &mut progress, device)?,
+            Answer::Halt => return Ok(judge(device, &progress)),
+        }
+    }
+    Ok(judge(device, &progress))
+}
+
+/// Atomic replacement of a file, as a target. Its setup, which is all that contracts see of it, is the variant.
+///
+/// A run makes `target` with the old contents, and then does the replacements of its workload one after another: each writes the new
+/// contents to `tmp`, chunk by chunk, and renames that to `target`. At the end the power is cut, and `target` must hold contents that
+/// are allowed.
+///
+/// The device is kept from run to run for its memory alone: each run clears it first.
+#[derive(Drop)]
+pub struct Replace {
+    alloc: Global,
+    variant: Variant,
+    device: FileDevice,
+}
+
+impl Model for Replace {
+    ghost use Rattle.file_replace.specs.declared.variant.Variant.{Variant};
+
+    ghost Value = { Variant };
+
+    ghost view = { λ r. r.variant };
+}
+
+impl Replace {
+    /// A target of this variant.
+    pub fn new(alloc: Global, variant: Variant) -> Self
+        ensures { result ≡ variant }
+    {
+        Replace {
+            alloc,
+            variant,
+            device: FileDevice::new(alloc),
+        }
+    }
+}
+
+impl Target for Replace {
+    type Workload = Replacements;
+
+    ghost names = { point_names };
+
+    ghost label_of = { label };
+
+    ghost code_text = { code_text };
+
+    ghost asks = { asks_of };
+
+    fn label(&self) -> &'static str {
+        match self.variant {
+            Variant::Sound => "replace sound",
+            Variant::LateSync => "replace late_sync",
+            Variant::IgnoreSync => "replace ignore_sync",
+            Variant::RetryWrite => "replace retry_write",
+        }
+    }
+
+    fn catalogue() -> &'static [&'static str] {
+        &[
+            "replace::clear",
+            "replace::create",
+            "replace::write",
+            "replace::sync",
+            "replace::rename",
+            "replace::sync_dir",
+            "replace::unlink",
+        ]
+    }
+
+    fn code_name(code: u32) -> &'static str {
+        if code == TORN { "torn" } else { "stale" }
+    }
+
+    fn twin(&self) -> Result<Self, AllocError> {
+        Ok(Replace::new(self.alloc, self.variant))
+    }
+
+    fn run(
+        &mut self,
+        workload: &Replacements,
+        session: &mut Session<'_>,
+    ) -> Result<Judgement, AllocError>
+        requires new { session.old ≡ start session.old.given }
+        requires points { session.old.given.catalogue ≡ point_names }
+        ensures play { IfOk result (IsPlay (asks_of self.old workload.now) session.new) }
+        ensures given { session.new.given ≡ session.old.given }
+        ensures setup { self.new ≡ self.old }
+        // A sound replacement is kept, whatever fails.
+        ensures sound { self.old ≡ Sound → IfOk result (λ judgement. judgement ≡ Kept) }
+    {
+        play(self.variant, workload, &mut self.device, session)
+    }
+
+    ghost within = { asks-within };
+
+    ghost halts = { asks-halts };
+
+    ghost lawful = { Prim.search rules };
+}

@@ -1,0 +1,185 @@
+ghost use Rattle.std.specs.Prelude.{◌≡◌, ◌∷◌, ℕ, List, OnOk, is_none, false};
+ghost use Rattle.sim_device.specs.FileEffects.{Effect, Append, Sync, SyncDir, Unlink};
+ghost use Rattle.sim_device.specs.Disk.{StandsFor, entry_at};
+ghost use Rattle.file_replace.specs.Words.{target, tmp};
+ghost use Rattle.file_replace.specs.Steps.{on_go, on_return, half, prepared, failed, done, after_sync_dir, write_step, after_half, after_no_sync};
+ghost use Rattle.file_replace.specs.Ready.{IsReadyOn};
+ghost use Rattle.file_replace.specs.Seen.{step_of, Shows};
+
+use crate::disk::{Name, append, create, exists, rename, sync, unlink};
+use crate::progress::Progress;
+use crate::stage::Stage;
+use crate::variant::Variant;
+use scenario_values::Text;
+use sim_device::FileDevice;
+use std::alloc::AllocError;
+
+/// The stage after a write.
+fn write_stage<'w>(variant: Variant, chunks: &'w [Text]) -> Stage<'w>
+    ensures { step_of result ≡ write_step variant chunks.now }
+{
+    match chunks {
+        [chunk, rest @ ..] => Stage::Writing(chunk, rest),
+        [] => match variant {
+            Variant::LateSync => Stage::Renaming,
+            Variant::Sound | Variant::IgnoreSync | Variant::RetryWrite => Stage::Syncing,
+        },
+    }
+}
+
+/// The stage after a write that fails.
+fn half_stage<'w>(variant: Variant, chunk: &'w Text, chunks: &'w [Text]) -> Stage<'w>
+    ensures { step_of result ≡ after_half variant chunk.now chunks.now }
+{
+    match variant {
+        Variant::RetryWrite => Stage::WritingAgain(chunk, chunks),
+        Variant::Sound | Variant::LateSync | Variant::IgnoreSync => Stage::Cleaning,
+    }
+}
+
+/// The stage after a sync that fails.
+fn no_sync_stage(variant: Variant) -> Stage<'static>
+    ensures { step_of result ≡ after_no_sync variant }
+{
+    match variant {
+        Variant::IgnoreSync => Stage::Renaming,
+        Variant::Sound | Variant::LateSync | Variant::RetryWrite => Stage::Cleaning,
+    }
+}
+
+/// Begins the next replacement.
+fn next(progress: &mut Progress<'_>, device: &FileDevice)
+    ensures { (es : List Effect) → StandsFor device.now es → Shows (failed progress.old es) progress.new device.now }
+{
+    progress.begin(exists(device, Name::Tmp));
+}
+
+/// Acknowledges the replacement under way, and begins the next.
+fn finish(progress: &mut Progress<'_>, device: &FileDevice)
+    ensures { (es : List Effect) → StandsFor device.now es → Shows (done progress.old es) progress.new device.now }
+{
+    progress.acknowledge();
+    progress.begin(exists(device, Name::Tmp));
+}
+
+/// Takes `tmp` away, and begins the next replacement.
+fn clean(progress: &mut Progress<'_>, device: &mut FileDevice) -> Result<(), AllocError>
+    requires { is_none (entry_at device.old.names tmp).live ≡ false }
+    ensures { OnOk result ((es : List Effect) → StandsFor device.old es → Shows (failed progress.old (Unlink tmp ∷ es)) progress.new device.new) }
+{
+    unlink(device, Name::Tmp)?;
+    next(progress, device);
+    Ok(())
+}
+
+/// What `target` holds lasts, and the replacement is acknowledged.
+fn finish_late(progress: &mut Progress<'_>, device: &mut FileDevice) -> Result<(), AllocError>
+    requires { is_none (entry_at device.old.names target).live ≡ false }
+    ensures { OnOk result ((es : List Effect) → StandsFor device.old es → Shows (done progress.old (Sync target ∷ es)) progress.new device.new) }
+{
+    sync(device, Name::Target)?;
+    finish(progress, device);
+    Ok(())
+}
+
+/// The names last.
+fn sync_dir(variant: Variant, progress: &mut Progress<'_>, device: &mut FileDevice)
+    ensures { (es : List Effect) → StandsFor device.old es → Shows (after_sync_dir variant progress.old (SyncDir ∷ es)) progress.new device.new }
+{
+    device.sync_dir();
+    match variant {
+        Variant::LateSync => progress.go_to(Stage::SyncingLate),
+        Variant::Sound => finish(progress, device),
+        Variant::IgnoreSync => finish(progress, device),
+        Variant::RetryWrite => finish(progress, device),
+    }
+}
+
+/// Appends the first half of a chunk to `tmp`.
+fn write_half(device: &mut FileDevice, chunk: &Text) -> Result<(), AllocError>
+    requires { is_none (entry_at device.old.names tmp).live ≡ false }
+    ensures { OnOk result ((es : List Effect) → StandsFor device.old es → StandsFor device.new (Append tmp (half chunk.now) ∷ es)) }
+{
+    let bytes = chunk.as_str().as_bytes();
+    append(device, Name::Tmp, &bytes[..bytes.len() / 2])
+}
+
+/// Does the step that was asked for.
+pub fn go(
+    variant: Variant,
+    progress: &mut Progress<'_>,
+    device: &mut FileDevice,
+) -> Result<(), AllocError>
+    requires { IsReadyOn progress.old.step device.old.names }
+    ensures { OnOk result ((es : List Effect) → StandsFor device.old es → Shows (on_go variant progress.old es progress.old.step) progress.new device.new) }
+{
+    match progress.stage() {
+        Stage::Clearing(chunks) => {
+            unlink(device, Name::Tmp)?;
+            progress.go_to(Stage::Creating(chunks));
+        }
+        Stage::Creating(chunks) => {
+            create(device, Name::Tmp)?;
+            progress.go_to(write_stage(variant, chunks));
+        }
+        Stage::Writing(chunk, chunks) | Stage::WritingAgain(chunk, chunks) => {
+            append(device, Name::Tmp, chunk.as_str().as_bytes())?;
+            progress.go_to(write_stage(variant, chunks));
+        }
+        Stage::Syncing => {
+            sync(device, Name::Tmp)?;
+            progress.go_to(Stage::Renaming);
+        }
+        Stage::Renaming => {
+            rename(device)?;
+            progress.go_to(Stage::SyncingDir);
+        }
+        Stage::SyncingDir => sync_dir(variant, progress, device),
+        Stage::SyncingLate => finish_late(progress, device)?,
+        Stage::Cleaning => clean(progress, device)?,
+        Stage::Over => progress.go_to(Stage::Over),
+    }
+    Ok(())
+}
+
+/// Does what follows where the step that was asked for fails.
+pub fn fail(
+    variant: Variant,
+    progress: &mut Progress<'_>,
+    device: &mut FileDevice,
+) -> Result<(), AllocError>
+    requires { IsReadyOn progress.old.step device.old.names }
+    ensures { OnOk result ((es : List Effect) → StandsFor device.old es → Shows (on_return variant progress.old es progress.old.step) progress.new device.new) }
+{
+    match progress.stage() {
+        Stage::Writing(chunk, chunks) => {
+            write_half(device, chunk)?;
+            progress.go_to(half_stage(variant, chunk, chunks));
+        }
+        Stage::WritingAgain(chunk, _) => {
+            write_half(device, chunk)?;
+            progress.go_to(Stage::Cleaning);
+        }
+        Stage::Syncing => progress.go_to(no_sync_stage(variant)),
+        Stage::Renaming => progress.go_to(Stage::Cleaning),
+        Stage::Clearing(_)
+        | Stage::Creating(_)
+        | Stage::SyncingDir
+        | Stage::SyncingLate
+        | Stage::Cleaning => next(progress, device),
+        Stage::Over => progress.go_to(Stage::Over),
+    }
+    Ok(())
+}
+
+/// Makes `target` hold the old contents, and both last.
+pub fn prepare(device: &mut FileDevice, old: &Text) -> Result<(), AllocError>
+    ensures { OnOk result (StandsFor device.new (prepared old.now)) }
+{
+    device.clear();
+    create(device, Name::Target)?;
+    append(device, Name::Target, old.as_str().as_bytes())?;
+    sync(device, Name::Target)?;
+    device.sync_dir();
+    Ok(())
+}

@@ -1,0 +1,12 @@
+/// How a replacement goes about its steps.
+#[derive(Clone, Copy, Debug, PartialEq, Eq)]
+pub enum Variant {
+    /// Write, sync, rename, sync the directory: nothing is acknowledged before all of it lasts.
+    Sound,
+    /// The file is synced only after it was renamed and the directory was synced.
+    LateSync,
+    /// A sync that fails is taken for one that went well.
+    IgnoreSync,
+    /// A chunk whose write fails is written once more, after the half that is there already.
+    RetryWrite,
+}
