@@ -1,5 +1,5 @@
 -- Scenarios kept: all faults, how many, and a part of what was kept.
-use Rattle.std.proofs.Common.{◌≡◌, ℕ, zero, suc, ◌+◌, ◌<◌, ◌≤◌, List, [], ◌∷◌, Bool, true, false, cond, ◌&&◌, length, refl, ap, sym, ◌∙◌, arith, add-one}
+use Rattle.std.proofs.Common.{◌≡◌, ℕ, ◌+◌, ◌<◌, ◌≤◌, List, [], ◌∷◌, Bool, true, false, cond, ◌&&◌, length, refl, ap, sym, ◌∙◌, arith}
 use Rattle.std.specs.Prelude.{remove}
 use Rattle.std.specs.List.{AllByRecursion, range_with_len}
 use Rattle.scenario_values.specs.declared.term.Term.{Term}
@@ -62,9 +62,10 @@ step_case : (set own last : List ℕ) (n : ℕ) (t : Term) (b c : Bool) → is_o
 step_case set own last n t true c e f a p = (ap (λ b. cond b t (cond (holds own (rank set n)) t (switched_off t))) e, ap (λ b. cond b (rank set n) (rank set n + 1)) e)
 step_case set own last n t false true e f a p =
     let same : holds last n ≡ holds own (rank set n) = p n ∙ ap (λ b. b && holds own (rank set n)) f in
-    let more : rank set n + 1 ≡ rank set (n + 1) = omega (arith, rank_present n set a f) in
-    (ap (λ b. cond b t (cond (holds own (rank set n)) t (switched_off t))) e ∙ ap (λ b. cond b t (switched_off t)) (sym same),
-     ap (λ b. cond b (rank set n) (rank set n + 1)) e ∙ more)
+    let more : rank set n + 1 ≡ rank set (n + 1) = omega (arith, rank_present n set a f) in (
+      ap (λ b. cond b t (cond (holds own (rank set n)) t (switched_off t))) e ∙ ap (λ b. cond b t (switched_off t)) (sym same),
+      ap (λ b. cond b (rank set n) (rank set n + 1)) e ∙ more,
+    )
 step_case set own last n t false false e f a p =
     let none : holds last n ≡ false = p n ∙ ap (λ b. b && holds own (rank set n)) f in
     (ap (λ b. cond b t (switched_off t)) (sym none), sym (rank_absent n set f))
@@ -76,9 +77,10 @@ again_chain set own last n [] a p = (refl, refl)
 again_chain set own last n (t ∷ ts) a p =
     let step = step_case set own last n t (is_off t.task) (holds set n) refl refl a p in
     let rest = again_chain set own last (after_term n t) ts a p in
-    let more = kept_chain set (after_term n t) ts in
-    (ap (λ u. u ∷ kept_chain own (after_term (rank set n) (kept_term set n t)) more) step.0 ∙ ap (λ m. kept_term last n t ∷ kept_chain own m more) step.1 ∙ ap (λ l. kept_term last n t ∷ l) rest.0,
-     ap (λ m. after_chain m more) step.1 ∙ rest.1)
+    let more = kept_chain set (after_term n t) ts in (
+      ap (λ u. u ∷ kept_chain own (after_term (rank set n) (kept_term set n t)) more) step.0 ∙ ap (λ m. kept_term last n t ∷ kept_chain own m more) step.1 ∙ ap (λ l. kept_term last n t ∷ l) rest.0,
+      ap (λ m. after_chain m more) step.1 ∙ rest.1,
+    )
 
 again_from : (set own last : List ℕ) (n : ℕ) (es : Entries) → Ascends set → Parts set own last → kept_from own (rank set n) (kept_from set n es) ≡ kept_from last n es
 unfolding kept_from

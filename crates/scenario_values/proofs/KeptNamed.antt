@@ -1,5 +1,5 @@
 -- The faults of a scenario by their names and terms: those at its places, and those that are kept.
-use Rattle.std.proofs.Common.{◌≡◌, ℕ, zero, suc, ◌+◌, ◌<◌, ◌≤◌, List, [], ◌∷◌, ◌++◌, Bool, true, false, cond, nat_lt, length, map, filter, Option, Some, None, option_map, refl, ap, sym, ◌∙◌, arith, subst, append_assoc, length-append}
+use Rattle.std.proofs.Common.{◌≡◌, ℕ, ◌+◌, ◌<◌, List, [], ◌∷◌, ◌++◌, Bool, true, false, cond, length, map, Some, option_map, refl, ap, sym, ◌∙◌, arith, subst, append_assoc, length-append}
 use Rattle.std.specs.Prelude.{nat_le, slice_get, option_and_then}
 use Rattle.std.specs.List.{AllByRecursion}
 use Rattle.std.proofs.lemmas.Bool.Decides.{nat_tests}
@@ -8,7 +8,7 @@ use Rattle.scenario_values.specs.declared.term.Term.{Term}
 use Rattle.scenario_values.specs.declared.place.Place.{Place}
 use Rattle.scenario_values.specs.Scenario.{Entries, is_off, faults_in, all_faults}
 use Rattle.scenario_values.specs.Faults.{chain_faults, faults_from, faults, chain_named, named_faults, fault_at}
-use Rattle.scenario_values.specs.Keep.{holds, are_faults, switched_off, kept_term, after_term, kept_chain, after_chain, kept_from, kept}
+use Rattle.scenario_values.specs.Keep.{holds, are_faults, switched_off, after_term, kept_chain, after_chain, kept_from, kept}
 use Rattle.scenario_values.specs.Walks.{Ascends}
 use Rattle.scenario_values.proofs.Walking.{from, from_absent, from_present, walk_starts, ascends_from}
 use Rattle.scenario_values.proofs.Sets.{within}

@@ -1,5 +1,5 @@
 -- Where the faults of a tidied scenario come from.
-use Rattle.std.proofs.Common.{◌≡◌, ℕ, zero, suc, ◌+◌, ◌-◌, ◌<◌, ◌≤◌, List, [], ◌∷◌, ◌++◌, Bool, true, false, cond, not, eqb, ◌&&◌, ◌||◌, nat_lt, length, map, take, filter, get_or, Option, Some, None, refl, ap, sym, ◌∙◌, arith, subst, append_assoc, length-append}
+use Rattle.std.proofs.Common.{◌≡◌, ℕ, zero, suc, ◌+◌, ◌-◌, ◌<◌, ◌≤◌, List, [], ◌∷◌, ◌++◌, Bool, true, false, cond, not, eqb, ◌&&◌, ◌||◌, nat_lt, length, map, take, get_or, Option, Some, None, refl, ap, sym, ◌∙◌, arith, subst, append_assoc, length-append}
 use Rattle.std.specs.Prelude.{slice_get, slice_index, remove}
 use Rattle.std.specs.List.{AllByRecursion, range_with_len, suffix_len, position_or_len}
 use Rattle.std.proofs.lemmas.Bool.Decides.{nat_tests}
@@ -12,11 +12,11 @@ use Rattle.scenario_values.specs.Scenario.{Entries, is_off, faults_in, all_fault
 use Rattle.scenario_values.specs.declared.place.Place.{Place}
 use Rattle.scenario_values.specs.Faults.{chain_faults, faults_from as faults_by, faults, chain_named, named_faults}
 use Rattle.scenario_values.specs.Keep.{holds, ascend_from, are_faults, members_at, after_term, after_chain}
-use Rattle.scenario_values.specs.Tidied.{is_used, is_live, is_idle, is_endless, joined_counts, joint, join_by, with_count, joined_onto, joined, without_used, up_to_endless, without_idle_end, tidied_chain, tidied, put}
+use Rattle.scenario_values.specs.Tidied.{is_used, is_idle, is_endless, joined_counts, joint, join_by, with_count, joined_onto, joined, without_used, up_to_endless, without_idle_end, tidied_chain, tidied, put}
 use Rattle.scenario_values.specs.Origins.{number_of, left_numbers, all_left_numbers, origins, SameFaults}
 use Rattle.scenario_values.specs.Walks.{Ascends}
 use Rattle.scenario_values.proofs.Walking.{both, ascends_from, absent}
-use Rattle.scenario_values.proofs.Sets.{rank, member_is, holds_members, holds_range, faults_from, from_lower, within, weaker, range_ascends_above}
+use Rattle.scenario_values.proofs.Sets.{rank, member_is, holds_members, holds_range, faults_from, from_lower, within, range_ascends_above}
 use Rattle.scenario_values.proofs.KeptAgain.{after_is}
 
 -- ---- joining terms, and dropping idle ones, leaves the faults
@@ -222,9 +222,10 @@ origins_are_faults s = all_ascend 0 (all_faults s) s (omega arith)
 same_from : (set own : List ℕ) (m : ℕ) (ns : List ℕ) → ((j : ℕ) → j < length ns → holds set (slice_index ns j) ≡ holds own (m + j)) → SameFaults set own m ns
 same_from set own m [] h = tt
 same_from set own m (n ∷ ns) h =
-    let here : m + 0 ≡ m = omega arith in
-    (h 0 (omega arith) ∙ ap (holds own) here,
-     same_from set own (m + 1) ns (λ j l. let next : m + suc j ≡ (m + 1) + j = omega arith in h (suc j) (omega arith) ∙ ap (holds own) next))
+    let here : m + 0 ≡ m = omega arith in (
+      h 0 (omega arith) ∙ ap (holds own) here,
+      same_from set own (m + 1) ns (λ j l. let next : m + suc j ≡ (m + 1) + j = omega arith in h (suc j) (omega arith) ∙ ap (holds own) next),
+    )
 
 self_equal : (k : ℕ) → eqb k k ≡ true
 self_equal k = grind (arith, nat_tests)
@@ -243,10 +244,10 @@ pub same_members : (n : ℕ) (ns own : List ℕ) → are_faults n ns ≡ true �
 same_members n ns own e w =
     let a = ascends_from 0 n ns e in
     same_from (members_at ns own) own 0 ns (λ j l.
-        let k = slice_index ns j in
-        let p = member_parts ns j a l in
-        let zero_up : 0 + j ≡ j = omega arith in
-        holds_members k ns own a w ∙ ap (λ b. b && holds own (rank ns k)) p.0 ∙ ap (holds own) (p.1 ∙ sym zero_up))
+    let k = slice_index ns j in
+    let p = member_parts ns j a l in
+    let zero_up : 0 + j ≡ j = omega arith in
+    holds_members k ns own a w ∙ ap (λ b. b && holds own (rank ns k)) p.0 ∙ ap (holds own) (p.1 ∙ sym zero_up))
 
 equal_case : (a k j n : ℕ) (b : Bool) → eqb a k ≡ b → a ≤ k → k < a + suc n → (a + 1 ≤ k → holds (remove (range_with_len (a + 1) n) j) k ≡ not (eqb k ((a + 1) + j)))
     → (b || holds (remove (range_with_len (a + 1) n) j) k) ≡ not (eqb k (a + suc j))
@@ -272,15 +273,15 @@ same_without n ns i e h =
     let a = ascends_from 0 n ns e in
     let w = within 0 n ns e in
     same_from (remove (range_with_len 0 n) (slice_index ns i)) (remove (range_with_len 0 (length ns)) i) 0 ns (λ j l.
-        let k = slice_index ns j in
-        let o = slice_index ns i in
-        let p = member_parts ns i a h in
-        let mine : eqb k o ≡ eqb j i = member_is o j ns a l ∙ ap (λ b. b && eqb j (rank ns o)) p.0 ∙ ap (eqb j) p.1 in
-        let zero_o : 0 + o ≡ o = omega arith in
-        let zero_i : 0 + i ≡ i = omega arith in
-        let zero_j : 0 + j ≡ j = omega arith in
-        holds_without 0 n o k (omega arith) (omega (arith, member_below n ns j w l)) ∙ ap (λ x. not (eqb k x)) zero_o ∙ ap not mine
-        ∙ sym (holds_without 0 (length ns) i (0 + j) (omega arith) (omega arith) ∙ ap (λ x. not (eqb (0 + j) x)) zero_i ∙ ap (λ x. not (eqb x i)) zero_j))
+    let k = slice_index ns j in
+    let o = slice_index ns i in
+    let p = member_parts ns i a h in
+    let mine : eqb k o ≡ eqb j i = member_is o j ns a l ∙ ap (λ b. b && eqb j (rank ns o)) p.0 ∙ ap (eqb j) p.1 in
+    let zero_o : 0 + o ≡ o = omega arith in
+    let zero_i : 0 + i ≡ i = omega arith in
+    let zero_j : 0 + j ≡ j = omega arith in
+    holds_without 0 n o k (omega arith) (omega (arith, member_below n ns j w l)) ∙ ap (λ x. not (eqb k x)) zero_o ∙ ap not mine
+    ∙ sym (holds_without 0 (length ns) i (0 + j) (omega arith) (omega arith) ∙ ap (λ x. not (eqb (0 + j) x)) zero_i ∙ ap (λ x. not (eqb x i)) zero_j))
 
 -- without fault i of the tidied scenario, and without its origin in the scenario
 pub origins_without : (s : Entries) (i : ℕ) → i < all_faults (tidied s)
@@ -312,3 +313,24 @@ places_from entry (e ∷ es) = omega (arith, length-append (chain_faults entry 0
 
 pub count_places : (s : Entries) → length (faults s) ≡ all_faults s
 count_places s = places_from 0 s
+
+apart_case : (ns : List ℕ) (k j : ℕ) (b : Bool) → eqb k j ≡ b → holds ns k ≡ true → holds ns j ≡ false → b ≡ false
+apart_case ns k j true e h f = let same : k ≡ j = equal_is k j e in sym (sym f ∙ ap (holds ns) (sym same) ∙ h)
+apart_case ns k j false e h f = refl
+
+-- all faults but one that is dropped are all faults of the tidied scenario
+pub origins_dropped : (s : Entries) (j : ℕ) → holds (origins s) j ≡ false → SameFaults (remove (range_with_len 0 (all_faults s)) j) (range_with_len 0 (all_faults (tidied s))) 0 (origins s)
+origins_dropped s j f =
+    let ns = origins s in
+    let n = all_faults s in
+    let e = origins_are_faults s in
+    let a = ascends_from 0 n ns e in
+    same_from (remove (range_with_len 0 n) j) (range_with_len 0 (all_faults (tidied s))) 0 ns (λ i l.
+    let k = slice_index ns i in
+    let zero_j : 0 + j ≡ j = omega arith in
+    let apart : eqb k j ≡ false = apart_case ns k j (eqb k j) refl (member_parts ns i a l).0 f in
+    holds_without 0 n j k (omega arith) (omega (arith, member_below n ns i (within 0 n ns e) l)) ∙ ap (λ x. not (eqb k x)) zero_j ∙ ap not apart
+    ∙ sym (holds_range 0 (all_faults (tidied s)) (0 + i) (omega arith) (omega (arith, l, origins_count s))))
+
+pub origins_inside : (s : Entries) (i : ℕ) → i < all_faults (tidied s) → slice_index (origins s) i < all_faults s
+origins_inside s i h = member_below (all_faults s) (origins s) i (within 0 (all_faults s) (origins s) (origins_are_faults s)) (omega (arith, h, origins_count s))

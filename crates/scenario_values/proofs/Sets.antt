@@ -1,11 +1,11 @@
 -- Sets of numbers, and how many of their members are below a number.
-use Rattle.std.proofs.Common.{◌≡◌, ℕ, zero, suc, ◌+◌, ◌-◌, ◌<◌, ◌≤◌, List, [], ◌∷◌, ◌++◌, Bool, true, false, cond, not, eqb, ◌&&◌, ◌||◌, length, map, take, drop, get_or, nat_lt, refl, ap, sym, ◌∙◌, arith, subst, ◌⊎◌, inl, inr, add-zero}
+use Rattle.std.proofs.Common.{◌≡◌, ℕ, zero, suc, ◌+◌, ◌<◌, ◌≤◌, List, [], ◌∷◌, Bool, true, false, cond, eqb, ◌&&◌, ◌||◌, length, map, get_or, nat_lt, refl, ap, sym, ◌∙◌, arith, subst}
 use Rattle.std.specs.Prelude.{nat_le, remove, slice_index}
 use Rattle.std.specs.List.{AllByRecursion, range_with_len}
 use Rattle.std.proofs.lemmas.Bool.Decides.{nat_tests}
 use Rattle.scenario_values.specs.Keep.{holds, ascend_from, are_faults, members_at}
 use Rattle.scenario_values.specs.Walks.{Ascends}
-use Rattle.scenario_values.proofs.Walking.{both, ascends_from, absent, below}
+use Rattle.scenario_values.proofs.Walking.{both, absent, below}
 
 -- how many of these are below k
 abbrev pub rank : List ℕ → ℕ → ℕ

@@ -1,10 +1,10 @@
 -- Walks over the numbers of faults, along an ascending set.
-use Rattle.std.proofs.Common.{◌≡◌, ℕ, zero, suc, ◌+◌, ◌<◌, ◌≤◌, ◌^◌, List, [], ◌∷◌, Bool, true, false, cond, eqb, leb, ◌&&◌, ◌||◌, length, drop, filter, get_or, nat_lt, refl, ap, sym, ◌∙◌, arith, subst, add-one, drop-cons}
+use Rattle.std.proofs.Common.{◌≡◌, ℕ, zero, suc, ◌+◌, ◌<◌, ◌≤◌, List, [], ◌∷◌, Bool, true, false, cond, eqb, ◌&&◌, ◌||◌, length, drop, filter, get_or, nat_lt, refl, ap, sym, ◌∙◌, arith, subst, drop-cons}
 use Rattle.std.specs.Prelude.{nat_le}
 use Rattle.std.specs.List.{AllByRecursion}
 use Rattle.std.proofs.lemmas.List.{drop_all}
 use Rattle.std.proofs.lemmas.Bool.Decides.{nat_tests}
-use Rattle.scenario_values.specs.Keep.{holds, ascend_from, are_faults}
+use Rattle.scenario_values.specs.Keep.{holds, ascend_from}
 use Rattle.scenario_values.specs.Walks.{Ascends, StandsAt}
 
 -- the numbers of a set from one on

@@ -1,16 +1,16 @@
 -- What each term weighs, summed: how many terms and faults there are, and how long the printed form is. Keeping and tidying add no weight.
-use Rattle.std.proofs.Common.{◌≡◌, ℕ, codes, zero, suc, ◌+◌, ◌*◌, ◌/◌, ◌%◌, ◌^◌, ◌<◌, ◌≤◌, List, [], ◌∷◌, ◌++◌, Bool, true, false, cond, not, ◌&&◌, length, take, filter, nat_lt, eqb, Option, Some, None, refl, ap, sym, ◌∙◌, arith, subst, length-append}
+use Rattle.std.proofs.Common.{◌≡◌, ℕ, codes, zero, suc, ◌+◌, ◌%◌, ◌^◌, ◌<◌, ◌≤◌, List, [], ◌∷◌, ◌++◌, Bool, true, false, cond, ◌&&◌, length, take, filter, nat_lt, Option, Some, None, refl, ap, ◌∙◌, arith, length-append}
 use Rattle.std.specs.List.{flat_map}
 use Rattle.std.specs.Fmt.{decimal}
-use Rattle.std.proofs.lemmas.Fmt.{decimal_by_steps, decimal_nonempty, length-decimal-le}
+use Rattle.std.proofs.lemmas.Fmt.{decimal_by_steps, length-decimal-le}
 use Rattle.std.proofs.lemmas.Bool.Decides.{nat_tests}
 use Rattle.scenario_values.specs.declared.term.Term.{Term}
 use Rattle.scenario_values.specs.declared.term.Task.{Task}
 use Rattle.scenario_values.specs.declared.term.Task.TheVariants as task
 use Rattle.scenario_values.specs.Scenario.{Entries, is_off, fault_of, faults_in, all_faults}
 use Rattle.scenario_values.specs.Printed.{share_text, count_text, argument_text, task_text, term_text, chain_text, entry_text, printed}
-use Rattle.scenario_values.specs.Keep.{switched_off, holds, kept_term, after_term, kept_chain, after_chain, kept_from}
-use Rattle.scenario_values.specs.Tidied.{is_used, is_live, is_idle, joined_counts, joint, join_by, with_count, joined_onto, joined, without_used, up_to_endless, without_idle_end, tidied_chain, tidied, put}
+use Rattle.scenario_values.specs.Keep.{switched_off, holds, after_term, kept_chain, after_chain, kept_from}
+use Rattle.scenario_values.specs.Tidied.{is_live, is_idle, joined_counts, joint, join_by, with_count, joined_onto, joined, without_used, up_to_endless, without_idle_end, tidied_chain, tidied}
 
 abbrev pub weight : (Term → ℕ) → List Term → ℕ
 weight f [] = 0

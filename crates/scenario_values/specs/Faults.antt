@@ -1,4 +1,5 @@
--- The faults of a scenario: the places of the terms whose task isn't `off`, in order of entries and terms.
+-- The faults of a scenario: the places of the terms whose task isn't `off`, in order of entries and terms. That a fault is such a
+-- place is this project's own rule.
 use Rattle.std.specs.Prelude.{ℕ, ◌+◌, List, [], ◌∷◌, ◌++◌, Option, option_map, option_and_then, slice_get, if◌then◌else◌}
 use Rattle.scenario_values.specs.declared.term.Term.{Term}
 use Rattle.scenario_values.specs.declared.place.Place.{Place}

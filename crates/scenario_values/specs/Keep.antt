@@ -1,4 +1,5 @@
--- A scenario with some of its faults: the task of each other fault is turned to `off`, its share and count stay.
+-- A scenario with some of its faults: the task of each other fault is turned to `off`, its share and count stay, so that later terms
+-- draw the same words. This project's own rule.
 use Rattle.std.specs.Prelude.{ℕ, ◌+◌, List, [], ◌∷◌, ◌==◌, Bool, true, ◌&&◌, nat_lt, nat_le, map, slice_index, if◌then◌else◌}
 use Rattle.std.specs.List.{list_any}
 use Rattle.scenario_values.specs.declared.term.Term.{Term}

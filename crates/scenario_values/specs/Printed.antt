@@ -1,5 +1,5 @@
 -- The printed form of a scenario.
-use Rattle.std.specs.Prelude.{◌≡◌, ℕ, zero, suc, ◌+◌, ◌^◌, ◌/◌, ◌%◌, List, [], ◌∷◌, ◌++◌, Bool, true, false, ◌≤◌, IfSome, ◌==◌, Option, Some, None, nat_lt, if◌then◌else◌, codes}
+use Rattle.std.specs.Prelude.{ℕ, zero, suc, ◌^◌, ◌/◌, ◌%◌, List, [], ◌∷◌, ◌++◌, ◌==◌, Option, Some, None, nat_lt, if◌then◌else◌, codes}
 use Rattle.std.specs.Fmt.{decimal}
 use Rattle.std.specs.List.{flat_map}
 use Rattle.scenario_values.specs.declared.term.Term.{Term}

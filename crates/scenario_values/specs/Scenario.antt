@@ -1,5 +1,5 @@
 -- What contracts see of a scenario: its entries in order, each a name and a chain of terms (the FAILPOINTS variable of fail-rs).
-use Rattle.std.specs.Prelude.{◌≡◌, ℕ, ◌+◌, ◌<◌, ◌≤◌, suc, List, [], ◌∷◌, Option, Some, None, option_map, slice_get, Bool, true, false, ◌&&◌, not, nat_lt, nat_le, length, if◌then◌else◌}
+use Rattle.std.specs.Prelude.{◌≡◌, ℕ, ◌+◌, ◌<◌, ◌≤◌, suc, List, [], ◌∷◌, Option, Some, None, option_map, slice_get, Bool, true, false, ◌&&◌, nat_lt, nat_le, length, if◌then◌else◌}
 use Rattle.std.specs.List.{AllByRecursion}
 use Rattle.std.specs.Option.{option_map_or}
 use Rattle.std.specs.Str.{bytes_eq}
@@ -84,7 +84,7 @@ abbrev pub DistinctNames : Entries → Type 0
 DistinctNames [] = Unit {0}
 DistinctNames (e ∷ es) = New e.0 es × DistinctNames es
 
--- what each scenario keeps: at most 256 entries, 1 to 256 terms a chain, 1024 faults, and 65536 bytes of printed form
+-- what each scenario keeps, by this project's own limits: at most 256 entries, 1 to 256 terms a chain, 1024 faults, and 65536 bytes of printed form
 pub record IsScenario (s : Entries) : Type 0 where
   pub few_entries : length s ≤ 256
   pub no_empty_chain : AllByRecursion (λ e. 0 < length e.1) s

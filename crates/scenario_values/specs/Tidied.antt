@@ -1,13 +1,12 @@
 -- A scenario tidied, by steps on whole chains: drop the terms of count 0; drop all that follows the first term with no count and
 -- share 1000000; join neighbouring `off` terms of share 1000000 whose counts fit together; drop such `off` terms at the end; then
--- drop entries without terms.
+-- drop entries without terms. This project's own rule; what a share and a count mean is from fail-rs.
 use Rattle.std.specs.Prelude.{ℕ, ◌+◌, ◌-◌, List, [], ◌∷◌, Bool, true, false, ◌==◌, ◌&&◌, not, length, take, filter, Option, Some, None, nat_lt, if◌then◌else◌}
 use Rattle.std.specs.List.{suffix_len, position_or_len}
 use Rattle.std.specs.Str.{bytes_eq}
 use Rattle.indexmap.specs.IndexMap.{insert_entry}
 use Rattle.scenario_values.specs.declared.term.Term.{Term}
 use Rattle.scenario_values.specs.Scenario.{Entries, is_off}
-
 
 abbrev pub is_used : Option ℕ → Bool
 is_used None = false

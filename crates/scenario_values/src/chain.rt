@@ -1,5 +1,9 @@
 //! A list of terms that contracts see as a list.
-ghost use Rattle.std.specs.Prelude.{◌≡◌, ◌++◌, ◌∷◌, [], IfOk, OnOk, OnErr, length, map};
+ghost use Rattle.std.specs.Prelude.{◌≡◌, IfOk};
+ghost use Rattle.std.specs.Cmp.Lexicographic.{pointwise, lists_per, lists_equiv};
+ghost use Rattle.scenario_values.specs.contracts.term.TermPartialEq.TheImpl as term_eq;
+ghost use Rattle.scenario_values.specs.contracts.term.TermPartialEq.TheImpl.Laws as term_laws;
+ghost use Rattle.scenario_values.specs.contracts.term.TermEq.TheImpl.Laws as term_eq_laws;
 
 use crate::term::Term;
 use std::alloc::{AllocError, Global};
@@ -52,4 +56,18 @@ impl Chain {
         }
         Ok(Chain { terms })
     }
+}
+
+impl PartialEq for Chain {
+    ghost eq = { pointwise (term_eq.ghosts).eq };
+
+    ghost laws = { lists_per (term_laws.laws-law) };
+
+    fn eq(&self, other: &Chain) -> bool {
+        self.terms == other.terms
+    }
+}
+
+impl Eq for Chain {
+    ghost laws = { lists_equiv (term_eq_laws.laws-law) };
 }

@@ -1,5 +1,5 @@
 //! Scenarios with fewer faults.
-ghost use Rattle.std.specs.Prelude.{◌≡◌, true, IsTrue, ◌+◌, ◌*◌, ◌<◌, ◌≤◌, ◌^◌, IfOk, OnOk, length};
+ghost use Rattle.std.specs.Prelude.{◌≡◌, ◌+◌, ◌<◌, ◌≤◌, ◌^◌, true, IsTrue, IfOk, length};
 ghost use Rattle.scenario_values.specs.Scenario.{IsScenario, entries_of, all_faults};
 ghost use Rattle.scenario_values.specs.Walks.{Ascends, StandsAt};
 ghost use Rattle.scenario_values.specs.Keep.{holds, are_faults, kept_term, after_term, kept_chain, after_chain, kept};
@@ -104,7 +104,10 @@ fn kept_entries(
     ensures { IfOk result (λ m. m.entries ≡ entries_of (kept set.now from.now.entries)) }
 {
     let mut to = IndexMap::with_capacity(alloc, from.len())?;
-    let mut walk = Walk { number: 0, passed: 0 };
+    let mut walk = Walk {
+        number: 0,
+        passed: 0,
+    };
     for (name, chain) in from {
         let (terms, next) = keep_chain(alloc, set, walk, chain.terms())?;
         to.insert(name.try_clone()?, Chain::from_vec(terms))?;

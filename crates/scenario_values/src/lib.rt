@@ -16,7 +16,11 @@ mod tidying;
 pub use building::build;
 pub use chain::Chain;
 pub use keeping::{are_faults, keep};
-pub use laws::{faults_are_counted, faults_follow_their_origins, keeping_again_is_keeping_a_part, keeping_all_changes_nothing, kept_faults_are_the_faults, sets_of_faults, tidied_faults_have_origins};
+pub use laws::{
+    faults_are_counted, faults_follow_their_origins, keeping_again_is_keeping_a_part,
+    keeping_all_changes_nothing, kept_faults_are_the_faults, sets_of_faults,
+    tidied_faults_have_origins,
+};
 pub use numbering::faults;
 pub use place::Place;
 pub use scenario::Scenario;

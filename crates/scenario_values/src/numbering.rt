@@ -1,7 +1,6 @@
 //! The faults of a scenario, in their order.
-ghost use Rattle.std.specs.Prelude.{◌≡◌, ◌+◌, ◌<◌, ◌≤◌, ◌^◌, ◌++◌, IfOk, OnOk, length};
-ghost use Rattle.scenario_values.specs.Scenario.{IsScenario};
-ghost use Rattle.scenario_values.specs.Faults.{place_of, chain_faults, faults_from, faults};
+ghost use Rattle.std.specs.Prelude.{◌≡◌, ◌<◌, ◌^◌, ◌++◌, IfOk, OnOk, length};
+ghost use Rattle.scenario_values.specs.Faults.{place_of, chain_faults, faults};
 
 use crate::place::Place;
 use crate::scenario::Scenario;

@@ -1,7 +1,14 @@
 //! Scenarios: the FAILPOINTS variable of fail-rs, as a value.
-ghost use Rattle.std.specs.Prelude.{◌≡◌, IfOk, OnOk};
-ghost use Rattle.std.specs.Prelude.{length, ◌<◌};
+ghost use Rattle.std.specs.Prelude.{◌≡◌, ◌<◌, ◌↔◌, IsTrue, length};
 ghost use Rattle.scenario_values.specs.Scenario.{IsScenario, chain_at, entry_of};
+ghost use Rattle.std.proofs.Common.{rules};
+ghost use Rattle.std.specs.Cmp.Rules.{comparing};
+ghost use Rattle.std.specs.Cmp.Lexicographic.{pointwise, lists_per, lists_equiv};
+ghost use Rattle.std.specs.Ordering.{on, eq_of_both};
+ghost use Rattle.std.specs.Str.{bytes_eq};
+ghost use Rattle.scenario_values.specs.contracts.chain.ChainPartialEq.TheImpl as chain_eq;
+ghost use Rattle.scenario_values.specs.contracts.chain.ChainPartialEq.TheImpl.Laws as chain_laws;
+ghost use Rattle.scenario_values.specs.contracts.chain.ChainEq.TheImpl.Laws as chain_eq_laws;
 
 use crate::chain::Chain;
 use crate::found::find_entry;
@@ -52,6 +59,13 @@ impl Scenario {
         self.entries.len()
     }
 
+    /// Whether there is no entry.
+    pub fn is_empty(&self) -> bool
+        ensures { IsTrue result ↔ (length self.now ≡ 0) }
+    {
+        self.entries.is_empty()
+    }
+
     /// The chain of the entry of a number, in the entries' order.
     pub fn chain(&self, entry: usize) -> &[Term]
         requires { entry < length self.now }
@@ -69,4 +83,19 @@ impl Scenario {
     {
         find_entry(&self.entries, name)
     }
+}
+
+/// Equal entries in the same order.
+impl PartialEq for Scenario {
+    ghost eq = { pointwise (eq_of_both (on (λ e. e.0) bytes_eq) (on (λ e. e.1) (chain_eq.ghosts).eq)) };
+
+    ghost laws = { lists_per (Prim.search (comparing, rules, chain_laws.laws-law)) };
+
+    fn eq(&self, other: &Scenario) -> bool {
+        self.entries.as_slice() == other.entries.as_slice()
+    }
+}
+
+impl Eq for Scenario {
+    ghost laws = { lists_equiv (Prim.search (comparing, rules, chain_eq_laws.laws-law)) };
 }

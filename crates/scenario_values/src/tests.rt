@@ -19,7 +19,9 @@ fn one_panic(rt: HostRuntime) -> Result<(), Fail> {
     assert_eq!(rt; places.len(), 1);
     assert_eq!(rt; places[0], Place { entry: 0, term: 0 });
 
+    assert!(rt; keep(alloc, &built, &[0])? == built);
     let clean = keep(alloc, &built, &[])?;
+    assert!(rt; clean != built);
     assert_eq!(rt; clean.len(), 1);
     assert_eq!(rt; faults(alloc, &clean)?.len(), 0);
     assert_eq!(rt; tidy(alloc, &clean)?.len(), 0);

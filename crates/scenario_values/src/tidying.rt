@@ -1,6 +1,5 @@
 //! Scenarios without what can't act.
-ghost use Rattle.std.specs.Prelude.{◌≡◌, ◌+◌, ◌-◌, ◌<◌, ◌≤◌, ◌++◌, ◌∷◌, List, IfOk, OnOk, length, filter, take, position};
-ghost use Rattle.std.specs.List.{suffix_len, position_or_len};
+ghost use Rattle.std.specs.Prelude.{◌≡◌, ◌++◌, ◌∷◌, List, IfOk, OnOk, position};
 ghost use Rattle.scenario_values.specs.declared.term.Term.{Term};
 ghost use Rattle.scenario_values.specs.Scenario.{entries_of};
 ghost use Rattle.scenario_values.specs.Tidied.{is_live, is_endless, is_idle, joint, joined_onto, joined, without_used, up_to_endless, without_idle_end, tidied_chain, tidied, with_entry};
@@ -133,11 +132,7 @@ fn tidy_chain(alloc: Global, chain: &Chain) -> Result<Chain, AllocError>
 }
 
 /// Puts an entry in, if its chain has a term.
-fn put_entry(
-    to: &mut IndexMap<Text, Chain>,
-    name: &Text,
-    chain: Chain,
-) -> Result<(), AllocError>
+fn put_entry(to: &mut IndexMap<Text, Chain>, name: &Text, chain: Chain) -> Result<(), AllocError>
     ensures { OnOk result (to.new.entries ≡ with_entry to.old.entries name.now chain) }
 {
     if chain.terms().len() > 0 {

@@ -1,5 +1,3 @@
-use Rattle.std.proofs.Common.{◌≡◌, ◌+◌, ◌≤◌, length, option_map}
-use Rattle.scenario_values.specs.Scenario.{entry_of}
 use Rattle.scenario_values.proofs.Finding.{Seeking}
 use Rattle.scenario_values.proofs.found.find_entry.Given as goal
 

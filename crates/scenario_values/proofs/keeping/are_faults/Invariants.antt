@@ -1,4 +1,4 @@
-use Rattle.std.proofs.Common.{◌≡◌, drop, ◌≤◌}
+use Rattle.std.proofs.Common.{◌≡◌, drop}
 use Rattle.scenario_values.specs.Keep.{ascend_from, are_faults}
 use Rattle.scenario_values.proofs.keeping.are_faults.Given as goal
 

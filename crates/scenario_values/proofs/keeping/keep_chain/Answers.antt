@@ -1,4 +1,4 @@
-use Rattle.std.proofs.Common.{arith, drop, ◌+◌, ◌≤◌}
+use Rattle.std.proofs.Common.{arith, drop, ◌+◌}
 use Rattle.std.proofs.lemmas.List.{drop_all}
 use Rattle.scenario_values.proofs.Chains.{rest_is, kept_goes_on, after_goes_on, kept_done, after_done}
 use Rattle.scenario_values.proofs.keeping.keep_chain.Goals as goal

@@ -5,7 +5,7 @@ use Rattle.std.proofs.Common.{ap, ◌∙◌}
 use Rattle.std.specs.Str.{bytes_eq}
 use Rattle.indexmap.specs.IndexMap.{insert_entry}
 use Rattle.scenario_values.specs.Keep.{kept_chain, after_chain}
-use Rattle.scenario_values.proofs.Limits.{walk_begins, keeping_goes_on, keeping_is_done, room_for}
+use Rattle.scenario_values.proofs.Limits.{walk_begins, keeping_goes_on, keeping_is_done}
 use Rattle.scenario_values.proofs.keeping.kept_entries.Goals as goal
 
 pub loop-name-preserved : goal.loop-name-preserved
@@ -15,7 +15,7 @@ loop-name-preserved c =
     let es = c.loop-name.to.entries in
     keeping_goes_on set es c.insert.new.self.entries _ c.loop-name.name-iterator c.next.new.self c.loop-name.walk.number c.loop-name.walk.passed c.in_ok-terms.next.number c.in_ok-terms.next.passed (c.in-Some.name.now, c.in-Some.chain.now) here
     (c.in_ok-insert.ensures.entries ∙ ap (λ n. insert_entry bytes_eq es n c.from_vec.result) c.in_ok-try_clone.ensures
-      ∙ ap (λ l. insert_entry bytes_eq es c.in-Some.name.now l) (c.from_vec.ensures ∙ c.in_ok-terms.ensures.kept ∙ ap (kept_chain set c.loop-name.walk.number) c.terms.ensures))
+    ∙ ap (λ l. insert_entry bytes_eq es c.in-Some.name.now l) (c.from_vec.ensures ∙ c.in_ok-terms.ensures.kept ∙ ap (kept_chain set c.loop-name.walk.number) c.terms.ensures))
     (c.in_ok-terms.ensures.number ∙ ap (after_chain c.loop-name.walk.number) c.terms.ensures)
     c.in_ok-terms.ensures.stands
     c.loop-name.invariant

@@ -1,4 +1,4 @@
-use Rattle.std.proofs.Common.{◌≡◌, ◌+◌, ◌++◌, ◌≤◌, length, drop}
+use Rattle.std.proofs.Common.{◌≡◌, ◌++◌, drop}
 use Rattle.scenario_values.specs.Faults.{chain_faults}
 use Rattle.scenario_values.proofs.numbering.push_faults.Given as goal
 

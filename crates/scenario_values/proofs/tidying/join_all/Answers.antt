@@ -1,6 +1,5 @@
-use Rattle.std.proofs.Common.{drop, ◌+◌, ap, sym, ◌∙◌, ◌++◌, ◌∷◌, []}
+use Rattle.std.proofs.Common.{drop, ◌+◌, sym, ◌∙◌}
 use Rattle.std.proofs.lemmas.List.{drop_all}
-use Rattle.scenario_values.specs.Tidied.{joined_onto}
 use Rattle.scenario_values.proofs.Chains.{rest_is, joined_done}
 use Rattle.scenario_values.proofs.tidying.join_all.Goals as goal
 

@@ -1,4 +1,4 @@
-use Rattle.std.proofs.Common.{drop, ◌+◌, ap, sym, ◌∙◌, ◌++◌, ◌∷◌, [], refl}
+use Rattle.std.proofs.Common.{sym, refl}
 use Rattle.scenario_values.proofs.Chains.{joined_apart, joined_more}
 use Rattle.scenario_values.proofs.tidying.join_next.Goals as goal
 
