@@ -1,13 +1,13 @@
 -- What an exact reading says of the answers.
-use Rattle.std.proofs.Common.{◌≡◌, ℕ, List, Option, Some, None, Result, Ok, Err, refl, ap, sym, ◌∙◌, subst}
+use Rattle.std.proofs.Common.{◌≡◌, ℕ, List, None, Result, Ok, Err, refl, ap, subst}
 use Rattle.std.specs.Prelude.{IfOk, IfErr}
 use Rattle.std.specs.Result.{result_err}
 use Rattle.scenario_values.specs.declared.term.Term.{Term}
 use Rattle.scenario_grammar.specs.declared.fault.ScenarioFault.{ScenarioFault}
 use Rattle.scenario_grammar.specs.declared.fault.ScenarioFault.TheVariants as faults
-use Rattle.scenario_grammar.specs.FirstFault.{Fault, Reads, FailsAt, reading}
+use Rattle.scenario_grammar.specs.FirstFault.{Fault, Reads, reading}
 use Rattle.scenario_values.specs.Scenario.{Entries}
-use Rattle.scenario_grammar.specs.Spelling.{Spells, Writes, Within, IsScenarioText}
+use Rattle.scenario_grammar.specs.Spelling.{Spells, IsScenarioText}
 use Rattle.scenario_grammar.specs.FirstFault.{Tells, fault}
 use Rattle.scenario_values.specs.Scenario.{entries_of}
 use Rattle.scenario_grammar.proofs.TextSound.{text_gives}

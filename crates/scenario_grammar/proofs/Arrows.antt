@@ -1,5 +1,5 @@
 -- Texts cut at the arrows.
-use Rattle.std.proofs.Common.{◌≡◌, ◌≢◌, ℕ, zero, suc, ◌+◌, ◌<◌, ◌≤◌, List, [], ◌∷◌, ◌++◌, Bool, true, false, ◌&&◌, eqb, length, take, drop, arith, rules, refl, ap, ◌∙◌, sym, if◌then◌else◌, cond, append_assoc, not, take-append-drop}
+use Rattle.std.proofs.Common.{◌≡◌, ◌≢◌, ℕ, suc, ◌<◌, List, [], ◌∷◌, ◌++◌, Bool, true, false, ◌&&◌, eqb, length, take, drop, arith, refl, ap, ◌∙◌, sym, not, take-append-drop}
 use Rattle.std.specs.List.{onto_first}
 use Rattle.std.specs.Str.Pattern.{LacksTextAt, FindsText, SplitsAroundMatch}
 use Rattle.std.proofs.Common.{◌⊎◌, inl, inr, Option, Some, None, Bor}
@@ -7,7 +7,6 @@ use Rattle.std.specs.Option.{MatchOption}
 use Rattle.std.proofs.Common.{subst}
 use Rattle.std.proofs.lemmas.Str.Pattern.{split_text_parts}
 use Rattle.std.proofs.lemmas.Bool.Decides.{nat_tests}
-use Rattle.std.proofs.lemmas.Grind.{common_steps}
 use Rattle.std.specs.Bool.{MatchBool}
 use Rattle.std.specs.Str.Pattern.{HasMatch}
 use Rattle.scenario_values.specs.Words.{lacks_arrow}
@@ -25,10 +24,11 @@ NoArrowBelow n text = (i : ℕ) → i < n → LacksTextAt arrow text i
 not_both : (b c : ℕ) → (b ≡ 45 → c ≡ 62 → ⊥) → (eqb b 45 && eqb c 62) ≡ false
 not_both b c never = elim (decide b) [ inl p ↦ rw p (elim (decide62 c) [ inl q ↦ absurd (never p q) | inr q ↦ rw q refl ]) | inr p ↦ rw p refl ]
   where
-  decide : (b : ℕ) → (b ≡ 45) ⊎ (eqb b 45 ≡ false)
-  decide b = grind (arith, nat_tests)
-  decide62 : (b : ℕ) → (b ≡ 62) ⊎ (eqb b 62 ≡ false)
-  decide62 b = grind (arith, nat_tests)
+    decide : (b : ℕ) → (b ≡ 45) ⊎ (eqb b 45 ≡ false)
+    decide b = grind (arith, nat_tests)
+
+    decide62 : (b : ℕ) → (b ≡ 62) ⊎ (eqb b 62 ≡ false)
+    decide62 b = grind (arith, nat_tests)
 
 is_arrow : (b c : ℕ) (rest : List ℕ) → ((b ∷ c ∷ rest) ≢ arrow ++ rest) → (eqb b 45 && eqb c 62) ≡ false
 is_arrow b c rest lacks = not_both b c (λ p q. lacks (cc))
@@ -69,14 +69,15 @@ no_arrow (b ∷ c ∷ text) none =
 has_arrow : (text rest : List ℕ) (i : ℕ) → drop i text ≡ arrow ++ rest → lacks_arrow text ≡ false
 has_arrow text rest i at = by_test (lacks_arrow text) refl
   where
-  P : List ℕ → Type 0
-  P x = lacks_arrow x ≡ true
-  by_test : (t : Bool) → lacks_arrow text ≡ t → t ≡ false
-  by_test true is =
-      let whole : lacks_arrow (take i text ++ drop i text) ≡ true = subst P (sym (take-append-drop i text)) is in
-      let back : lacks_arrow (arrow ++ rest) ≡ true = subst P at (arrow_back (take i text) (drop i text) whole) in
-      absurd cc
-  by_test false is = refl
+    P : List ℕ → Type 0
+    P x = lacks_arrow x ≡ true
+
+    by_test : (t : Bool) → lacks_arrow text ≡ t → t ≡ false
+    by_test true is =
+        let whole : lacks_arrow (take i text ++ drop i text) ≡ true = subst P (sym (take-append-drop i text)) is in
+        let back : lacks_arrow (arrow ++ rest) ≡ true = subst P at (arrow_back (take i text) (drop i text) whole) in
+        absurd cc
+    by_test false is = refl
 
 -- what `contains` says of an arrow
 pub contains_arrow : (text : List ℕ) (found : Bool) → MatchBool found (HasMatch (FindsText arrow) text) (FindsText arrow text None) → not found ≡ lacks_arrow text

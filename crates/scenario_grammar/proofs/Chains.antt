@@ -1,5 +1,5 @@
 -- Reading a chain from some term on.
-use Rattle.std.proofs.Common.{◌≡◌, ℕ, ◌+◌, ◌<◌, ◌≤◌, List, [], ◌∷◌, ◌++◌, length, map, drop, get_or, refl, ap, sym, ◌∙◌, Result, Ok, Err, Bor, append_assoc, add-one, arith, drop-cons, suc}
+use Rattle.std.proofs.Common.{◌≡◌, ℕ, ◌+◌, ◌<◌, ◌≤◌, List, [], ◌∷◌, ◌++◌, length, map, drop, get_or, refl, ap, sym, ◌∙◌, Result, Ok, Err, Bor, append_assoc, add-one, drop-cons}
 use Rattle.std.proofs.lemmas.List.{append-nil, drop_all}
 use Rattle.scenario_values.specs.declared.term.Term.{Term}
 use Rattle.scenario_grammar.specs.declared.fault.ScenarioFault.{ScenarioFault}

@@ -1,10 +1,9 @@
 -- Texts cut at their first c.
-use Rattle.std.proofs.Common.{◌≡◌, ◌≢◌, ℕ, zero, suc, ◌+◌, ◌<◌, List, [], ◌∷◌, ◌++◌, Bool, true, false, ◌&&◌, not, eqb, length, get_or, Option, Some, None, Bor, refl, ap, sym, ◌∙◌, arith, rules, subst, ◌⊎◌, inl, inr, cond}
+use Rattle.std.proofs.Common.{◌≡◌, ◌≢◌, ℕ, suc, ◌<◌, List, [], ◌∷◌, ◌++◌, Bool, true, false, ◌&&◌, not, eqb, length, get_or, Option, Some, None, Bor, refl, ap, sym, ◌∙◌, arith, subst, cond}
 use Rattle.std.specs.Option.{unwrap_or}
 use Rattle.std.specs.List.{list_all}
-use Rattle.std.specs.Option.{option_map, MatchOption}
+use Rattle.std.specs.Option.{option_map}
 use Rattle.std.proofs.lemmas.Bool.Decides.{nat_tests}
-use Rattle.std.proofs.lemmas.Grind.{common_steps}
 use Rattle.std.proofs.lemmas.Str.Pattern.{IsSplitOnceResult, split_parts}
 use Rattle.scenario_grammar.specs.Words.{cut}
 use Rattle.scenario_values.specs.Words.{lacks}
@@ -38,8 +37,8 @@ pub lacks_by_index : (c : ℕ) (xs : List ℕ) → ((i : ℕ) → i < length xs 
 lacks_by_index c [] h = refl
 lacks_by_index c (b ∷ xs) h = and_both (not (eqb b c)) (lacks c xs) (differs b c (h 0 (omega arith))) (lacks_by_index c xs (λ i less. h (suc i) (omega arith)))
   where
-  differs : (b c : ℕ) → b ≢ c → not (eqb b c) ≡ true
-  differs b c h = grind (arith, nat_tests)
+    differs : (b c : ℕ) → b ≢ c → not (eqb b c) ≡ true
+    differs b c h = grind (arith, nat_tests)
 
 pub cut_lacks : (c : ℕ) (text : List ℕ) → lacks c text ≡ true → cut c text ≡ None
 cut_lacks c [] h = refl
@@ -64,17 +63,17 @@ pub cut_gives : (c : ℕ) (text front rest : List ℕ) → cut c text ≡ Some (
 cut_gives c [] front rest h = absurd (cc)
 cut_gives c (b ∷ text) front rest h = step b (eqb b c) (byte_is b c) (cut c text) (cut_gives c text) h
   where
-  step : (b : ℕ) (t : Bool) → (t ≡ true → b ≡ c) → (r : Option (List ℕ × List ℕ)) → ((f k : List ℕ) → r ≡ Some (f, k) → text ≡ f ++ (c ∷ k)) → cond {A = Option (List ℕ × List ℕ)} t (Some ([], text)) (option_map (λ parts. (b ∷ parts.0, parts.1)) r) ≡ Some (front, rest) → (b ∷ text) ≡ front ++ (c ∷ rest)
-  step b true is r ih h =
-      let e : b ≡ c = is refl in
-      let front_is : [] ≡ front = front_of ([], text) (front, rest) h in
-      let rest_is : text ≡ rest = rest_of ([], text) (front, rest) h in
-      ap (λ (x : ℕ). x ∷ text) e ∙ ap (λ (x : List ℕ). x ++ (c ∷ text)) front_is ∙ ap (λ (y : List ℕ). front ++ (c ∷ y)) rest_is
-  step b false is None ih h = absurd (cc)
-  step b false is (Some (f, k)) ih h =
-      let front_is : (b ∷ f) ≡ front = front_of (b ∷ f, k) (front, rest) h in
-      let rest_is : k ≡ rest = rest_of (b ∷ f, k) (front, rest) h in
-      ap (λ (x : List ℕ). b ∷ x) (ih f k refl) ∙ ap (λ (x : List ℕ). x ++ (c ∷ k)) front_is ∙ ap (λ (y : List ℕ). front ++ (c ∷ y)) rest_is
+    step : (b : ℕ) (t : Bool) → (t ≡ true → b ≡ c) → (r : Option (List ℕ × List ℕ)) → ((f k : List ℕ) → r ≡ Some (f, k) → text ≡ f ++ (c ∷ k)) → cond {A = Option (List ℕ × List ℕ)} t (Some ([], text)) (option_map (λ parts. (b ∷ parts.0, parts.1)) r) ≡ Some (front, rest) → (b ∷ text) ≡ front ++ (c ∷ rest)
+    step b true is r ih h =
+        let e : b ≡ c = is refl in
+        let front_is : [] ≡ front = front_of ([], text) (front, rest) h in
+        let rest_is : text ≡ rest = rest_of ([], text) (front, rest) h in
+        ap (λ (x : ℕ). x ∷ text) e ∙ ap (λ (x : List ℕ). x ++ (c ∷ text)) front_is ∙ ap (λ (y : List ℕ). front ++ (c ∷ y)) rest_is
+    step b false is None ih h = absurd (cc)
+    step b false is (Some (f, k)) ih h =
+        let front_is : (b ∷ f) ≡ front = front_of (b ∷ f, k) (front, rest) h in
+        let rest_is : k ≡ rest = rest_of (b ∷ f, k) (front, rest) h in
+        ap (λ (x : List ℕ). b ∷ x) (ih f k refl) ∙ ap (λ (x : List ℕ). x ++ (c ∷ k)) front_is ∙ ap (λ (y : List ℕ). front ++ (c ∷ y)) rest_is
 
 -- what `split_once` says at a character
 pub cut_by_split_once : (c : ℕ) (text : List ℕ) (r : Option (Bor (List ℕ) × Bor (List ℕ))) → c < 128 → IsSplitOnceResult c text r → option_map (λ x. (x.0.now, x.1.now)) r ≡ cut c text
@@ -87,9 +86,10 @@ pub cut_front_lacks : (c : ℕ) (text front rest : List ℕ) → cut c text ≡ 
 cut_front_lacks c [] front rest h = absurd (cc)
 cut_front_lacks c (b ∷ text) front rest h = step b (eqb b c) refl (cut c text) (cut_front_lacks c text) h
   where
-  P : List ℕ → Type 0
-  P x = lacks c x ≡ true
-  step : (b : ℕ) (t : Bool) → eqb b c ≡ t → (r : Option (List ℕ × List ℕ)) → ((f k : List ℕ) → r ≡ Some (f, k) → lacks c f ≡ true) → cond {A = Option (List ℕ × List ℕ)} t (Some ([], text)) (option_map (λ parts. (b ∷ parts.0, parts.1)) r) ≡ Some (front, rest) → lacks c front ≡ true
-  step b true is r ih h = subst P (front_of ([], text) (front, rest) h) refl
-  step b false is None ih h = absurd (cc)
-  step b false is (Some (f, k)) ih h = subst P (front_of (b ∷ f, k) (front, rest) h) (and_both (not (eqb b c)) (lacks c f) (rw is refl) (ih f k refl))
+    P : List ℕ → Type 0
+    P x = lacks c x ≡ true
+
+    step : (b : ℕ) (t : Bool) → eqb b c ≡ t → (r : Option (List ℕ × List ℕ)) → ((f k : List ℕ) → r ≡ Some (f, k) → lacks c f ≡ true) → cond {A = Option (List ℕ × List ℕ)} t (Some ([], text)) (option_map (λ parts. (b ∷ parts.0, parts.1)) r) ≡ Some (front, rest) → lacks c front ≡ true
+    step b true is r ih h = subst P (front_of ([], text) (front, rest) h) refl
+    step b false is None ih h = absurd (cc)
+    step b false is (Some (f, k)) ih h = subst P (front_of (b ∷ f, k) (front, rest) h) (and_both (not (eqb b c)) (lacks c f) (rw is refl) (ih f k refl))

@@ -1,23 +1,22 @@
 -- Printed terms and entries begin and end with bytes that aren't blank, so trimming leaves them.
-use Rattle.std.proofs.Common.{◌≡◌, ℕ, zero, suc, ◌+◌, ◌-◌, ◌^◌, ◌<◌, ◌≤◌, List, [], ◌∷◌, ◌++◌, Bool, true, false, ◌&&◌, eqb, leb, ltb, cond, length, get_or, Option, Some, None, refl, ap, sym, ◌∙◌, arith, rules, subst, append_assoc, length-append, ◌⊎◌, inl, inr}
+use Rattle.std.proofs.Common.{◌≡◌, ℕ, ◌+◌, ◌-◌, ◌<◌, List, [], ◌∷◌, ◌++◌, true, false, leb, length, get_or, Option, Some, None, refl, ap, sym, ◌∙◌, arith, subst, append_assoc, length-append, ◌⊎◌, inl, inr}
 use Rattle.std.specs.Prelude.{codes}
 use Rattle.std.specs.Fmt.{decimal}
 use Rattle.std.specs.Char.{is_ascii_digit}
-use Rattle.std.specs.List.{list_all, flat_map}
+use Rattle.std.specs.List.{list_all}
 use Rattle.std.proofs.lemmas.Bool.Decides.{nat_tests}
-use Rattle.std.proofs.lemmas.List.{get_or-append_right}
 use Rattle.std.proofs.lemmas.List.{append-nil}
 use Rattle.scenario_values.specs.declared.term.Term.{Term}
 use Rattle.scenario_values.specs.declared.term.Task.{Task}
 use Rattle.scenario_values.specs.declared.term.Task.TheVariants as tasks
 use Rattle.scenario_values.specs.Words.{is_blank, trimmed}
 use Rattle.scenario_values.specs.Scenario.{is_lawful_term}
-use Rattle.scenario_values.specs.Printed.{share_text, count_text, argument_text, task_text, term_text, chain_text, entry_text}
+use Rattle.scenario_values.specs.Printed.{share_text, count_text, argument_text, task_text, term_text, chain_text}
 use Rattle.scenario_grammar.specs.Words.{is_number}
 use Rattle.scenario_grammar.specs.Spelling.{SpellsShare, SpellsCount, WholePercent, DecimalPercent}
 use Rattle.scenario_grammar.proofs.CutLaws.{and_true}
-use Rattle.scenario_grammar.proofs.Trims.{Bare, bare_stays}
-use Rattle.scenario_grammar.proofs.PrintLaws.{LawfulParts, lawful_parts, share_spelled, count_spelled}
+use Rattle.scenario_grammar.proofs.Trims.{bare_stays}
+use Rattle.scenario_grammar.proofs.PrintLaws.{lawful_parts, share_spelled, count_spelled}
 
 -- the first byte isn't blank
 pub record Opens (text : List ℕ) : Type 0 where
@@ -43,17 +42,17 @@ pub both_ends : (text : List ℕ) → Opens text → Closes text → trimmed tex
 both_ends text o c = bare_stays text (record {
   first = λ some. ap (λ (x : List ℕ). is_blank (get_or x 0 0)) o.parts ∙ o.plain;
   last = λ some.
-    let long : length text ≡ length c.front + 1 = ap length c.parts ∙ length-append c.front (c.byte ∷ []) in
-    let place : length text - 1 ≡ length c.front = omega arith in
-    ap (λ (x : List ℕ). is_blank (get_or x (length text - 1) 0)) c.parts
-    ∙ ap (λ (k : ℕ). is_blank (get_or (c.front ++ (c.byte ∷ [])) k 0)) place
-    ∙ ap is_blank (at_end c.front c.byte)
-    ∙ c.plain
+      let long : length text ≡ length c.front + 1 = ap length c.parts ∙ length-append c.front (c.byte ∷ []) in
+      let place : length text - 1 ≡ length c.front = omega arith in
+      ap (λ (x : List ℕ). is_blank (get_or x (length text - 1) 0)) c.parts
+      ∙ ap (λ (k : ℕ). is_blank (get_or (c.front ++ (c.byte ∷ [])) k 0)) place
+      ∙ ap is_blank (at_end c.front c.byte)
+      ∙ c.plain;
 })
   where
-  at_end : (xs : List ℕ) (b : ℕ) → get_or (xs ++ (b ∷ [])) (length xs) 0 ≡ b
-  at_end [] b = refl
-  at_end (x ∷ xs) b = at_end xs b
+    at_end : (xs : List ℕ) (b : ℕ) → get_or (xs ++ (b ∷ [])) (length xs) 0 ≡ b
+    at_end [] b = refl
+    at_end (x ∷ xs) b = at_end xs b
 
 -- ---- what printed pieces begin and end with
 
@@ -78,9 +77,9 @@ share_opens : (text : List ℕ) (share : ℕ) → SpellsShare text share → Ope
 share_opens text share (inl h) = inl h.0
 share_opens text share (inr h) = inr (opens_as text (h.percent ++ (37 ∷ [])) h.parts (opens_append h.percent (37 ∷ []) (percent h.percent h.is)))
   where
-  percent : (p : List ℕ) → WholePercent p share ⊎ DecimalPercent p share → Opens p
-  percent p (inl w) = number_opens p w.digits
-  percent p (inr d) = opens_as p (d.whole ++ (46 ∷ d.decimals)) d.parts (opens_append d.whole (46 ∷ d.decimals) (number_opens d.whole d.whole_digits))
+    percent : (p : List ℕ) → WholePercent p share ⊎ DecimalPercent p share → Opens p
+    percent p (inl w) = number_opens p w.digits
+    percent p (inr d) = opens_as p (d.whole ++ (46 ∷ d.decimals)) d.parts (opens_append d.whole (46 ∷ d.decimals) (number_opens d.whole d.whole_digits))
 
 count_opens : (text : List ℕ) (count : Option ℕ) → SpellsCount text count → OpensIfAny text
 count_opens text None h = inl h
@@ -110,8 +109,8 @@ unfolding term_text
 term_opens t lawful =
     let h = lawful_parts t lawful in
     opens_either (share_text t.share ++ count_text t.count) (task_text t.task)
-      (either_append (share_text t.share) (count_text t.count) (share_opens (share_text t.share) t.share (share_spelled t.share h.share)) (count_opens (count_text t.count) t.count (count_spelled t.count h.count)))
-      (task_opens t.task)
+    (either_append (share_text t.share) (count_text t.count) (share_opens (share_text t.share) t.share (share_spelled t.share h.share)) (count_opens (count_text t.count) t.count (count_spelled t.count h.count)))
+    (task_opens t.task)
 
 argument_closes : (word : List ℕ) (a : Option (List ℕ)) → Closes word → Closes (word ++ argument_text a)
 argument_closes word None h = subst Closes (sym (append-nil word)) h

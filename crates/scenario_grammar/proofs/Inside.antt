@@ -1,8 +1,7 @@
 -- Texts that stand inside others, and what they lack with them.
-use Rattle.std.proofs.Common.{◌≡◌, ℕ, zero, suc, ◌+◌, ◌-◌, ◌<◌, ◌≤◌, List, [], ◌∷◌, ◌++◌, Bool, true, false, ◌&&◌, not, eqb, cond, length, take, drop, refl, ap, sym, ◌∙◌, arith, rules, subst, ◌⊎◌, inl, inr, append_assoc, take-append-drop, length-append}
+use Rattle.std.proofs.Common.{◌≡◌, ℕ, ◌-◌, ◌≤◌, List, [], ◌∷◌, ◌++◌, Bool, true, false, ◌&&◌, not, eqb, cond, length, take, drop, refl, ap, sym, ◌∙◌, arith, subst, ◌⊎◌, inl, inr, take-append-drop, length-append}
 use Rattle.std.specs.List.{list_all, slice_split, onto_first, prefix_len, suffix_len, AllByRecursion}
-use Rattle.std.proofs.lemmas.List.{append-nil}
-use Rattle.scenario_values.specs.Words.{is_blank, lacks, lacks_arrow, end_trimmed, trimmed}
+use Rattle.scenario_values.specs.Words.{is_blank, lacks, lacks_arrow, trimmed}
 use Rattle.scenario_grammar.specs.Words.{cut_at_arrows}
 use Rattle.scenario_grammar.proofs.CutLaws.{and_true, and_both}
 
@@ -62,10 +61,10 @@ pub pieces_lack : (c : ℕ) (text : List ℕ) → AllByRecursion (λ piece. lack
 pieces_lack c [] = (refl, tt)
 pieces_lack c (b ∷ text) = by_test (eqb b c) refl (slice_split (λ x. eqb x c) text) (pieces_lack c text)
   where
-  by_test : (t : Bool) → eqb b c ≡ t → (pieces : List (List ℕ)) → AllByRecursion (λ piece. lacks c piece ≡ true) pieces → AllByRecursion (λ piece. lacks c piece ≡ true) (cond t ([] ∷ pieces) (onto_first b pieces))
-  by_test true is pieces h = (refl, h)
-  by_test false is [] h = (rw is refl, tt)
-  by_test false is (p ∷ ps) h = (and_both (not (eqb b c)) (lacks c p) (rw is refl) h.0, h.1)
+    by_test : (t : Bool) → eqb b c ≡ t → (pieces : List (List ℕ)) → AllByRecursion (λ piece. lacks c piece ≡ true) pieces → AllByRecursion (λ piece. lacks c piece ≡ true) (cond t ([] ∷ pieces) (onto_first b pieces))
+    by_test true is pieces h = (refl, h)
+    by_test false is [] h = (rw is refl, tt)
+    by_test false is (p ∷ ps) h = (and_both (not (eqb b c)) (lacks c p) (rw is refl) h.0, h.1)
 
 -- the first part is empty, or begins where the text does
 record First (c : ℕ) (rest : List ℕ) : Type 0 where
@@ -79,9 +78,9 @@ unfolding cut_at_arrows
 first_part c [] = record { part = c ∷ []; others = []; cut = refl; begins = inr ([], refl) }
 first_part c (d ∷ more) = by_test (eqb c 45 && eqb d 62) refl (first_part d more)
   where
-  by_test : (t : Bool) → (eqb c 45 && eqb d 62) ≡ t → First d more → First c (d ∷ more)
-  by_test true is f = record { part = []; others = cut_at_arrows more; cut = rw is refl; begins = inl refl }
-  by_test false is f = record { part = c ∷ f.part; others = f.others; cut = rw (is, f.cut) refl; begins = inr (f.part, refl) }
+    by_test : (t : Bool) → (eqb c 45 && eqb d 62) ≡ t → First d more → First c (d ∷ more)
+    by_test true is f = record { part = []; others = cut_at_arrows more; cut = rw is refl; begins = inl refl }
+    by_test false is f = record { part = c ∷ f.part; others = f.others; cut = rw (is, f.cut) refl; begins = inr (f.part, refl) }
 
 pub parts_lack_arrows : (text : List ℕ) → AllByRecursion (λ part. lacks_arrow part ≡ true) (cut_at_arrows text)
 unfolding cut_at_arrows
@@ -89,20 +88,22 @@ parts_lack_arrows [] = (refl, tt)
 parts_lack_arrows (b ∷ []) = (refl, tt)
 parts_lack_arrows (b ∷ c ∷ rest) = by_test (eqb b 45 && eqb c 62) refl (first_part c rest) (parts_lack_arrows rest) (parts_lack_arrows (c ∷ rest))
   where
-  Plain : List ℕ → Type 0
-  Plain x = lacks_arrow x ≡ true
-  joined : (p : List ℕ) → not (eqb b 45 && eqb c 62) ≡ true → (p ≡ []) ⊎ ((more : List ℕ) × (p ≡ c ∷ more)) → lacks_arrow p ≡ true → lacks_arrow (b ∷ p) ≡ true
-  joined p is (inl e) h = rw e refl
-  joined p is (inr (more, e)) h =
-      let lack : lacks_arrow (c ∷ more) ≡ true = subst Plain e h in
-      rw e (and_both (not (eqb b 45 && eqb c 62)) (lacks_arrow (c ∷ more)) is lack)
-  by_test : (t : Bool) → (eqb b 45 && eqb c 62) ≡ t → First c rest → AllByRecursion (λ part. lacks_arrow part ≡ true) (cut_at_arrows rest) → AllByRecursion (λ part. lacks_arrow part ≡ true) (cut_at_arrows (c ∷ rest))
-    → AllByRecursion (λ part. lacks_arrow part ≡ true) (cond t ([] ∷ cut_at_arrows rest) (onto_first b (cut_at_arrows (c ∷ rest))))
-  by_test true is f k h = (refl, k)
-  by_test false is f k h =
-      let Lacking : List (List ℕ) → Type 0 = λ parts. AllByRecursion (λ part. lacks_arrow part ≡ true) parts in
-      let g : AllByRecursion (λ part. lacks_arrow part ≡ true) (f.part ∷ f.others) = subst Lacking f.cut h in
-      rw f.cut (joined f.part (rw is refl) f.begins g.0, g.1)
+    Plain : List ℕ → Type 0
+    Plain x = lacks_arrow x ≡ true
+
+    joined : (p : List ℕ) → not (eqb b 45 && eqb c 62) ≡ true → (p ≡ []) ⊎ ((more : List ℕ) × (p ≡ c ∷ more)) → lacks_arrow p ≡ true → lacks_arrow (b ∷ p) ≡ true
+    joined p is (inl e) h = rw e refl
+    joined p is (inr (more, e)) h =
+        let lack : lacks_arrow (c ∷ more) ≡ true = subst Plain e h in
+        rw e (and_both (not (eqb b 45 && eqb c 62)) (lacks_arrow (c ∷ more)) is lack)
+
+    by_test : (t : Bool) → (eqb b 45 && eqb c 62) ≡ t → First c rest → AllByRecursion (λ part. lacks_arrow part ≡ true) (cut_at_arrows rest) → AllByRecursion (λ part. lacks_arrow part ≡ true) (cut_at_arrows (c ∷ rest))
+        → AllByRecursion (λ part. lacks_arrow part ≡ true) (cond t ([] ∷ cut_at_arrows rest) (onto_first b (cut_at_arrows (c ∷ rest))))
+    by_test true is f k h = (refl, k)
+    by_test false is f k h =
+        let Lacking : List (List ℕ) → Type 0 = λ parts. AllByRecursion (λ part. lacks_arrow part ≡ true) parts in
+        let g : AllByRecursion (λ part. lacks_arrow part ≡ true) (f.part ∷ f.others) = subst Lacking f.cut h in
+        rw f.cut (joined f.part (rw is refl) f.begins g.0, g.1)
 
 pub parts_lack : (c : ℕ) (text : List ℕ) → lacks c text ≡ true → AllByRecursion (λ part. lacks c part ≡ true) (cut_at_arrows text)
 unfolding cut_at_arrows
@@ -113,8 +114,8 @@ parts_lack c (b ∷ d ∷ rest) h =
     let next = and_true (not (eqb d c)) (lacks c rest) here.1 in
     by_test (eqb b 45 && eqb d 62) (cut_at_arrows (d ∷ rest)) here.0 (parts_lack c rest next.1) (parts_lack c (d ∷ rest) here.1)
   where
-  by_test : (t : Bool) (parts : List (List ℕ)) → not (eqb b c) ≡ true → AllByRecursion (λ part. lacks c part ≡ true) (cut_at_arrows rest) → AllByRecursion (λ part. lacks c part ≡ true) parts
-    → AllByRecursion (λ part. lacks c part ≡ true) (cond t ([] ∷ cut_at_arrows rest) (onto_first b parts))
-  by_test true parts is k h = (refl, k)
-  by_test false [] is k h = (and_both (not (eqb b c)) true is refl, tt)
-  by_test false (p ∷ ps) is k h = (and_both (not (eqb b c)) (lacks c p) is h.0, h.1)
+    by_test : (t : Bool) (parts : List (List ℕ)) → not (eqb b c) ≡ true → AllByRecursion (λ part. lacks c part ≡ true) (cut_at_arrows rest) → AllByRecursion (λ part. lacks c part ≡ true) parts
+        → AllByRecursion (λ part. lacks c part ≡ true) (cond t ([] ∷ cut_at_arrows rest) (onto_first b parts))
+    by_test true parts is k h = (refl, k)
+    by_test false [] is k h = (and_both (not (eqb b c)) true is refl, tt)
+    by_test false (p ∷ ps) is k h = (and_both (not (eqb b c)) (lacks c p) is h.0, h.1)

@@ -1,6 +1,6 @@
 -- What was joined is cut into its parts again.
-use Rattle.std.proofs.Common.{◌≡◌, ℕ, List, [], ◌∷◌, ◌++◌, Bool, true, false, ◌&&◌, not, eqb, cond, map, refl, ap, sym, ◌∙◌, append_assoc}
-use Rattle.std.specs.List.{flat_map, slice_split, onto_first, AllByRecursion}
+use Rattle.std.proofs.Common.{◌≡◌, ℕ, List, [], ◌∷◌, ◌++◌, Bool, true, false, ◌&&◌, not, eqb, map, refl, ap, ◌∙◌}
+use Rattle.std.specs.List.{slice_split, onto_first, AllByRecursion}
 use Rattle.std.proofs.lemmas.List.{append-nil}
 use Rattle.scenario_values.specs.declared.term.Term.{Term}
 use Rattle.scenario_grammar.specs.Words.{cut_at_arrows}

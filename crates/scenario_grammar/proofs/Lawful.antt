@@ -1,21 +1,19 @@
 -- What a text spells is lawful.
-use Rattle.std.proofs.Common.{◌≡◌, ℕ, ◌+◌, ◌<◌, ◌≤◌, ◌*◌, List, [], ◌∷◌, ◌++◌, Bool, true, false, ◌&&◌, not, eqb, leb, ltb, cond, length, min, Option, Some, None, refl, ap, sym, ◌∙◌, arith, rules, subst, ◌⊎◌, inl, inr, append_assoc}
+use Rattle.std.proofs.Common.{◌≡◌, ℕ, ◌<◌, ◌≤◌, List, [], ◌∷◌, ◌++◌, true, ◌&&◌, not, eqb, leb, ltb, length, Option, Some, None, refl, sym, ◌∙◌, arith, subst, inl, inr, append_assoc}
 use Rattle.std.specs.Option.{option_map_or}
-use Rattle.std.specs.List.{slice_split, AllByRecursion}
+use Rattle.std.specs.List.{AllByRecursion}
 use Rattle.std.specs.Str.{bytes_eq}
 use Rattle.std.proofs.lemmas.Bool.Decides.{nat_tests}
-use Rattle.std.proofs.lemmas.Grind.{common_steps}
 use Rattle.std.proofs.lemmas.Slice.Eq.{bytes_eq-Decides}
-use Rattle.std.proofs.lemmas.List.{append-nil}
 use Rattle.scenario_values.specs.declared.term.Term.{Term}
 use Rattle.scenario_values.specs.declared.term.Task.{Task}
 use Rattle.scenario_values.specs.declared.term.Task.TheVariants as tasks
 use Rattle.scenario_values.specs.Words.{lacks, lacks_arrow, trimmed}
-use Rattle.scenario_values.specs.Scenario.{is_name, is_argument, is_lawful_argument, is_lawful_task, is_lawful_term}
+use Rattle.scenario_values.specs.Scenario.{is_name, is_lawful_argument, is_lawful_task, is_lawful_term}
 use Rattle.scenario_grammar.specs.Words.{cut_at_arrows}
-use Rattle.scenario_grammar.specs.Spelling.{SpellsShare, SpellsCount, Names, with_argument, SpellsTerm, SpellsParts, SpellsAction, SpellsPieces, Millis}
+use Rattle.scenario_grammar.specs.Spelling.{SpellsShare, SpellsCount, Names, with_argument, SpellsTerm, SpellsParts, SpellsAction, SpellsPieces}
 use Rattle.scenario_grammar.proofs.CutLaws.{and_both}
-use Rattle.scenario_grammar.proofs.Inside.{Inside, lacks_inside, arrow_inside, all_parts, trimmed_inside, pieces_lack, parts_lack, parts_lack_arrows}
+use Rattle.scenario_grammar.proofs.Inside.{Inside, lacks_inside, arrow_inside, all_parts, trimmed_inside, parts_lack, parts_lack_arrows}
 use Rattle.scenario_grammar.proofs.Trims.{trimmed_again}
 
 at_most : (m n : ℕ) → m ≤ n → leb m n ≡ true
@@ -58,8 +56,8 @@ count_lawful text (Some n) h = at_most n 4294967295 h.small
 pub term_lawful : (text : List ℕ) (t : Term) → SpellsTerm text t → lacks 59 text ≡ true → lacks_arrow text ≡ true → is_lawful_term t ≡ true
 term_lawful text t h semi arrow =
     and_both (leb t.share 1000000 && option_map_or (λ n. leb n 4294967295) t.count true) (is_lawful_task t.task)
-      (and_both (leb t.share 1000000) (option_map_or (λ n. leb n 4294967295) t.count true) (at_most t.share 1000000 (share_lawful h.share_text t.share h.share)) (count_lawful h.count_text t.count h.count))
-      (task_lawful h.word h.argument t.task h.task (argument_lawful text (h.share_text ++ (h.count_text ++ h.word)) h.argument h.parts semi arrow))
+    (and_both (leb t.share 1000000) (option_map_or (λ n. leb n 4294967295) t.count true) (at_most t.share 1000000 (share_lawful h.share_text t.share h.share)) (count_lawful h.count_text t.count h.count))
+    (task_lawful h.word h.argument t.task h.task (argument_lawful text (h.share_text ++ (h.count_text ++ h.word)) h.argument h.parts semi arrow))
 
 chain_lawful : (parts : List (List ℕ)) (ts : List Term) → SpellsParts parts ts → AllByRecursion (λ p. lacks 59 p ≡ true) parts → AllByRecursion (λ p. lacks_arrow p ≡ true) parts → AllByRecursion (λ t. is_lawful_term t ≡ true) ts
 chain_lawful [] [] h semi arrow = tt
@@ -75,11 +73,11 @@ name_is_lawful front name e some semi equals =
     let P : List ℕ → Type 0 = λ x. is_name x ≡ true in
     let long : 0 < length (trimmed front) = rw (← e) some in
     subst P (sym e)
-      (and_both (ltb 0 (length (trimmed front)) && bytes_eq (trimmed (trimmed front)) (trimmed front) && lacks 59 (trimmed front)) (lacks 61 (trimmed front))
-        (and_both (ltb 0 (length (trimmed front)) && bytes_eq (trimmed (trimmed front)) (trimmed front)) (lacks 59 (trimmed front))
-          (and_both (ltb 0 (length (trimmed front))) (bytes_eq (trimmed (trimmed front)) (trimmed front)) (below 0 (length (trimmed front)) long) (same_bytes (trimmed (trimmed front)) (trimmed front) (trimmed_again front)))
-          (lacks_inside 59 (trimmed front) front at semi))
-        (lacks_inside 61 (trimmed front) front at equals))
+    (and_both (ltb 0 (length (trimmed front)) && bytes_eq (trimmed (trimmed front)) (trimmed front) && lacks 59 (trimmed front)) (lacks 61 (trimmed front))
+    (and_both (ltb 0 (length (trimmed front)) && bytes_eq (trimmed (trimmed front)) (trimmed front)) (lacks 59 (trimmed front))
+    (and_both (ltb 0 (length (trimmed front))) (bytes_eq (trimmed (trimmed front)) (trimmed front)) (below 0 (length (trimmed front)) long) (same_bytes (trimmed (trimmed front)) (trimmed front) (trimmed_again front)))
+    (lacks_inside 59 (trimmed front) front at semi))
+    (lacks_inside 61 (trimmed front) front at equals))
 
 -- an action of lawful name and terms
 pub record IsLawful (e : List ℕ × List Term) : Type 0 where
@@ -92,7 +90,7 @@ action_lawful piece e h semi =
     let two = all_parts (λ b. not (eqb b 59)) h.front (61 ∷ h.back) whole in
     record {
       name = name_is_lawful h.front e.0 h.name h.some_name two.0 h.first;
-      terms = chain_lawful (cut_at_arrows h.back) e.1 h.chain (parts_lack 59 h.back two.1) (parts_lack_arrows h.back)
+      terms = chain_lawful (cut_at_arrows h.back) e.1 h.chain (parts_lack 59 h.back two.1) (parts_lack_arrows h.back);
     }
 
 pub pieces_lawful : (pieces : List (List ℕ)) (actions : List (List ℕ × List Term)) → SpellsPieces pieces actions → AllByRecursion (λ p. lacks 59 p ≡ true) pieces → AllByRecursion IsLawful actions

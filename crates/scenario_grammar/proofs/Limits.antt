@@ -1,10 +1,9 @@
 -- What is read keeps the limits of a scenario.
-use Rattle.std.proofs.Common.{◌≡◌, ℕ, suc, ◌+◌, ◌<◌, ◌≤◌, List, [], ◌∷◌, Bool, true, false, ◌&&◌, cond, length, Result, Ok, Err, refl, ap, sym, ◌∙◌, arith, subst, inl, inr, eqb}
+use Rattle.std.proofs.Common.{◌≡◌, ℕ, suc, ◌+◌, ◌<◌, ◌≤◌, List, [], ◌∷◌, Bool, true, false, ◌&&◌, cond, length, Ok, refl, sym, arith, subst, inl, inr, eqb}
 use Rattle.std.specs.List.{slice_split, onto_first, AllByRecursion}
 use Rattle.std.specs.Str.{bytes_eq}
 use Rattle.indexmap.specs.IndexMap.{insert_entry, insert_all}
 use Rattle.scenario_values.specs.declared.term.Term.{Term}
-use Rattle.scenario_values.specs.Printed.{printed}
 use Rattle.scenario_values.specs.Scenario.{Entries, IsScenario, entries_of, New, DistinctNames, faults_in, all_faults, is_name, is_lawful_term}
 use Rattle.scenario_grammar.specs.Words.{cut_at_arrows}
 use Rattle.scenario_grammar.specs.FirstFault.{reading}
@@ -12,7 +11,7 @@ use Rattle.scenario_grammar.specs.Spelling.{SpellsParts, SpellsPieces, Writes, W
 use Rattle.scenario_grammar.proofs.TextSound.{text_gives}
 use Rattle.scenario_grammar.proofs.Inside.{pieces_lack}
 use Rattle.scenario_grammar.proofs.Lawful.{IsLawful, pieces_lawful}
-use Rattle.scenario_grammar.proofs.Shorter.{entries_spread, printed_long, actions_shorter, all_inserted_long}
+use Rattle.scenario_grammar.proofs.Shorter.{printed_long, actions_shorter, all_inserted_long}
 
 -- ---- what entries keep while others are put in
 
@@ -24,9 +23,9 @@ module _ (P : List ℕ → Type 0) (Q : List Term → Type 0) where
   keeps_one [] k v p q h = ((p, q), tt)
   keeps_one (e ∷ es) k v p q h = by_test (bytes_eq k e.0) (keeps_one es k v p q h.1)
     where
-    by_test : (t : Bool) → Keeps (insert_entry bytes_eq es k v) → Keeps (cond t ((e.0, v) ∷ es) (e ∷ insert_entry bytes_eq es k v))
-    by_test true rest = ((h.0.0, q), h.1)
-    by_test false rest = (h.0, rest)
+      by_test : (t : Bool) → Keeps (insert_entry bytes_eq es k v) → Keeps (cond t ((e.0, v) ∷ es) (e ∷ insert_entry bytes_eq es k v))
+      by_test true rest = ((h.0.0, q), h.1)
+      by_test false rest = (h.0, rest)
 
   keeps_all : (es actions : Entries) → Keeps es → Keeps actions → Keeps (insert_all bytes_eq es actions)
   keeps_all es [] h k = h
@@ -36,11 +35,12 @@ count_one : (es : Entries) (k : List ℕ) (v : List Term) → (length (insert_en
 count_one [] k v = (omega arith, omega arith)
 count_one (e ∷ es) k v = by_test (bytes_eq k e.0) (count_one es k v)
   where
-  Few : Entries → Type 0
-  Few xs = (length xs ≤ suc (length es) + 1) × (all_faults xs ≤ faults_in e.1 + all_faults es + faults_in v)
-  by_test : (t : Bool) → (length (insert_entry bytes_eq es k v) ≤ length es + 1) × (all_faults (insert_entry bytes_eq es k v) ≤ all_faults es + faults_in v) → Few (cond t ((e.0, v) ∷ es) (e ∷ insert_entry bytes_eq es k v))
-  by_test true h = (omega arith, omega arith)
-  by_test false h = let a = h.0 in let b = h.1 in (omega arith, omega arith)
+    Few : Entries → Type 0
+    Few xs = (length xs ≤ suc (length es) + 1) × (all_faults xs ≤ faults_in e.1 + all_faults es + faults_in v)
+
+    by_test : (t : Bool) → (length (insert_entry bytes_eq es k v) ≤ length es + 1) × (all_faults (insert_entry bytes_eq es k v) ≤ all_faults es + faults_in v) → Few (cond t ((e.0, v) ∷ es) (e ∷ insert_entry bytes_eq es k v))
+    by_test true h = (omega arith, omega arith)
+    by_test false h = let a = h.0 in let b = h.1 in (omega arith, omega arith)
 
 count_all : (es actions : Entries) → (length (insert_all bytes_eq es actions) ≤ length es + length actions) × (all_faults (insert_all bytes_eq es actions) ≤ all_faults es + all_faults actions)
 count_all es [] = (omega arith, omega arith)
@@ -54,17 +54,17 @@ new_one : (name : List ℕ) (es : Entries) (k : List ℕ) (v : List Term) → by
 new_one name [] k v differs h = (differs, tt)
 new_one name (e ∷ es) k v differs h = by_test (bytes_eq k e.0) (new_one name es k v differs h.1)
   where
-  by_test : (t : Bool) → New name (insert_entry bytes_eq es k v) → New name (cond t ((e.0, v) ∷ es) (e ∷ insert_entry bytes_eq es k v))
-  by_test true rest = (h.0, h.1)
-  by_test false rest = (h.0, rest)
+    by_test : (t : Bool) → New name (insert_entry bytes_eq es k v) → New name (cond t ((e.0, v) ∷ es) (e ∷ insert_entry bytes_eq es k v))
+    by_test true rest = (h.0, h.1)
+    by_test false rest = (h.0, rest)
 
 distinct_one : (es : Entries) (k : List ℕ) (v : List Term) → DistinctNames es → DistinctNames (insert_entry bytes_eq es k v)
 distinct_one [] k v h = (tt, tt)
 distinct_one (e ∷ es) k v h = by_test (bytes_eq k e.0) refl (distinct_one es k v h.1)
   where
-  by_test : (t : Bool) → bytes_eq k e.0 ≡ t → DistinctNames (insert_entry bytes_eq es k v) → DistinctNames (cond t ((e.0, v) ∷ es) (e ∷ insert_entry bytes_eq es k v))
-  by_test true is rest = (h.0, h.1)
-  by_test false is rest = (new_one e.0 es k v is h.0, rest)
+    by_test : (t : Bool) → bytes_eq k e.0 ≡ t → DistinctNames (insert_entry bytes_eq es k v) → DistinctNames (cond t ((e.0, v) ∷ es) (e ∷ insert_entry bytes_eq es k v))
+    by_test true is rest = (h.0, h.1)
+    by_test false is rest = (new_one e.0 es k v is h.0, rest)
 
 distinct_all : (es actions : Entries) → DistinctNames es → DistinctNames (insert_all bytes_eq es actions)
 distinct_all es [] h = h
@@ -79,10 +79,10 @@ some_part [] = omega arith
 some_part (b ∷ []) = omega arith
 some_part (b ∷ c ∷ text) = by_test (eqb b 45 && eqb c 62) (cut_at_arrows (c ∷ text))
   where
-  by_test : (t : Bool) (parts : List (List ℕ)) → 0 < length (cond t ([] ∷ cut_at_arrows text) (onto_first b parts))
-  by_test true parts = omega arith
-  by_test false [] = omega arith
-  by_test false (p ∷ ps) = omega arith
+    by_test : (t : Bool) (parts : List (List ℕ)) → 0 < length (cond t ([] ∷ cut_at_arrows text) (onto_first b parts))
+    by_test true parts = omega arith
+    by_test false [] = omega arith
+    by_test false (p ∷ ps) = omega arith
 
 same_count : (parts : List (List ℕ)) (ts : List Term) → SpellsParts parts ts → length parts ≡ length ts
 same_count [] [] h = refl
@@ -148,7 +148,7 @@ spelled_keeps text actions writes within =
       lawful_names = all_named (entries_of actions) kept;
       lawful_terms = all_lawful (entries_of actions) kept;
       few_faults = omega arith;
-      short_text = omega arith
+      short_text = omega arith;
     }
 
 pub reading_keeps : (text : List ℕ) (s : Entries) → reading text ≡ Ok s → IsScenario s

@@ -1,9 +1,8 @@
 -- The grammar's numbers are those that `parse` reads.
-use Rattle.std.proofs.Common.{◌≡◌, ℕ, zero, suc, ◌<◌, ◌≤◌, ◌^◌, List, Bool, true, false, length, arith, rules, Result, Ok, Err, get_or}
+use Rattle.std.proofs.Common.{◌≡◌, ℕ, zero, suc, ◌<◌, ◌≤◌, ◌^◌, List, Bool, true, false, length, arith, rules, Err}
 use Rattle.std.specs.Char.{is_ascii_digit}
 use Rattle.std.specs.List.{list_all}
-use Rattle.std.specs.Result.{OkIff}
-use Rattle.std.proofs.Common.{Option, Some, None, refl, ◌&&◌, if◌then◌else◌, nat_le, ap, sym, ◌∙◌, subst}
+use Rattle.std.proofs.Common.{Some, None, refl, ◌&&◌, if◌then◌else◌, nat_le}
 use Rattle.std.proofs.lemmas.Bool.Decides.{nat_tests}
 use Rattle.std.proofs.lemmas.Grind.{common_steps}
 use Rattle.scenario_grammar.specs.Words.{is_number, number}
@@ -34,13 +33,13 @@ short_number text digits short = (grind (arith, nat_tests, common_steps), digits
 pub small_by_length : (text : List ℕ) → is_number text ≡ true → length text ≤ 4 → number text ≤ 9999
 small_by_length text digits short = let h = short_number text digits short in omega (arith, h.1, powers (length text) short)
   where
-  powers : (k : ℕ) → k ≤ 4 → 10 ^ k ≤ 10000
-  powers zero le = omega arith
-  powers (suc zero) le = omega arith
-  powers (suc (suc zero)) le = omega arith
-  powers (suc (suc (suc zero))) le = omega arith
-  powers (suc (suc (suc (suc zero)))) le = omega arith
-  powers (suc (suc (suc (suc (suc k))))) le = absurd (omega arith)
+    powers : (k : ℕ) → k ≤ 4 → 10 ^ k ≤ 10000
+    powers zero le = omega arith
+    powers (suc zero) le = omega arith
+    powers (suc (suc zero)) le = omega arith
+    powers (suc (suc (suc zero))) le = omega arith
+    powers (suc (suc (suc (suc zero)))) le = omega arith
+    powers (suc (suc (suc (suc (suc k))))) le = absurd (omega arith)
 
 pub never_none : {A : Type 0} (text : List ℕ) → is_number text ≡ true → length text ≤ 4 → None ≡ number_up_to 9999 text → A
 never_none text digits short h = let le = small_by_length text digits short in absurd (grind (arith, nat_tests, common_steps))

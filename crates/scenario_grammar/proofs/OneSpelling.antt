@@ -1,15 +1,15 @@
 -- A text spells at most one scenario.
-use Rattle.std.proofs.Common.{◌≡◌, ℕ, ◌<◌, ◌≤◌, List, [], ◌∷◌, ◌++◌, Bool, true, length, Option, Some, None, Result, Ok, Err, refl, ap, sym, ◌∙◌, arith, subst, ◌⊎◌, inl, inr}
+use Rattle.std.proofs.Common.{◌≡◌, ℕ, List, [], ◌∷◌, Some, None, Result, Ok, Err, refl, ap, sym, ◌∙◌, arith, subst, inl, inr}
 use Rattle.std.specs.List.{slice_split}
 use Rattle.std.specs.Prelude.{◌==◌, IfOk, IfErr}
 use Rattle.scenario_values.specs.declared.term.Term.{Term}
-use Rattle.scenario_values.specs.Words.{lacks, trimmed}
+use Rattle.scenario_values.specs.Words.{trimmed}
 use Rattle.scenario_values.specs.Scenario.{Entries, entries_of}
 use Rattle.scenario_grammar.specs.declared.fault.ScenarioFault.{ScenarioFault}
 use Rattle.scenario_grammar.specs.declared.fault.ScenarioFault.TheVariants as faults
 use Rattle.scenario_grammar.specs.Words.{cut, cut_at_arrows}
 use Rattle.scenario_grammar.specs.FirstFault.{Tells, fault}
-use Rattle.scenario_grammar.specs.Spelling.{SpellsTerm, SpellsParts, SpellsAction, SpellsPieces, Spells}
+use Rattle.scenario_grammar.specs.Spelling.{SpellsParts, SpellsAction, SpellsPieces, Spells}
 use Rattle.scenario_grammar.proofs.CutLaws.{cut_at, front_of, rest_of}
 use Rattle.scenario_grammar.proofs.TermLaws.{term_read}
 use Rattle.scenario_grammar.proofs.TermSound.{ok_is}

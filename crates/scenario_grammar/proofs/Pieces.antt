@@ -1,15 +1,13 @@
 -- Reading a text from some piece on.
 use Rattle.std.proofs.Common.{◌≡◌, ◌^◌, ℕ, ◌+◌, ◌<◌, ◌≤◌, List, [], ◌∷◌, length, refl, ap, sym, ◌∙◌, Result, Ok, Err, Bor, arith, map, eqb}
-use Rattle.std.specs.List.{slice_split, count_by}
+use Rattle.std.specs.List.{slice_split}
 use Rattle.std.proofs.lemmas.List.{length-map}
 use Rattle.std.proofs.lemmas.List.Splits.{length-slice_split}
 use Rattle.std.proofs.lemmas.List.Sums.{count_by-le-length}
 use Rattle.scenario_grammar.specs.declared.fault.ScenarioFault.{ScenarioFault}
 use Rattle.scenario_grammar.specs.declared.fault.ScenarioFault.TheVariants as faults
 use Rattle.scenario_values.specs.Words.{trimmed}
-use Rattle.scenario_grammar.specs.FirstFault.{◌>>=◌}
 use Rattle.scenario_grammar.specs.FirstFault.{Fault, Progress, FailsAt, piece_in, pieces_from}
-use Rattle.scenario_grammar.proofs.Chains.{bytes_of}
 
 pub goes_on : (done next : Progress) (n : ℕ) (piece text : List ℕ) (texts rest : List (List ℕ)) (total : Result Progress Fault) → texts ≡ text ∷ rest → piece ≡ trimmed text → piece_in done n piece ≡ Ok next
     → pieces_from done n texts ≡ total → pieces_from next (n + 1) rest ≡ total

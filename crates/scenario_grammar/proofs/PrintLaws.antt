@@ -1,20 +1,19 @@
 -- The printed form of a lawful term spells it.
-use Rattle.std.proofs.Common.{◌≡◌, ℕ, zero, suc, ◌+◌, ◌-◌, ◌*◌, ◌/◌, ◌%◌, ◌^◌, ◌<◌, ◌≤◌, Result, Ok, Err, List, [], ◌∷◌, ◌++◌, Bool, true, false, ◌&&◌, not, eqb, leb, ltb, cond, length, min, Option, Some, None, refl, ap, sym, ◌∙◌, arith, rules, subst, ◌⊎◌, inl, inr, append_assoc}
+use Rattle.std.proofs.Common.{◌≡◌, ℕ, ◌+◌, ◌-◌, ◌*◌, ◌/◌, ◌%◌, ◌^◌, ◌<◌, ◌≤◌, Ok, List, [], ◌∷◌, ◌++◌, Bool, true, false, ◌&&◌, eqb, leb, ltb, cond, length, min, Option, Some, None, refl, ap, sym, ◌∙◌, arith, subst, inl, inr, append_assoc}
 use Rattle.std.specs.Prelude.{codes}
 use Rattle.std.specs.Fmt.{decimal}
 use Rattle.std.specs.List.{list_all}
 use Rattle.std.specs.Option.{option_map_or}
 use Rattle.std.specs.Char.{is_ascii_digit}
 use Rattle.std.proofs.lemmas.Bool.Decides.{nat_tests}
-use Rattle.std.proofs.lemmas.Grind.{common_steps}
 use Rattle.std.proofs.lemmas.Fmt.{digits_decimal, digits_value-decimal, decimal_nonempty}
 use Rattle.scenario_values.specs.declared.term.Term.{Term}
 use Rattle.scenario_values.specs.declared.term.Task.{Task}
 use Rattle.scenario_values.specs.declared.term.Task.TheVariants as tasks
 use Rattle.scenario_values.specs.Scenario.{is_lawful_task, is_lawful_term}
 use Rattle.scenario_values.specs.Printed.{decimals_of, point_and, share_text, count_text, argument_text, task_text, term_text}
-use Rattle.scenario_grammar.specs.Words.{is_number, number}
-use Rattle.scenario_grammar.specs.Spelling.{Numeral, WholePercent, DecimalPercent, Percentage, SpellsShare, Counted, SpellsCount, Millis, Names, with_argument, SpellsTerm}
+use Rattle.scenario_grammar.specs.Words.{number}
+use Rattle.scenario_grammar.specs.Spelling.{Numeral, WholePercent, DecimalPercent, Percentage, SpellsShare, SpellsCount, Millis, Names, with_argument, SpellsTerm}
 use Rattle.scenario_grammar.proofs.CutLaws.{and_true, and_both}
 use Rattle.scenario_grammar.proofs.Numbers.{own}
 use Rattle.scenario_grammar.proofs.Fractions.{four_places}
@@ -31,7 +30,7 @@ at_most m n h = grind (arith, nat_tests)
 pub numeral : (n : ℕ) → n < 2 ^ 64 → Numeral (decimal n) n
 numeral n small = record {
   digits = and_both (leb 1 (length (decimal n))) (list_all is_ascii_digit (decimal n)) (positive (length (decimal n)) (decimal_nonempty n small)) (digits_decimal own n small);
-  value = digits_value-decimal own n small
+  value = digits_value-decimal own n small;
 }
 
 -- ---- the share
@@ -48,11 +47,11 @@ with_decimals w f few some small =
       whole_digits = whole.digits;
       decimal_digits = and_both (leb 1 (length (decimals_of 4 f))) (list_all is_ascii_digit (decimals_of 4 f)) (positive (length (decimals_of 4 f)) (h.some some)) h.digits;
       few = h.few;
-      value = sums (number (decimal w)) w (number (decimals_of 4 f) * 10 ^ (4 - length (decimals_of 4 f))) f whole.value value few small
+      value = sums (number (decimal w)) w (number (decimals_of 4 f) * 10 ^ (4 - length (decimals_of 4 f))) f whole.value value few small;
     }
   where
-  sums : (m w v f : ℕ) → m ≡ w → v ≡ f → w < 100 → f < 10000 → w * 10000 + f ≡ min 1000000 (m * 10000 + v)
-  sums m w v f a b few small = omega arith
+    sums : (m w v f : ℕ) → m ≡ w → v ≡ f → w < 100 → f < 10000 → w * 10000 + f ≡ min 1000000 (m * 10000 + v)
+    sums m w v f a b few small = omega arith
 
 whole_is : (w f : ℕ) (text : List ℕ) → w < 100 → f ≡ 0 → Numeral text w → WholePercent text (w * 10000 + f)
 whole_is w f text few z h = let v = h.value in record { digits = h.digits; value = omega arith }
@@ -60,31 +59,37 @@ whole_is w f text few z h = let v = h.value in record { digits = h.digits; value
 percent_spelled : (w f : ℕ) → w < 100 → f < 10000 → Percentage (decimal w ++ point_and f ++ (37 ∷ [])) (w * 10000 + f)
 percent_spelled w f few small = by_test (eqb f 0) refl
   where
-  Spelled : List ℕ → Type 0
-  Spelled text = Numeral text w
-  is_zero : eqb f 0 ≡ true → f ≡ 0
-  is_zero is = grind (arith, nat_tests)
-  is_some : eqb f 0 ≡ false → 0 < f
-  is_some is = grind (arith, nat_tests)
-  by_test : (t : Bool) → eqb f 0 ≡ t → Percentage (decimal w ++ cond t [] (46 ∷ decimals_of 4 f) ++ (37 ∷ [])) (w * 10000 + f)
-  by_test true is = record { percent = decimal w ++ []; parts = refl; is = inl (whole_is w f (decimal w ++ []) few (is_zero is) (subst Spelled (sym (append-nil (decimal w))) (numeral w (omega arith)))) }
-  by_test false is = record { percent = decimal w ++ (46 ∷ decimals_of 4 f); parts = refl; is = inr (with_decimals w f few (is_some is) small) }
+    Spelled : List ℕ → Type 0
+    Spelled text = Numeral text w
+
+    is_zero : eqb f 0 ≡ true → f ≡ 0
+    is_zero is = grind (arith, nat_tests)
+
+    is_some : eqb f 0 ≡ false → 0 < f
+    is_some is = grind (arith, nat_tests)
+
+    by_test : (t : Bool) → eqb f 0 ≡ t → Percentage (decimal w ++ cond t [] (46 ∷ decimals_of 4 f) ++ (37 ∷ [])) (w * 10000 + f)
+    by_test true is = record { percent = decimal w ++ []; parts = refl; is = inl (whole_is w f (decimal w ++ []) few (is_zero is) (subst Spelled (sym (append-nil (decimal w))) (numeral w (omega arith)))) }
+    by_test false is = record { percent = decimal w ++ (46 ∷ decimals_of 4 f); parts = refl; is = inr (with_decimals w f few (is_some is) small) }
 
 pub share_spelled : (share : ℕ) → share ≤ 1000000 → SpellsShare (share_text share) share
 unfolding share_text
 share_spelled share le = by_test (ltb share 1000000) refl
   where
-  is_less : ltb share 1000000 ≡ true → share < 1000000
-  is_less is = grind (arith, nat_tests)
-  is_full : ltb share 1000000 ≡ false → share ≡ 1000000
-  is_full is = grind (arith, nat_tests)
-  Of : ℕ → Type 0
-  Of n = Percentage (decimal (share / 10000) ++ point_and (share % 10000) ++ (37 ∷ [])) n
-  by_test : (t : Bool) → ltb share 1000000 ≡ t → SpellsShare (cond t (decimal (share / 10000) ++ point_and (share % 10000) ++ (37 ∷ [])) []) share
-  by_test true is =
-      let less = is_less is in
-      inr (subst Of (omega arith) (percent_spelled (share / 10000) (share % 10000) (omega arith) (omega arith)))
-  by_test false is = inl (refl, is_full is)
+    is_less : ltb share 1000000 ≡ true → share < 1000000
+    is_less is = grind (arith, nat_tests)
+
+    is_full : ltb share 1000000 ≡ false → share ≡ 1000000
+    is_full is = grind (arith, nat_tests)
+
+    Of : ℕ → Type 0
+    Of n = Percentage (decimal (share / 10000) ++ point_and (share % 10000) ++ (37 ∷ [])) n
+
+    by_test : (t : Bool) → ltb share 1000000 ≡ t → SpellsShare (cond t (decimal (share / 10000) ++ point_and (share % 10000) ++ (37 ∷ [])) []) share
+    by_test true is =
+        let less = is_less is in
+        inr (subst Of (omega arith) (percent_spelled (share / 10000) (share % 10000) (omega arith) (omega arith)))
+    by_test false is = inl (refl, is_full is)
 
 -- ---- counts and tasks
 
@@ -167,7 +172,7 @@ term_spelled t lawful =
       parts = ap (λ (x : List ℕ). (share_text t.share ++ count_text t.count) ++ x) (task_is t.task) ∙ regroup (share_text t.share) (count_text t.count) (word_of t.task) (argument_of t.task);
       share = share_spelled t.share h.share;
       count = count_spelled t.count h.count;
-      task = named t.task h.task
+      task = named t.task h.task;
     }
 
 pub term_again : (t : Term) → is_lawful_term t ≡ true → term_of (term_text t) ≡ Ok t

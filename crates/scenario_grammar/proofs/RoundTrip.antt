@@ -1,14 +1,13 @@
 -- The printed form of a scenario spells it, and is read as it.
-use Rattle.std.proofs.Common.{◌≡◌, ℕ, zero, suc, ◌+◌, ◌<◌, ◌≤◌, List, [], ◌∷◌, ◌++◌, Bool, true, false, ◌&&◌, not, eqb, leb, ltb, cond, length, map, Option, Some, None, Result, Ok, Err, refl, ap, sym, ◌∙◌, arith, rules, subst, append_assoc, inl, inr}
-use Rattle.std.specs.List.{list_all, flat_map, slice_split, AllByRecursion}
+use Rattle.std.proofs.Common.{◌≡◌, ℕ, suc, ◌<◌, List, [], ◌∷◌, true, ◌&&◌, ltb, length, map, None, Result, Ok, refl, ap, sym, ◌∙◌, arith, subst, inr}
+use Rattle.std.specs.List.{AllByRecursion}
 use Rattle.std.specs.Result.{result_err}
 use Rattle.std.specs.Str.{bytes_eq}
 use Rattle.std.proofs.lemmas.Bool.Decides.{nat_tests}
 use Rattle.std.proofs.lemmas.Slice.Eq.{bytes_eq-Decides}
-use Rattle.std.proofs.lemmas.List.{append-nil}
 use Rattle.scenario_values.specs.declared.term.Term.{Term}
-use Rattle.scenario_values.specs.Words.{is_blank, lacks, lacks_arrow, trimmed}
-use Rattle.scenario_values.specs.Scenario.{Entries, IsScenario, entries_of, is_name, is_lawful_term}
+use Rattle.scenario_values.specs.Words.{lacks, lacks_arrow, trimmed}
+use Rattle.scenario_values.specs.Scenario.{Entries, IsScenario, is_name, is_lawful_term}
 use Rattle.scenario_values.specs.Printed.{term_text, chain_text, entry_text, printed}
 use Rattle.scenario_values.proofs.NameLaws.{entries_same}
 use Rattle.scenario_grammar.specs.Words.{cut_at_arrows}
@@ -19,7 +18,7 @@ use Rattle.scenario_grammar.proofs.TextLaws.{text_is}
 use Rattle.scenario_grammar.proofs.Trims.{Bare, trimmed_bare}
 use Rattle.scenario_grammar.proofs.JoinLaws.{chain_cut, printed_cut}
 use Rattle.scenario_grammar.proofs.PrintLaws.{term_spelled}
-use Rattle.scenario_grammar.proofs.Ends.{Opens, Closes, opens_append, closes_append, both_ends, term_trimmed, chain_closes}
+use Rattle.scenario_grammar.proofs.Ends.{Opens, opens_append, closes_append, both_ends, term_trimmed, chain_closes}
 use Rattle.scenario_grammar.proofs.Plain.{term_arrow, entry_semicolon}
 
 -- what makes a name lawful
@@ -36,8 +35,8 @@ lawful_name name h =
     let one = and_true (ltb 0 (length name)) (bytes_eq (trimmed name) name) two.0 in
     record { some = below (length name) one.0; same = (bytes_eq-Decides (trimmed name) name).0 one.1; semicolon = two.1; equals = three.1 }
   where
-  below : (n : ℕ) → ltb 0 n ≡ true → 0 < n
-  below n h = grind (arith, nat_tests)
+    below : (n : ℕ) → ltb 0 n ≡ true → 0 < n
+    below n h = grind (arith, nat_tests)
 
 name_opens : (name : List ℕ) → LawfulName name → Opens name
 name_opens [] h = absurd (let s = h.some in omega arith)
@@ -74,8 +73,8 @@ lawful_entries (e ∷ es) n c t = (record { name = n.0; some = c.0; terms = t.0 
 entry_trimmed : (e : List ℕ × List Term) → LawfulEntry e → trimmed (entry_text e) ≡ entry_text e
 entry_trimmed e h =
     both_ends (entry_text e)
-      (opens_append e.0 (61 ∷ chain_text e.1) (name_opens e.0 (lawful_name e.0 h.name)))
-      (closes_append e.0 (61 ∷ chain_text e.1) (closes_append (61 ∷ []) (chain_text e.1) (chain_closes e.1 h.some)))
+    (opens_append e.0 (61 ∷ chain_text e.1) (name_opens e.0 (lawful_name e.0 h.name)))
+    (closes_append e.0 (61 ∷ chain_text e.1) (closes_append (61 ∷ []) (chain_text e.1) (chain_closes e.1 h.some)))
 
 entry_spelled : (e : List ℕ × List Term) → LawfulEntry e → SpellsAction (entry_text e) e
 entry_spelled e h =

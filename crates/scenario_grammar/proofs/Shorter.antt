@@ -1,12 +1,11 @@
 -- What is printed is no longer than the text that spells it.
-use Rattle.std.proofs.Common.{◌≡◌, ℕ, zero, suc, ◌+◌, ◌-◌, ◌*◌, ◌/◌, ◌%◌, ◌^◌, ◌<◌, ◌≤◌, List, [], ◌∷◌, ◌++◌, Bool, true, false, ◌&&◌, not, eqb, leb, ltb, cond, length, min, Option, Some, None, refl, ap, sym, ◌∙◌, arith, rules, subst, ◌⊎◌, inl, inr, append_assoc, length-append}
+use Rattle.std.proofs.Common.{◌≡◌, ℕ, zero, suc, ◌+◌, ◌-◌, ◌*◌, ◌/◌, ◌%◌, ◌^◌, ◌<◌, ◌≤◌, List, [], ◌∷◌, ◌++◌, Bool, true, false, ◌&&◌, eqb, leb, ltb, cond, length, min, Option, Some, None, refl, ap, sym, ◌∙◌, arith, ◌⊎◌, inl, inr, length-append}
 use Rattle.std.specs.Prelude.{codes}
 use Rattle.std.specs.Fmt.{decimal}
 use Rattle.std.specs.Char.{is_ascii_digit}
-use Rattle.std.specs.List.{list_all, flat_map, slice_split, onto_first, AllByRecursion}
+use Rattle.std.specs.List.{list_all, flat_map, slice_split, onto_first}
 use Rattle.std.specs.Str.{bytes_eq}
 use Rattle.std.proofs.lemmas.Bool.Decides.{nat_tests}
-use Rattle.std.proofs.lemmas.Grind.{common_steps}
 use Rattle.std.proofs.lemmas.Slice.Eq.{bytes_eq-Decides}
 use Rattle.std.proofs.lemmas.Fmt.{length-decimal-le, decimal_digit}
 use Rattle.std.proofs.lemmas.Str.Parse.{digits_value_short}
@@ -15,10 +14,10 @@ use Rattle.scenario_values.specs.declared.term.Term.{Term}
 use Rattle.scenario_values.specs.declared.term.Task.{Task}
 use Rattle.scenario_values.specs.declared.term.Task.TheVariants as tasks
 use Rattle.scenario_values.specs.Words.{trimmed}
-use Rattle.scenario_values.specs.Scenario.{Entries, entries_of}
+use Rattle.scenario_values.specs.Scenario.{Entries}
 use Rattle.scenario_values.specs.Printed.{decimals_of, point_and, share_text, count_text, argument_text, task_text, term_text, chain_text, entry_text, printed}
 use Rattle.scenario_grammar.specs.Words.{cut_at_arrows, is_number, number}
-use Rattle.scenario_grammar.specs.Spelling.{Numeral, WholePercent, DecimalPercent, SpellsShare, SpellsCount, Millis, Names, with_argument, SpellsTerm, SpellsParts, SpellsAction, SpellsPieces}
+use Rattle.scenario_grammar.specs.Spelling.{WholePercent, DecimalPercent, SpellsShare, SpellsCount, Millis, Names, with_argument, SpellsTerm, SpellsParts, SpellsAction, SpellsPieces}
 use Rattle.scenario_grammar.proofs.CutLaws.{and_true}
 use Rattle.scenario_grammar.proofs.Numbers.{own}
 use Rattle.scenario_grammar.proofs.Inside.{trimmed_inside, inside_shorter}
@@ -28,8 +27,8 @@ use Rattle.scenario_grammar.proofs.Inside.{trimmed_inside, inside_shorter}
 some_digits : (text : List ℕ) → is_number text ≡ true → 0 < length text
 some_digits text h = let t = and_true (leb 1 (length text)) (list_all is_ascii_digit text) h in positive (length text) t.0
   where
-  positive : (n : ℕ) → leb 1 n ≡ true → 0 < n
-  positive n h = grind (arith, nat_tests)
+    positive : (n : ℕ) → leb 1 n ≡ true → 0 < n
+    positive n h = grind (arith, nat_tests)
 
 pub number_small : (text : List ℕ) (k : ℕ) → is_number text ≡ true → length text ≤ k → number text < 10 ^ k
 number_small text k h le = digits_value_short own text k (and_true (leb 1 (length text)) (list_all is_ascii_digit text) h).1 le
@@ -45,29 +44,29 @@ decimal_shorter text n h e small =
 step : (places n r k : ℕ) → n / 10 ^ places < 10 → n % 10 ^ places ≡ r → length (decimals_of places r) ≤ k → length (decimals_of (suc places) n) ≤ suc k
 step places n r k small e h = by_test (eqb n 0)
   where
-  by_test : (t : Bool) → length (cond t [] (decimal (n / 10 ^ places) ++ decimals_of places (n % 10 ^ places))) ≤ suc k
-  by_test true = omega arith
-  by_test false =
-      let a = length-append (decimal (n / 10 ^ places)) (decimals_of places (n % 10 ^ places)) in
-      let b : length (decimal (n / 10 ^ places)) ≡ 1 = ap length (decimal_digit (n / 10 ^ places) small) in
-      let c : length (decimals_of places (n % 10 ^ places)) ≡ length (decimals_of places r) = ap (λ (m : ℕ). length (decimals_of places m)) e in
-      omega arith
+    by_test : (t : Bool) → length (cond t [] (decimal (n / 10 ^ places) ++ decimals_of places (n % 10 ^ places))) ≤ suc k
+    by_test true = omega arith
+    by_test false =
+        let a = length-append (decimal (n / 10 ^ places)) (decimals_of places (n % 10 ^ places)) in
+        let b : length (decimal (n / 10 ^ places)) ≡ 1 = ap length (decimal_digit (n / 10 ^ places) small) in
+        let c : length (decimals_of places (n % 10 ^ places)) ≡ length (decimals_of places r) = ap (λ (m : ℕ). length (decimals_of places m)) e in
+        omega arith
 
 decimals_short : (k m : ℕ) → 0 < k → k ≤ 4 → m < 10 ^ k → length (decimals_of 4 (m * 10 ^ (4 - k))) ≤ k
 decimals_short zero m some few less = absurd (omega arith)
 decimals_short (suc zero) m some few less = step 3 (m * 1000) 0 0 (omega arith) (omega arith) (omega arith)
 decimals_short (suc (suc zero)) m some few less =
     step 3 (m * 100) ((m * 100) % 1000) 1 (omega arith) refl
-      (step 2 ((m * 100) % 1000) 0 0 (omega arith) (omega arith) (omega arith))
+    (step 2 ((m * 100) % 1000) 0 0 (omega arith) (omega arith) (omega arith))
 decimals_short (suc (suc (suc zero))) m some few less =
     step 3 (m * 10) ((m * 10) % 1000) 2 (omega arith) refl
-      (step 2 ((m * 10) % 1000) (((m * 10) % 1000) % 100) 1 (omega arith) refl
-        (step 1 (((m * 10) % 1000) % 100) 0 0 (omega arith) (omega arith) (omega arith)))
+    (step 2 ((m * 10) % 1000) (((m * 10) % 1000) % 100) 1 (omega arith) refl
+    (step 1 (((m * 10) % 1000) % 100) 0 0 (omega arith) (omega arith) (omega arith)))
 decimals_short (suc (suc (suc (suc zero)))) m some few less =
     step 3 (m * 1) ((m * 1) % 1000) 3 (omega arith) refl
-      (step 2 ((m * 1) % 1000) (((m * 1) % 1000) % 100) 2 (omega arith) refl
-        (step 1 (((m * 1) % 1000) % 100) ((((m * 1) % 1000) % 100) % 10) 1 (omega arith) refl
-          (step 0 ((((m * 1) % 1000) % 100) % 10) (((((m * 1) % 1000) % 100) % 10) % 1) 0 (omega arith) refl (omega arith))))
+    (step 2 ((m * 1) % 1000) (((m * 1) % 1000) % 100) 2 (omega arith) refl
+    (step 1 (((m * 1) % 1000) % 100) ((((m * 1) % 1000) % 100) % 10) 1 (omega arith) refl
+    (step 0 ((((m * 1) % 1000) % 100) % 10) (((((m * 1) % 1000) % 100) % 10) % 1) 0 (omega arith) refl (omega arith))))
 decimals_short (suc (suc (suc (suc (suc k))))) m some few less = absurd (omega arith)
 
 scaled_small : (k m : ℕ) → 0 < k → k ≤ 4 → m < 10 ^ k → m * 10 ^ (4 - k) < 10000
@@ -81,23 +80,24 @@ scaled_small (suc (suc (suc (suc (suc k))))) m some few less = absurd (omega ari
 point_short : (k m : ℕ) → 0 < k → k ≤ 4 → m < 10 ^ k → length (point_and (m * 10 ^ (4 - k))) ≤ k + 1
 point_short k m some few less = by_test (eqb (m * 10 ^ (4 - k)) 0) (decimals_short k m some few less)
   where
-  by_test : (t : Bool) → length (decimals_of 4 (m * 10 ^ (4 - k))) ≤ k → length (cond t [] (46 ∷ decimals_of 4 (m * 10 ^ (4 - k)))) ≤ k + 1
-  by_test true h = omega arith
-  by_test false h = omega arith
+    by_test : (t : Bool) → length (decimals_of 4 (m * 10 ^ (4 - k))) ≤ k → length (cond t [] (46 ∷ decimals_of 4 (m * 10 ^ (4 - k)))) ≤ k + 1
+    by_test true h = omega arith
+    by_test false h = omega arith
 
 share_within : (share n : ℕ) → (share < 1000000 → length (decimal (share / 10000)) + length (point_and (share % 10000)) + 1 ≤ n) → length (share_text share) ≤ n
 unfolding share_text
 share_within share n h = by_test (ltb share 1000000) refl
   where
-  is_less : ltb share 1000000 ≡ true → share < 1000000
-  is_less is = grind (arith, nat_tests)
-  by_test : (t : Bool) → ltb share 1000000 ≡ t → length (cond t (decimal (share / 10000) ++ point_and (share % 10000) ++ (37 ∷ [])) []) ≤ n
-  by_test true is =
-      let le = h (is_less is) in
-      let a = length-append (decimal (share / 10000) ++ point_and (share % 10000)) (37 ∷ []) in
-      let b = length-append (decimal (share / 10000)) (point_and (share % 10000)) in
-      omega arith
-  by_test false is = omega arith
+    is_less : ltb share 1000000 ≡ true → share < 1000000
+    is_less is = grind (arith, nat_tests)
+
+    by_test : (t : Bool) → ltb share 1000000 ≡ t → length (cond t (decimal (share / 10000) ++ point_and (share % 10000) ++ (37 ∷ [])) []) ≤ n
+    by_test true is =
+        let le = h (is_less is) in
+        let a = length-append (decimal (share / 10000) ++ point_and (share % 10000)) (37 ∷ []) in
+        let b = length-append (decimal (share / 10000)) (point_and (share % 10000)) in
+        omega arith
+    by_test false is = omega arith
 
 -- the parts of a share
 whole_of : (share w v : ℕ) → v < 10000 → share ≡ min 1000000 (w * 10000 + v) → share < 1000000 → (share / 10000 ≡ w) × (share % 10000 ≡ v) × (w < 100)
@@ -123,8 +123,8 @@ percent_shorter percent share (inr h) less =
     let e = length-append h.whole (46 ∷ h.decimals) in
     sums (length (decimal (share / 10000))) (length (point_and (share % 10000))) (length (point_and (number h.decimals * 10 ^ (4 - k)))) (length h.whole) k (length percent) a b c (d ∙ e)
   where
-  sums : (x y z w k n : ℕ) → x ≤ w → y ≡ z → z ≤ k + 1 → n ≡ w + suc k → x + y ≤ n
-  sums x y z w k n a b c d = omega arith
+    sums : (x y z w k n : ℕ) → x ≤ w → y ≡ z → z ≤ k + 1 → n ≡ w + suc k → x + y ≤ n
+    sums x y z w k n a b c d = omega arith
 
 share_shorter : (text : List ℕ) (share : ℕ) → SpellsShare text share → length (share_text share) ≤ length text
 share_shorter text share (inl h) = share_within share (length text) (λ less. absurd (let e = h.1 in omega arith))
@@ -216,23 +216,25 @@ cut_spread [] = (omega arith, refl)
 cut_spread (b ∷ []) = (omega arith, refl)
 cut_spread (b ∷ c ∷ rest) = by_test (eqb b 45 && eqb c 62) (cut_at_arrows (c ∷ rest)) (cut_spread rest) (cut_spread (c ∷ rest))
   where
-  Is : List (List ℕ) → ℕ → Type 0
-  Is parts n = (0 < length parts) × (spread 2 parts ≡ n)
-  by_test : (t : Bool) (parts : List (List ℕ)) → Is (cut_at_arrows rest) (length rest + 2) → Is parts (suc (length rest) + 2) → Is (cond t ([] ∷ cut_at_arrows rest) (onto_first b parts)) (suc (suc (length rest)) + 2)
-  by_test true parts k h = let e = k.1 in (omega arith, omega arith)
-  by_test false [] k h = absurd (let l = h.0 in omega arith)
-  by_test false (p ∷ ps) k h = let e = h.1 in (omega arith, omega arith)
+    Is : List (List ℕ) → ℕ → Type 0
+    Is parts n = (0 < length parts) × (spread 2 parts ≡ n)
+
+    by_test : (t : Bool) (parts : List (List ℕ)) → Is (cut_at_arrows rest) (length rest + 2) → Is parts (suc (length rest) + 2) → Is (cond t ([] ∷ cut_at_arrows rest) (onto_first b parts)) (suc (suc (length rest)) + 2)
+    by_test true parts k h = let e = k.1 in (omega arith, omega arith)
+    by_test false [] k h = absurd (let l = h.0 in omega arith)
+    by_test false (p ∷ ps) k h = let e = h.1 in (omega arith, omega arith)
 
 split_spread : (c : ℕ) (text : List ℕ) → (0 < length (slice_split (λ b. eqb b c) text)) × (spread 1 (slice_split (λ b. eqb b c) text) ≡ length text + 1)
 split_spread c [] = (omega arith, refl)
 split_spread c (b ∷ text) = by_test (eqb b c) (slice_split (λ x. eqb x c) text) (split_spread c text)
   where
-  Is : List (List ℕ) → ℕ → Type 0
-  Is pieces n = (0 < length pieces) × (spread 1 pieces ≡ n)
-  by_test : (t : Bool) (pieces : List (List ℕ)) → Is pieces (length text + 1) → Is (cond t ([] ∷ pieces) (onto_first b pieces)) (suc (length text) + 1)
-  by_test true pieces h = let e = h.1 in (omega arith, omega arith)
-  by_test false [] h = absurd (let l = h.0 in omega arith)
-  by_test false (p ∷ ps) h = let e = h.1 in (omega arith, omega arith)
+    Is : List (List ℕ) → ℕ → Type 0
+    Is pieces n = (0 < length pieces) × (spread 1 pieces ≡ n)
+
+    by_test : (t : Bool) (pieces : List (List ℕ)) → Is pieces (length text + 1) → Is (cond t ([] ∷ pieces) (onto_first b pieces)) (suc (length text) + 1)
+    by_test true pieces h = let e = h.1 in (omega arith, omega arith)
+    by_test false [] h = absurd (let l = h.0 in omega arith)
+    by_test false (p ∷ ps) h = let e = h.1 in (omega arith, omega arith)
 
 -- the length of the terms, each with an arrow
 abbrev chain_spread : List Term → ℕ
@@ -318,10 +320,10 @@ inserted_long : (es : Entries) (k : List ℕ) (v : List Term) → entries_spread
 inserted_long [] k v = omega arith
 inserted_long (e ∷ es) k v = by_test (bytes_eq k e.0) ((bytes_eq-Decides k e.0).0) (inserted_long es k v)
   where
-  by_test : (t : Bool) → (t ≡ true → k ≡ e.0) → entries_spread (insert_entry bytes_eq es k v) ≤ entries_spread es + (length (entry_text (k, v)) + 1)
-    → entries_spread (cond t ((e.0, v) ∷ es) (e ∷ insert_entry bytes_eq es k v)) ≤ entries_spread (e ∷ es) + (length (entry_text (k, v)) + 1)
-  by_test true same h = let l : length (entry_text (e.0, v)) ≡ length (entry_text (k, v)) = ap (λ (n : List ℕ). length (entry_text (n, v))) (sym (same refl)) in omega arith
-  by_test false same h = omega arith
+    by_test : (t : Bool) → (t ≡ true → k ≡ e.0) → entries_spread (insert_entry bytes_eq es k v) ≤ entries_spread es + (length (entry_text (k, v)) + 1)
+        → entries_spread (cond t ((e.0, v) ∷ es) (e ∷ insert_entry bytes_eq es k v)) ≤ entries_spread (e ∷ es) + (length (entry_text (k, v)) + 1)
+    by_test true same h = let l : length (entry_text (e.0, v)) ≡ length (entry_text (k, v)) = ap (λ (n : List ℕ). length (entry_text (n, v))) (sym (same refl)) in omega arith
+    by_test false same h = omega arith
 
 pub all_inserted_long : (es actions : Entries) → entries_spread (insert_all bytes_eq es actions) ≤ entries_spread es + entries_spread actions
 all_inserted_long es [] = omega arith

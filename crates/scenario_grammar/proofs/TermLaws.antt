@@ -1,23 +1,19 @@
 -- What a term's text spells is what it is read as, and the other way round.
-use Rattle.std.proofs.Common.{◌≡◌, ℕ, zero, suc, ◌+◌, ◌<◌, ◌≤◌, List, [], ◌∷◌, ◌++◌, Bool, true, false, ◌&&◌, not, eqb, leb, cond, length, Option, Some, None, Result, Ok, Err, refl, ap, sym, ◌∙◌, arith, rules, subst, ◌⊎◌, inl, inr, append_assoc}
+use Rattle.std.proofs.Common.{◌≡◌, ℕ, ◌≤◌, List, [], ◌∷◌, ◌++◌, true, not, eqb, leb, length, Option, Some, None, Ok, refl, ap, sym, ◌∙◌, arith, subst, ◌⊎◌, inl, inr, append_assoc}
 use Rattle.std.specs.Prelude.{codes}
 use Rattle.std.specs.Char.{is_ascii_digit}
 use Rattle.std.specs.List.{list_all}
-use Rattle.std.specs.Str.{bytes_eq}
 use Rattle.std.proofs.lemmas.Bool.Decides.{nat_tests}
-use Rattle.std.proofs.lemmas.Grind.{common_steps}
-use Rattle.std.proofs.lemmas.List.{append-nil}
 use Rattle.scenario_values.specs.declared.term.Term.{Term}
 use Rattle.scenario_values.specs.declared.term.Task.{Task}
 use Rattle.scenario_values.specs.declared.term.Task.TheVariants as tasks
-use Rattle.scenario_grammar.specs.declared.fault.Kind.{Kind}
-use Rattle.scenario_grammar.specs.Words.{cut, without_last}
+use Rattle.scenario_grammar.specs.Words.{cut}
 use Rattle.scenario_values.specs.Words.{lacks}
-use Rattle.scenario_grammar.specs.FirstFault.{◌>>=◌, number_up_to, share_of, share_by, head_of, head_by, share_at, share_at_by, count_at, count_at_by, task_of, term_of, or_fault, millis_of}
-use Rattle.scenario_grammar.specs.Words.{is_number, number}
-use Rattle.scenario_grammar.specs.Spelling.{Numeral, WholePercent, DecimalPercent, Percentage, SpellsShare, Counted, SpellsCount, Millis, Names, with_argument, SpellsTerm}
-use Rattle.scenario_grammar.proofs.CutLaws.{and_true, and_both, all_implies, all_append, cut_lacks, cut_at, cut_gives}
-use Rattle.scenario_grammar.proofs.Blanks.{without_last_gives, without_last_push}
+use Rattle.scenario_grammar.specs.FirstFault.{number_up_to, share_of, head_of, share_at, count_at, task_of, term_of, millis_of}
+use Rattle.scenario_grammar.specs.Words.{is_number}
+use Rattle.scenario_grammar.specs.Spelling.{Numeral, WholePercent, DecimalPercent, SpellsShare, SpellsCount, Millis, Names, with_argument, SpellsTerm}
+use Rattle.scenario_grammar.proofs.CutLaws.{and_true, and_both, all_implies, all_append, cut_lacks, cut_at}
+use Rattle.scenario_grammar.proofs.Blanks.{without_last_push}
 
 -- ---- what a text lacks
 
@@ -52,8 +48,8 @@ share_of_decimal text share h =
     let e : cut 46 text ≡ Some (h.whole, h.decimals) = ap (cut 46) h.parts ∙ cut_at 46 h.whole h.decimals (number_lacks 46 h.whole not_point h.whole_digits) in
     rw (e, h.whole_digits, h.decimal_digits, short (length h.decimals) h.few, ← h.value) refl
   where
-  short : (n : ℕ) → n ≤ 4 → leb n 4 ≡ true
-  short n le = grind (arith, nat_tests)
+    short : (n : ℕ) → n ≤ 4 → leb n 4 ≡ true
+    short n le = grind (arith, nat_tests)
 
 percent_lacks : (c : ℕ) (text : List ℕ) (share : ℕ) → ((b : ℕ) → is_ascii_digit b ≡ true → not (eqb b c) ≡ true) → not (eqb 46 c) ≡ true → WholePercent text share ⊎ DecimalPercent text share → lacks c text ≡ true
 percent_lacks c text share other point (inl h) = number_lacks c text other h.digits
@@ -73,8 +69,8 @@ share_read front rest share (inr h) plain =
 numeral_read : (most : ℕ) (text : List ℕ) (n : ℕ) → Numeral text n → n ≤ most → number_up_to most text ≡ Some n
 numeral_read most text n h le = rw (h.digits, h.value, fits n most le) refl
   where
-  fits : (n most : ℕ) → n ≤ most → leb n most ≡ true
-  fits n most le = grind (arith, nat_tests)
+    fits : (n most : ℕ) → n ≤ most → leb n most ≡ true
+    fits n most le = grind (arith, nat_tests)
 
 pub count_read : (front word : List ℕ) (count : Option ℕ) → SpellsCount front count → lacks 42 word ≡ true → count_at (front ++ word) ≡ Ok (count, word)
 unfolding count_at
@@ -135,6 +131,6 @@ term_read text t h =
     let plain = word_plain h.word h.argument t.task h.task in
     let rest_plain : lacks 37 (h.count_text ++ h.word) ≡ true = all_append (λ b. not (eqb b 37)) h.count_text h.word (count_text_lacks 37 h.count_text t.count not_percent refl h.count) plain.percent in
     let head_plain : lacks 40 (h.share_text ++ (h.count_text ++ h.word)) ≡ true =
-      all_append (λ b. not (eqb b 40)) h.share_text (h.count_text ++ h.word) (share_text_lacks 40 h.share_text t.share not_open refl refl h.share)
-        (all_append (λ b. not (eqb b 40)) h.count_text h.word (count_text_lacks 40 h.count_text t.count not_open refl h.count) plain.opening) in
+    all_append (λ b. not (eqb b 40)) h.share_text (h.count_text ++ h.word) (share_text_lacks 40 h.share_text t.share not_open refl refl h.share)
+    (all_append (λ b. not (eqb b 40)) h.count_text h.word (count_text_lacks 40 h.count_text t.count not_open refl h.count) plain.opening) in
     rw (h.parts, head_read (h.share_text ++ (h.count_text ++ h.word)) h.argument head_plain, share_read h.share_text (h.count_text ++ h.word) t.share h.share rest_plain, count_read h.count_text h.word t.count h.count plain.star, task_read h.word h.argument t.task h.task) refl

@@ -1,12 +1,9 @@
 -- What a term's text is read as, it spells.
-use Rattle.std.proofs.Common.{◌≡◌, ℕ, ◌+◌, ◌-◌, ◌*◌, ◌^◌, ◌<◌, ◌≤◌, List, [], ◌∷◌, ◌++◌, Bool, true, false, ◌&&◌, not, eqb, leb, cond, length, min, Option, Some, None, Result, Ok, Err, refl, ap, sym, ◌∙◌, arith, rules, subst, ◌⊎◌, inl, inr, append_assoc}
+use Rattle.std.proofs.Common.{◌≡◌, ℕ, ◌+◌, ◌-◌, ◌*◌, ◌^◌, ◌≤◌, List, [], ◌∷◌, ◌++◌, Bool, true, false, ◌&&◌, leb, cond, length, min, Option, Some, None, Result, Ok, Err, refl, ap, sym, ◌∙◌, arith, subst, ◌⊎◌, inl, inr, append_assoc}
 use Rattle.std.specs.Prelude.{codes}
-use Rattle.std.specs.Bool.{Decides}
 use Rattle.std.specs.Str.{bytes_eq}
 use Rattle.std.proofs.lemmas.Bool.Decides.{nat_tests}
-use Rattle.std.proofs.lemmas.Grind.{common_steps}
 use Rattle.std.proofs.lemmas.Slice.Eq.{bytes_eq-Decides}
-use Rattle.std.proofs.lemmas.List.{append-nil}
 use Rattle.scenario_values.specs.declared.term.Term.{Term}
 use Rattle.scenario_values.specs.declared.term.Task.{Task}
 use Rattle.scenario_values.specs.declared.term.Task.TheVariants as tasks
@@ -15,7 +12,7 @@ use Rattle.scenario_grammar.specs.declared.fault.Kind.TheVariants.{BadPercent, B
 use Rattle.scenario_grammar.specs.Words.{cut, without_last}
 use Rattle.scenario_grammar.specs.FirstFault.{◌>>=◌, number_up_to, share_of, share_by, head_of, head_by, share_at, share_at_by, count_at, count_at_by, task_of, term_of, or_fault, millis_of}
 use Rattle.scenario_grammar.specs.Words.{is_number, number}
-use Rattle.scenario_grammar.specs.Spelling.{Numeral, WholePercent, DecimalPercent, Percentage, SpellsShare, Counted, SpellsCount, Millis, Names, with_argument, SpellsTerm}
+use Rattle.scenario_grammar.specs.Spelling.{Numeral, WholePercent, DecimalPercent, SpellsShare, SpellsCount, Millis, Names, with_argument, SpellsTerm}
 use Rattle.scenario_grammar.proofs.CutLaws.{and_true, cut_gives}
 use Rattle.scenario_grammar.proofs.Blanks.{without_last_gives}
 
@@ -86,7 +83,7 @@ share_at_by_gives head rest share (Some (front, back)) parts h =
     record {
       front = front ++ (37 ∷ []);
       parts = parts front back refl ∙ ap (λ (k : List ℕ). front ++ (37 ∷ k)) same ∙ sym (append_assoc front (37 ∷ []) rest);
-      is = inr (record { percent = front; parts = refl; is = share_gives front share found })
+      is = inr (record { percent = front; parts = refl; is = share_gives front share found });
     }
 
 pub share_sound : (head rest : List ℕ) (share : ℕ) → share_at head ≡ Ok (share, rest) → Front (λ front. SpellsShare front share) head rest
@@ -110,7 +107,7 @@ count_at_by_gives head rest count (Some (front, back)) parts h =
     record {
       front = front ++ (42 ∷ []);
       parts = parts front back refl ∙ ap (λ (k : List ℕ). front ++ (42 ∷ k)) same ∙ sym (append_assoc front (42 ∷ []) rest);
-      is = subst P value (record { count = front; parts = refl; is = found.0; small = found.1 })
+      is = subst P value (record { count = front; parts = refl; is = found.0; small = found.1 });
     }
 
 pub count_sound : (head rest : List ℕ) (count : Option ℕ) → count_at head ≡ Ok (count, rest) → Front (λ front. SpellsCount front count) head rest
@@ -145,9 +142,9 @@ millis_gives (Some text) n h =
 word_or : {A : Type 0} (word known : List ℕ) (x y z : A) → cond (bytes_eq word known) x y ≡ z → ((word ≡ known) × (x ≡ z)) ⊎ (y ≡ z)
 word_or word known x y z h = by_test (bytes_eq word known) ((bytes_eq-Decides word known).0) h
   where
-  by_test : (t : Bool) → (t ≡ true → word ≡ known) → cond t x y ≡ z → ((word ≡ known) × (x ≡ z)) ⊎ (y ≡ z)
-  by_test true is h = inl (is refl, h)
-  by_test false is h = inr h
+    by_test : (t : Bool) → (t ≡ true → word ≡ known) → cond t x y ≡ z → ((word ≡ known) × (x ≡ z)) ⊎ (y ≡ z)
+    by_test true is h = inl (is refl, h)
+    by_test false is h = inr h
 
 named : (word : List ℕ) (argument : Option (List ℕ)) (task other : Task) → Names word argument task → done task ≡ done other → Names word argument other
 named word argument task other h e = let P : Task → Type 0 = λ t. Names word argument t in subst P (ok_is task other e) h
@@ -161,23 +158,30 @@ pub task_sound : (word : List ℕ) (argument : Option (List ℕ)) (task : Task) 
 unfolding task_of
 task_sound word argument task h =
     elim (word_or word (codes "off") _ _ (Ok task) h) [
-    | inl p ↦ named word argument tasks.Off task p.0 p.1
-    | inr h ↦ elim (word_or word (codes "return") _ _ (Ok task) h) [
-    | inl p ↦ named word argument (tasks.Return argument) task (p.0, refl) p.1
-    | inr h ↦ elim (word_or word (codes "sleep") _ _ (Ok task) h) [
-    | inl p ↦ slept word argument (λ n. tasks.Sleep n) task (λ n m. (p.0, m)) p.1
-    | inr h ↦ elim (word_or word (codes "panic") _ _ (Ok task) h) [
-    | inl p ↦ named word argument (tasks.Panic argument) task (p.0, refl) p.1
-    | inr h ↦ elim (word_or word (codes "print") _ _ (Ok task) h) [
-    | inl p ↦ named word argument (tasks.Print argument) task (p.0, refl) p.1
-    | inr h ↦ elim (word_or word (codes "pause") _ _ (Ok task) h) [
-    | inl p ↦ named word argument tasks.Pause task p.0 p.1
-    | inr h ↦ elim (word_or word (codes "yield") _ _ (Ok task) h) [
-    | inl p ↦ named word argument tasks.Yield task p.0 p.1
-    | inr h ↦ elim (word_or word (codes "delay") _ _ (Ok task) h) [
-    | inl p ↦ slept word argument (λ n. tasks.Delay n) task (λ n m. (p.0, m)) p.1
-    | inr h ↦ absurd (cc)
-    ] ] ] ] ] ] ] ]
+      | inl p ↦ named word argument tasks.Off task p.0 p.1
+      | inr h ↦ elim (word_or word (codes "return") _ _ (Ok task) h) [
+        | inl p ↦ named word argument (tasks.Return argument) task (p.0, refl) p.1
+        | inr h ↦ elim (word_or word (codes "sleep") _ _ (Ok task) h) [
+          | inl p ↦ slept word argument (λ n. tasks.Sleep n) task (λ n m. (p.0, m)) p.1
+          | inr h ↦ elim (word_or word (codes "panic") _ _ (Ok task) h) [
+            | inl p ↦ named word argument (tasks.Panic argument) task (p.0, refl) p.1
+            | inr h ↦ elim (word_or word (codes "print") _ _ (Ok task) h) [
+              | inl p ↦ named word argument (tasks.Print argument) task (p.0, refl) p.1
+              | inr h ↦ elim (word_or word (codes "pause") _ _ (Ok task) h) [
+                | inl p ↦ named word argument tasks.Pause task p.0 p.1
+                | inr h ↦ elim (word_or word (codes "yield") _ _ (Ok task) h) [
+                  | inl p ↦ named word argument tasks.Yield task p.0 p.1
+                  | inr h ↦ elim (word_or word (codes "delay") _ _ (Ok task) h) [
+                    | inl p ↦ slept word argument (λ n. tasks.Delay n) task (λ n m. (p.0, m)) p.1
+                    | inr h ↦ absurd (cc)
+                  ]
+                ]
+              ]
+            ]
+          ]
+        ]
+      ]
+    ]
 
 pub term_sound : (text : List ℕ) (t : Term) → term_of text ≡ Ok t → SpellsTerm text t
 unfolding term_of
@@ -196,7 +200,7 @@ term_sound text t h =
       parts = head_sound text one.0.0 one.0.1 one.1 ∙ ap (λ (x : List ℕ). with_argument x one.0.1) (s.parts ∙ ap (λ (x : List ℕ). s.front ++ x) c.parts);
       share = s.is;
       count = c.is;
-      task = task_sound three.0.1 one.0.1 four.0 four.1
+      task = task_sound three.0.1 one.0.1 four.0 four.1;
     } in
     let P : Term → Type 0 = λ u. SpellsTerm text u in
     subst P (ok_is (record { share = two.0.0; count = three.0.0; task = four.0 }) t four.2) is

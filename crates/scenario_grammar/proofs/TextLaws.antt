@@ -1,17 +1,14 @@
 -- What a text writes is what it is read as.
-use Rattle.std.proofs.Common.{◌≡◌, ℕ, zero, suc, ◌+◌, ◌<◌, ◌≤◌, List, [], ◌∷◌, ◌++◌, Bool, true, false, ◌&&◌, not, eqb, leb, ltb, cond, length, Option, Some, None, Result, Ok, Err, refl, ap, sym, ◌∙◌, arith, rules, subst, ◌⊎◌, inl, inr, append_assoc}
+use Rattle.std.proofs.Common.{◌≡◌, ℕ, suc, ◌+◌, ◌<◌, ◌≤◌, List, [], ◌∷◌, Bool, true, false, eqb, leb, ltb, cond, length, Some, Result, Ok, refl, ap, ◌∙◌, arith, inl, inr}
 use Rattle.std.specs.List.{slice_split, AllByRecursion}
 use Rattle.std.specs.Str.{bytes_eq}
 use Rattle.std.proofs.lemmas.Bool.Decides.{nat_tests}
-use Rattle.std.proofs.lemmas.Grind.{common_steps}
-use Rattle.indexmap.specs.IndexMap.{insert_entry, insert_all}
+use Rattle.indexmap.specs.IndexMap.{insert_all}
 use Rattle.scenario_values.specs.declared.term.Term.{Term}
-use Rattle.scenario_grammar.specs.declared.fault.Kind.{Kind}
 use Rattle.scenario_grammar.specs.declared.fault.Kind.TheVariants.{TooMany}
 use Rattle.scenario_grammar.specs.Words.{cut, cut_at_arrows}
 use Rattle.scenario_values.specs.Words.{trimmed}
-use Rattle.scenario_grammar.specs.FirstFault.{◌>>=◌, term_of}
-use Rattle.scenario_grammar.specs.FirstFault.{Fault, Progress, at, bad, count_fault, term_in, chain_from, add_entry, action, piece_in, pieces_from, nothing, reading}
+use Rattle.scenario_grammar.specs.FirstFault.{Fault, Progress, bad, term_in, chain_from, add_entry, action, piece_in, pieces_from, nothing, reading}
 use Rattle.scenario_values.specs.Scenario.{Entries, is_off}
 use Rattle.scenario_grammar.specs.Spelling.{SpellsTerm, SpellsParts, SpellsAction, SpellsPieces, Writes, Within}
 use Rattle.scenario_values.specs.Scenario.{entries_of, fault_of, faults_in, all_faults}

@@ -1,13 +1,12 @@
 -- What a text is read as, it spells.
-use Rattle.std.proofs.Common.{◌≡◌, ℕ, zero, suc, ◌+◌, ◌<◌, ◌≤◌, List, [], ◌∷◌, ◌++◌, Bool, true, false, ◌&&◌, not, eqb, leb, ltb, cond, length, Option, Some, None, Result, Ok, Err, refl, ap, sym, ◌∙◌, arith, rules, subst, ◌⊎◌, inl, inr, append_assoc}
+use Rattle.std.proofs.Common.{◌≡◌, ℕ, suc, ◌+◌, ◌<◌, ◌≤◌, List, [], ◌∷◌, ◌++◌, Bool, true, false, eqb, leb, ltb, cond, length, Option, Some, None, Result, Ok, Err, refl, ap, sym, ◌∙◌, arith, subst, ◌⊎◌, inl, inr}
 use Rattle.std.specs.List.{slice_split, AllByRecursion}
 use Rattle.std.specs.Str.{bytes_eq}
 use Rattle.std.proofs.lemmas.Bool.Decides.{nat_tests}
-use Rattle.std.proofs.lemmas.Grind.{common_steps}
-use Rattle.indexmap.specs.IndexMap.{insert_entry, insert_all}
+use Rattle.indexmap.specs.IndexMap.{insert_all}
 use Rattle.scenario_values.specs.declared.term.Term.{Term}
 use Rattle.scenario_grammar.specs.declared.fault.Kind.{Kind}
-use Rattle.scenario_grammar.specs.declared.fault.Kind.TheVariants.{TooMany, TooLong, NoAction, NoName}
+use Rattle.scenario_grammar.specs.declared.fault.Kind.TheVariants.{TooMany, TooLong, NoName}
 use Rattle.scenario_grammar.specs.Words.{cut, cut_at_arrows}
 use Rattle.scenario_values.specs.Words.{lacks, trimmed}
 use Rattle.scenario_grammar.specs.FirstFault.{◌>>=◌, term_of}
@@ -113,7 +112,7 @@ action_gives done next entry piece (Some (front, back)) parts few faults h =
       few_terms = omega arith;
       few_pieces = few;
       few_faults = omega arith;
-      next_is = sym (yes_is (add_entry done (trimmed front) b.0) next b.2) ∙ ap (λ (n : ℕ). add_entry done (trimmed front) (b.0.0, n)) same
+      next_is = sym (yes_is (add_entry done (trimmed front) b.0) next b.2) ∙ ap (λ (n : ℕ). add_entry done (trimmed front) (b.0.0, n)) same;
     }
 
 piece_gives : (done next : Progress) (entry : ℕ) (piece : List ℕ) (blank : Bool) → eqb (length piece) 0 ≡ blank → done.faults ≤ 1024
@@ -145,30 +144,30 @@ pieces_give done next entry [] few faults h =
       few_terms = tt;
       few_pieces = omega arith;
       few_faults = omega arith;
-      next_is = sym (yes_is done next h) ∙ yes_is done (after done []) (same_progress done.entries done.pieces (done.pieces + 0) done.faults (done.faults + 0) (omega arith) (omega arith))
+      next_is = sym (yes_is done next h) ∙ yes_is done (after done []) (same_progress done.entries done.pieces (done.pieces + 0) done.faults (done.faults + 0) (omega arith) (omega arith));
     }
 pieces_give done next entry (p ∷ ps) few faults h =
     let b = bind_ok (piece_in done entry (trimmed p)) _ next h in
     elim (piece_gives done b.0 entry (trimmed p) (eqb (length (trimmed p)) 0) refl faults b.1) [
-    | inl same ↦
-        let P : Progress → Type 0 = λ d. AddsAll d next ps in
-        let rest : AddsAll done next ps = subst P (sym same.1) (pieces_give b.0 next (entry + 1) ps (let Q : Progress → Type 0 = λ d. d.pieces ≤ 256 in subst Q same.1 few) (let Q : Progress → Type 0 = λ d. d.faults ≤ 1024 in subst Q same.1 faults) b.2) in
-        record { actions = rest.actions; spelled = blank_more p ps rest.actions same.0 rest.spelled; few_terms = rest.few_terms; few_pieces = rest.few_pieces; few_faults = rest.few_faults; next_is = rest.next_is }
-    | inr one ↦
-        let a = one.1 in
-        let mid : Progress = add_entry done a.e.0 (a.e.1, done.faults + faults_in a.e.1) in
-        let P : Progress → Type 0 = λ d. AddsAll d next ps in
-        let f1 = a.few_pieces in let f2 = a.few_faults in
-        let rest : AddsAll mid next ps = pieces_give mid next (entry + 1) ps (omega arith) f2 (let Q : Progress → Type 0 = λ d. pieces_from d (entry + 1) ps ≡ Ok next in subst Q a.next_is b.2) in
-        let f3 = rest.few_pieces in let f4 = rest.few_faults in
-        record {
-          actions = a.e ∷ rest.actions;
-          spelled = inr (one.0, a.action, rest.spelled);
-          few_terms = (a.few_terms, rest.few_terms);
-          few_pieces = omega arith;
-          few_faults = omega arith;
-          next_is = rest.next_is ∙ yes_is (after mid rest.actions) (after done (a.e ∷ rest.actions)) (same_progress (insert_all bytes_eq mid.entries rest.actions) (mid.pieces + length rest.actions) (done.pieces + suc (length rest.actions)) (mid.faults + all_faults rest.actions) (done.faults + (faults_in a.e.1 + all_faults rest.actions)) (omega arith) (omega arith))
-        }
+      | inl same ↦
+          let P : Progress → Type 0 = λ d. AddsAll d next ps in
+          let rest : AddsAll done next ps = subst P (sym same.1) (pieces_give b.0 next (entry + 1) ps (let Q : Progress → Type 0 = λ d. d.pieces ≤ 256 in subst Q same.1 few) (let Q : Progress → Type 0 = λ d. d.faults ≤ 1024 in subst Q same.1 faults) b.2) in
+          record { actions = rest.actions; spelled = blank_more p ps rest.actions same.0 rest.spelled; few_terms = rest.few_terms; few_pieces = rest.few_pieces; few_faults = rest.few_faults; next_is = rest.next_is }
+      | inr one ↦
+          let a = one.1 in
+          let mid : Progress = add_entry done a.e.0 (a.e.1, done.faults + faults_in a.e.1) in
+          let P : Progress → Type 0 = λ d. AddsAll d next ps in
+          let f1 = a.few_pieces in let f2 = a.few_faults in
+          let rest : AddsAll mid next ps = pieces_give mid next (entry + 1) ps (omega arith) f2 (let Q : Progress → Type 0 = λ d. pieces_from d (entry + 1) ps ≡ Ok next in subst Q a.next_is b.2) in
+          let f3 = rest.few_pieces in let f4 = rest.few_faults in
+          record {
+            actions = a.e ∷ rest.actions;
+            spelled = inr (one.0, a.action, rest.spelled);
+            few_terms = (a.few_terms, rest.few_terms);
+            few_pieces = omega arith;
+            few_faults = omega arith;
+            next_is = rest.next_is ∙ yes_is (after mid rest.actions) (after done (a.e ∷ rest.actions)) (same_progress (insert_all bytes_eq mid.entries rest.actions) (mid.pieces + length rest.actions) (done.pieces + suc (length rest.actions)) (mid.faults + all_faults rest.actions) (done.faults + (faults_in a.e.1 + all_faults rest.actions)) (omega arith) (omega arith));
+          }
     ]
 
 pub text_gives : (text : List ℕ) (s : Entries) → reading text ≡ Ok s → (actions : List (List ℕ × List Term)) × Writes text actions × Within text actions × (s ≡ entries_of actions)
@@ -176,6 +175,9 @@ unfolding reading
 text_gives text s h =
     let l = let_through (ltb 65536 (length text)) (record { kind = TooLong; entry = 0; term = 0 }) _ s h in
     let b = bind_ok (pieces_from nothing 1 (slice_split (λ b. eqb b 59) text)) _ s l.1 in
-    let a = pieces_give nothing b.0 1 (slice_split (λ b. eqb b 59) text) (omega arith) (omega arith) b.1 in
-    (a.actions, a.spelled, record { bytes = below 65536 (length text) l.0; few_actions = let f = a.few_pieces in omega arith; few_terms = a.few_terms; few_faults = let f = a.few_faults in omega arith },
-     sym (yes_is b.0.entries s b.2) ∙ ap (λ (d : Progress). d.entries) a.next_is)
+    let a = pieces_give nothing b.0 1 (slice_split (λ b. eqb b 59) text) (omega arith) (omega arith) b.1 in (
+      a.actions,
+      a.spelled,
+      record { bytes = below 65536 (length text) l.0; few_actions = let f = a.few_pieces in omega arith; few_terms = a.few_terms; few_faults = let f = a.few_faults in omega arith },
+      sym (yes_is b.0.entries s b.2) ∙ ap (λ (d : Progress). d.entries) a.next_is,
+    )

@@ -1,9 +1,9 @@
 -- Trimming twice is trimming once; and when a text is trimmed already.
-use Rattle.std.proofs.Common.{◌≡◌, ℕ, zero, suc, ◌+◌, ◌-◌, ◌<◌, ◌≤◌, List, [], ◌∷◌, ◌++◌, Bool, true, false, length, take, drop, get_or, refl, ap, sym, ◌∙◌, arith, rules, subst, reverse}
+use Rattle.std.proofs.Common.{◌≡◌, ℕ, ◌-◌, ◌<◌, ◌≤◌, List, false, length, take, drop, get_or, refl, ap, sym, ◌∙◌, arith, reverse}
 use Rattle.std.specs.List.{prefix_len, suffix_len}
 use Rattle.std.proofs.lemmas.List.{take_all, length-take-le, get_or-take, get_or-drop, get_or-reverse, length-reverse, length-drop}
-use Rattle.std.proofs.lemmas.List.Sums.{prefix_len_stops, prefix_len_is, suffix_len_is, prefix_len-le-length, suffix_len-le-length}
-use Rattle.scenario_values.specs.Words.{is_blank, end_trimmed, trimmed}
+use Rattle.std.proofs.lemmas.List.Sums.{prefix_len_stops, prefix_len_is, suffix_len_is, suffix_len-le-length}
+use Rattle.scenario_values.specs.Words.{is_blank, trimmed}
 
 -- the bytes at both ends aren't blank
 pub record Bare (text : List ℕ) : Type 0 where
@@ -35,8 +35,8 @@ trimmed_bare text =
     record {
       first = λ some. ap is_blank (get_or-take m rest 0 0 (omega arith) ∙ get_or-drop n text 0 0 ∙ ap (λ (k : ℕ). get_or text k 0) (omega arith)) ∙ prefix_len_stops is_blank text 0 (omega arith);
       last = λ some.
-        let place : get_or (take m rest) (length (take m rest) - 1) 0 ≡ get_or rest (m - 1) 0 = ap (λ (k : ℕ). get_or (take m rest) (k - 1) 0) long ∙ get_or-take m rest (m - 1) 0 (omega arith) in
-        ap is_blank place ∙ suffix_stops rest m refl (omega arith)
+          let place : get_or (take m rest) (length (take m rest) - 1) 0 ≡ get_or rest (m - 1) 0 = ap (λ (k : ℕ). get_or (take m rest) (k - 1) 0) long ∙ get_or-take m rest (m - 1) 0 (omega arith) in
+          ap is_blank place ∙ suffix_stops rest m refl (omega arith);
     }
 
 pub trimmed_again : (text : List ℕ) → trimmed (trimmed text) ≡ trimmed text

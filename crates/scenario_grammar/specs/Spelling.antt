@@ -1,5 +1,5 @@
--- The grammar as a relation between whole texts and what they mean. It rests on concatenation, on cuts at the marks and on trimming
--- alone, and knows nothing of faults.
+-- The grammar as a relation between whole texts and what they mean, from the FAILPOINTS variable of fail-rs; its limits are this
+-- project's own. It rests on concatenation, on cuts at the marks and on trimming alone, and knows nothing of faults.
 use Rattle.std.specs.Prelude.{◌≡◌, ℕ, ◌+◌, ◌-◌, ◌*◌, ◌^◌, ◌<◌, ◌≤◌, ◌==◌, ◌⊎◌, List, [], ◌∷◌, ◌++◌, true, length, min, Option, Some, None, codes}
 use Rattle.std.specs.List.{slice_split, AllByRecursion}
 use Rattle.scenario_values.specs.declared.term.Term.{Term}
@@ -126,4 +126,3 @@ pub record Within (text : List ℕ) (actions : List (List ℕ × List Term)) : T
 -- the text spells something within the limits
 abbrev pub IsScenarioText : List ℕ → Type 0
 IsScenarioText text = (actions : List (List ℕ × List Term)) × Writes text actions × Within text actions
-

@@ -19,7 +19,7 @@ pub struct Builder {
 }
 
 impl Builder {
-    ghost use Rattle.std.specs.Prelude.{◌≡◌, ◌+◌, OnErr};
+    ghost use Rattle.std.specs.Prelude.{◌≡◌, ◌+◌};
     ghost use Rattle.scenario_grammar.specs.FirstFault.{Reads, piece_in, nothing};
     ghost use Rattle.scenario_grammar.specs.Built.{progress};
 

@@ -1,5 +1,5 @@
 //! Texts trimmed and cut.
-ghost use Rattle.std.specs.Prelude.{◌≡◌, ◌+◌, ◌-◌, ◌<◌, ◌≤◌, ◌==◌, length, take, drop, ◌∷◌, [], slice_index, true, map, IfOk, MatchOption};
+ghost use Rattle.std.specs.Prelude.{◌≡◌, ◌+◌, ◌-◌, ◌<◌, ◌≤◌, ◌==◌, length, drop, ◌∷◌, [], slice_index, true, map, IfOk, MatchOption};
 ghost use Rattle.std.specs.List.{prefix_len, suffix_len, slice_split};
 ghost use Rattle.std.specs.Option.{option_map};
 ghost use Rattle.scenario_values.specs.Words.{is_blank, end_trimmed, trimmed};

@@ -87,7 +87,9 @@ impl fmt::Display for ScenarioFault {
 
     fn fmt<W: fmt::Write>(&self, f: &mut fmt::Formatter<W>) -> fmt::Result {
         match self {
-            ScenarioFault::Bad { kind, entry, term } => write!(f, "{kind} entry {entry} term {term}"),
+            ScenarioFault::Bad { kind, entry, term } => {
+                write!(f, "{kind} entry {entry} term {term}")
+            }
             ScenarioFault::Memory => write!(f, "no memory"),
         }
     }

@@ -10,56 +10,47 @@ ghost use Rattle.scenario_grammar.specs.Spelling.{IsScenarioText, Spells, Writes
 pub fn percentages_are_read()
     ensures whole { (text : List ℕ) (share : ℕ) → WholePercent text share → share_of text ≡ Some share }
     ensures decimal { (text : List ℕ) (share : ℕ) → DecimalPercent text share → share_of text ≡ Some share }
-{
-}
+{}
 
 /// What spells a term is read as that term.
 pub fn spelled_terms_are_read()
     ensures { (text : List ℕ) (t : Term) → SpellsTerm text t → term_of text ≡ Ok t }
-{
-}
+{}
 
 /// What is read as a term spells that term.
 pub fn terms_read_are_spelled()
     ensures { (text : List ℕ) (t : Term) → term_of text ≡ Ok t → SpellsTerm text t }
-{
-}
+{}
 
 /// What spells a scenario within the limits is read as that scenario.
 pub fn spelled_texts_are_read()
     ensures { (text : List ℕ) (actions : List (List ℕ × List Term)) → Writes text actions → Within text actions → reading text ≡ Ok (entries_of actions) }
-{
-}
+{}
 
 /// A text spells at most one scenario.
 pub fn texts_spell_one_scenario()
     ensures { (text : List ℕ) (s other : Entries) → Spells text s → Spells text other → s ≡ other }
-{
-}
+{}
 
 /// What a text is read as it spells, within the limits.
 pub fn texts_read_are_spelled()
     ensures { (text : List ℕ) (s : Entries) → reading text ≡ Ok s → (actions : List (List ℕ × List Term)) × Writes text actions × Within text actions × (s ≡ entries_of actions) }
-{
-}
+{}
 
 /// There is a fault just where the text spells nothing or passes a limit.
 pub fn faults_tell()
     ensures spelled { (text : List ℕ) → fault text ≡ None → IsScenarioText text }
     ensures sound { (text : List ℕ) → IsScenarioText text → fault text ≡ None }
-{
-}
+{}
 
 /// A lawful term's printed form spells it, and is read as it.
 pub fn printed_terms_are_read()
     ensures spelled { (t : Term) → is_lawful_term t ≡ true → SpellsTerm (term_text t) t }
     ensures again { (t : Term) → is_lawful_term t ≡ true → term_of (term_text t) ≡ Ok t }
-{
-}
+{}
 
 /// A scenario's printed form spells it, has no fault, and is read as it.
 pub fn printed_scenarios_are_read()
     ensures spelled { (s : Entries) → IsScenario s → Spells (printed s) s }
     ensures again { (s : Entries) → IsScenario s → reading (printed s) ≡ Ok s }
-{
-}
+{}

@@ -1,7 +1,6 @@
-//! Scenario texts: read with the exact place of the first fault, and printed.
+//! Scenario texts: parsed, with the exact place of the first fault, and printed. What is printed is parsed as the same scenario.
 //!
-//! A scenario text is `name=term->term;name=..`, a term `[<percent>%][<count>*]<task>[(argument)]`. The grammar is that of the
-//! FAILPOINTS variable of fail-rs.
+//! The values themselves, and what is done to them without their text, are those of `scenario_values`, named again here.
 #![tactic(auto)]
 
 mod builder;
@@ -17,13 +16,15 @@ mod terms;
 pub use fault::{Kind, ScenarioFault};
 pub use laws::{
     faults_tell, percentages_are_read, printed_scenarios_are_read, printed_terms_are_read,
-    spelled_terms_are_read, spelled_texts_are_read, terms_read_are_spelled,
-    texts_read_are_spelled, texts_spell_one_scenario,
+    spelled_terms_are_read, spelled_texts_are_read, terms_read_are_spelled, texts_read_are_spelled,
+    texts_spell_one_scenario,
 };
 pub use names::{is_argument, is_name};
 pub use parsing::parse;
 pub use printing::{parse_printed, print};
-pub use scenario_values::{Chain, Place, Scenario, Task, Term, Text};
+pub use scenario_values::{
+    Chain, Place, Scenario, Task, Term, Text, are_faults, build, faults, keep, tidy,
+};
 
 #[cfg(test)]
 mod tests;

@@ -33,13 +33,7 @@ fn number_up_to(most: u32, text: &str) -> Option<u32>
     }
     match text.parse::<u32>() {
         Err(_) => None,
-        Ok(n) => {
-            if n <= most {
-                Some(n)
-            } else {
-                None
-            }
-        }
+        Ok(n) => { if n <= most { Some(n) } else { None } }
     }
 }
 

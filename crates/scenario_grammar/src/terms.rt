@@ -1,19 +1,15 @@
-//! Scenarios, and the texts that spell them.
-ghost use Rattle.std.specs.Prelude.{◌≡◌, ◌+◌, ◌<◌, ◌≤◌, ◌^◌, length, map, IfOk, OnOk, Ok, Err};
-ghost use Rattle.std.specs.Str.{bytes_eq};
-ghost use Rattle.scenario_grammar.specs.FirstFault.{Reads, Fault, Progress, term_in, chain_from, piece_in, pieces_from, reading, add_entry};
+//! Chains of terms, read.
+ghost use Rattle.std.specs.Prelude.{◌≡◌, ◌+◌, ◌<◌, ◌≤◌, map, IfOk, Ok, Err};
+ghost use Rattle.scenario_grammar.specs.FirstFault.{Reads, term_in, chain_from};
 ghost use Rattle.scenario_values.specs.Scenario.{is_off};
-ghost use Rattle.scenario_values.specs.Words.{trimmed};
 
 use crate::cuts::trim;
 use crate::fault::{Kind, ScenarioFault, TermError};
 use crate::reading::term_of;
 use scenario_values::{Task, Term};
-
-
 use std::alloc::Global;
 
-pub fn is_off(task: &Task) -> bool
+fn is_off(task: &Task) -> bool
     ensures { result ≡ is_off task.now }
 {
     matches!(task, Task::Off)
@@ -21,25 +17,43 @@ pub fn is_off(task: &Task) -> bool
 
 /// A term of a chain, and how many faults there are with it.
 #[tactic(auto, unfolding(crate::specs::FirstFault::term_in))]
-fn term_in(alloc: Global, entry: u32, number: u32, faults: u32, text: &str) -> Result<(Term, u32), ScenarioFault>
+fn term_in(
+    alloc: Global,
+    entry: u32,
+    number: u32,
+    faults: u32,
+    text: &str,
+) -> Result<(Term, u32), ScenarioFault>
     requires { faults ≤ 1024 }
     ensures value { Reads (λ x. (x.0, x.1)) result (term_in entry number faults text.now) }
     ensures small { IfOk result (λ x. x.1 ≤ 1024) }
     ensures few { IfOk result (λ x. number ≤ 256) }
 {
     if number > 256 {
-        return Err(ScenarioFault::Bad { kind: Kind::TooMany, entry, term: number });
+        return Err(ScenarioFault::Bad {
+            kind: Kind::TooMany,
+            entry,
+            term: number,
+        });
     }
     let term = match term_of(alloc, trim(text)) {
         Err(TermError::Memory) => return Err(ScenarioFault::Memory),
-        Err(TermError::Bad(kind)) => return Err(ScenarioFault::Bad { kind, entry, term: number }),
+        Err(TermError::Bad(kind)) => return Err(ScenarioFault::Bad {
+            kind,
+            entry,
+            term: number,
+        }),
         Ok(term) => term,
     };
     if is_off(&term.task) {
         return Ok((term, faults));
     }
     if faults >= 1024 {
-        return Err(ScenarioFault::Bad { kind: Kind::TooMany, entry, term: number });
+        return Err(ScenarioFault::Bad {
+            kind: Kind::TooMany,
+            entry,
+            term: number,
+        });
     }
     Ok((term, faults + 1))
 }

@@ -1,4 +1,5 @@
 use super::*;
+use scenario_values::faults_are_counted;
 use std::test::*;
 
 fn bad(kind: Kind, entry: u32, term: u32) -> Option<ScenarioFault> {
@@ -9,9 +10,16 @@ fn fault(rt: &HostRuntime, text: &str) -> Option<ScenarioFault> {
     parse(rt.alloc(), text).err()
 }
 
+fn scenario(rt: &HostRuntime, text: &str) -> Result<Scenario, Fail> {
+    Ok(parse(rt.alloc(), text).ok().ok_or("a scenario")?)
+}
+
+fn text_of(rt: &HostRuntime, scenario: &Scenario) -> Result<String, Fail> {
+    Ok(print(rt.alloc(), scenario)?)
+}
+
 fn printed(rt: &HostRuntime, text: &str) -> Result<String, Fail> {
-    let scenario = parse(rt.alloc(), text).ok().ok_or("a scenario")?;
-    Ok(print(rt.alloc(), &scenario)?)
+    text_of(rt, &scenario(rt, text)?)
 }
 
 /// `front`, then `part` so many times with `between` between two, then `back`.
@@ -70,7 +78,10 @@ fn texts_print_in_their_shortest_form(rt: HostRuntime) -> Result<(), Fail> {
         (" ; ;", ""),
         (" a = 020.50%007*print( hi ) ", "a=20.5%7*print( hi )"),
         ("a=250%panic", "a=panic"),
-        ("a=20%3*print(still alive!)->panic", "a=20%3*print(still alive!)->panic"),
+        (
+            "a=20%3*print(still alive!)->panic",
+            "a=20%3*print(still alive!)->panic",
+        ),
         ("a=off;b=yield;a=panic", "a=panic;b=yield"),
         ("a=return(x(y))", "a=return(x(y))"),
         ("a=return", "a=return"),
@@ -79,8 +90,14 @@ fn texts_print_in_their_shortest_form(rt: HostRuntime) -> Result<(), Fail> {
         ("a=0.0001%off", "a=0.0001%off"),
         ("a=0%off", "a=0%off"),
         ("a->b=off", "a->b=off"),
-        ("a=sleep(0005)->delay(1000000000)", "a=sleep(5)->delay(1000000000)"),
-        ("a=off(x)->pause(y)->4294967295*yield()", "a=off->pause->4294967295*yield"),
+        (
+            "a=sleep(0005)->delay(1000000000)",
+            "a=sleep(5)->delay(1000000000)",
+        ),
+        (
+            "a=off(x)->pause(y)->4294967295*yield()",
+            "a=off->pause->4294967295*yield",
+        ),
         ("\ta\r\n=\n off -> 1.05%off ;", "a=off->1.05%off"),
     ] {
         assert_eq!(rt; printed(&rt, text)?.as_str(), want, "{text}");
@@ -90,9 +107,10 @@ fn texts_print_in_their_shortest_form(rt: HostRuntime) -> Result<(), Fail> {
 
 #[test]
 fn values_are_those_of_the_text(rt: HostRuntime) -> Result<(), Fail> {
-    let scenario = parse(rt.alloc(), "a=20%3*print(still alive!)->panic;b=0.0001%return(x(y))->return->return()")
-        .ok()
-        .ok_or("a scenario")?;
+    let scenario = scenario(
+        &rt,
+        "a=20%3*print(still alive!)->panic;b=0.0001%return(x(y))->return->return()",
+    )?;
     assert_eq!(rt; scenario.len(), 2);
     assert_eq!(rt; scenario.entry_of("b"), Some(1));
     assert_eq!(rt; scenario.entry_of("c"), None);
@@ -119,12 +137,24 @@ fn texts_at_the_limits(rt: HostRuntime) -> Result<(), Fail> {
     assert_eq!(rt; longest.len(), 65536);
     assert_eq!(rt; printed(&rt, &longest)?.len(), 65536);
     let texts = [
-        (long_text(&rt, "a=print(", "x", "", 65528, ")")?, bad(Kind::TooLong, 0, 0)),
+        (
+            long_text(&rt, "a=print(", "x", "", 65528, ")")?,
+            bad(Kind::TooLong, 0, 0),
+        ),
         (long_text(&rt, "", "a=off", ";", 256, "")?, None),
-        (long_text(&rt, "", "a=off", ";", 257, "")?, bad(Kind::TooMany, 257, 0)),
-        (long_text(&rt, ";", "a=off", ";", 257, "")?, bad(Kind::TooMany, 258, 0)),
+        (
+            long_text(&rt, "", "a=off", ";", 257, "")?,
+            bad(Kind::TooMany, 257, 0),
+        ),
+        (
+            long_text(&rt, ";", "a=off", ";", 257, "")?,
+            bad(Kind::TooMany, 258, 0),
+        ),
         (long_text(&rt, "a=", "off", "->", 256, "")?, None),
-        (long_text(&rt, "a=", "off", "->", 257, "")?, bad(Kind::TooMany, 1, 257)),
+        (
+            long_text(&rt, "a=", "off", "->", 257, "")?,
+            bad(Kind::TooMany, 1, 257),
+        ),
     ];
     for (text, want) in &texts {
         assert!(rt; fault(&rt, text) == *want);
@@ -149,8 +179,14 @@ fn overwritten_faults_count(rt: HostRuntime) -> Result<(), Fail> {
 #[test]
 fn faults_are_written_with_their_place(rt: HostRuntime) -> Result<(), Fail> {
     let fault = fault(&rt, "a=off;b=off->3*20%off").ok_or("a fault")?;
-    assert_eq!(rt; fault.to_string(rt.alloc())?.as_str(), "BadPercent entry 2 term 2");
-    assert_eq!(rt; ScenarioFault::Memory.to_string(rt.alloc())?.as_str(), "no memory");
+    assert_eq!(rt;
+        fault.to_string(rt.alloc())?.as_str(),
+        "BadPercent entry 2 term 2"
+    );
+    assert_eq!(rt;
+        ScenarioFault::Memory.to_string(rt.alloc())?.as_str(),
+        "no memory"
+    );
     Ok(())
 }
 
@@ -161,9 +197,10 @@ fn printed_texts_are_read_again(rt: HostRuntime) -> Result<(), Fail> {
         "a=return(x(y))->1*off->20.5%0*sleep(1)",
         "a->b=off;c=99.9999%print( hi )->panic()->4294967295*delay(1000000000)",
     ] {
-        let scenario = parse(rt.alloc(), text).ok().ok_or("a scenario")?;
-        let again = parse_printed(rt.alloc(), &scenario).ok().ok_or("the same scenario")?;
-        assert_eq!(rt; print(rt.alloc(), &again)?.as_str(), text);
+        let again = parse_printed(rt.alloc(), &scenario(&rt, text)?)
+            .ok()
+            .ok_or("the same scenario")?;
+        assert_eq!(rt; text_of(&rt, &again)?.as_str(), text);
     }
     Ok(())
 }
@@ -182,4 +219,67 @@ fn names_and_arguments(rt: HostRuntime) {
     for argument in [";", "a;b", "->", "x->y", "--->>"] {
         assert!(rt; !is_argument(argument), "{argument}");
     }
+}
+
+fn tidied(rt: &HostRuntime, scenario: &Scenario) -> Result<String, Fail> {
+    text_of(rt, &tidy(rt.alloc(), scenario)?)
+}
+
+fn kept(rt: &HostRuntime, text: &str, set: &[u32]) -> Result<Scenario, Fail> {
+    let scenario = scenario(rt, text)?;
+    let count = faults(rt.alloc(), &scenario)?.len();
+    faults_are_counted();
+    if count > 1024 || !are_faults(count as u32, set) {
+        return Err("no set of faults".into());
+    }
+    Ok(keep(rt.alloc(), &scenario, set)?)
+}
+
+#[test]
+fn tidied_scenarios_print(rt: HostRuntime) -> Result<(), Fail> {
+    for (text, want) in [
+        ("p=2*off->1*off->1*panic->1*off;q=off", "p=3*off->1*panic"),
+        ("p=0*panic->1*off->return->panic", "p=1*off->return"),
+        (
+            "p=4294967295*off->1*off->panic",
+            "p=4294967295*off->1*off->panic",
+        ),
+    ] {
+        assert_eq!(rt;
+            tidied(&rt, &scenario(&rt, text)?)?.as_str(),
+            want,
+            "{text}"
+        );
+    }
+    Ok(())
+}
+
+#[test]
+fn kept_scenarios_print(rt: HostRuntime) -> Result<(), Fail> {
+    let second = kept(&rt, "p=20%2*return->1*panic", &[1])?;
+    assert_eq!(rt; text_of(&rt, &second)?.as_str(), "p=20%2*off->1*panic");
+    let none = kept(&rt, "p=20%2*return->1*panic", &[])?;
+    assert_eq!(rt; tidied(&rt, &none)?.as_str(), "p=20%2*off");
+    Ok(())
+}
+
+#[test]
+fn faults_have_places(rt: HostRuntime) -> Result<(), Fail> {
+    let places = faults(rt.alloc(), &scenario(&rt, "a=off->panic;b=yield")?)?;
+    assert_eq!(rt; places.len(), 2);
+    assert_eq!(rt; places[0], Place { entry: 0, term: 1 });
+    assert_eq!(rt; places[1], Place { entry: 1, term: 0 });
+    Ok(())
+}
+
+#[test]
+fn built_scenarios_print(rt: HostRuntime) -> Result<(), Fail> {
+    let panic = [Term {
+        share: 1000000,
+        count: None,
+        task: Task::Panic(None),
+    }];
+    let built = build(rt.alloc(), &[("a", &panic)])?;
+    assert_eq!(rt; text_of(&rt, &built)?.as_str(), "a=panic");
+    Ok(())
 }

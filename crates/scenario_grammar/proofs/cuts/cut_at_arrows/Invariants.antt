@@ -1,4 +1,4 @@
-use Rattle.std.proofs.Common.{◌≡◌, ◌++◌, length, map, List, ℕ}
+use Rattle.std.proofs.Common.{◌≡◌, ◌++◌, length, map}
 use denote.Shadow.{shadow}
 use denote.Text.{Utf8}
 use Rattle.scenario_grammar.specs.Words.{cut_at_arrows}

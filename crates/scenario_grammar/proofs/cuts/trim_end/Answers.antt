@@ -1,6 +1,3 @@
-use Rattle.std.proofs.Common.{◌<◌, ℕ, subst, sym, ◌≡◌, ◌∙◌, ap, true, get_or, List, length, arith}
-use Rattle.std.specs.Str.{IsCharBoundary}
-use Rattle.scenario_values.specs.Words.{is_blank}
 use Rattle.scenario_grammar.proofs.Blanks.{boundary_at_blank}
 use Rattle.scenario_grammar.proofs.cuts.trim_end.Goals as goal
 

@@ -1,4 +1,4 @@
-use Rattle.std.proofs.Common.{◌<◌, ℕ, subst, sym, ◌≡◌, ◌∙◌, ap}
+use Rattle.std.proofs.Common.{◌<◌, ℕ, subst, sym, ◌≡◌}
 use Rattle.std.specs.Str.{IsCharBoundary}
 use Rattle.std.specs.List.{prefix_len}
 use Rattle.scenario_values.specs.Words.{is_blank}

@@ -7,5 +7,5 @@ returns c = record {
   found = found_by c.args.text.now c.read.result c.read.ensures;
   refused = refused_by c.args.text.now c.read.result c.read.ensures;
   only = λ actions h limits. only_by c.args.text.now c.read.result actions (text_is c.args.text.now actions h limits) c.read.ensures;
-  exact = c.read.ensures
+  exact = c.read.ensures;
 }

@@ -1,6 +1,5 @@
 use Rattle.std.proofs.Common.{◌+◌, arith, drop, Bor, List, ℕ, []}
 use Rattle.std.proofs.lemmas.Result.{err_from_is_err_and}
-use Rattle.scenario_grammar.specs.FirstFault.{nothing, pieces_from}
 use Rattle.scenario_grammar.specs.Built.{progress}
 use Rattle.scenario_grammar.proofs.Chains.{next_of, none_left, bytes_of}
 use Rattle.scenario_grammar.proofs.Pieces.{goes_on, ends, is_done}

@@ -1,4 +1,4 @@
-use Rattle.std.proofs.Common.{◌≡◌, ◌+◌, ◌≤◌, length, drop, ◌<◌}
+use Rattle.std.proofs.Common.{◌≡◌, ◌+◌, drop}
 use Rattle.scenario_grammar.specs.FirstFault.{pieces_from, nothing}
 use Rattle.scenario_grammar.specs.Built.{progress}
 use Rattle.scenario_grammar.proofs.Chains.{bytes_of}

@@ -1,4 +1,4 @@
-use Rattle.std.proofs.Common.{◌≡◌, ◌∷◌, ◌++◌, rules, List, ℕ, None, subst, sym}
+use Rattle.std.proofs.Common.{◌≡◌, List, ℕ, None, subst, sym}
 use Rattle.std.specs.String.{string_bytes}
 use Rattle.std.specs.Map.Iter.{deref_pair}
 use Rattle.std.proofs.lemmas.Map.Iter.{rest_more, rest_all}

@@ -1,6 +1,5 @@
-use Rattle.std.proofs.Common.{◌≡◌, ◌++◌, ◌+◌, ◌∷◌, [], arith, drop, get_or, Bor, List, ℕ}
+use Rattle.std.proofs.Common.{◌+◌, [], drop, Bor, List, ℕ}
 use Rattle.std.proofs.lemmas.Result.{err_from_is_err_and}
-use Rattle.scenario_grammar.specs.FirstFault.{chain_from}
 use Rattle.scenario_grammar.proofs.Chains.{goes_on, ends, is_done, next_of, none_left, bytes_of}
 use Rattle.scenario_grammar.proofs.terms.chain_of.Goals as goal
 

@@ -1,4 +1,4 @@
-use Rattle.std.proofs.Common.{◌≡◌, ◌++◌, ◌+◌, ◌≤◌, length, map, drop, List, ℕ}
+use Rattle.std.proofs.Common.{◌≡◌, ◌+◌, ◌≤◌, map, drop}
 use Rattle.scenario_grammar.specs.FirstFault.{chain_from}
 use Rattle.scenario_grammar.proofs.Chains.{with_front}
 use Rattle.scenario_grammar.proofs.terms.chain_of.Given as goal
