@@ -1,5 +1,5 @@
 -- Scenarios whose chains do the same mean the same.
-use Rattle.std.proofs.Common.{◌≡◌, ℕ, zero, suc, ◌+◌, ◌-◌, ◌%◌, ◌<◌, ◌≤◌, Bool, true, false, cond, eqb, nat_lt, nat_le, not, ◌&&◌, List, [], ◌∷◌, ◌++◌, Option, Some, None, option_map, refl, ap, sym, ◌∙◌, arith, subst, add-zero, map, take, sum_by, count_by}
+use Rattle.std.proofs.Common.{◌≡◌, ℕ, ◌+◌, ◌-◌, Bool, true, false, cond, eqb, ◌&&◌, List, [], ◌∷◌, ◌++◌, Option, Some, None, refl, ap, sym, ◌∙◌, arith, subst, add-zero, map, sum_by}
 use Rattle.std.specs.Option.{option_map_or, option_or}
 use Rattle.std.specs.List.{fold, flat_map}
 use Rattle.std.specs.Prelude.{slice_get}
@@ -15,8 +15,7 @@ use Rattle.action_eval.specs.declared.answer.Stop.{Stop}
 use Rattle.action_eval.specs.declared.answer.Stop.TheVariants as stop
 use Rattle.action_eval.specs.declared.answer.Note.{Note}
 use Rattle.action_eval.specs.Words.{word}
-use Rattle.action_eval.specs.Trial.{Trial, tried}
-use Rattle.action_eval.specs.Answers.{Given, Run, Hit, Reply, Halt, given_of, acted, is_term, is_used_up, words_of, task_at, place_in, hit_by, name_of, next, trial, and_then, history_of, asked, is_over, replies, reply_of, stopped, stopped_by, stop_of, notes_of, notes_of_task, total_millis, millis_of}
+use Rattle.action_eval.specs.Answers.{Given, Run, Hit, Reply, Halt, given_of, acted, is_term, words_of, task_at, place_in, name_of, next, trial, and_then, history_of, asked, is_over, reply_of, stopped_by, stop_of, notes_of, notes_of_task, total_millis, millis_of}
 use Rattle.action_eval.specs.SameMeaning.{Meaning, meaning, meaning_of}
 use Rattle.action_eval.proofs.Machine.{Step, step, Same}
 use Rattle.action_eval.proofs.Chains.{same_did, same_next, same_left, same_then, same_by}

@@ -1,5 +1,5 @@
 -- For those who hit points: the answers after one more hit, and that the run goes on where the answer is no halt.
-use Rattle.std.proofs.Common.{◌≡◌, ℕ, ◌+◌, ◌<◌, ◌≤◌, Bool, true, false, cond, List, [], ◌∷◌, ◌++◌, length, Option, Some, None, map, refl, ap, sym, ◌∙◌, arith, length-append, nat_lt, inl, inr, subst}
+use Rattle.std.proofs.Common.{◌≡◌, ℕ, ◌<◌, ◌≤◌, Bool, true, false, cond, List, [], ◌∷◌, ◌++◌, length, Option, Some, None, map, refl, ap, sym, ◌∙◌, arith, length-append, nat_lt, inl, inr, subst}
 use Rattle.std.proofs.lemmas.List.{append-nil, map-append}
 use Rattle.std.proofs.lemmas.Bool.{cases_lt}
 use Rattle.std.proofs.lemmas.Bool.Decides.{nat_tests}
@@ -7,7 +7,7 @@ use Rattle.scenario_values.specs.declared.term.Task.{Task}
 use Rattle.scenario_values.specs.declared.term.Task.TheVariants as task
 use Rattle.action_eval.specs.declared.answer.Stop.{Stop}
 use Rattle.action_eval.specs.declared.answer.Stop.TheVariants as stop
-use Rattle.action_eval.specs.Answers.{Run, Hit, Reply, Go, Return, Halt, GoesOn, next, hit, history_of, stopped_by, stop_of, stopped, is_over, reply_to, reply_of, replies}
+use Rattle.action_eval.specs.Answers.{Run, Hit, Reply, Halt, GoesOn, next, hit, history_of, stopped_by, stop_of, stopped, is_over, reply_to, reply_of, replies}
 use Rattle.action_eval.proofs.Histories.{history-hit, history-over, stopped-more}
 
 none_first : (b : Bool) (s : Option Stop) → cond b (Some stop.Limit) s ≡ None → b ≡ false

@@ -1,11 +1,10 @@
 -- Chains that do the same.
-use Rattle.std.proofs.Common.{◌≡◌, ℕ, zero, suc, ◌+◌, ◌-◌, ◌%◌, Bool, true, false, cond, eqb, nat_lt, not, ◌&&◌, List, [], ◌∷◌, ◌++◌, Option, Some, None, option_map, refl, ap, sym, ◌∙◌, arith}
+use Rattle.std.proofs.Common.{◌≡◌, ℕ, zero, suc, ◌+◌, ◌-◌, ◌%◌, Bool, true, false, cond, eqb, nat_lt, List, [], ◌∷◌, Some, None, option_map, refl, ap, sym, ◌∙◌, arith}
 use Rattle.std.proofs.lemmas.Bool.Decides.{nat_tests}
 use Rattle.scenario_values.specs.declared.term.Term.{Term}
 use Rattle.scenario_values.specs.declared.term.Task.{Task}
 use Rattle.scenario_values.specs.declared.term.Task.TheVariants as task
-use Rattle.scenario_values.specs.Scenario.{is_off}
-use Rattle.scenario_values.specs.Tidied.{is_used, is_idle, is_endless, is_uncounted}
+use Rattle.scenario_values.specs.Tidied.{is_used}
 use Rattle.action_eval.proofs.Machine.{Step, spent_once, passed, acts, step, done, Same}
 
 -- what is done at a step, and at the hits after it

@@ -1,11 +1,9 @@
 -- Where no fault acts, and every share is full, a run is the run of the empty scenario.
-use Rattle.std.proofs.Common.{◌≡◌, ℕ, ◌+◌, ◌-◌, ◌%◌, Bool, true, false, cond, eqb, List, [], ◌∷◌, ◌++◌, Option, Some, None, refl, ap, sym, ◌∙◌, arith, nat_lt, map}
+use Rattle.std.proofs.Common.{◌≡◌, ℕ, ◌+◌, ◌%◌, Bool, true, false, cond, eqb, List, [], ◌∷◌, ◌++◌, Some, refl, ap, sym, ◌∙◌, arith, nat_lt, map}
 use Rattle.std.specs.List.{AllByRecursion}
 use Rattle.std.specs.Str.{bytes_eq}
 use Rattle.std.proofs.lemmas.Bool.Decides.{nat_tests}
-use Rattle.std.proofs.lemmas.List.Sums.{sum_by-append}
 use Rattle.scenario_values.specs.declared.term.Term.{Term}
-use Rattle.scenario_values.specs.declared.term.Task.{Task}
 use Rattle.scenario_values.specs.declared.term.Task.TheVariants as task
 use Rattle.scenario_values.specs.Scenario.{Entries, chain_of, is_off}
 use Rattle.action_eval.specs.Words.{word}
@@ -14,7 +12,7 @@ use Rattle.action_eval.specs.Answers.{Given, Run, Hit, next, and_then, words_of,
 use Rattle.action_eval.specs.SameMeaning.{meaning_of}
 use Rattle.action_eval.specs.FullShares.{IsFull, HasFullShares, NoFaultActed}
 use Rattle.action_eval.proofs.Tidied.{off_is}
-use Rattle.action_eval.proofs.Alike.{Tells, tells, telling, with_scenario, told_more, same_meaning}
+use Rattle.action_eval.proofs.Alike.{tells, telling, with_scenario, told_more, same_meaning}
 
 full_case : (b c : Bool) (rest here draw : Trial) (n : ℕ) → rest.next ≡ n → here.next ≡ n → c ≡ true → (cond b rest (cond c here draw)).next ≡ n
 full_case true c rest here draw n r h e = r
@@ -25,7 +23,7 @@ no_word word spent i [] n f = refl
 no_word word spent i (t ∷ ts) n f =
     let full : eqb t.share 1000000 ≡ true = grind (arith, nat_tests, f.0) in
     full_case (spent i t) (eqb t.share 1000000) (tried word spent (i + 1) ts n) (record { place = Some i; next = n })
-      (cond (nat_lt (word n % 1000000) t.share) (record { place = Some i; next = n + 1 }) (tried word spent (i + 1) ts (n + 1))) n (no_word word spent (i + 1) ts n f.1) refl full
+    (cond (nat_lt (word n % 1000000) t.share) (record { place = Some i; next = n + 1 }) (tried word spent (i + 1) ts (n + 1))) n (no_word word spent (i + 1) ts n f.1) refl full
 
 full_by : (c d : List Term) (b : Bool) → IsFull c → IsFull d → IsFull (cond b c d)
 full_by c d true f g = f

@@ -1,13 +1,10 @@
 -- The history of a run with one more hit.
-use Rattle.std.proofs.Common.{◌≡◌, ℕ, zero, suc, ◌+◌, ◌-◌, ◌*◌, ◌≤◌, ◌<◌, Bool, true, false, cond, eqb, leb, List, [], ◌∷◌, ◌++◌, length, take, slice_index, slice_index_or, Option, Some, None, option_map, refl, ap, sym, ◌∙◌, arith, count_by, sum_by, length-append, append_assoc, nat_lt}
-use Rattle.std.specs.Option.{option_map_or, option_or}
+use Rattle.std.proofs.Common.{◌≡◌, ℕ, ◌+◌, ◌≤◌, ◌<◌, List, [], ◌∷◌, ◌++◌, length, take, Option, Some, None, refl, ap, ◌∙◌, arith, length-append}
+use Rattle.std.specs.Option.{option_or}
 use Rattle.std.proofs.lemmas.List.{take-append-le, take_all, append-nil}
 use Rattle.std.proofs.lemmas.List.Sums.{sum_by-append}
 use Rattle.std.proofs.lemmas.Grind.{flat_map-append}
-use Rattle.std.proofs.lemmas.Bool.Decides.{nat_tests}
-use Rattle.scenario_values.specs.declared.term.Term.{Term}
-use Rattle.action_eval.specs.declared.answer.Stop.{Stop}
-use Rattle.action_eval.specs.Answers.{Given, Run, Hit, and_then, next, hit, history_of, asked, words_of, notes_of, notes_of_task, total_millis, millis_of, stopped_by, stop_of, stopped, is_over}
+use Rattle.action_eval.specs.Answers.{Given, Run, Hit, and_then, next, hit, history_of, asked, words_of, notes_of, notes_of_task, total_millis, millis_of, stopped_by, stop_of}
 
 pub and_then-append : (g : Given) (h : List Hit) (ps : List ℕ) (p : ℕ) → and_then g h (ps ++ p ∷ []) ≡ and_then g h ps ++ next g (and_then g h ps) p ∷ []
 and_then-append g h [] p = refl
@@ -53,4 +50,3 @@ pub stopped-more : (h : List Hit) (x : Hit) → stopped_by h ≡ None → stoppe
 stopped-more [] x n = option_or-none (stop_of x.did)
 stopped-more (y ∷ h) x n =
     rw (none_before (stop_of y.did) (stopped_by h) n) (stopped-more h x (none_after (stop_of y.did) (stopped_by h) n))
-

@@ -1,5 +1,5 @@
 -- A run's chains, with what is left of their counts, go on as the definition of an answer says.
-use Rattle.std.proofs.Common.{◌≡◌, ℕ, zero, suc, ◌+◌, ◌-◌, ◌%◌, ◌<◌, ◌≤◌, Bool, true, false, cond, eqb, leb, nat_lt, nat_le, not, ◌&&◌, List, [], ◌∷◌, ◌++◌, Option, Some, None, option_map, refl, ap, sym, ◌∙◌, arith, subst, add-zero}
+use Rattle.std.proofs.Common.{◌≡◌, ℕ, suc, ◌+◌, ◌-◌, ◌%◌, ◌≤◌, Bool, true, false, cond, eqb, leb, nat_lt, List, [], ◌∷◌, Option, Some, None, option_map, refl, ap, sym, ◌∙◌, arith, subst, add-zero}
 use Rattle.std.specs.Option.{option_map_or}
 use Rattle.std.specs.Prelude.{slice_get}
 use Rattle.std.proofs.lemmas.Bool.Decides.{nat_tests}
@@ -8,7 +8,7 @@ use Rattle.scenario_values.specs.declared.term.Task.{Task}
 use Rattle.scenario_values.specs.declared.term.Task.TheVariants as task
 use Rattle.scenario_values.specs.Tidied.{is_used}
 use Rattle.action_eval.specs.Trial.{Trial, tried}
-use Rattle.action_eval.specs.Answers.{is_used_up, task_at}
+use Rattle.action_eval.specs.Answers.{is_used_up}
 use Rattle.action_eval.proofs.Machine.{Step, spent_once, passed, acts, step}
 
 -- a term with what is left of its count after it acted so often
@@ -129,11 +129,11 @@ agrees word times i (t ∷ ts) n =
     let p = tried word (is_used_up times) (i + 1) ts n in
     let q = tried word (is_used_up times) (i + 1) ts (n + 1) in
     let whole : Agrees times i (t ∷ ts) (cond b p (cond c (record { place = Some i; next = n }) (cond d (record { place = Some i; next = n + 1 }) q)))
-      (cond b (passed x (step word l n)) (cond c (acts x l n) (cond d (acts x l (n + 1)) (passed x (step word l (n + 1)))))) =
+    (cond b (passed x (step word l n)) (cond c (acts x l n) (cond d (acts x l (n + 1)) (passed x (step word l (n + 1)))))) =
     cases_agree times i (t ∷ ts) b c d _ _ _ _ _ _ _ _
-      (passed_agrees times i t ts p (step word l n) (agrees word times (i + 1) ts n)) (acts_agrees times i t ts n) (acts_agrees times i t ts (n + 1))
-      (passed_agrees times i t ts q (step word l (n + 1)) (agrees word times (i + 1) ts (n + 1)))
+    (passed_agrees times i t ts p (step word l n) (agrees word times (i + 1) ts n)) (acts_agrees times i t ts n) (acts_agrees times i t ts (n + 1))
+    (passed_agrees times i t ts q (step word l (n + 1)) (agrees word times (i + 1) ts (n + 1)))
     in
     let P : Bool → Type 0 = λ b'. Agrees times i (t ∷ ts) (cond b p (cond c (record { place = Some i; next = n }) (cond d (record { place = Some i; next = n + 1 }) q)))
-      (cond b' (passed x (step word l n)) (cond c (acts x l n) (cond d (acts x l (n + 1)) (passed x (step word l (n + 1)))))) in
+    (cond b' (passed x (step word l n)) (cond c (acts x l n) (cond d (acts x l (n + 1)) (passed x (step word l (n + 1)))))) in
     subst P (sym (used_left t.count (times i))) whole

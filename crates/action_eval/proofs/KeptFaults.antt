@@ -1,22 +1,19 @@
 -- A kept scenario means what the tidied one means with the faults left that come from the set.
-use Rattle.std.proofs.Common.{◌≡◌, ℕ, zero, suc, ◌+◌, ◌-◌, ◌<◌, ◌≤◌, Bool, true, false, cond, eqb, nat_lt, not, ◌&&◌, List, [], ◌∷◌, ◌++◌, map, Option, Some, None, refl, ap, sym, ◌∙◌, arith, take, length, filter, get_or, subst}
-use Rattle.std.specs.List.{suffix_len, position_or_len, list_any}
+use Rattle.std.proofs.Common.{◌≡◌, ℕ, zero, suc, ◌+◌, ◌-◌, ◌≤◌, Bool, true, false, cond, eqb, nat_lt, not, ◌&&◌, List, [], ◌∷◌, ◌++◌, map, Option, Some, None, refl, ap, sym, ◌∙◌, arith, take, length, get_or}
+use Rattle.std.specs.List.{suffix_len, position_or_len}
 use Rattle.std.specs.Str.{bytes_eq}
-use Rattle.std.proofs.lemmas.Bool.Decides.{nat_tests}
 use Rattle.std.proofs.lemmas.List.Sums.{suffix_len-take_yes, suffix_len-take_no}
 use Rattle.std.proofs.lemmas.List.{take_all}
 use Rattle.std.proofs.lemmas.Slice.Eq.{bytes_eq-Decides}
 use Rattle.std.proofs.Math.Seq.{take-suc}
 use Rattle.scenario_values.specs.declared.term.Term.{Term}
-use Rattle.scenario_values.specs.declared.term.Task.{Task}
-use Rattle.scenario_values.specs.declared.term.Task.TheVariants as task
 use Rattle.scenario_values.specs.Scenario.{Entries, chain_of, New, DistinctNames, is_off}
 use Rattle.scenario_values.specs.Keep.{holds, switched_off, kept_term, after_term, kept_chain, after_chain, kept_from}
-use Rattle.scenario_values.specs.Tidied.{is_used, is_live, is_idle, is_endless, is_uncounted, joined_counts, joint, join_by, with_count, joined_onto, joined, without_used, up_to_endless, without_idle_end, tidied_chain, put}
+use Rattle.scenario_values.specs.Tidied.{is_used, is_idle, is_endless, is_uncounted, joined_counts, joint, join_by, with_count, joined_onto, joined, without_used, up_to_endless, without_idle_end, tidied_chain, put}
 use Rattle.action_eval.proofs.Machine.{Same}
 use Rattle.scenario_values.specs.Origins.{number_of, left_numbers}
 use Rattle.action_eval.proofs.Shut.{first_flag, other_flags, shut_term, shut, tidied_chain_with, tidied_from}
-use Rattle.action_eval.proofs.Chains.{same_self, same_back, same_then, same_by, under, without, endless, idle, off, joined_offs}
+use Rattle.action_eval.proofs.Chains.{same_self, same_back, same_then, same_by, under, without, endless, idle, off}
 use Rattle.action_eval.proofs.Tidied.{and_first, and_second, uncounted_is, off_is, idle_pair, one_less}
 use Rattle.action_eval.proofs.TidiedEntries.{flipped, put_found, put_other, tidied_nothing}
 
@@ -55,8 +52,8 @@ Left word set n ts = Same word (kept_chain set n ts) (shut (flags set n ts) (cli
 
 clip_case : (word : ℕ → ℕ) (set : List ℕ) (n : ℕ) (t : Term) (ts : List Term) → Left word set (after_term n t) ts → (u v : Bool) → is_used t.count ≡ u → is_endless t ≡ v
     → Same word (kept_term set n t ∷ kept_chain set (after_term n t) ts)
-      (shut (map (holds set) (cond u (left_numbers (after_term n t) ts) (number_of n t ++ cond v [] (left_numbers (after_term n t) ts))))
-        (up_to_endless (cond (not u) (t ∷ without_used ts) (without_used ts))))
+    (shut (map (holds set) (cond u (left_numbers (after_term n t) ts) (number_of n t ++ cond v [] (left_numbers (after_term n t) ts))))
+    (up_to_endless (cond (not u) (t ∷ without_used ts) (without_used ts))))
 clip_case word set n t ts s true v e f =
     same_then word _ (kept_chain set (after_term n t) ts) _ (without word (kept_term set n t) _ (used_kept set n t (is_off t.task) (holds set n) e)) s
 clip_case word set n t ts s false true e f =

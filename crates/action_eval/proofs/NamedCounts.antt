@@ -1,5 +1,5 @@
 -- Counts by entry keep what the history says by name, where names are distinct.
-use Rattle.std.proofs.Common.{◌≡◌, ℕ, zero, suc, ◌+◌, ◌-◌, ◌*◌, ◌≤◌, ◌<◌, Bool, true, false, cond, eqb, List, [], ◌∷◌, ◌++◌, length, ◌&&◌, slice_index, slice_index_or, slice_set, take, drop, length-append, Option, Some, None, option_map, refl, ap, sym, ◌∙◌, arith, add-zero, zero-add, subst, leb}
+use Rattle.std.proofs.Common.{◌≡◌, ℕ, zero, suc, ◌+◌, ◌-◌, ◌≤◌, ◌<◌, Bool, true, false, cond, eqb, List, [], ◌∷◌, ◌++◌, length, ◌&&◌, slice_index, slice_set, take, drop, length-append, Option, Some, None, option_map, refl, ap, sym, ◌∙◌, arith, add-zero, zero-add, subst, leb}
 use Rattle.std.specs.Option.{option_map_or}
 use Rattle.std.specs.List.{AllByRecursion}
 use Rattle.std.specs.Prelude.{slice_get}
@@ -13,7 +13,7 @@ use Rattle.std.proofs.lemmas.Slice.Eq.{bytes_eq-Decides}
 use Rattle.scenario_values.specs.declared.term.Term.{Term}
 use Rattle.scenario_values.specs.Scenario.{Entries, chain_of, entry_of, chain_at, New, DistinctNames}
 use Rattle.action_eval.specs.Words.{word}
-use Rattle.action_eval.specs.Trial.{Trial, tried, is_spent}
+use Rattle.action_eval.specs.Trial.{tried, is_spent}
 use Rattle.action_eval.specs.Answers.{Given, Hit, acted, is_term, trial, words_of}
 use Rattle.action_eval.specs.Session.{left_of, left_row, left_counts, with_one_less, start_of, found_of}
 use Rattle.action_eval.proofs.Trials.{same_trial}

@@ -1,5 +1,5 @@
 -- The faults of a tidied scenario, by their own numbers.
-use Rattle.std.proofs.Common.{◌≡◌, ℕ, zero, suc, ◌+◌, ◌-◌, ◌<◌, ◌≤◌, Bool, true, false, cond, eqb, nat_lt, not, ◌&&◌, List, [], ◌∷◌, ◌++◌, map, Option, Some, None, refl, ap, sym, ◌∙◌, arith, take, length, get_or, subst, add-zero}
+use Rattle.std.proofs.Common.{◌≡◌, ℕ, zero, suc, ◌+◌, ◌-◌, ◌≤◌, Bool, true, false, cond, eqb, nat_lt, not, List, [], ◌∷◌, ◌++◌, map, Option, Some, None, refl, ap, sym, ◌∙◌, arith, take, length, get_or, subst, add-zero}
 use Rattle.std.specs.List.{suffix_len, position_or_len}
 use Rattle.std.proofs.lemmas.List.Sums.{suffix_len-take_yes, suffix_len-take_no}
 use Rattle.std.proofs.lemmas.Bool.Decides.{nat_tests}
@@ -7,8 +7,8 @@ use Rattle.std.proofs.lemmas.List.{take_all}
 use Rattle.std.proofs.Math.Seq.{take-suc}
 use Rattle.scenario_values.specs.declared.term.Term.{Term}
 use Rattle.scenario_values.specs.Scenario.{Entries, is_off}
-use Rattle.scenario_values.specs.Keep.{holds, switched_off, kept_term, after_term, kept_chain, after_chain, kept_from, kept}
-use Rattle.scenario_values.specs.Tidied.{is_used, is_idle, is_endless, joined_counts, joint, join_by, with_count, joined_onto, joined, without_used, up_to_endless, without_idle_end, tidied_chain, tidied, put}
+use Rattle.scenario_values.specs.Keep.{holds, switched_off, after_term, kept_chain, after_chain, kept_from}
+use Rattle.scenario_values.specs.Tidied.{is_used, is_idle, is_endless, joint, join_by, with_count, joined_onto, joined, without_used, up_to_endless, without_idle_end, tidied_chain, tidied, put}
 use Rattle.scenario_values.specs.Origins.{number_of, left_numbers, all_left_numbers, SameFaults}
 use Rattle.action_eval.proofs.Shut.{first_flag, other_flags, shut_term, shut, tidied_chain_with, tidied_from}
 use Rattle.action_eval.proofs.Chains.{off}

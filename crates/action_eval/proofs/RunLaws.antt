@@ -1,5 +1,5 @@
 -- The laws of runs.
-use Rattle.std.proofs.Common.{◌≡◌, ℕ, zero, suc, ◌+◌, ◌-◌, ◌<◌, ◌≤◌, Bool, true, false, cond, eqb, ◌&&◌, ◌||◌, List, [], ◌∷◌, ◌++◌, length, take, filter, get_or, refl, ap, sym, ◌∙◌, arith, subst, add-zero, zero-add, length-append, inl, inr, length-take}
+use Rattle.std.proofs.Common.{◌≡◌, ℕ, zero, suc, ◌+◌, ◌<◌, ◌≤◌, Bool, true, false, cond, eqb, ◌&&◌, ◌||◌, List, [], ◌∷◌, ◌++◌, length, take, filter, refl, ap, sym, ◌∙◌, arith, subst, add-zero, zero-add, length-append, inl, inr, length-take}
 use Rattle.std.specs.Prelude.{slice_index}
 use Rattle.std.specs.List.{AllByRecursion, range_with_len}
 use Rattle.std.proofs.lemmas.Bool.{cases_lt}
@@ -12,7 +12,7 @@ use Rattle.scenario_values.specs.Tidied.{tidied}
 use Rattle.scenario_values.specs.Origins.{origins, SameFaults}
 use Rattle.scenario_values.proofs.Sets.{holds_range}
 use Rattle.action_eval.specs.Words.{word}
-use Rattle.action_eval.specs.Answers.{Given, Run, Hit, given_of, run_of, and_then, next, history_of}
+use Rattle.action_eval.specs.Answers.{Given, Run, Hit, run_of, and_then, next, history_of}
 use Rattle.action_eval.specs.FullShares.{HasFullShares, NoFaultActed}
 use Rattle.action_eval.specs.LeftFrom.{left_from}
 use Rattle.action_eval.specs.SameMeaning.{MeansTheSame, meaning_of}

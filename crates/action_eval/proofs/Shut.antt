@@ -1,5 +1,5 @@
 -- Chains in which fault after fault is left or switched off.
-use Rattle.std.proofs.Common.{ℕ, Bool, true, false, cond, List, [], ◌∷◌, map}
+use Rattle.std.proofs.Common.{ℕ, Bool, false, cond, List, [], ◌∷◌, map}
 use Rattle.scenario_values.specs.declared.term.Term.{Term}
 use Rattle.scenario_values.specs.Scenario.{Entries, is_off}
 use Rattle.scenario_values.specs.Keep.{holds, switched_off, after_chain}

@@ -1,5 +1,5 @@
 -- A session's fields keep the run with one more hit.
-use Rattle.std.proofs.Common.{◌≡◌, ℕ, zero, suc, ◌+◌, ◌-◌, ◌*◌, ◌≤◌, ◌<◌, ◌^◌, Bool, true, false, cond, eqb, leb, List, [], ◌∷◌, ◌++◌, length, map, take, slice_index, slice_index_or, slice_set, Option, Some, None, refl, ap, sym, ◌∙◌, arith, length-append, nat_lt, zero-add, add-zero, subst, get_or}
+use Rattle.std.proofs.Common.{◌≡◌, ℕ, zero, suc, ◌+◌, ◌≤◌, ◌<◌, ◌^◌, true, false, cond, List, [], ◌∷◌, ◌++◌, length, map, slice_index_or, Option, Some, None, refl, ap, sym, ◌∙◌, arith, length-append, nat_lt, add-zero, subst, get_or}
 use Rattle.std.specs.List.{AllByRecursion, slice_range}
 use Rattle.std.specs.Option.{IfSome}
 use Rattle.std.proofs.lemmas.Bool.Decides.{nat_tests}
@@ -14,10 +14,10 @@ use Rattle.action_eval.specs.declared.answer.Note.{Note}
 use Rattle.action_eval.specs.declared.found.Found.{Found}
 use Rattle.action_eval.specs.Words.{word, Drawn}
 use Rattle.action_eval.specs.Trial.{tried, is_spent, Trial}
-use Rattle.action_eval.specs.Answers.{Given, given_of, Run, Hit, Reply, Go, Halt, next, hit, hit_by, history_of, name_of, trial, acted, is_used_up, words_of, notes_of, notes_of_task, total_millis, millis_of, stopped_by, stop_of, stopped, is_over, place_in, task_at, reply_to, reply_of}
+use Rattle.action_eval.specs.Answers.{Given, given_of, Run, Hit, Halt, next, hit, hit_by, history_of, name_of, trial, acted, is_used_up, words_of, notes_of, notes_of_task, total_millis, millis_of, stopped_by, stop_of, stopped, place_in, task_at, reply_to, reply_of}
 use Rattle.action_eval.specs.Session.{Keeps, left_counts, start_of, found_of, with_one_less, left_after, seen}
 use Rattle.action_eval.proofs.Trials.{few_words}
-use Rattle.action_eval.proofs.NamedCounts.{found, trial_by_counts, counts_spent, counts_stay, ends_within, Stands, stands, stands_nowhere}
+use Rattle.action_eval.proofs.NamedCounts.{found, trial_by_counts, counts_spent, counts_stay, ends_within, stands, stands_nowhere}
 use Rattle.action_eval.proofs.Histories.{history-hit, words-more, millis-more, notes-more, stopped-more}
 
 -- a hit of a point with this chain

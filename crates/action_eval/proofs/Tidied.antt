@@ -1,5 +1,5 @@
 -- A tidied chain does what the chain does.
-use Rattle.std.proofs.Common.{◌≡◌, ℕ, zero, suc, ◌+◌, ◌-◌, ◌%◌, ◌<◌, ◌≤◌, Bool, true, false, cond, eqb, nat_lt, not, ◌&&◌, List, [], ◌∷◌, ◌++◌, Option, Some, None, option_map, refl, ap, sym, ◌∙◌, arith, take, length, filter, get_or}
+use Rattle.std.proofs.Common.{◌≡◌, ℕ, zero, suc, ◌+◌, ◌-◌, ◌≤◌, Bool, true, false, cond, eqb, nat_lt, not, ◌&&◌, List, [], ◌∷◌, ◌++◌, Option, Some, None, refl, ap, sym, ◌∙◌, arith, take, length, get_or}
 use Rattle.std.specs.List.{suffix_len, position_or_len}
 use Rattle.std.proofs.lemmas.Bool.Decides.{nat_tests}
 use Rattle.std.proofs.lemmas.List.Sums.{suffix_len-take_yes, suffix_len-take_no}
@@ -9,8 +9,8 @@ use Rattle.scenario_values.specs.declared.term.Term.{Term}
 use Rattle.scenario_values.specs.declared.term.Task.{Task}
 use Rattle.scenario_values.specs.declared.term.Task.TheVariants as task
 use Rattle.scenario_values.specs.Scenario.{is_off}
-use Rattle.scenario_values.specs.Tidied.{is_used, is_live, is_idle, is_endless, is_uncounted, joined_counts, joint, join_by, with_count, joined_onto, joined, without_used, up_to_endless, without_idle_end, tidied_chain}
-use Rattle.action_eval.proofs.Machine.{Step, spent_once, passed, acts, step, done, Same}
+use Rattle.scenario_values.specs.Tidied.{is_used, is_idle, is_endless, is_uncounted, joined_counts, joint, join_by, with_count, joined_onto, joined, without_used, up_to_endless, without_idle_end, tidied_chain}
+use Rattle.action_eval.proofs.Machine.{Same}
 use Rattle.action_eval.proofs.Chains.{same_self, same_back, same_then, same_by, under, without, endless, idle, off, joined_offs}
 
 used_case : (word : ℕ → ℕ) (t : Term) (c d : List Term) → Same word d c → (b : Bool) → is_used t.count ≡ b → Same word (cond (not b) (t ∷ d) d) (t ∷ c)

@@ -1,12 +1,11 @@
 -- The chains of a tidied scenario.
-use Rattle.std.proofs.Common.{◌≡◌, ℕ, Bool, true, false, cond, nat_lt, List, [], ◌∷◌, length, map, filter, refl, ap, sym, ◌∙◌, arith}
+use Rattle.std.proofs.Common.{◌≡◌, ℕ, Bool, true, false, cond, nat_lt, List, [], ◌∷◌, length, refl, ap, sym, ◌∙◌, arith}
 use Rattle.std.proofs.lemmas.Bool.Decides.{nat_tests}
-use Rattle.std.specs.List.{AllByRecursion}
 use Rattle.std.specs.Str.{bytes_eq}
 use Rattle.std.proofs.lemmas.Slice.Eq.{bytes_eq-Decides}
 use Rattle.scenario_values.specs.declared.term.Term.{Term}
 use Rattle.scenario_values.specs.Scenario.{Entries, chain_of, New, DistinctNames}
-use Rattle.scenario_values.specs.Tidied.{without_used, up_to_endless, joined, without_idle_end, tidied_chain, tidied, put}
+use Rattle.scenario_values.specs.Tidied.{joined, tidied_chain, tidied, put}
 
 flip_case : (a b : List ℕ) (t : Bool) → bytes_eq b a ≡ t → bytes_eq a b ≡ false → t ≡ false
 flip_case a b false f e = refl
@@ -23,10 +22,6 @@ no_chain (e ∷ es) name n = ap (λ b. cond b e.1 (chain_of es name)) (flipped e
 pub tidied_nothing : tidied_chain [] ≡ []
 unfolding tidied_chain joined
 tidied_nothing = refl
-
-
-
-
 
 pub put_found : (name other : List ℕ) (c : List Term) (es : Entries) → bytes_eq name other ≡ true → chain_of es name ≡ [] → chain_of (put other c es) name ≡ c
 put_found name other [] es e n = n

@@ -1,11 +1,11 @@
 -- Terms tried by what is left of their counts are tried as by how often they acted.
-use Rattle.std.proofs.Common.{◌≡◌, ℕ, suc, ◌+◌, ◌-◌, ◌*◌, ◌≤◌, Bool, true, false, cond, eqb, leb, List, [], ◌∷◌, length, slice_index, Option, Some, None, is_some, refl, ap, sym, ◌∙◌, arith, add-zero, ◌&&◌, nat_lt, ◌%◌}
+use Rattle.std.proofs.Common.{◌≡◌, ℕ, suc, ◌+◌, ◌-◌, ◌≤◌, Bool, true, false, cond, eqb, leb, List, [], ◌∷◌, length, slice_index, Option, Some, None, is_some, refl, ap, sym, ◌∙◌, arith, add-zero, ◌&&◌, nat_lt, ◌%◌}
 use Rattle.std.specs.Option.{option_map_or}
 use Rattle.std.proofs.lemmas.Bool.Decides.{nat_tests}
 use Rattle.scenario_values.specs.declared.term.Term.{Term}
 use Rattle.action_eval.specs.Trial.{tried, is_spent, Trial}
 use Rattle.action_eval.specs.Answers.{is_used_up}
-use Rattle.action_eval.specs.Session.{left_of, left_row}
+use Rattle.action_eval.specs.Session.{left_row}
 
 zero_test : (a b : ℕ) → eqb (a - b) 0 ≡ leb a b
 zero_test a b = grind (arith, nat_tests)

@@ -1,8 +1,7 @@
 -- How a session keeps its run: the chain of each point, what is left of the counts, and what the hits came to.
-use Rattle.std.specs.Prelude.{◌≡◌, ℕ, zero, suc, ◌+◌, ◌-◌, ◌*◌, ◌^◌, ◌<◌, ◌≤◌, List, [], ◌∷◌, ◌++◌, length, map, Option, Some, None, option_map, slice_index_or, slice_index, slice_set}
+use Rattle.std.specs.Prelude.{◌≡◌, ℕ, zero, suc, ◌+◌, ◌-◌, ◌*◌, ◌^◌, ◌≤◌, List, [], ◌∷◌, ◌++◌, length, map, Option, Some, None, option_map, slice_index, slice_set}
 use Rattle.std.specs.Option.{option_map_or}
 use Rattle.scenario_values.specs.declared.term.Term.{Term}
-use Rattle.scenario_values.specs.declared.term.Task.{Task}
 use Rattle.scenario_values.specs.Scenario.{Entries, IsScenario, entry_of, chain_at}
 use Rattle.action_eval.specs.declared.answer.Stop.{Stop}
 use Rattle.action_eval.specs.declared.answer.Note.{Note}

@@ -1,5 +1,5 @@
 -- How the terms of a chain are tried.
-use Rattle.std.specs.Prelude.{ℕ, suc, ◌+◌, ◌%◌, ◌==◌, nat_lt, if◌then◌else◌, Bool, List, [], ◌∷◌, Option, Some, None, is_some, slice_index, ◌&&◌}
+use Rattle.std.specs.Prelude.{ℕ, ◌+◌, ◌%◌, ◌==◌, nat_lt, if◌then◌else◌, Bool, List, [], ◌∷◌, Option, Some, None, is_some, slice_index, ◌&&◌}
 use Rattle.scenario_values.specs.declared.term.Term.{Term}
 
 -- the place of the term that acts, if one does, and the number of the next word

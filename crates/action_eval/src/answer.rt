@@ -1,3 +1,4 @@
+//! What hits are answered, and what the tasks of terms do.
 ghost use Rattle.std.specs.Prelude.{◌≡◌, ◌++◌, OnOk, OnErr};
 ghost use Rattle.action_eval.specs.Answers.{did, reply_of, reply_of_answer, millis_of, stop_of, notes_of_task};
 
@@ -7,23 +8,31 @@ use std::alloc::AllocError;
 /// What a hit is answered.
 #[derive(Clone, Copy, Debug)]
 pub enum Answer<'a> {
+    /// The operation goes on.
     Go,
+    /// The operation fails, with the term's argument where it has one.
     Return(Option<&'a str>),
+    /// The component stops here.
     Halt,
 }
 
 /// What stopped a session.
 #[derive(Clone, Copy, Debug, PartialEq, Eq)]
 pub enum Stop {
+    /// A `panic` acted.
     Panic,
+    /// A `pause` acted; nothing would end it.
     Paused,
+    /// One more point was hit than the session answers.
     Limit,
 }
 
-/// What a `print` leaves.
+/// What a `print` leaves when it acts.
 #[derive(Debug, Drop)]
 pub struct Note {
+    /// The number of the point in the catalogue.
     pub point: u32,
+    /// The term's argument, where it has one.
     pub text: Option<Text>,
 }
 

@@ -47,8 +47,7 @@ pub fn tidied_without_a_fault(scenario: &Scenario, fault: u32)
 /// A term that tidying drops never acts.
 pub fn dropped_terms_never_act(scenario: &Scenario)
     ensures { (catalogue : List (List ℕ)) (seed stream limit : ℕ) (hits : List ℕ) → OnlyLeftActed scenario.now (history_of (run_of scenario.now catalogue seed stream limit hits)) }
-{
-}
+{}
 
 /// Up to the first hit at which a fault acts, a scenario whose shares are all full means what the empty scenario means: the first n hits
 /// do, where at none of them a fault acts.
@@ -57,11 +56,9 @@ pub fn clean_until_a_fault_acts(scenario: &Scenario)
     ensures { (catalogue : List (List ℕ)) (seed stream limit : ℕ) (hits : List ℕ) (n : ℕ)
         → NoFaultActed (take n (history_of (run_of scenario.now catalogue seed stream limit hits)))
         → meaning_of scenario.now catalogue seed stream limit (take n hits) ≡ meaning_of [] catalogue seed stream limit (take n hits) }
-{
-}
+{}
 
 /// The answered hits of a part of a run are that part of its answered hits.
 pub fn history_of_a_part()
     ensures { (r : Run) (n : ℕ) → history_of (record r { hits = take n r.hits }) ≡ take n (history_of r) }
-{
-}
+{}

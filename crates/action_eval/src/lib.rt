@@ -8,7 +8,12 @@ mod found;
 mod laws;
 mod session;
 mod terms;
+#[cfg(test)]
+mod tests;
 
 pub use answer::{Answer, Note, Stop};
-pub use laws::{clean_until_a_fault_acts, dropped_terms_never_act, history_of_a_part, keep_of_tidied, keep_then_tidy, tidied_without_a_fault, tidy_keeps_meaning};
+pub use laws::{
+    clean_until_a_fault_acts, dropped_terms_never_act, history_of_a_part, keep_of_tidied,
+    keep_then_tidy, tidied_without_a_fault, tidy_keeps_meaning,
+};
 pub use session::Session;

@@ -12,6 +12,11 @@ use scenario_values::{Scenario, Task, Term};
 use std::alloc::{AllocError, Global};
 use std::marker::Model;
 
+/// How many hits a session has room for at first. Most sessions are short; a longer one grows.
+fn first_room(max_hits: u32) -> usize {
+    (max_hits as usize + 1).min(256)
+}
+
 /// What the term of a place does; without one, nothing.
 fn task_at(chain: &[Term], place: Option<usize>) -> Option<&Task>
     requires { ForSome place (λ i. i < length chain.now) }
@@ -92,7 +97,9 @@ impl<'a> Model for Session<'a> {
 }
 
 impl<'a> Session<'a> {
-    /// A session with no hit yet, under a seed and a stream number. It answers `max_hits` hits.
+    /// A session with no hit yet, over the stream of words of a seed and a stream number. It answers `max_hits` hits.
+    ///
+    /// It looks each point's chain up once. The generator of the words is made for the first word that is taken.
     pub fn new(
         alloc: Global,
         scenario: &'a Scenario,
@@ -109,7 +116,7 @@ impl<'a> Session<'a> {
             scenario,
             catalogue,
             max_hits,
-            hits: Vec::new(alloc),
+            hits: Vec::with_capacity(alloc, first_room(max_hits))?,
             found,
             left,
             draws: Draws::new(seed, stream),
@@ -155,7 +162,7 @@ impl<'a> Session<'a> {
         Ok(answer_of(task))
     }
 
-    /// The points that were asked, in order.
+    /// The points that were asked, in order. A hit past the limit isn't asked.
     pub fn trace(&self) -> &[u32]
         ensures value { result.now ≡ asked self.now }
         ensures within { length self.now.hits ≤ self.now.given.limit + 1 }
@@ -182,21 +189,21 @@ impl<'a> Session<'a> {
         self.notes
     }
 
-    /// The simulated milliseconds so far.
+    /// The simulated milliseconds so far: those of each `sleep` and `delay` that acted.
     pub fn millis(&self) -> u64
         ensures { result ≡ total_millis (history_of self.now) }
     {
         self.millis
     }
 
-    /// How many words were taken.
+    /// How many words of the run's stream were taken: one for each term of less than full share that was tried.
     pub fn words(&self) -> u64
         ensures { result ≡ words_of (history_of self.now) }
     {
         self.draws.taken()
     }
 
-    /// What stopped the session.
+    /// What stopped the session, if anything did.
     pub fn stopped(&self) -> Option<Stop>
         ensures { result ≡ stopped self.now }
     {

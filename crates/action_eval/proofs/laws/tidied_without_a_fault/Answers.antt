@@ -1,6 +1,6 @@
-use Rattle.std.proofs.Common.{ℕ, ◌<◌, List, length, sym, arith, subst}
+use Rattle.std.proofs.Common.{arith}
 use Rattle.std.specs.Prelude.{remove, slice_index}
-use Rattle.std.specs.List.{range_with_len, AllByRecursion}
+use Rattle.std.specs.List.{range_with_len}
 use Rattle.scenario_values.specs.Scenario.{all_faults}
 use Rattle.scenario_values.specs.Keep.{kept}
 use Rattle.scenario_values.specs.Origins.{origins}

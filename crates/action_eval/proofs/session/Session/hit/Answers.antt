@@ -1,6 +1,4 @@
-use Rattle.std.proofs.Common.{◌≡◌, ◌+◌, ◌*◌, ◌<◌, ◌≤◌, ◌^◌, ℕ, [], ◌∷◌, ◌++◌, length, map, List, Option, Some, None, refl, ap, sym, ◌∙◌, arith, subst}
-use Rattle.std.specs.Option.{IfSome}
-use Rattle.scenario_values.specs.declared.term.Term.{Term}
+use Rattle.std.proofs.Common.{◌≡◌, ◌<◌, ◌^◌, ℕ, length, refl, ap, sym, ◌∙◌, arith, subst}
 use Rattle.action_eval.specs.Answers.{Run, given_of, texts, stopped, replies, GoesOn, reply_to, reply_of_answer, did, millis_of}
 use Rattle.action_eval.specs.Words.{Drawn}
 use Rattle.action_eval.specs.Session.{seen}
