@@ -1,29 +1,14 @@
-#![tactic(auto, unfolding(scenario_values::specs::Printed::printed, scenario_values::specs::Printed::chain_text, scenario_values::specs::Printed::term_text, scenario_values::specs::Printed::share_text))]
-
-ghost use Rattle.std.specs.Prelude.{◌≡◌, None};
-
 mod always_broken;
 mod scenarios;
 
 use crate::tests::always_broken::AlwaysBroken;
-use crate::tests::scenarios::{empty, one};
+use crate::tests::scenarios::{at_give, empty};
 use crate::transfer::{Amount, Care, Transfer};
-use scenario_values::{Scenario, Task, Term, Text};
+use scenario_values::{Scenario, Task, Text};
 use std::alloc::Global;
 use std::process::Abort;
 use std::test::Fail;
 use target_trait::{Case, Outcome, Target, Verdict, run_case, run_verdict};
-
-/// A term that acts at each hit.
-const fn always(task: Task) -> Term
-    ensures { result ≡ record { share = 1000000; count = None; task = task } }
-{
-    Term {
-        share: 1_000_000,
-        count: None,
-        task,
-    }
-}
 
 fn case(scenario: &Scenario, max_hits: u32) -> Case<'_> {
     Case {
@@ -67,7 +52,7 @@ fn asks_both_points_without_faults(rt: HostRuntime) -> Result<(), Fail> {
 
 #[test]
 fn a_refused_give_loses_what_isnt_put_back(rt: HostRuntime) -> Result<(), Fail> {
-    let scenario = one(rt.alloc(), "transfer::give", always(Task::Return(None)))?;
+    let scenario = at_give(rt.alloc(), Task::Return(None))?;
     let careful = outcome(&rt, rt.alloc(), Care::Careful, &scenario, 10)?;
     assert_eq!(rt; careful.verdict, Verdict::Pass);
     let careless = outcome(&rt, rt.alloc(), Care::Careless, &scenario, 10)?;
@@ -78,11 +63,11 @@ fn a_refused_give_loses_what_isnt_put_back(rt: HostRuntime) -> Result<(), Fail> 
 
 #[test]
 fn a_panic_is_judged_and_a_pause_is_not(rt: HostRuntime) -> Result<(), Fail> {
-    let halted = one(rt.alloc(), "transfer::give", always(Task::Panic(None)))?;
+    let halted = at_give(rt.alloc(), Task::Panic(None))?;
     let told = outcome(&rt, rt.alloc(), Care::Careful, &halted, 10)?;
     assert_eq!(rt; told.verdict, Verdict::Fail(0));
     assert_eq!(rt; told.asked.as_slice(), [0, 1].as_slice());
-    let paused = one(rt.alloc(), "transfer::give", always(Task::Pause))?;
+    let paused = at_give(rt.alloc(), Task::Pause)?;
     let told = outcome(&rt, rt.alloc(), Care::Careful, &paused, 10)?;
     assert_eq!(rt; told.verdict, Verdict::Unresolved);
     assert_eq!(rt; told.asked.as_slice(), [0, 1].as_slice());
@@ -106,11 +91,7 @@ fn the_hit_past_the_limit_isnt_asked(rt: HostRuntime) -> Result<(), Fail> {
 #[test]
 fn tells_the_note_of_a_print(rt: HostRuntime) -> Result<(), Fail> {
     let text = Text::copy_of(rt.alloc(), "x")?;
-    let noting = one(
-        rt.alloc(),
-        "transfer::give",
-        always(Task::Print(Some(text))),
-    )?;
+    let noting = at_give(rt.alloc(), Task::Print(Some(text)))?;
     let told = outcome(&rt, rt.alloc(), Care::Careful, &noting, 10)?;
     assert_eq!(rt; told.notes.len(), 1);
     assert_eq!(rt; told.notes[0].point, 1);

@@ -9,7 +9,8 @@ abbrev pub HasDistinct : List (List ℕ) → Type 0
 HasDistinct [] = Unit {0}
 HasDistinct (name ∷ names) = AllByRecursion (λ other. bytes_eq other name ≡ false) names × HasDistinct names
 
--- 1 to 64 distinct names of at most 200 bytes, each of which may stand in a scenario's text
+-- 1 to 64 distinct names of at most 200 bytes, each of which may stand in a scenario: so a plan of faults at any of the points is a
+-- scenario, and its text is short
 pub record IsCatalogue (names : List (List ℕ)) : Type 0 where
   pub some : 0 < length names
   pub few : length names ≤ 64

@@ -1,4 +1,4 @@
--- The outcome of a case.
+-- The outcome of a case: the play of what is asked, and what is told of it.
 use Rattle.std.specs.Prelude.{◌≡◌, ℕ, zero, suc, List, Option, Some, None}
 use Rattle.scenario_values.specs.Scenario.{Entries}
 use Rattle.action_eval.specs.declared.answer.Stop.{Stop}
@@ -15,7 +15,7 @@ abbrev pub moved : Move → Run → (ℕ → Run) → Run
 moved (Ask p) r further = further p
 moved (Done j) r further = r
 
--- the play from a run on, of at most n more hits
+-- the play from a run on, of at most n more hits: while a point is asked after the answers so far, it is hit
 unfoldable pub play : ℕ → (List Reply → Move) → Run → Run
 play zero asks r = r
 play (suc n) asks r = moved (asks (replies r)) r (λ p. play n asks (hit r p))
@@ -26,14 +26,15 @@ judged (Ask p) = verdict.Unresolved
 judged (Done judgement.Kept) = verdict.Pass
 judged (Done (judgement.Broken code)) = verdict.Fail code
 
--- a run that was stopped by a pause or the limit is unresolved
+-- the verdict is the judgement's, also after a panic; a run that was stopped by a pause or by the limit is unresolved, since it might
+-- have come to anything
 abbrev pub verdict_of : Option Stop → Move → Verdict
 verdict_of None move = judged move
 verdict_of (Some stop.Panic) move = judged move
 verdict_of (Some stop.Paused) move = verdict.Unresolved
 verdict_of (Some stop.Limit) move = verdict.Unresolved
 
--- what is told of a run
+-- what is told of a run; the hit past the limit isn't among the points asked
 pub record Told : Type 0 where
   pub verdict : Verdict
   pub asked : List ℕ
@@ -50,7 +51,8 @@ told asks r = record {
   words = words_of (history_of r);
 }
 
--- the outcome: what is told of the whole play. A play has at most one hit past its limit.
+-- the outcome: what is told of the whole play. The hit past the limit is answered by a halt, after which nothing is asked, so a play has at
+-- most limit + 1 hits.
 abbrev pub outcome : (List Reply → Move) → Given → Told
 outcome asks g = told asks (play (suc g.limit) asks (start g))
 

@@ -1,4 +1,4 @@
--- What a target asks, and the play that this makes.
+-- What a target asks, and the runs that ask just that.
 use Rattle.std.specs.Prelude.{◌≡◌, ℕ, ◌<◌, List, [], ◌∷◌, ◌++◌}
 use Rattle.target_trait.specs.declared.judgement.Judgement.{Judgement}
 use Rattle.action_eval.specs.Answers.{Given, Run, Reply, replies}
