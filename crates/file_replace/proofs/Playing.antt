@@ -14,8 +14,8 @@ use Rattle.target_trait.proofs.Plays.{follows_more}
 use Rattle.file_replace.specs.declared.variant.Variant.{Variant}
 use Rattle.file_replace.specs.Work.{Work}
 use Rattle.file_replace.specs.Judgement.{judged}
-use Rattle.file_replace.specs.Steps.{Tally, State, on_go, on_return, stepped, start_of, laid, point_at, move_by, move_of, asks_of}
-use Rattle.file_replace.specs.Seen.{Shows, Played}
+use Rattle.file_replace.specs.Steps.{Step, Tally, State, on_go, on_return, stepped, Over, at_step, start_of, laid, point_at, move_by, move_of, asks_of}
+use Rattle.file_replace.specs.Seen.{IsRunning, Shows, Played}
 
 laid_more : (v : Variant) (s : State) (as' : List Reply) (a : Reply) → laid v s (as' ++ a ∷ []) ≡ stepped v (laid v s as') a
 laid_more v s [] a = refl
@@ -40,9 +40,24 @@ asked_more v w r t d p k at r' same =
 told_more : (v : Variant) (w : Work) (r r' : Run) (a : Reply) → replies r' ≡ replies r ++ a ∷ [] → stepped v (now v w r) a ≡ now v w r'
 told_more v w r r' a more = sym (laid_more v (start_of w) (replies r) a) ∙ ap (laid v (start_of w)) (sym more)
 
+runs_go : (a : Answer) (r : Run) → a ≡ answer.Go → GoesOn (reply_of_answer a) r → stopped r ≡ None
+runs_go a r is goes = let P : Answer → Type 0 = λ x. GoesOn (reply_of_answer x) r in subst P is goes
+
+return_runs : (text : Option (Bor (List ℕ))) (r : Run) → GoesOn (reply_of_answer (answer.Return text)) r → stopped r ≡ None
+return_runs None r h = h
+return_runs (Some text) r h = h
+
+runs_return : (a : Answer) (text : Option (Bor (List ℕ))) (r : Run) → a ≡ answer.Return text → GoesOn (reply_of_answer a) r → stopped r ≡ None
+runs_return a text r is goes = let P : Answer → Type 0 = λ x. GoesOn (reply_of_answer x) r in return_runs text r (subst P is goes)
+
+pub running_at : (next : Option ℕ) (r : Run) → stopped r ≡ None → IsRunning next r
+running_at None r h = tt
+running_at (Some p) r h = h
+
 pub played_go : (v : Variant) (w : Work) (r : Run) (t : Tally) (d : Disk) (p : ℕ) → Played v w r t d → point_at t.step ≡ Some p → (r' : Run) → r' ≡ hit r p → (a : Answer) → a ≡ answer.Go → replies r' ≡ replies r ++ reply_of_answer a ∷ []
-    → (t' : Tally) (d' : Disk) → ((es : List Effect) → StandsFor d es → Shows (on_go v t es t.step) t' d') → Played v w r' t' d'
-played_go v w r t d p k at r' same a is more t' d' goes = record {
+    → GoesOn (reply_of_answer a) r' → (t' : Tally) (d' : Disk) → ((es : List Effect) → StandsFor d es → Shows (on_go v t es t.step) t' d') → Played v w r' t' d'
+played_go v w r t d p k at r' same a is more goes_on t' d' goes = record {
+  running = running_at (point_at t'.step) r' (runs_go a r' is goes_on);
   asked = asked_more v w r t d p k at r' same;
   shows =
       let said : replies r' ≡ replies r ++ Go ∷ [] = more ∙ ap (λ (x : Answer). replies r ++ reply_of_answer x ∷ []) is in
@@ -55,8 +70,9 @@ return_step v s None = refl
 return_step v s (Some text) = refl
 
 pub played_return : (v : Variant) (w : Work) (r : Run) (t : Tally) (d : Disk) (p : ℕ) → Played v w r t d → point_at t.step ≡ Some p → (r' : Run) → r' ≡ hit r p → (a : Answer) (text : Option (Bor (List ℕ))) → a ≡ answer.Return text → replies r' ≡ replies r ++ reply_of_answer a ∷ []
-    → (t' : Tally) (d' : Disk) → ((es : List Effect) → StandsFor d es → Shows (on_return v t es t.step) t' d') → Played v w r' t' d'
-played_return v w r t d p k at r' same a text is more t' d' fails = record {
+    → GoesOn (reply_of_answer a) r' → (t' : Tally) (d' : Disk) → ((es : List Effect) → StandsFor d es → Shows (on_return v t es t.step) t' d') → Played v w r' t' d'
+played_return v w r t d p k at r' same a text is more goes_on t' d' fails = record {
+  running = running_at (point_at t'.step) r' (runs_return a text r' is goes_on);
   asked = asked_more v w r t d p k at r' same;
   shows =
       let said : replies r' ≡ replies r ++ reply_of_answer (answer.Return text) ∷ [] = more ∙ ap (λ (x : Answer). replies r ++ reply_of_answer x ∷ []) is in
@@ -70,13 +86,14 @@ judged_same : (t : Tally) (s : State) → t ≡ s.tally → judged t.past s.effe
 judged_same t s e = ap (λ (x : Tally). judged x.past s.effects) e
 
 pub played_halt : (v : Variant) (w : Work) (r : Run) (t : Tally) (d : Disk) (p : ℕ) → Played v w r t d → point_at t.step ≡ Some p → (r' : Run) → r' ≡ hit r p → (a : Answer) → a ≡ answer.Halt → replies r' ≡ replies r ++ reply_of_answer a ∷ []
-    → (j : Judgement) → ((es : List Effect) → StandsFor d es → j ≡ judged t.past es) → IsPlay (asks_of v w) r' j
-played_halt v w r t d p k at r' same a is more j judges = record {
+    → (t' : Tally) → t' ≡ at_step t Over → Played v w r' t' d
+played_halt v w r t d p k at r' same a is more t' t'_is = record {
+  running = subst (λ (x : Tally). IsRunning (point_at x.step) r') (sym t'_is) tt;
   asked = asked_more v w r t d p k at r' same;
-  ended =
+  shows =
       let said : replies r' ≡ replies r ++ Halt ∷ [] = more ∙ ap (λ (x : Answer). replies r ++ reply_of_answer x ∷ []) is in
-      let j_is : j ≡ judged (now v w r).tally.past (now v w r).effects = judges (now v w r).effects k.shows.device ∙ judged_same t (now v w r) k.shows.tally in
-      ap move_of (sym (told_more v w r r' Halt said)) ∙ ap Done (sym j_is);
+      let shown : Shows (stepped v (now v w r) Halt) t' d = record { tally = t'_is ∙ ap (λ (x : Tally). at_step x Over) k.shows.tally; device = k.shows.device } in
+      subst (λ (x : State). Shows x t' d) (told_more v w r r' Halt said) shown;
 }
 
 pub played_over : (v : Variant) (w : Work) (r : Run) (t : Tally) (d : Disk) → Played v w r t d → point_at t.step ≡ None
@@ -96,18 +113,16 @@ not_over false s e = refl
 few_hits : (r : Run) → is_over r ≡ false → length r.hits ≤ r.given.limit
 few_hits r e = grind (arith, nat_tests)
 
-pub nearer : (r : Run) (p : ℕ) → stopped r ≡ None → (r' : Run) → r' ≡ hit r p → r'.given.limit + 1 - length r'.hits < r.given.limit + 1 - length r.hits
-nearer r p running r' same =
-    let few : length r.hits ≤ r.given.limit = few_hits r (not_over (is_over r) _ running) in
+pub nearer : (r : Run) (p : ℕ) (next : Option ℕ) → next ≡ Some p → IsRunning next r → (r' : Run) → r' ≡ hit r p → r'.given.limit + 1 - length r'.hits < r.given.limit + 1 - length r.hits
+nearer r p next is running r' same =
+    let goes : stopped r ≡ None = subst (λ o. IsRunning o r) is running in
+    let few : length r.hits ≤ r.given.limit = few_hits r (not_over (is_over r) _ goes) in
     let P : Run → Type 0 = λ x. x.given.limit + 1 - length x.hits < r.given.limit + 1 - length r.hits in
     subst P (sym same) (omega (arith, length-append r.hits (p ∷ [])))
 
-pub runs_go : (a : Answer) (r : Run) → a ≡ answer.Go → GoesOn (reply_of_answer a) r → stopped r ≡ None
-runs_go a r is goes = let P : Answer → Type 0 = λ x. GoesOn (reply_of_answer x) r in subst P is goes
+-- the same, told of the step that it is
+pub writing_now : (v : Variant) (w : Work) (r : Run) (t : Tally) (d : Disk) (step next : Step) → Played v w r (at_step t step) d → step ≡ next → Played v w r (at_step t next) d
+writing_now v w r t d step next k is = let P : Step → Type 0 = λ s. Played v w r (at_step t s) d in subst P is k
 
-return_runs : (text : Option (Bor (List ℕ))) (r : Run) → GoesOn (reply_of_answer (answer.Return text)) r → stopped r ≡ None
-return_runs None r h = h
-return_runs (Some text) r h = h
-
-pub runs_return : (a : Answer) (text : Option (Bor (List ℕ))) (r : Run) → a ≡ answer.Return text → GoesOn (reply_of_answer a) r → stopped r ≡ None
-runs_return a text r is goes = let P : Answer → Type 0 = λ x. GoesOn (reply_of_answer x) r in return_runs text r (subst P is goes)
+pub more_hits : (n : ℕ) (r r' : Run) (p : ℕ) → r' ≡ hit r p → n ≤ length r.hits → n ≤ length r'.hits
+more_hits n r r' p same few = let P : Run → Type 0 = λ x. n ≤ length x.hits in subst P (sym same) (omega (arith, length-append r.hits (p ∷ [])))

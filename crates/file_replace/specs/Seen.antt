@@ -1,14 +1,14 @@
 -- What the values of a run say.
-use Rattle.std.specs.Prelude.{◌≡◌, ℕ, ◌+◌, List, [], ◌∷◌, map, take, drop}
+use Rattle.std.specs.Prelude.{◌≡◌, ℕ, ◌+◌, List, [], ◌∷◌, map, take, drop, Option, Some, None}
 use Rattle.sim_device.specs.Disk.{Disk, StandsFor}
-use Rattle.action_eval.specs.Answers.{Run, replies}
+use Rattle.action_eval.specs.Answers.{Run, replies, stopped}
 use Rattle.target_trait.specs.Play.{Follows}
 use Rattle.file_replace.specs.declared.variant.Variant.{Variant}
 use Rattle.file_replace.specs.declared.stage.Stage.{Stage}
 use Rattle.file_replace.specs.declared.stage.Stage.TheVariants as stage
 use Rattle.file_replace.specs.Work.{Work, joined}
 use Rattle.file_replace.specs.Judgement.{Past}
-use Rattle.file_replace.specs.Steps.{Step, Clearing, Creating, Writing, WritingAgain, Syncing, Renaming, SyncingDir, SyncingLate, Cleaning, Over, Tally, State, laid, start_of, asks_of}
+use Rattle.file_replace.specs.Steps.{Step, Clearing, Creating, Writing, WritingAgain, Syncing, Renaming, SyncingDir, SyncingLate, Cleaning, Over, Tally, State, laid, start_of, asks_of, point_at}
 
 abbrev pub step_of : Stage → Step
 step_of (stage.Clearing chunks) = Clearing chunks.now
@@ -39,7 +39,13 @@ pub record Shows (s : State) (t : Tally) (d : Disk) : Type 0 where
   pub tally : t ≡ s.tally
   pub device : StandsFor d s.effects
 
+-- nothing has stopped a run that has a question left
+abbrev pub IsRunning : Option ℕ → Run → Type 0
+IsRunning None r = Unit {0}
+IsRunning (Some p) r = stopped r ≡ None
+
 -- the steps laid against the answers of a run have come this far
 pub record Played (v : Variant) (w : Work) (r : Run) (t : Tally) (d : Disk) : Type 0 where
   pub asked : Follows (asks_of v w) r.given [] r.hits
   pub shows : Shows (laid v (start_of w) (replies r)) t d
+  pub running : IsRunning (point_at t.step) r

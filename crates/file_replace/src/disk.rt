@@ -1,7 +1,7 @@
-//! The calls of a run on its device. None of them is refused but for want of memory.
+//! The calls of a run on its device. None of them is refused but for want of memory, and `sync` and `unlink` not at all.
 ghost use Rattle.std.specs.Prelude.{◌≡◌, ◌∷◌, ℕ, List, OnOk, is_some, is_none, false, MatchOption, None, Some};
 ghost use Rattle.sim_device.specs.FileEffects.{Effect, Append, Create, Sync, Rename, Unlink, Live, held};
-ghost use Rattle.sim_device.specs.Disk.{StandsFor, entry_at};
+ghost use Rattle.sim_device.specs.Disk.{AddsEffect, StandsFor, entry_at};
 ghost use Rattle.file_replace.specs.Words.{number_of, target, tmp};
 
 use sim_device::{DeviceFault, FileDevice};
@@ -31,7 +31,7 @@ impl Name {
 /// A new file.
 pub fn create(device: &mut FileDevice, name: Name) -> Result<(), AllocError>
     requires { is_some (entry_at device.old.names (number_of name)).live ≡ false }
-    ensures { OnOk result ((es : List Effect) → StandsFor device.old es → StandsFor device.new (Create (number_of name) ∷ es)) }
+    ensures { OnOk result (AddsEffect device.old device.new (Create (number_of name))) }
 {
     match device.create(name.number()) {
         Ok(()) => Ok(()),
@@ -43,7 +43,7 @@ pub fn create(device: &mut FileDevice, name: Name) -> Result<(), AllocError>
 /// More bytes at the end of a file.
 pub fn append(device: &mut FileDevice, name: Name, bytes: &[u8]) -> Result<(), AllocError>
     requires { is_none (entry_at device.old.names (number_of name)).live ≡ false }
-    ensures { OnOk result ((es : List Effect) → StandsFor device.old es → StandsFor device.new (Append (number_of name) bytes.now ∷ es)) }
+    ensures { OnOk result (AddsEffect device.old device.new (Append (number_of name) bytes.now)) }
 {
     match device.append(name.number(), bytes) {
         Ok(()) => Ok(()),
@@ -53,33 +53,31 @@ pub fn append(device: &mut FileDevice, name: Name, bytes: &[u8]) -> Result<(), A
 }
 
 /// What a file holds lasts.
-pub fn sync(device: &mut FileDevice, name: Name) -> Result<(), AllocError>
+pub fn sync(device: &mut FileDevice, name: Name)
     requires { is_none (entry_at device.old.names (number_of name)).live ≡ false }
-    ensures { OnOk result ((es : List Effect) → StandsFor device.old es → StandsFor device.new (Sync (number_of name) ∷ es)) }
+    ensures { AddsEffect device.old device.new (Sync (number_of name)) }
 {
     match device.sync(name.number()) {
-        Ok(()) => Ok(()),
-        Err(DeviceFault::Memory) => Err(AllocError),
-        Err(DeviceFault::Exists | DeviceFault::NotFound) => unreachable!(),
+        Ok(()) => {}
+        Err(_) => unreachable!(),
     }
 }
 
 /// A name is gone.
-pub fn unlink(device: &mut FileDevice, name: Name) -> Result<(), AllocError>
+pub fn unlink(device: &mut FileDevice, name: Name)
     requires { is_none (entry_at device.old.names (number_of name)).live ≡ false }
-    ensures { OnOk result ((es : List Effect) → StandsFor device.old es → StandsFor device.new (Unlink (number_of name) ∷ es)) }
+    ensures { AddsEffect device.old device.new (Unlink (number_of name)) }
 {
     match device.unlink(name.number()) {
-        Ok(()) => Ok(()),
-        Err(DeviceFault::Memory) => Err(AllocError),
-        Err(DeviceFault::Exists | DeviceFault::NotFound) => unreachable!(),
+        Ok(()) => {}
+        Err(_) => unreachable!(),
     }
 }
 
 /// The file of `tmp` comes under `target`.
 pub fn rename(device: &mut FileDevice) -> Result<(), AllocError>
     requires { is_none (entry_at device.old.names tmp).live ≡ false }
-    ensures { OnOk result ((es : List Effect) → StandsFor device.old es → StandsFor device.new (Rename tmp target ∷ es)) }
+    ensures { OnOk result (AddsEffect device.old device.new (Rename tmp target)) }
 {
     match device.rename(Name::Tmp.number(), Name::Target.number()) {
         Ok(()) => Ok(()),

@@ -5,6 +5,7 @@ mod contents;
 mod disk;
 mod judge;
 mod laws;
+mod play;
 mod progress;
 mod replace;
 mod stage;
@@ -17,3 +18,6 @@ pub use laws::sound_never_fails;
 pub use replace::Replace;
 pub use variant::Variant;
 pub use work::{Chunks, Replacements};
+
+#[cfg(test)]
+mod tests;

@@ -5,60 +5,18 @@ ghost use Rattle.target_trait.specs.Play.{IsPlay};
 ghost use Rattle.target_trait.specs.declared.judgement.Judgement.TheVariants.{Kept};
 ghost use Rattle.file_replace.specs.declared.variant.Variant.TheVariants.{Sound};
 ghost use Rattle.file_replace.specs.Words.{label, code_text, point_names};
-ghost use Rattle.file_replace.specs.Steps.{asks_of, point_at, asks-within, asks-halts};
-ghost use Rattle.file_replace.specs.Seen.{step_of};
+ghost use Rattle.file_replace.specs.Steps.{asks_of, asks-within, asks-halts};
 
-use crate::judge::{TORN, judge};
-use crate::progress::Progress;
-use crate::stage::Stage;
-use crate::steps::{fail, go, prepare};
+#[cfg(test)]
+use crate::disk::target_contents;
+use crate::judge::TORN;
+use crate::play::play;
 use crate::variant::Variant;
 use crate::work::Replacements;
 use sim_device::FileDevice;
 use std::alloc::{AllocError, Global};
 use std::marker::Model;
-use target_trait::{Answer, Judgement, Session, Target};
-
-/// The number of the point that a stage asks.
-fn point_of(stage: Stage<'_>) -> Option<u32>
-    ensures { result ≡ point_at (step_of stage.entry) }
-{
-    match stage {
-        Stage::Clearing(_) => Some(0),
-        Stage::Creating(_) => Some(1),
-        Stage::Writing(_, _) | Stage::WritingAgain(_, _) => Some(2),
-        Stage::Syncing | Stage::SyncingLate => Some(3),
-        Stage::Renaming => Some(4),
-        Stage::SyncingDir => Some(5),
-        Stage::Cleaning => Some(6),
-        Stage::Over => None,
-    }
-}
-
-/// Plays a run.
-fn play(
-    variant: Variant,
-    workload: &Replacements,
-    device: &mut FileDevice,
-    session: &mut Session<'_>,
-) -> Result<Judgement, AllocError>
-    requires new { session.old ≡ start session.old.given }
-    requires points { session.old.given.catalogue ≡ point_names }
-    ensures play { IfOk result (IsPlay (asks_of variant workload.now) session.new) }
-    ensures given { session.new.given ≡ session.old.given }
-{
-    prepare(device, workload.old())?;
-    let mut progress = Progress::new(workload);
-    progress.begin(false);
-    while let Some(point) = point_of(progress.stage()) {
-        match session.hit(point)? {
-            Answer::Go => go(variant, &mut progress, device)?,
-            Answer::Return(_) => fail(variant, &mut progress, device)?,
-            Answer::Halt => return Ok(judge(device, &progress)),
-        }
-    }
-    Ok(judge(device, &progress))
-}
+use target_trait::{Judgement, Session, Target};
 
 /// Atomic replacement of a file, as a target. Its setup, which is all that contracts see of it, is the variant.
 ///
@@ -92,6 +50,14 @@ impl Replace {
             variant,
             device: FileDevice::new(alloc),
         }
+    }
+}
+
+#[cfg(test)]
+impl Replace {
+    /// What `target` holds after a run.
+    pub fn contents(&self) -> Option<&[u8]> {
+        target_contents(&self.device)
     }
 }
 

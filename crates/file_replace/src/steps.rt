@@ -1,6 +1,6 @@
 ghost use Rattle.std.specs.Prelude.{◌≡◌, ◌∷◌, ℕ, List, OnOk, is_none, false};
 ghost use Rattle.sim_device.specs.FileEffects.{Effect, Append, Sync, SyncDir, Unlink};
-ghost use Rattle.sim_device.specs.Disk.{StandsFor, entry_at};
+ghost use Rattle.sim_device.specs.Disk.{AddsEffect, StandsFor, entry_at};
 ghost use Rattle.file_replace.specs.Words.{target, tmp};
 ghost use Rattle.file_replace.specs.Steps.{on_go, on_return, half, prepared, failed, done, after_sync_dir, write_step, after_half, after_no_sync};
 ghost use Rattle.file_replace.specs.Ready.{IsReadyOn};
@@ -15,7 +15,7 @@ use sim_device::FileDevice;
 use std::alloc::AllocError;
 
 /// The stage after a write.
-fn write_stage<'w>(variant: Variant, chunks: &'w [Text]) -> Stage<'w>
+pub fn write_stage<'w>(variant: Variant, chunks: &'w [Text]) -> Stage<'w>
     ensures { step_of result ≡ write_step variant chunks.now }
 {
     match chunks {
@@ -28,7 +28,7 @@ fn write_stage<'w>(variant: Variant, chunks: &'w [Text]) -> Stage<'w>
 }
 
 /// The stage after a write that fails.
-fn half_stage<'w>(variant: Variant, chunk: &'w Text, chunks: &'w [Text]) -> Stage<'w>
+pub fn half_stage<'w>(variant: Variant, chunk: &'w Text, chunks: &'w [Text]) -> Stage<'w>
     ensures { step_of result ≡ after_half variant chunk.now chunks.now }
 {
     match variant {
@@ -63,23 +63,21 @@ fn finish(progress: &mut Progress<'_>, device: &FileDevice)
 }
 
 /// Takes `tmp` away, and begins the next replacement.
-fn clean(progress: &mut Progress<'_>, device: &mut FileDevice) -> Result<(), AllocError>
+fn clean(progress: &mut Progress<'_>, device: &mut FileDevice)
     requires { is_none (entry_at device.old.names tmp).live ≡ false }
-    ensures { OnOk result ((es : List Effect) → StandsFor device.old es → Shows (failed progress.old (Unlink tmp ∷ es)) progress.new device.new) }
+    ensures { (es : List Effect) → StandsFor device.old es → Shows (failed progress.old (Unlink tmp ∷ es)) progress.new device.new }
 {
-    unlink(device, Name::Tmp)?;
+    unlink(device, Name::Tmp);
     next(progress, device);
-    Ok(())
 }
 
 /// What `target` holds lasts, and the replacement is acknowledged.
-fn finish_late(progress: &mut Progress<'_>, device: &mut FileDevice) -> Result<(), AllocError>
+fn finish_late(progress: &mut Progress<'_>, device: &mut FileDevice)
     requires { is_none (entry_at device.old.names target).live ≡ false }
-    ensures { OnOk result ((es : List Effect) → StandsFor device.old es → Shows (done progress.old (Sync target ∷ es)) progress.new device.new) }
+    ensures { (es : List Effect) → StandsFor device.old es → Shows (done progress.old (Sync target ∷ es)) progress.new device.new }
 {
-    sync(device, Name::Target)?;
+    sync(device, Name::Target);
     finish(progress, device);
-    Ok(())
 }
 
 /// The names last.
@@ -96,9 +94,9 @@ fn sync_dir(variant: Variant, progress: &mut Progress<'_>, device: &mut FileDevi
 }
 
 /// Appends the first half of a chunk to `tmp`.
-fn write_half(device: &mut FileDevice, chunk: &Text) -> Result<(), AllocError>
+pub fn write_half(device: &mut FileDevice, chunk: &Text) -> Result<(), AllocError>
     requires { is_none (entry_at device.old.names tmp).live ≡ false }
-    ensures { OnOk result ((es : List Effect) → StandsFor device.old es → StandsFor device.new (Append tmp (half chunk.now) ∷ es)) }
+    ensures { OnOk result (AddsEffect device.old device.new (Append tmp (half chunk.now))) }
 {
     let bytes = chunk.as_str().as_bytes();
     append(device, Name::Tmp, &bytes[..bytes.len() / 2])
@@ -115,7 +113,7 @@ pub fn go(
 {
     match progress.stage() {
         Stage::Clearing(chunks) => {
-            unlink(device, Name::Tmp)?;
+            unlink(device, Name::Tmp);
             progress.go_to(Stage::Creating(chunks));
         }
         Stage::Creating(chunks) => {
@@ -127,7 +125,7 @@ pub fn go(
             progress.go_to(write_stage(variant, chunks));
         }
         Stage::Syncing => {
-            sync(device, Name::Tmp)?;
+            sync(device, Name::Tmp);
             progress.go_to(Stage::Renaming);
         }
         Stage::Renaming => {
@@ -135,8 +133,8 @@ pub fn go(
             progress.go_to(Stage::SyncingDir);
         }
         Stage::SyncingDir => sync_dir(variant, progress, device),
-        Stage::SyncingLate => finish_late(progress, device)?,
-        Stage::Cleaning => clean(progress, device)?,
+        Stage::SyncingLate => finish_late(progress, device),
+        Stage::Cleaning => clean(progress, device),
         Stage::Over => progress.go_to(Stage::Over),
     }
     Ok(())
@@ -179,7 +177,7 @@ pub fn prepare(device: &mut FileDevice, old: &Text) -> Result<(), AllocError>
     device.clear();
     create(device, Name::Target)?;
     append(device, Name::Target, old.as_str().as_bytes())?;
-    sync(device, Name::Target)?;
+    sync(device, Name::Target);
     device.sync_dir();
     Ok(())
 }

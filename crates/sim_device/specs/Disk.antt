@@ -1,7 +1,7 @@
 -- A file device as contracts see it: for each name and each file, what is live and what lasts.
-use Rattle.std.specs.Prelude.{◌≡◌, ℕ, ◌<◌, ◌≤◌, List, [], Some, None, length, slice_index_or}
+use Rattle.std.specs.Prelude.{◌≡◌, ℕ, ◌<◌, ◌≤◌, ◌==◌, if◌then◌else◌, List, [], ◌∷◌, Option, Some, None, length, slice_index_or}
 use Rattle.sim_device.specs.declared.names.Entry.{Entry}
-use Rattle.sim_device.specs.FileEffects.{Effect, Live, Lasting, leads, contents, created}
+use Rattle.sim_device.specs.FileEffects.{Effect, Rename, Live, Lasting, leads, contents, created}
 
 -- what a file holds
 pub record Held : Type 0 where
@@ -27,6 +27,23 @@ pub record StandsFor (d : Disk) (effects : List Effect) : Type 0 where
   pub made : length d.files ≡ created effects
   pub now : (f : ℕ) → f < length d.files → (held_at d.files f).live ≡ contents effects Live f
   pub disk : (f : ℕ) → f < length d.files → (held_at d.files f).lasting ≡ contents effects Lasting f
+
+-- the effect was accepted: from each list that the device stood for it goes to that list with the effect added
+abbrev pub AddsEffect : Disk → Disk → Effect → Type 0
+AddsEffect old new effect = (es : List Effect) → StandsFor old es → StandsFor new (effect ∷ es)
+
+-- the same for a rename, which is no effect where the names are equal
+abbrev pub AddsRename : Disk → Disk → ℕ → ℕ → Type 0
+AddsRename old new from to = (es : List Effect) → StandsFor old es → StandsFor new (if from == to then es else Rename from to ∷ es)
+
+-- the name leads to this file now, or to none, and all else is as before
+abbrev pub ChangesName : List Entry → List Entry → ℕ → Option ℕ → Type 0
+ChangesName old new name file = (n : ℕ) → entry_at new n ≡ (if n == name then record { live = file; lasting = (entry_at old n).lasting } else entry_at old n)
+
+-- one name leads to this file now, and another to none
+abbrev pub MovesName : List Entry → List Entry → ℕ → ℕ → ℕ → Type 0
+MovesName old new file from to = (n : ℕ) → entry_at new n
+    ≡ (if n == to then record { live = Some file; lasting = (entry_at old n).lasting } else (if n == from then record { live = None; lasting = (entry_at old n).lasting } else entry_at old n))
 
 -- each name leads to a file in use
 pub record Keeps (names : List Entry) (used all : ℕ) : Type 0 where

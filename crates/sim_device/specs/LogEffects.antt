@@ -29,6 +29,10 @@ pub record LogStandsFor {R : Type 0} (l : Log R) (effects : List (LogEffect R)) 
   pub live : l.live ≡ records effects Live
   pub lasting : l.lasting ≡ records effects Lasting
 
+-- the effect was accepted: from each list that the log stood for it goes to that list with the effect added
+abbrev pub AddsLogEffect : {R : Type 0} → Log R → Log R → LogEffect R → Type 0
+AddsLogEffect {R} old new effect = (es : List (LogEffect R)) → LogStandsFor old es → LogStandsFor new (effect ∷ es)
+
 -- no `Force` is among these
 abbrev pub HasNoForce : {R : Type 0} → List (LogEffect R) → Type 0
 HasNoForce [] = Unit {0}

@@ -1,6 +1,6 @@
-ghost use Rattle.std.specs.Prelude.{◌≡◌, ◌≤◌, ◌<◌, ◌+◌, ◌==◌, ◌++◌, ℕ, List, [], ◌∷◌, if◌then◌else◌, length, take, OnOk, OnErr, MatchResult, is_some, is_none, slice_set, Some, None};
-ghost use Rattle.sim_device.specs.FileEffects.{Effect, Create, Append, Sync, Rename, Link, Unlink, SyncDir, PowerCut, Live, held};
-ghost use Rattle.sim_device.specs.Disk.{entry_at, held_at, StandsFor};
+ghost use Rattle.std.specs.Prelude.{◌≡◌, ◌≤◌, ◌<◌, ◌+◌, ◌++◌, ℕ, List, [], ◌∷◌, length, take, OnOk, OnErr, MatchResult, is_some, is_none, slice_set, Some, None};
+ghost use Rattle.sim_device.specs.FileEffects.{Effect, Create, Append, Sync, Link, Unlink, SyncDir, PowerCut, Live, held};
+ghost use Rattle.sim_device.specs.Disk.{entry_at, held_at, StandsFor, AddsEffect, AddsRename};
 ghost use Rattle.sim_device.specs.Refusals.{Refuses, RefusesOnly, RefusesLink};
 
 use crate::fault::DeviceFault;
@@ -39,7 +39,8 @@ impl Model for FileDevice {
 /// Adds bytes to a file.
 fn append_at(files: &mut [File], file: usize, bytes: &[u8]) -> Result<(), AllocError>
     requires { file < length files.old }
-    ensures ok { OnOk result (files.new ≡ slice_set files.old file (record { live = (held_at files.old file).live ++ bytes.now; lasting = (held_at files.old file).lasting })) }
+    ensures ok { let old = held_at files.old file in
+        OnOk result (files.new ≡ slice_set files.old file (record { live = old.live ++ bytes.now; lasting = old.lasting })) }
     ensures err { OnErr result (files.new ≡ files.old) }
 {
     let file = &mut files[file];
@@ -49,7 +50,8 @@ fn append_at(files: &mut [File], file: usize, bytes: &[u8]) -> Result<(), AllocE
 /// Makes what a file holds last.
 fn sync_at(files: &mut [File], file: usize)
     requires { file < length files.old }
-    ensures { files.new ≡ slice_set files.old file (record { live = (held_at files.old file).live; lasting = (held_at files.old file).live }) }
+    ensures { let old = held_at files.old file in
+        files.new ≡ slice_set files.old file (record { live = old.live; lasting = old.live }) }
 {
     let file = &mut files[file];
     file.sync();
@@ -83,7 +85,8 @@ fn ready(alloc: Global, files: &mut Vec<File>, used: usize) -> Result<(), AllocE
 /// Leaves only what lasts, in the first `used` files.
 fn cut_files(files: &mut [File], used: usize)
     requires { used ≤ length files.old }
-    ensures { (f : ℕ) → f < used → held_at files.new f ≡ record { live = (held_at files.old f).lasting; lasting = (held_at files.old f).lasting } }
+    ensures { (f : ℕ) → f < used →
+        held_at files.new f ≡ record { live = (held_at files.old f).lasting; lasting = (held_at files.old f).lasting } }
 {
     for number in 0..used {
         let file = &mut files[number];
@@ -118,7 +121,7 @@ impl FileDevice {
     ///
     /// `Exists` where the name is there, and else only `Memory`.
     pub fn create(&mut self, name: u32) -> Result<(), DeviceFault>
-        ensures ok { OnOk result ((es : List Effect) → StandsFor self.old es → StandsFor self.new (Create name ∷ es)) }
+        ensures ok { OnOk result (AddsEffect self.old self.new (Create name)) }
         ensures err { OnErr result (self.new ≡ self.old) }
         ensures fault { Refuses (is_some (entry_at self.old.names name).live) DeviceFault.Exists result }
     {
@@ -137,7 +140,7 @@ impl FileDevice {
     ///
     /// `NotFound` where the name is not there, and else only `Memory`.
     pub fn append(&mut self, name: u32, bytes: &[u8]) -> Result<(), DeviceFault>
-        ensures ok { OnOk result ((es : List Effect) → StandsFor self.old es → StandsFor self.new (Append name bytes.now ∷ es)) }
+        ensures ok { OnOk result (AddsEffect self.old self.new (Append name bytes.now)) }
         ensures err { OnErr result (self.new ≡ self.old) }
         ensures fault { Refuses (is_none (entry_at self.old.names name).live) DeviceFault.NotFound result }
     {
@@ -154,7 +157,7 @@ impl FileDevice {
     ///
     /// `NotFound` where the name is not there, and no other.
     pub fn sync(&mut self, name: u32) -> Result<(), DeviceFault>
-        ensures ok { OnOk result ((es : List Effect) → StandsFor self.old es → StandsFor self.new (Sync name ∷ es)) }
+        ensures ok { OnOk result (AddsEffect self.old self.new (Sync name)) }
         ensures err { OnErr result (self.new ≡ self.old) }
         ensures fault { RefusesOnly (is_none (entry_at self.old.names name).live) DeviceFault.NotFound result }
     {
@@ -171,7 +174,7 @@ impl FileDevice {
     ///
     /// `NotFound` where `from` is not there, and else only `Memory`.
     pub fn rename(&mut self, from: u32, to: u32) -> Result<(), DeviceFault>
-        ensures ok { OnOk result ((es : List Effect) → StandsFor self.old es → StandsFor self.new (if from == to then es else Rename from to ∷ es)) }
+        ensures ok { OnOk result (AddsRename self.old self.new from to) }
         ensures err { OnErr result (self.new ≡ self.old) }
         ensures fault { Refuses (is_none (entry_at self.old.names from).live) DeviceFault.NotFound result }
     {
@@ -191,7 +194,7 @@ impl FileDevice {
     ///
     /// `NotFound` where `from` is not there, also where `to` is; else `Exists` where `to` is there; else only `Memory`.
     pub fn link(&mut self, from: u32, to: u32) -> Result<(), DeviceFault>
-        ensures ok { OnOk result ((es : List Effect) → StandsFor self.old es → StandsFor self.new (Link from to ∷ es)) }
+        ensures ok { OnOk result (AddsEffect self.old self.new (Link from to)) }
         ensures err { OnErr result (self.new ≡ self.old) }
         ensures fault { RefusesLink (entry_at self.old.names from).live (entry_at self.old.names to).live result }
     {
@@ -211,7 +214,7 @@ impl FileDevice {
     ///
     /// `NotFound` where the name is not there, and no other.
     pub fn unlink(&mut self, name: u32) -> Result<(), DeviceFault>
-        ensures ok { OnOk result ((es : List Effect) → StandsFor self.old es → StandsFor self.new (Unlink name ∷ es)) }
+        ensures ok { OnOk result (AddsEffect self.old self.new (Unlink name)) }
         ensures err { OnErr result (self.new ≡ self.old) }
         ensures fault { RefusesOnly (is_none (entry_at self.old.names name).live) DeviceFault.NotFound result }
     {
@@ -225,14 +228,14 @@ impl FileDevice {
     /// Makes the names that are there last, and those that are gone stay away. No contents last by it. It takes no
     /// memory, and a time by the names in the table from the first to the last that changed since the last sync.
     pub fn sync_dir(&mut self)
-        ensures { (es : List Effect) → StandsFor self.old es → StandsFor self.new (SyncDir ∷ es) }
+        ensures { AddsEffect self.old self.new SyncDir }
     {
         self.directory.sync();
     }
 
     /// Leaves only the names and contents that last. It takes no memory.
     pub fn power_cut(&mut self)
-        ensures { (es : List Effect) → StandsFor self.old es → StandsFor self.new (PowerCut ∷ es) }
+        ensures { AddsEffect self.old self.new PowerCut }
     {
         self.directory.cut();
         cut_files(&mut self.files, self.used);
@@ -244,7 +247,9 @@ impl FileDevice {
     ///
     /// `NotFound` where the name is not there, and no other.
     pub fn read(&self, name: u32) -> Result<&[u8], DeviceFault>
-        ensures { (es : List Effect) → StandsFor self.now es → MatchResult result (λ bytes. held es Live name ≡ Some bytes.now) (λ e. (e ≡ DeviceFault.NotFound) × (held es Live name ≡ None)) }
+        ensures { (es : List Effect) → StandsFor self.now es →
+            MatchResult result (λ bytes. held es Live name ≡ Some bytes.now)
+            (λ fault. (fault ≡ DeviceFault.NotFound) × (held es Live name ≡ None)) }
     {
         let Some(file) = self.directory.live(name) else {
             return Err(DeviceFault::NotFound);

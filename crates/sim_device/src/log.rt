@@ -1,6 +1,6 @@
-ghost use Rattle.std.specs.Prelude.{◌≡◌, List, [], ◌∷◌, OnOk, OnErr};
+ghost use Rattle.std.specs.Prelude.{◌≡◌, List, [], OnOk, OnErr};
 ghost use Rattle.sim_device.specs.FileEffects.{Live};
-ghost use Rattle.sim_device.specs.LogEffects.{LogEffect, Append, Force, Restart, records, LogStandsFor};
+ghost use Rattle.sim_device.specs.LogEffects.{LogEffect, Append, Force, Restart, records, LogStandsFor, AddsLogEffect};
 
 use std::alloc::{AllocError, Global};
 use std::marker::Model;
@@ -52,7 +52,7 @@ impl<R: Copy> RecordLog<R> {
     ///
     /// Only want of memory. The log is then as it was.
     pub fn append(&mut self, entry: R) -> Result<(), AllocError>
-        ensures ok { OnOk result ((es : List (LogEffect R)) → LogStandsFor self.old es → LogStandsFor self.new (Append entry ∷ es)) }
+        ensures ok { OnOk result (AddsLogEffect self.old self.new (Append entry)) }
         ensures err { OnErr result (self.new ≡ self.old) }
     {
         self.records.push(entry)?;
@@ -65,7 +65,7 @@ impl<R: Copy> RecordLog<R> {
     ///
     /// Only want of memory. The log is then as it was.
     pub fn force(&mut self, entry: R) -> Result<(), AllocError>
-        ensures ok { OnOk result ((es : List (LogEffect R)) → LogStandsFor self.old es → LogStandsFor self.new (Force entry ∷ es)) }
+        ensures ok { OnOk result (AddsLogEffect self.old self.new (Force entry)) }
         ensures err { OnErr result (self.new ≡ self.old) }
     {
         self.append(entry)?;
@@ -75,7 +75,7 @@ impl<R: Copy> RecordLog<R> {
 
     /// Leaves only the records that last. It takes no memory.
     pub fn restart(&mut self)
-        ensures { (es : List (LogEffect R)) → LogStandsFor self.old es → LogStandsFor self.new (Restart ∷ es) }
+        ensures { AddsLogEffect self.old self.new Restart }
     {
         self.records.truncate(self.lasting);
     }

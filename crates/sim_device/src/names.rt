@@ -1,5 +1,5 @@
-ghost use Rattle.std.specs.Prelude.{◌≡◌, ◌≢◌, ◌<◌, ◌==◌, ℕ, [], length, if◌then◌else◌, None, Some, OnOk, OnErr};
-ghost use Rattle.sim_device.specs.Disk.{entry_at, IsSettledOutside};
+ghost use Rattle.std.specs.Prelude.{◌≡◌, ◌≢◌, ◌<◌, ℕ, [], length, None, Some, OnOk, OnErr};
+ghost use Rattle.sim_device.specs.Disk.{entry_at, ChangesName, MovesName, IsSettledOutside};
 
 use std::alloc::{AllocError, Global};
 use std::marker::Model;
@@ -36,7 +36,8 @@ impl Model for Directory {
 /// Makes what is there last, for the names in `first..end`.
 fn sync_entries(entries: &mut [Entry], first: usize, end: usize)
     requires { IsSettledOutside entries.old first end }
-    ensures { (n : ℕ) → entry_at entries.new n ≡ record { live = (entry_at entries.old n).live; lasting = (entry_at entries.old n).live } }
+    ensures { (n : ℕ) → let old = entry_at entries.old n in
+        entry_at entries.new n ≡ record { live = old.live; lasting = old.live } }
 {
     for place in first..end {
         let entry = &mut entries[place];
@@ -47,7 +48,8 @@ fn sync_entries(entries: &mut [Entry], first: usize, end: usize)
 /// Leaves only what lasts, for the names in `first..end`.
 fn cut_entries(entries: &mut [Entry], first: usize, end: usize)
     requires { IsSettledOutside entries.old first end }
-    ensures { (n : ℕ) → entry_at entries.new n ≡ record { live = (entry_at entries.old n).lasting; lasting = (entry_at entries.old n).lasting } }
+    ensures { (n : ℕ) → let old = entry_at entries.old n in
+        entry_at entries.new n ≡ record { live = old.lasting; lasting = old.lasting } }
 {
     for place in first..end {
         let entry = &mut entries[place];
@@ -107,7 +109,7 @@ impl Directory {
     /// Leads a name of the table to a file, or to none.
     fn lead(&mut self, name: u32, file: Option<usize>)
         requires { name < length self.old }
-        ensures { (n : ℕ) → entry_at self.new n ≡ (if n == name then record { live = file; lasting = (entry_at self.old n).lasting } else entry_at self.old n) }
+        ensures { ChangesName self.old self.new name file }
     {
         let place = name as usize;
         let entry = &mut self.entries[place];
@@ -122,7 +124,7 @@ impl Directory {
 
     /// Leads a name to a file.
     pub fn point(&mut self, name: u32, file: usize) -> Result<(), AllocError>
-        ensures ok { OnOk result ((n : ℕ) → entry_at self.new n ≡ (if n == name then record { live = Some file; lasting = (entry_at self.old n).lasting } else entry_at self.old n)) }
+        ensures ok { OnOk result (ChangesName self.old self.new name (Some file)) }
         ensures err { OnErr result (self.new ≡ self.old) }
     {
         self.cover(name)?;
@@ -132,7 +134,7 @@ impl Directory {
 
     /// Leads a name nowhere.
     pub fn remove(&mut self, name: u32)
-        ensures { (n : ℕ) → entry_at self.new n ≡ (if n == name then record { live = None; lasting = (entry_at self.old n).lasting } else entry_at self.old n) }
+        ensures { ChangesName self.old self.new name None }
     {
         if (name as usize) < self.entries.len() {
             self.lead(name, None);
@@ -142,7 +144,7 @@ impl Directory {
     /// Leads one name to a file, and another nowhere.
     pub fn carry(&mut self, file: usize, from: u32, to: u32) -> Result<(), AllocError>
         requires { from ≢ to }
-        ensures ok { OnOk result ((n : ℕ) → entry_at self.new n ≡ (if n == to then record { live = Some file; lasting = (entry_at self.old n).lasting } else (if n == from then record { live = None; lasting = (entry_at self.old n).lasting } else entry_at self.old n))) }
+        ensures ok { OnOk result (MovesName self.old self.new file from to) }
         ensures err { OnErr result (self.new ≡ self.old) }
     {
         self.point(to, file)?;
@@ -152,7 +154,8 @@ impl Directory {
 
     /// The names that are there now last.
     pub fn sync(&mut self)
-        ensures { (n : ℕ) → entry_at self.new n ≡ record { live = (entry_at self.old n).live; lasting = (entry_at self.old n).live } }
+        ensures { (n : ℕ) → let old = entry_at self.old n in
+            entry_at self.new n ≡ record { live = old.live; lasting = old.live } }
     {
         sync_entries(&mut self.entries, self.first, self.end);
         self.first = usize::MAX;
@@ -161,7 +164,8 @@ impl Directory {
 
     /// Only the names that last are left.
     pub fn cut(&mut self)
-        ensures { (n : ℕ) → entry_at self.new n ≡ record { live = (entry_at self.old n).lasting; lasting = (entry_at self.old n).lasting } }
+        ensures { (n : ℕ) → let old = entry_at self.old n in
+            entry_at self.new n ≡ record { live = old.lasting; lasting = old.lasting } }
     {
         cut_entries(&mut self.entries, self.first, self.end);
         self.first = usize::MAX;

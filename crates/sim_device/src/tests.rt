@@ -82,7 +82,9 @@ fn rename_takes_the_name_of_another(rt: HostRuntime) -> Result<(), DeviceFault> 
 fn link_shares_the_file(rt: HostRuntime) -> Result<(), DeviceFault> {
     let mut device = with_file(&rt, A, b"x")?;
     assert!(rt; device.link(MISSING, A) == Err(DeviceFault::NotFound));
-    assert!(rt; device.link(A, A) == Err(DeviceFault::Exists));
+    device.create(B)?;
+    assert!(rt; device.link(A, B) == Err(DeviceFault::Exists));
+    device.unlink(B)?;
     device.link(A, B)?;
     device.append(A, b"y")?;
     device.unlink(A)?;

@@ -7,7 +7,7 @@ use Rattle.file_replace.proofs.steps.prepare.Goals as goal
 pub returns : goal.returns
 returns c =
     let P : List ℕ → Type 0 = λ b. StandsFor c.sync_dir.new.self (SyncDir ∷ Sync 0 ∷ Append 0 b ∷ Create 0 ∷ []) in
-    subst P (c.as_bytes.ensures.value ∙ c.as_str.ensures) (c.sync_dir.ensures _ (c.in_ok-sync.ensures _ (c.in_ok-append.ensures _ (c.in_ok-create.ensures _ c.clear.ensures))))
+    subst P (c.as_bytes.ensures.value ∙ c.as_str.ensures) (c.sync_dir.ensures _ (c.sync.ensures _ (c.in_ok-append.ensures _ (c.in_ok-create.ensures _ c.clear.ensures))))
 
 pub append-requires : goal.append-requires
 append-requires c = ap is_none ((c.in_ok-create.ensures _ c.clear.ensures).live 0)

@@ -1,12 +1,10 @@
-use Rattle.std.proofs.Common.{◌≡◌, ◌+◌, ◌-◌, length, None}
-use Rattle.action_eval.specs.Answers.{stopped}
+use Rattle.std.proofs.Common.{◌≡◌, ◌+◌, ◌-◌, length}
 use Rattle.file_replace.specs.Seen.{Played}
-use Rattle.file_replace.proofs.replace.play.Given as goal
+use Rattle.file_replace.proofs.play.play.Given as goal
 
 abbrev pub invariant-loop-point : goal.invariant-loop-point
 invariant-loop-point l = record {
   given : l.session.given ≡ l.fn.session.given;
-  running : stopped l.session ≡ None;
   played : Played l.variant l.workload l.session l.progress l.device;
 }
 

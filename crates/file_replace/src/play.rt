@@ -1,0 +1,129 @@
+//! A run: question after question, up to the judgement.
+ghost use Rattle.std.specs.Prelude.{◌≡◌, ◌+◌, ◌-◌, ◌<◌, ◌≤◌, length, IfOk, OnOk, Some};
+ghost use Rattle.action_eval.specs.Answers.{start};
+ghost use Rattle.target_trait.specs.Play.{IsPlay};
+ghost use Rattle.file_replace.specs.Words.{point_names};
+ghost use Rattle.file_replace.specs.Steps.{asks_of, point_at};
+ghost use Rattle.file_replace.specs.Seen.{step_of, Played};
+
+use crate::disk::{Name, append};
+use crate::judge::judge;
+use crate::progress::Progress;
+use crate::stage::Stage;
+use crate::steps::{fail, go, half_stage, prepare, write_half, write_stage};
+use crate::variant::Variant;
+use crate::work::Replacements;
+use sim_device::FileDevice;
+use std::alloc::AllocError;
+use target_trait::{Answer, Judgement, Session};
+
+// the numbers of the points in the catalogue
+const CLEAR: u32 = 0;
+
+const CREATE: u32 = 1;
+
+const WRITE: u32 = 2;
+
+const SYNC: u32 = 3;
+
+const RENAME: u32 = 4;
+
+const SYNC_DIR: u32 = 5;
+
+const UNLINK: u32 = 6;
+
+/// The point that a stage asks.
+fn point_of(stage: Stage<'_>) -> Option<u32>
+    ensures { result ≡ point_at (step_of stage.entry) }
+{
+    match stage {
+        Stage::Clearing(_) => Some(CLEAR),
+        Stage::Creating(_) => Some(CREATE),
+        Stage::Writing(_, _) | Stage::WritingAgain(_, _) => Some(WRITE),
+        Stage::Syncing | Stage::SyncingLate => Some(SYNC),
+        Stage::Renaming => Some(RENAME),
+        Stage::SyncingDir => Some(SYNC_DIR),
+        Stage::Cleaning => Some(UNLINK),
+        Stage::Over => None,
+    }
+}
+
+/// Asks one point, and does what its answer says.
+fn ask(
+    variant: Variant,
+    workload: &Replacements,
+    point: u32,
+    progress: &mut Progress<'_>,
+    device: &mut FileDevice,
+    session: &mut Session<'_>,
+) -> Result<(), AllocError>
+    requires points { session.old.given.catalogue ≡ point_names }
+    requires next { point_at progress.old.step ≡ Some point }
+    requires played { Played variant workload.now session.old progress.old device.old }
+    ensures given { session.new.given ≡ session.old.given }
+    ensures played { OnOk result (Played variant workload.now session.new progress.new device.new) }
+    ensures nearer { OnOk result (session.new.given.limit + 1 - length session.new.hits < session.old.given.limit + 1 - length session.old.hits) }
+{
+    match session.hit(point)? {
+        Answer::Go => go(variant, progress, device)?,
+        Answer::Return(_) => fail(variant, progress, device)?,
+        Answer::Halt => progress.go_to(Stage::Over),
+    }
+    Ok(())
+}
+
+/// Asks and writes chunk after chunk, as long as chunks are left and the answers are to go on.
+fn write_on(
+    variant: Variant,
+    workload: &Replacements,
+    progress: &mut Progress<'_>,
+    device: &mut FileDevice,
+    session: &mut Session<'_>,
+) -> Result<(), AllocError>
+    requires points { session.old.given.catalogue ≡ point_names }
+    requires played { Played variant workload.now session.old progress.old device.old }
+    ensures given { session.new.given ≡ session.old.given }
+    ensures played { OnOk result (Played variant workload.now session.new progress.new device.new) }
+    ensures more { OnOk result (length session.old.hits ≤ length session.new.hits) }
+{
+    let mut stage = progress.stage();
+    while let Stage::Writing(chunk, chunks) = stage {
+        match session.hit(WRITE)? {
+            Answer::Go => append(device, Name::Tmp, chunk.as_str().as_bytes())?,
+            Answer::Return(_) => {
+                write_half(device, chunk)?;
+                progress.go_to(half_stage(variant, chunk, chunks));
+                return Ok(());
+            }
+            Answer::Halt => {
+                progress.go_to(Stage::Over);
+                return Ok(());
+            }
+        }
+        stage = write_stage(variant, chunks);
+    }
+    progress.go_to(stage);
+    Ok(())
+}
+
+/// Plays a run.
+pub fn play(
+    variant: Variant,
+    workload: &Replacements,
+    device: &mut FileDevice,
+    session: &mut Session<'_>,
+) -> Result<Judgement, AllocError>
+    requires new { session.old ≡ start session.old.given }
+    requires points { session.old.given.catalogue ≡ point_names }
+    ensures play { IfOk result (IsPlay (asks_of variant workload.now) session.new) }
+    ensures given { session.new.given ≡ session.old.given }
+{
+    prepare(device, workload.old())?;
+    let mut progress = Progress::new(workload);
+    progress.begin(false);
+    while let Some(point) = point_of(progress.stage()) {
+        ask(variant, workload, point, &mut progress, device, session)?;
+        write_on(variant, workload, &mut progress, device, session)?;
+    }
+    Ok(judge(device, &progress))
+}
