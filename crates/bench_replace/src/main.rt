@@ -1,5 +1,6 @@
 //! What runs of the file replacement cost: counts of work on standard output, times on standard error.
 #![tactic(auto)]
+
 ghost use Rattle.std.specs.Prelude.{◌≤◌};
 
 use file_replace::{Chunks, Replace, Replacements, Variant};
@@ -31,6 +32,12 @@ fn load(alloc: Global, count: u32, length: u32) -> Result<Replacements, AllocErr
         replacements.push(chunks(alloc, length)?)?;
     }
     Ok(Replacements::new(Text::copy_of(alloc, "old")?, replacements))
+}
+
+/// A scenario without faults.
+#[tactic(auto, unfolding(scenario_values::specs::Printed::printed))]
+fn no_faults(alloc: Global) -> Scenario {
+    Scenario::from_entries(IndexMap::new(alloc))
 }
 
 /// How many points many runs of one load ask, on one target.
@@ -67,7 +74,7 @@ fn measure(
     requires { replacements ≤ 1000 }
 {
     let load = load(rt.alloc(), replacements, chunks)?;
-    let scenario = Scenario::from_entries(IndexMap::new(rt.alloc()));
+    let scenario = no_faults(rt.alloc());
     let start = Instant::now(rt)?;
     let hits = runs(rt.alloc(), &load, &scenario, count, max_hits)?;
     let took = start.elapsed(rt)?;

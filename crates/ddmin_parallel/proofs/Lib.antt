@@ -1,0 +1,13 @@
+pub mod Rounds
+pub mod Minimal
+pub mod Steps
+pub mod Kept
+pub mod KnownSteps
+pub mod Counted
+pub mod Walk
+pub mod KnownLemmas
+pub mod Places
+pub mod Scans
+pub mod CoreLemmas
+pub mod BoardLemmas
+pub mod Anys

@@ -1,0 +1,21 @@
+use Rattle.std.proofs.Common.{sym, ◌∙◌, ap, subst}
+use Rattle.std.specs.FinMap.{get}
+use Rattle.ddmin_parallel.specs.CoreEvents.{position}
+use Rattle.ddmin_parallel.specs.CoreStates.{AreOpen}
+use Rattle.ddmin_parallel.specs.Stages.{position_of}
+use Rattle.ddmin_parallel.specs.Cursors.{IsReached, is_among}
+use Rattle.ddmin_parallel.proofs.Places.{sets}
+use Rattle.ddmin_parallel.proofs.Scans.{reset}
+use Rattle.ddmin_parallel.proofs.reducer_core.Core.recall.Goals as goal
+
+pub invariant_of-self : goal.invariant_of-self
+unfolding position
+invariant_of-self c =
+    let i = c.self.invariant in
+    record {
+      few = i.few;
+      stands = i.stands;
+      open_sets = subst (λ out. AreOpen c.self.inside.known (sets out)) (sym c.clear.ensures.items) tt;
+      reached = subst (IsReached (get c.self.inside.known) (is_among (sets c.clear.new.self.items)) (position_of c.self.inside.stage)) (sym c.at-self-inside.ensures)
+          (reset (get c.self.inside.known) (is_among (sets c.clear.new.self.items)) (position_of c.self.inside.stage) c.self.inside.cursor.place i.reached.counted);
+    }

@@ -1,0 +1,16 @@
+use Rattle.std.proofs.Common.{sym, ◌∙◌, ap, cond, Some}
+use Rattle.std.specs.FinMap as map
+use Rattle.std.proofs.lemmas.Cmp.{nat_list_cmp_total}
+use Rattle.ddmin_parallel.proofs.sets.answer_with.Goals as goal
+
+pub returns-then-is_same : goal.returns-then-is_same
+returns-then-is_same c =
+    let k = map.get c.args.known.now c.args.asked.now in
+    sym (map.get-insert nat_list_cmp_total c.args.known.now c.args.set.now c.args.fails c.args.asked.now
+    ∙ ap (λ b. cond b (Some c.args.fails) k) (sym c.is_same.ensures ∙ c.if-is_same.true))
+
+pub returns-else-is_same : goal.returns-else-is_same
+returns-else-is_same c =
+    let k = map.get c.args.known.now c.args.asked.now in
+    c.get.ensures ∙ sym (map.get-insert nat_list_cmp_total c.args.known.now c.args.set.now c.args.fails c.args.asked.now
+    ∙ ap (λ b. cond b (Some c.args.fails) k) (sym c.is_same.ensures ∙ c.if-is_same.false))

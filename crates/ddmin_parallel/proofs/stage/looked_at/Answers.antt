@@ -1,0 +1,40 @@
+use Rattle.std.proofs.Common.{◌≡◌, ℕ, ◌+◌, Bool, true, false, refl, sym, ◌∙◌, ap, arith, Option, Some, None}
+use Rattle.std.specs.FinMap.{get, insert}
+use Rattle.ddmin_parallel.specs.Rounds.{round}
+use Rattle.ddmin_parallel.specs.Candidates.{candidate, candidates}
+use Rattle.ddmin_parallel.specs.CoreEvents.{decided}
+use Rattle.ddmin_parallel.proofs.Steps.{from}
+use Rattle.ddmin_parallel.proofs.KnownSteps.{decided_pass}
+use Rattle.ddmin_parallel.proofs.Counted.{extended, counted_times, counted_times_is, decided_moved}
+use Rattle.ddmin_parallel.proofs.stage.looked_at.Goals as goal
+
+pub loop-place-init : goal.loop-place-init
+loop-place-init c =
+    let known = get (insert c.args.known.now c.args.set.now c.args.fails) in
+    let n = c.args.parts in
+    let k = c.args.place in
+    record {
+      all = c.candidate_count-place-end.ensures;
+      counted = c.requires.counted;
+      told = ap (decided known (from c.args.kept.now n k)) (c.saturating_add-looked.ensures ∙ sym (counted_times_is k c.args.tests c.ranges.tests.fits))
+          ∙ decided_moved known c.args.kept.now n k c.args.tests c.requires.counted.0 c.requires.counted.1;
+    }
+
+pub loop-place-preserved : goal.loop-place-preserved
+loop-place-preserved c =
+    let known = get (insert c.args.known.now c.args.set.now c.args.fails) in
+    let kept = c.args.kept.now in
+    let n = c.args.parts in
+    let k = c.loop-place.place in
+    let i = c.loop-place.invariant in
+    let set : c.as_slice.result.now ≡ (candidate kept n k).set =
+    c.as_slice.ensures.value ∙ ap (λ s. s.set) (c.attempt.view_is ∙ c.in_ok-attempt.ensures) in
+    let no : known (candidate kept n k).set ≡ Some false =
+    sym (ap known set) ∙ sym c.in-Some.ensures ∙ ap (λ b. Some b) c.if-bad.false in
+    record {
+      all = i.all;
+      counted = (omega arith, extended (λ j. known (candidate kept n j).set ≡ Some false) k i.counted.1 no);
+      told = ap (decided known (from kept n (k + 1))) c.saturating_add-looked-in-loop-place.ensures
+          ∙ sym (decided_pass known kept n k c.loop-place.looked (omega arith) no)
+          ∙ i.told;
+    }

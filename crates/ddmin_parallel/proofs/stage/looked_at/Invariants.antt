@@ -1,0 +1,17 @@
+use Rattle.std.proofs.Common.{◌≡◌}
+use Rattle.std.specs.FinMap.{get, insert}
+use Rattle.ddmin_parallel.specs.Rounds.{round}
+use Rattle.ddmin_parallel.specs.Candidates.{candidates}
+use Rattle.ddmin_parallel.specs.CoreEvents.{decided, Round}
+use Rattle.ddmin_parallel.specs.Cursors.{IsCounted}
+use Rattle.ddmin_parallel.proofs.Steps.{from}
+use Rattle.ddmin_parallel.proofs.stage.looked_at.Given as goal
+
+abbrev pub invariant-loop-place : goal.invariant-loop-place
+invariant-loop-place l =
+    let known = get (insert l.known l.set l.fails) in
+    record {
+      all : l.place-end ≡ candidates l.parts;
+      counted : IsCounted known (Round l.kept l.parts l.tests) l.place;
+      told : decided known (from l.kept l.parts l.place) l.looked ≡ decided known (round l.kept l.parts) l.tests;
+    }

@@ -1,0 +1,204 @@
+ghost use Rattle.std.specs.Prelude.{◌≡◌, ℕ, ◌≤◌, List, [], ◌∷◌, ◌++◌, Bool, false, ◌&&◌, not, IsTrue, IfOk, OnOk, OnErr, IfErr, map, option_copied};
+ghost use Rattle.ddmin_parallel.specs.CoreEvents.{position, is_out, Put, GiveBack, Recall};
+ghost use Rattle.ddmin_parallel.specs.Cards.{IsFinished, IsPutFault};
+ghost use Rattle.std.specs.List.{list_any, list_all};
+ghost use Rattle.ddmin_parallel.specs.Logs.{Log, state_of, with_event, log_after_take, log_after_give_back, log_after_recall, is_backed, is_event_backed, is_told, says};
+ghost use Rattle.ddmin_parallel.specs.CoreEvents.{next, same_set};
+ghost use Rattle.std.specs.Prelude.{if◌then◌else◌};
+ghost use Rattle.ddmin_parallel.specs.InsideBoard.{event_of};
+
+use crate::reducer_core::{Card, CardFault, Core};
+use crate::reduction::Reduction;
+use crate::sets::is_same;
+use std::alloc::{AllocError, Global};
+use std::marker::Model;
+
+/// What changed a core. A call that is refused, hands out nothing or changes nothing is none.
+#[derive(Drop)]
+pub enum Event {
+    /// A set was handed out.
+    Take(Vec<u32>),
+    /// A set was answered: whether it fails.
+    Put(Vec<u32>, bool),
+    /// A set is out no more, unanswered.
+    GiveBack(Vec<u32>),
+    /// No set is out any more.
+    Recall,
+}
+
+/// A core with the list of its events, whose replay it always is.
+#[derive(Drop)]
+pub struct Board {
+    core: Core,
+    events: Vec<Event>,
+}
+
+impl Model for Board {
+    ghost use Rattle.ddmin_parallel.specs.Logs.{Log, log_code};
+
+    ghost Value = { Log };
+
+    ghost coded = { log_code };
+
+    ghost use Rattle.ddmin_parallel.specs.InsideBoard.{log_of, IsBoard};
+
+    ghost view = { log_of };
+
+    ghost invariant = { IsBoard };
+}
+
+fn is_said(set: &[u32], fails: bool, other: &[u32], said: bool) -> bool
+    ensures { result ≡ (same_set set.now other.now && (if fails then said else not said)) }
+{
+    let same = is_same(set, other);
+    let agreed = if fails { said } else { !said };
+    same && agreed
+}
+
+fn is_told_by(set: &[u32], fails: bool, told: &[(Vec<u32>, bool)]) -> bool
+    ensures { result ≡ list_any (says set.now fails) told.now }
+{
+    for pair in told {
+        if is_said(set, fails, pair.0.as_slice(), pair.1) {
+            return true;
+        }
+    }
+    false
+}
+
+fn is_told_of(set: &[u32], fails: bool, pairs: &[Vec<(Vec<u32>, bool)>]) -> bool
+    ensures { result ≡ is_told set.now fails pairs.now }
+{
+    for told in pairs {
+        if is_told_by(set, fails, told.as_slice()) {
+            return true;
+        }
+    }
+    false
+}
+
+fn is_one_backed(event: &Event, pairs: &[Vec<(Vec<u32>, bool)>]) -> bool
+    ensures { result ≡ is_event_backed pairs.now (event_of event.now) }
+{
+    match event {
+        Event::Put(set, fails) => is_told_of(set.as_slice(), *fails, pairs),
+        Event::Take(_) | Event::GiveBack(_) | Event::Recall => true,
+    }
+}
+
+fn are_backed(events: &[Event], pairs: &[Vec<(Vec<u32>, bool)>]) -> bool
+    ensures { result ≡ list_all (is_event_backed pairs.now) (map event_of events.now) }
+{
+    for event in events {
+        if !is_one_backed(event, pairs) {
+            return false;
+        }
+    }
+    true
+}
+
+impl Board {
+    /// Begins the reduction of the faults `0 .. faults`, with no event yet. Up to 1,024 faults.
+    pub fn start(alloc: Global, faults: u32) -> Board
+        requires { faults ≤ 1024 }
+        ensures { result ≡ record { faults = faults; events = [] } }
+    {
+        Board {
+            core: Core::start(alloc, faults),
+            events: Vec::new(alloc),
+        }
+    }
+
+    /// The events, the first one first.
+    pub fn events(&self) -> &[Event]
+        ensures { map event_of result.now ≡ self.now.events }
+    {
+        self.events.as_slice()
+    }
+
+    /// Hands out the next card, as `Core::take`. Places for this event and for the one that ends the card
+    /// are reserved first, so an `Err` changes nothing.
+    pub fn take(&mut self, alloc: Global, ahead: bool) -> Result<Option<Card>, AllocError>
+        ensures card { IfOk result (λ card. card ≡ next (state_of self.old) ahead) }
+        ensures event { IfOk result (λ card. self.new ≡ log_after_take self.old card) }
+        ensures err { OnErr result (self.new ≡ self.old) }
+    {
+        let Some(room) = self.core.out_len().checked_add(2) else {
+            return Err(AllocError);
+        };
+        self.events.reserve(room)?;
+        match self.core.take_two(alloc, ahead)? {
+            None => Ok(None),
+            Some((card, copy)) => {
+                self.events.push_reserved(Event::Take(copy));
+                Ok(Some(card))
+            }
+        }
+    }
+
+    /// Takes the answer to a card, as `Core::put`. An `Err` hands the card back and changes nothing.
+    pub fn put(&mut self, alloc: Global, card: Card, fails: bool) -> Result<(), CardFault>
+        ensures ok { OnOk result (IsTrue (is_out (state_of self.old) card)) }
+        ensures event { OnOk result (self.new ≡ with_event self.old (Put card fails)) }
+        ensures err { OnErr result (self.new ≡ self.old) }
+        ensures fault { IfErr result (IsPutFault (state_of self.old) card) }
+    {
+        if !self.core.has_out(card.set()) {
+            return Err(CardFault::Stranger(card));
+        }
+        let copy = match Vec::from_slice(alloc, card.set()) {
+            Ok(copy) => copy,
+            Err(_) => return Err(CardFault::Memory(card)),
+        };
+        match self.core.put(alloc, card, fails) {
+            Ok(()) => {
+                self.events.push_reserved(Event::Put(copy, fails));
+                Ok(())
+            }
+            Err(fault) => Err(fault),
+        }
+    }
+
+    /// A card's set is out no more, unanswered. No event where it is not out. Takes no memory.
+    pub fn give_back(&mut self, card: Card)
+        ensures { self.new ≡ log_after_give_back self.old card }
+    {
+        let set = card.into_set();
+        if self.core.end_card(set.as_slice()) {
+            self.events.push_reserved(Event::GiveBack(set));
+        }
+    }
+
+    /// No set is out any more. No event where none is out. Takes no memory.
+    pub fn recall(&mut self)
+        ensures { self.new ≡ log_after_recall self.old }
+    {
+        if self.core.out_len() > 0 {
+            self.core.recall();
+            self.events.push_reserved(Event::Recall);
+        }
+    }
+
+    /// The reduction, exactly where the events lead to its end. Takes no memory.
+    pub fn finished(&self) -> Option<&Reduction>
+        ensures { IsFinished (position (state_of self.now)) (option_copied result) }
+    {
+        self.core.finished()
+    }
+
+    /// Whether the board was started with that number of faults, and each answer that was put is one of the
+    /// pairs of a set and whether it fails.
+    pub fn backed(&self, faults: u32, pairs: &[Vec<(Vec<u32>, bool)>]) -> bool
+        ensures { result ≡ is_backed self.now faults pairs.now }
+    {
+        self.core.faults() == faults && are_backed(self.events.as_slice(), pairs)
+    }
+
+    pub(crate) fn into_core(self) -> Core
+        ensures { result ≡ state_of self }
+    {
+        let Board { core, events } = self;
+        drop(events);
+        core
+    }
+}

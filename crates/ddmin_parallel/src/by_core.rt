@@ -1,0 +1,61 @@
+ghost use Rattle.std.specs.Prelude.{◌≡◌, ℕ, ◌≤◌, IfOk};
+ghost use Rattle.ddmin_parallel.specs.Ddmin.{ddmin};
+ghost use Rattle.ddmin_parallel.specs.Logs.{Tells};
+
+use crate::plain::reduce_plain;
+use crate::probe::Probe;
+use crate::reducer_core::{CardFault, Core};
+use crate::reduction::Reduction;
+use std::alloc::{AllocError, Global};
+
+fn copied(alloc: Global, reduction: &Reduction) -> Result<Reduction, AllocError>
+    ensures { IfOk result (λ r. r ≡ reduction.now) }
+{
+    let tests = reduction.tests;
+    let kept = Vec::from_slice(alloc, reduction.kept.as_slice())?;
+    Ok(Reduction { kept, tests })
+}
+
+/// Goes on from a core that knows nothing but the probe's own answers.
+pub(crate) fn finish<P: Probe>(
+    alloc: Global,
+    core: Core,
+    probe: &mut P,
+    faults: u32,
+) -> Result<Reduction, AllocError>
+    requires few { faults ≤ 1024 }
+    requires tells { Tells faults (P.answers probe.old) core }
+    ensures reduced { IfOk result (λ r. r ≡ ddmin (P.answers probe.old) faults) }
+    ensures setup { P.answers probe.new ≡ P.answers probe.old }
+{
+    let mut core = core;
+    for _ in 0..u64::MAX {
+        if let Some(reduction) = core.finished() {
+            return copied(alloc, reduction);
+        }
+        let card = match core.take(alloc, false)? {
+            None => break,
+            Some(card) => card,
+        };
+        let fails = probe.test(card.set())?;
+        match core.put(alloc, card, fails) {
+            Ok(()) => {}
+            Err(CardFault::Stranger(_)) => break,
+            Err(CardFault::Memory(_)) => return Err(AllocError),
+        }
+    }
+    reduce_plain(alloc, probe, faults)
+}
+
+/// Reduces the faults by a core, on one thread. No set is asked twice.
+pub fn reduce_by_core<P: Probe>(
+    alloc: Global,
+    probe: &mut P,
+    faults: u32,
+) -> Result<Reduction, AllocError>
+    requires { faults ≤ 1024 }
+    ensures reduced { IfOk result (λ r. r ≡ ddmin (P.answers probe.old) faults) }
+    ensures setup { P.answers probe.new ≡ P.answers probe.old }
+{
+    finish(alloc, Core::start(alloc, faults), probe, faults)
+}

@@ -1,0 +1,229 @@
+ghost use Rattle.std.specs.Prelude.{◌≡◌, ℕ, ◌<◌, ◌≤◌, List, All, IfOk, vec_len, length, Bool, map};
+ghost use Rattle.ddmin_parallel.specs.Ddmin.{ddmin};
+ghost use Rattle.ddmin_parallel.specs.Logs.{AreAnswers, AllAnswers};
+
+use crate::board::Board;
+use crate::by_core::{finish, reduce_by_core};
+use crate::probe::Probe;
+use crate::reducer_core::{Card, CardFault};
+use crate::reduction::Reduction;
+use std::alloc::{AllocError, Global};
+use std::sync::{Condvar, Mutex, Wait};
+use std::thread;
+use std::thread::Threads;
+use target_trait::{Gate, Phase};
+
+type Told = Vec<(Vec<u32>, bool)>;
+
+/// The board, how often it moved, and how many cards were handed out.
+#[derive(Drop)]
+struct Desk {
+    board: Board,
+    moves: u64,
+    cards: u32,
+}
+
+#[derive(Drop)]
+struct Shared {
+    desk: Mutex<Desk>,
+    moved: Condvar,
+}
+
+impl Desk {
+    fn take(&mut self, alloc: Global) -> Result<Option<(Card, u32)>, AllocError> {
+        let Some(card) = self.board.take(alloc, true)? else {
+            return Ok(None);
+        };
+        let number = self.cards;
+        self.cards = self.cards.saturating_add(1);
+        Ok(Some((card, number)))
+    }
+
+    /// Puts an answer. Where there is no memory for it the card is out no more, and it is false.
+    fn put(&mut self, alloc: Global, card: Card, fails: bool) -> bool {
+        self.moves = self.moves.wrapping_add(1);
+        match self.board.put(alloc, card, fails) {
+            Ok(()) => true,
+            Err(CardFault::Memory(card) | CardFault::Stranger(card)) => {
+                self.board.give_back(card);
+                false
+            }
+        }
+    }
+
+    fn give_back(&mut self, card: Card) {
+        self.moves = self.moves.wrapping_add(1);
+        self.board.give_back(card);
+    }
+}
+
+impl Shared {
+    /// The next card with its number, or none where there will be none or memory ran out.
+    fn next_card<R: Wait>(&self, rt: &R, alloc: Global) -> Option<(Card, u32)> {
+        for _ in rt.forever() {
+            let mut desk = self.desk.lock(rt);
+            match desk.take(alloc) {
+                Err(_) => return None,
+                Ok(Some(found)) => return Some(found),
+                Ok(None) => {
+                    if desk.board.finished().is_some() {
+                        return None;
+                    }
+                    let seen = desk.moves;
+                    let _desk = self.moved.wait_while(rt, desk, |desk| desk.moves == seen);
+                }
+            }
+        }
+        unreachable!()
+    }
+
+    /// Puts an answer, and tells the others. False if there was no memory for it, and the card went back.
+    fn put<R: Wait>(&self, rt: &R, alloc: Global, card: Card, fails: bool) -> bool {
+        let was_put = self.desk.lock(rt).put(alloc, card, fails);
+        self.moved.notify_all();
+        was_put
+    }
+
+    /// Gives a card back, and tells the others.
+    fn give_back<R: Wait>(&self, rt: &R, card: Card) {
+        self.desk.lock(rt).give_back(card);
+        self.moved.notify_all();
+    }
+}
+
+fn copied(alloc: Global, card: &Card) -> Result<Vec<u32>, AllocError>
+    ensures { IfOk result (λ set. set.items ≡ card.now) }
+{
+    Vec::from_slice(alloc, card.set())
+}
+
+/// Answers cards until there are none, and says what it answered. Room for an answer is made before the
+/// probe is asked, and it is asked outside the lock. Where memory runs out the card goes back.
+fn work<R: Wait, P: Probe, G: Gate>(
+    rt: &R,
+    alloc: Global,
+    gate: &G,
+    shared: &Shared,
+    probe: P,
+) -> (P, Told)
+    ensures setup { P.answers result.0 ≡ P.answers probe }
+    ensures told { AreAnswers (P.answers probe) result.1.items }
+{
+    let mut probe = probe;
+    let mut told = Vec::new(alloc);
+    for _ in rt.forever() {
+        if told.reserve(1).is_err() {
+            break;
+        }
+        let Some((card, number)) = shared.next_card(rt, alloc) else {
+            break;
+        };
+        let Ok(set) = copied(alloc, &card) else {
+            shared.give_back(rt, card);
+            break;
+        };
+        gate.arrive(Phase::Cards, number);
+        match probe.test(card.set()) {
+            Ok(fails) => {
+                told.push_reserved((set, fails));
+                if !shared.put(rt, alloc, card, fails) {
+                    break;
+                }
+            }
+            Err(_) => {
+                shared.give_back(rt, card);
+                break;
+            }
+        }
+    }
+    (probe, told)
+}
+
+/// What each hand answered, and the hands.
+fn all_told<R: Threads + Wait + Sync, P: Probe, G: Gate>(
+    rt: &R,
+    alloc: Global,
+    gate: &G,
+    shared: &Shared,
+    hands: Vec<P>,
+) -> Result<Vec<(P, Told)>, AllocError>
+    ensures length { IfOk result (λ all. length all.items ≡ length hands.items) }
+    ensures told { (test : List ℕ → Bool) → All (λ p. P.answers p ≡ test) hands.items → IfOk result (λ all. All (λ r. (P.answers r.0 ≡ test) × AreAnswers test r.1.items) all.items) }
+{
+    thread::map_vec(rt, hands, &|probe| work(rt, alloc, gate, shared, probe))
+}
+
+/// What is under the lock, once the threads are joined.
+fn left_on(shared: Shared) -> Board {
+    shared.desk.into_inner().board
+}
+
+/// The probes, and apart from them what they answered.
+fn parted<P: Probe>(alloc: Global, all: Vec<(P, Told)>) -> Result<(Vec<P>, Vec<Told>), AllocError>
+    ensures { IfOk result (λ r. (r.0.items ≡ map (λ x. x.0) all.items) × (r.1.items ≡ map (λ x. x.1) all.items)) }
+{
+    let mut probes = Vec::new(alloc);
+    let mut pairs = Vec::new(alloc);
+    for (probe, told) in all {
+        probes.push(probe)?;
+        pairs.push(told)?;
+    }
+    Ok((probes, pairs))
+}
+
+/// Goes on where the threads left off, if their answers are the probe's own; else from the start.
+fn gathered<P: Probe>(
+    alloc: Global,
+    board: Board,
+    probe: &mut P,
+    pairs: &[Told],
+    faults: u32,
+) -> Result<Reduction, AllocError>
+    requires few { faults ≤ 1024 }
+    requires own { AllAnswers (P.answers probe.old) pairs.now }
+    ensures { IfOk result (λ r. r ≡ ddmin (P.answers probe.old) faults) }
+{
+    let is_backed = board.backed(faults, pairs);
+    if is_backed {
+        let mut core = board.into_core();
+        core.recall();
+        finish(alloc, core, probe, faults)
+    } else {
+        reduce_by_core(alloc, probe, faults)
+    }
+}
+
+/// Reduces the faults `0 .. faults` with a thread for each hand. The result is that of `reduce_plain`,
+/// however many hands there are and in whatever order they answer. Up to 1,024 faults; at least one hand;
+/// all hands of one setup.
+///
+/// Each hand takes cards, also of the round one further, tells the gate the number of the card, from 0 in
+/// the order in which they were handed out, and asks its probe. A hand that finds no memory gives its card
+/// back and leaves; what is left then is done on the caller's thread, which tells the gate nothing. The
+/// only error is want of memory.
+pub fn reduce<R: Threads + Wait + Sync, P: Probe, G: Gate>(
+    rt: &R,
+    alloc: Global,
+    gate: &G,
+    hands: Vec<P>,
+    faults: u32,
+) -> Result<Reduction, AllocError>
+    requires few { faults ≤ 1024 }
+    requires some { 0 < length hands.items }
+    requires one_setup { All (λ p. All (λ q. P.answers p ≡ P.answers q) hands.items) hands.items }
+    ensures { IfOk result (λ r. All (λ p. r ≡ ddmin (P.answers p) faults) hands.items) }
+{
+    let shared = Shared {
+        desk: Mutex::new(Desk {
+            board: Board::start(alloc, faults),
+            moves: 0,
+            cards: 0,
+        }),
+        moved: Condvar::new(),
+    };
+    let all = all_told(rt, alloc, gate, &shared, hands)?;
+    let board = left_on(shared);
+    let (mut probes, pairs) = parted(alloc, all)?;
+    let mut probe = probes.pop().unwrap();
+    gathered(alloc, board, &mut probe, pairs.as_slice(), faults)
+}

@@ -1,0 +1,182 @@
+ghost use Rattle.std.specs.Prelude.{◌≡◌, ℕ, ◌^◌, ◌<◌, ◌≤◌, List, length, map, IfOk, Option, None, Bool};
+ghost use Rattle.std.specs.FinMap as known_map;
+ghost use Rattle.ddmin_parallel.specs.CoreEvents.{Round, step, option_then, first_open, round_at};
+ghost use Rattle.ddmin_parallel.specs.CoreStates.{IsLawful, IsSmall};
+ghost use Rattle.ddmin_parallel.specs.Stages.{position_of};
+ghost use Rattle.ddmin_parallel.specs.Cursors.{IsShutBelow, IsScan, IsReached, IsFurther, IsOpened, Leads, onward, is_among};
+
+use crate::attempts::{Attempt, attempt_at, candidate_count};
+use crate::known::Known;
+use crate::sets::place_of;
+use crate::stage::{Cursor, Stage, following};
+use std::alloc::{AllocError, Global};
+
+/// Where a search for an open candidate ended: one that is neither known nor out.
+#[derive(Drop)]
+pub(crate) enum Scan {
+    /// At an open candidate, and the place after it.
+    Open(Vec<u32>, usize),
+    /// At a candidate that is known to fail.
+    Fails(Attempt, usize),
+    /// At the end.
+    Shut(usize),
+}
+
+/// Looks for an open candidate of a round, from a place on.
+fn scanned_round(
+    alloc: Global,
+    known: &Known,
+    out: &[Vec<u32>],
+    kept: &[u32],
+    parts: usize,
+    from: usize,
+) -> Result<Scan, AllocError>
+    requires two { 2 ≤ parts }
+    requires few { parts ≤ length kept.now }
+    requires small { length kept.now < 2 ^ 31 }
+    requires shut { IsShutBelow (known_map.get known.now) (is_among (map (λ s. s.items) out.now)) (Round kept.now parts 0) from }
+    ensures { (tests : ℕ) → IfOk result (IsScan (known_map.get known.now) (is_among (map (λ s. s.items) out.now)) (Round kept.now parts tests)) }
+{
+    let count = candidate_count(parts);
+    for place in from..count {
+        let attempt = attempt_at(alloc, kept, parts, place)?;
+        match known.get(attempt.set.as_slice()) {
+            Some(bad) => {
+                if bad {
+                    return Ok(Scan::Fails(attempt, place));
+                }
+            }
+            None => {
+                if place_of(attempt.set.as_slice(), out).is_none() {
+                    return Ok(Scan::Open(attempt.set, place + 1));
+                }
+            }
+        }
+    }
+    Ok(Scan::Shut(count))
+}
+
+/// Looks for an open candidate of a stage, from a place on.
+fn scanned(
+    alloc: Global,
+    known: &Known,
+    out: &[Vec<u32>],
+    stage: &Stage,
+    from: usize,
+) -> Result<Scan, AllocError>
+    requires lawful { IsLawful (position_of stage.now) }
+    requires small { IsSmall (position_of stage.now) }
+    requires shut { IsShutBelow (known_map.get known.now) (is_among (map (λ s. s.items) out.now)) (position_of stage.now) from }
+    ensures { IfOk result (IsScan (known_map.get known.now) (is_among (map (λ s. s.items) out.now)) (position_of stage.now)) }
+{
+    match stage {
+        Stage::Empty(_) => {
+            let set = Vec::new(alloc);
+            match known.get(set.as_slice()) {
+                Some(_) => Ok(Scan::Shut(0)),
+                None => {
+                    if place_of(set.as_slice(), out).is_none() {
+                        Ok(Scan::Open(set, 1))
+                    } else {
+                        Ok(Scan::Shut(0))
+                    }
+                }
+            }
+        }
+        Stage::Round(kept, parts, _) => {
+            scanned_round(alloc, known, out, kept.as_slice(), *parts, from)
+        }
+        Stage::End(_) => Ok(Scan::Shut(0)),
+    }
+}
+
+/// The card of the round one further, if there is one, and where the search for the one after it begins.
+fn further_set(
+    alloc: Global,
+    known: &Known,
+    out: &[Vec<u32>],
+    stage: &Stage,
+    failing: Option<Attempt>,
+    from: usize,
+) -> Result<(Option<Vec<u32>>, usize), AllocError>
+    requires lawful { IsLawful (position_of stage.now) }
+    requires small { IsSmall (position_of stage.now) }
+    requires stuck { step (known_map.get known.now) (position_of stage.now) ≡ None }
+    requires leads { Leads (known_map.get known.now) (position_of stage.now) failing }
+    requires shut { IsShutBelow (known_map.get known.now) (is_among (map (λ s. s.items) out.now)) (onward (known_map.get known.now) (position_of stage.now)) from }
+    ensures { IfOk result (λ r. IsFurther (known_map.get known.now) (map (λ s. s.items) out.now) (position_of stage.now) (option_then (λ s. s.items) r.0) r.1) }
+{
+    let next = following(alloc, stage, failing)?;
+    match scanned(alloc, known, out, &next, from)? {
+        Scan::Open(set, place) => Ok((Some(set), place)),
+        Scan::Fails(_, place) => Ok((None, place)),
+        Scan::Shut(place) => Ok((None, place)),
+    }
+}
+
+/// The card that comes next where the round has none, if there is one, and the cursor for the one after it.
+fn open_beyond(
+    alloc: Global,
+    known: &Known,
+    out: &[Vec<u32>],
+    stage: &Stage,
+    failing: Option<Attempt>,
+    cursor: Cursor,
+    ahead: bool,
+) -> Result<(Option<Vec<u32>>, Cursor), AllocError>
+    requires lawful { IsLawful (position_of stage.now) }
+    requires small { IsSmall (position_of stage.now) }
+    requires stuck { step (known_map.get known.now) (position_of stage.now) ≡ None }
+    requires none { first_open (known_map.get known.now) (is_among (map (λ s. s.items) out.now)) (round_at (position_of stage.now)) ≡ None }
+    requires leads { Leads (known_map.get known.now) (position_of stage.now) failing }
+    requires reached { IsReached (known_map.get known.now) (is_among (map (λ s. s.items) out.now)) (position_of stage.now) cursor }
+    ensures { IfOk result (λ r. IsOpened (known_map.get known.now) (map (λ s. s.items) out.now) (position_of stage.now) ahead (option_then (λ s. s.items) r.0) r.1) }
+{
+    if !ahead {
+        return Ok((None, cursor));
+    }
+    let (set, ahead) = further_set(alloc, known, out, stage, failing, cursor.ahead)?;
+    Ok((set, Cursor { ahead, ..cursor }))
+}
+
+/// The card that comes next, if there is one, and the cursor for the one after it.
+pub(crate) fn open_set(
+    alloc: Global,
+    known: &Known,
+    out: &[Vec<u32>],
+    stage: &Stage,
+    cursor: Cursor,
+    ahead: bool,
+) -> Result<(Option<Vec<u32>>, Cursor), AllocError>
+    requires lawful { IsLawful (position_of stage.now) }
+    requires small { IsSmall (position_of stage.now) }
+    requires stuck { step (known_map.get known.now) (position_of stage.now) ≡ None }
+    requires reached { IsReached (known_map.get known.now) (is_among (map (λ s. s.items) out.now)) (position_of stage.now) cursor }
+    ensures { IfOk result (λ r. IsOpened (known_map.get known.now) (map (λ s. s.items) out.now) (position_of stage.now) ahead (option_then (λ s. s.items) r.0) r.1) }
+{
+    match scanned(alloc, known, out, stage, cursor.closed)? {
+        Scan::Open(set, closed) => Ok((Some(set), Cursor { closed, ..cursor })),
+        Scan::Fails(attempt, closed) => {
+            open_beyond(
+                alloc,
+                known,
+                out,
+                stage,
+                Some(attempt),
+                Cursor { closed, ..cursor },
+                ahead,
+            )
+        }
+        Scan::Shut(closed) => {
+            open_beyond(
+                alloc,
+                known,
+                out,
+                stage,
+                None,
+                Cursor { closed, ..cursor },
+                ahead,
+            )
+        }
+    }
+}

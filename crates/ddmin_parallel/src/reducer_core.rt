@@ -1,0 +1,319 @@
+ghost use Rattle.std.specs.Prelude.{◌≡◌, ℕ, ◌≤◌, List, [], ◌∷◌, ◌++◌, ◌||◌, length, Bool, true, false, IsTrue, IfOk, OnOk, OnErr, IfErr, IfSome, IfNone, option_copied, Option, None, map};
+ghost use Rattle.std.specs.List.{list_any};
+ghost use Rattle.std.specs.FinMap as known_map;
+ghost use Rattle.ddmin_parallel.specs.CoreEvents.{State, begin, apply, position, next, after_take, option_then, is_out, same_set, step, Put, Take, GiveBack, Recall, End};
+ghost use Rattle.ddmin_parallel.specs.CoreStates.{IsLawful, IsSmall, IsSettled, AreOpen};
+ghost use Rattle.ddmin_parallel.specs.Cards.{IsPutFault, IsFault, IsFinished};
+ghost use Rattle.ddmin_parallel.specs.Stages.{position_of};
+ghost use Rattle.ddmin_parallel.specs.Cursors.{IsReached, is_among, next_at, out_after, moved, stage_after};
+
+use crate::known::Known;
+use crate::open::open_set;
+use crate::reduction::Reduction;
+use crate::sets::{place_of, take_from};
+use crate::stage::{Cursor, Stage, advanced};
+use std::alloc::{AllocError, Global};
+use std::marker::Model;
+
+/// A set of faults that was handed out to be tested.
+#[derive(Drop)]
+pub struct Card {
+    set: Vec<u32>,
+}
+
+impl Model for Card {
+    ghost use Rattle.std.specs.Prelude.{ℕ, List};
+
+    ghost Value = { List ℕ };
+
+    ghost view = { λ c. c.set.items };
+}
+
+impl Card {
+    /// The set, ascending.
+    pub fn set(&self) -> &[u32]
+        ensures { result.now ≡ self.now }
+    {
+        self.set.as_slice()
+    }
+
+    pub(crate) fn into_set(self) -> Vec<u32>
+        ensures { result.items ≡ self }
+    {
+        self.set
+    }
+}
+
+/// Why an answer was not put. The card comes back, and nothing is changed.
+#[derive(Drop)]
+pub enum CardFault {
+    /// The card's set is not out.
+    Stranger(Card),
+    /// There was no memory for the answer.
+    Memory(Card),
+}
+
+/// A reduction that hands out cards and is told their answers in any order. It is the replay of what
+/// happened to it: where it stands and which card comes next depend on the events alone.
+#[derive(Drop)]
+pub struct Core {
+    faults: u32,
+    known: Known,
+    out: Vec<Vec<u32>>,
+    stage: Stage,
+    cursor: Cursor,
+}
+
+impl Model for Core {
+    ghost use Rattle.ddmin_parallel.specs.CoreEvents.{State};
+    ghost use Rattle.ddmin_parallel.specs.CoreStates.{state_code};
+
+    ghost Value = { State };
+
+    ghost coded = { state_code };
+
+    ghost use Rattle.ddmin_parallel.specs.Inside.{state_of, IsCore};
+
+    ghost view = { state_of };
+
+    ghost invariant = { IsCore };
+}
+
+/// The cursor once a stage came to a place: of a new stage, or once a set is known to fail, nothing else
+/// that was known of it holds.
+fn moved_cursor(cursor: Cursor, place: usize, is_anew: bool) -> Cursor
+    ensures { result ≡ moved cursor place is_anew }
+{
+    if is_anew {
+        Cursor::at(place)
+    } else {
+        Cursor { place, ..cursor }
+    }
+}
+
+/// Goes on to the next stage, if there is one.
+fn go_on(stage: &mut Stage, next: Option<Stage>)
+    ensures { position_of stage.new ≡ position_of (stage_after stage.old next) }
+{
+    if let Some(next) = next {
+        *stage = next;
+    }
+}
+
+/// Puts an answer among what is known, and moves the stage on. An `Err` changes nothing.
+fn settle(
+    alloc: Global,
+    known: &mut Known,
+    out: &mut Vec<Vec<u32>>,
+    stage: &mut Stage,
+    cursor: &mut Cursor,
+    card: Card,
+    fails: bool,
+) -> Result<(), CardFault>
+    requires lawful { IsLawful (position_of stage.old) }
+    requires small { IsSmall (position_of stage.old) }
+    requires open_sets { AreOpen known.old (map (λ s. s.items) out.old.items) }
+    requires reached { IsReached (known_map.get known.old) (is_among (map (λ s. s.items) out.old.items)) (position_of stage.old) cursor.old }
+    ensures ok { OnOk result (IsSettled known.old (map (λ s. s.items) out.old.items) (position_of stage.old) card fails known.new (map (λ s. s.items) out.new.items) (position_of stage.new)) }
+    ensures err { OnErr result ((known.new ≡ known.old) × (map (λ s. s.items) out.new.items ≡ map (λ s. s.items) out.old.items) × (position_of stage.new ≡ position_of stage.old)) }
+    ensures fault { IfErr result (IsFault (map (λ s. s.items) out.old.items) card) }
+    ensures reached { IsReached (known_map.get known.new) (is_among (map (λ s. s.items) out.new.items)) (position_of stage.new) cursor.new }
+{
+    if place_of(card.set.as_slice(), out.as_slice()).is_none() {
+        return Err(CardFault::Stranger(card));
+    }
+    let (next, place) = match advanced(
+        alloc,
+        known,
+        card.set.as_slice(),
+        fails,
+        stage,
+        cursor.place,
+    ) {
+        Ok(advance) => advance,
+        Err(_) => return Err(CardFault::Memory(card)),
+    };
+    let copy = match Vec::from_slice(alloc, card.set.as_slice()) {
+        Ok(copy) => copy,
+        Err(_) => return Err(CardFault::Memory(card)),
+    };
+    match known.insert(copy, fails) {
+        Ok(()) => {}
+        Err(_) => return Err(CardFault::Memory(card)),
+    }
+    take_from(card.set.as_slice(), out);
+    let is_anew = fails | next.is_some();
+    *cursor = moved_cursor(*cursor, place, is_anew);
+    go_on(stage, next);
+    Ok(())
+}
+
+/// Hands out the next card, with a copy of its set. An `Err` hands out none.
+fn hand_out(
+    alloc: Global,
+    known: &Known,
+    out: &mut Vec<Vec<u32>>,
+    stage: &Stage,
+    cursor: &mut Cursor,
+    ahead: bool,
+) -> Result<Option<(Card, Vec<u32>)>, AllocError>
+    requires lawful { IsLawful (position_of stage.now) }
+    requires small { IsSmall (position_of stage.now) }
+    requires stuck { step (known_map.get known.now) (position_of stage.now) ≡ None }
+    requires reached { IsReached (known_map.get known.now) (is_among (map (λ s. s.items) out.old.items)) (position_of stage.now) cursor.old }
+    ensures card { IfOk result (λ o. option_then (λ r. r.0) o ≡ next_at (known_map.get known.now) (is_among (map (λ s. s.items) out.old.items)) (position_of stage.now) ahead) }
+    ensures copy { IfOk result (λ o. IfSome o (λ r. r.1.items ≡ r.0)) }
+    ensures out { IfOk result (λ o. map (λ s. s.items) out.new.items ≡ out_after (map (λ s. s.items) out.old.items) (option_then (λ r. r.0) o)) }
+    ensures err { OnErr result (map (λ s. s.items) out.new.items ≡ map (λ s. s.items) out.old.items) }
+    ensures reached { IsReached (known_map.get known.now) (is_among (map (λ s. s.items) out.new.items)) (position_of stage.now) cursor.new }
+{
+    let (found, next) = open_set(alloc, known, out.as_slice(), stage, *cursor, ahead)?;
+    let set = match found {
+        None => {
+            *cursor = next;
+            return Ok(None);
+        }
+        Some(set) => set,
+    };
+    let other = Vec::from_slice(alloc, set.as_slice())?;
+    let copy = Vec::from_slice(alloc, set.as_slice())?;
+    out.reserve(1)?;
+    out.push_reserved(copy);
+    *cursor = next;
+    Ok(Some((Card { set }, other)))
+}
+
+impl Core {
+    /// Begins the reduction of the faults `0 .. faults`. Up to 1,024 faults.
+    pub fn start(alloc: Global, faults: u32) -> Core
+        requires { faults ≤ 1024 }
+        ensures { result ≡ begin faults }
+    {
+        let stage = if faults == 0 {
+            Stage::End(Reduction {
+                kept: Vec::new(alloc),
+                tests: 0,
+            })
+        } else {
+            Stage::Empty(faults)
+        };
+        Core {
+            faults,
+            known: Known::new(alloc),
+            out: Vec::new(alloc),
+            stage,
+            cursor: Cursor::at(0),
+        }
+    }
+
+    /// Hands out the next card: the first candidate of the present round that is neither known nor out and
+    /// does not follow one known to fail. Where there is none and `ahead` is on, the same is done one round
+    /// further. `None` comes only where the core is finished or a card is out. An `Err` changes nothing.
+    pub fn take(&mut self, alloc: Global, ahead: bool) -> Result<Option<Card>, AllocError>
+        ensures card { IfOk result (λ card. card ≡ next self.old ahead) }
+        ensures event { IfOk result (λ card. self.new ≡ after_take self.old card) }
+        ensures err { OnErr result (self.new ≡ self.old) }
+    {
+        match self.take_two(alloc, ahead)? {
+            None => Ok(None),
+            Some((card, _)) => Ok(Some(card)),
+        }
+    }
+
+    /// The same, with a copy of the card's set.
+    pub(crate) fn take_two(
+        &mut self,
+        alloc: Global,
+        ahead: bool,
+    ) -> Result<Option<(Card, Vec<u32>)>, AllocError>
+        ensures card { IfOk result (λ o. option_then (λ r. r.0) o ≡ next self.old ahead) }
+        ensures copy { IfOk result (λ o. IfSome o (λ r. r.1.items ≡ r.0)) }
+        ensures event { IfOk result (λ o. self.new ≡ after_take self.old (option_then (λ r. r.0) o)) }
+        ensures err { OnErr result (self.new ≡ self.old) }
+    {
+        hand_out(
+            alloc,
+            &self.known,
+            &mut self.out,
+            &self.stage,
+            &mut self.cursor,
+            ahead,
+        )
+    }
+
+    /// Takes the answer to a card that is out, whichever. The core moves only as far as the known answers
+    /// decide every earlier candidate. An `Err` hands the card back and changes nothing.
+    pub fn put(&mut self, alloc: Global, card: Card, fails: bool) -> Result<(), CardFault>
+        ensures ok { OnOk result (IsTrue (is_out self.old card)) }
+        ensures event { OnOk result (self.new ≡ apply self.old (Put card fails)) }
+        ensures err { OnErr result (self.new ≡ self.old) }
+        ensures fault { IfErr result (IsPutFault self.old card) }
+    {
+        settle(
+            alloc,
+            &mut self.known,
+            &mut self.out,
+            &mut self.stage,
+            &mut self.cursor,
+            card,
+            fails,
+        )
+    }
+
+    /// How many faults there are.
+    pub fn faults(&self) -> u32
+        ensures { result ≡ self.now.faults }
+    {
+        self.faults
+    }
+
+    /// How many sets are out.
+    pub(crate) fn out_len(&self) -> usize
+        ensures { result ≡ length self.now.out }
+    {
+        self.out.len()
+    }
+
+    /// Whether a set is out.
+    pub(crate) fn has_out(&self, set: &[u32]) -> bool
+        ensures { result ≡ is_out self.now set.now }
+    {
+        place_of(set, self.out.as_slice()).is_some()
+    }
+
+    /// No set is out any more. What is known stays. Takes no memory.
+    pub fn recall(&mut self)
+        ensures { self.new ≡ apply self.old Recall }
+    {
+        self.out.clear();
+        self.cursor = Cursor::at(self.cursor.place);
+    }
+
+    /// A card's set is out no more, unanswered; it will be handed out again. Changes nothing where the set is
+    /// not out. Takes no memory.
+    pub fn give_back(&mut self, card: Card)
+        ensures { self.new ≡ apply self.old (GiveBack card) }
+    {
+        self.end_card(card.set.as_slice());
+    }
+
+    /// A set is out no more. Whether it was.
+    pub(crate) fn end_card(&mut self, set: &[u32]) -> bool
+        ensures was { result ≡ is_out self.old set.now }
+        ensures event { self.new ≡ apply self.old (GiveBack set.now) }
+    {
+        let was_out = take_from(set, &mut self.out);
+        self.cursor = Cursor::at(self.cursor.place);
+        was_out
+    }
+
+    /// The reduction, exactly where the known answers lead to its end. Takes no memory.
+    pub fn finished(&self) -> Option<&Reduction>
+        ensures { IsFinished (position self.now) (option_copied result) }
+    {
+        match &self.stage {
+            Stage::End(reduction) => Some(reduction),
+            Stage::Empty(_) | Stage::Round(_, _, _) => None,
+        }
+    }
+}

@@ -1,0 +1,228 @@
+ghost use Rattle.std.specs.Prelude.{◌≡◌, ℕ, ◌+◌, ◌*◌, ◌^◌, ◌<◌, ◌≤◌, List, length, IfOk, Option, Bool};
+ghost use Rattle.std.specs.FinMap as known_map;
+ghost use Rattle.ddmin_parallel.specs.Rounds.{Candidate};
+ghost use Rattle.ddmin_parallel.specs.Candidates.{found as decision_of};
+ghost use Rattle.ddmin_parallel.specs.CoreEvents.{Position, Round, after_decision, after_empty, at_round};
+ghost use Rattle.ddmin_parallel.specs.CoreStates.{IsLawful, IsSmall};
+ghost use Rattle.ddmin_parallel.specs.Stages.{position_of};
+ghost use Rattle.ddmin_parallel.specs.Cursors.{IsCounted, IsLook, IsStep, IsAdvanced, follow};
+
+use crate::attempts::{Attempt, all_faults, attempt_at, candidate_count};
+use crate::known::Known;
+use crate::reduction::Reduction;
+use crate::sets::answer_with;
+use std::alloc::{AllocError, Global};
+
+/// Where a reduction stands.
+#[derive(Drop)]
+pub(crate) enum Stage {
+    /// At the empty set, of so many faults.
+    Empty(u32),
+    /// At the round of a set, cut into so many parts, after so many tests.
+    Round(Vec<u32>, usize, u64),
+    End(Reduction),
+}
+
+/// How far a stage's round has come, so that no search begins at its first candidate again.
+#[derive(Clone, Copy)]
+pub(crate) struct Cursor {
+    /// The candidates before this one are known to pass.
+    pub(crate) place: usize,
+    /// No candidate before this one is open.
+    pub(crate) closed: usize,
+    /// The same of the round one further.
+    pub(crate) ahead: usize,
+}
+
+impl Cursor {
+    /// A round that has come to a place, and of which nothing else is known.
+    pub(crate) fn at(place: usize) -> Cursor
+        ensures { result ≡ record { place = place; closed = place; ahead = 0 } }
+    {
+        Cursor {
+            place,
+            closed: place,
+            ahead: 0,
+        }
+    }
+}
+
+/// What known answers say of a round.
+#[derive(Drop)]
+enum Look {
+    /// The candidate at this place is not known, and all before it pass.
+    Stuck(usize),
+    /// The first candidate that fails, if one does, and the tests counted by then.
+    Decided(Option<Attempt>, u64),
+}
+
+/// What known answers say of a stage.
+#[derive(Drop)]
+enum Step {
+    /// It stays, and its round has come to this place.
+    Stays(usize),
+    Moves(Stage),
+}
+
+/// What the known answers decide of a round that has come to a place, if they do.
+fn looked_at(
+    alloc: Global,
+    known: &Known,
+    set: &[u32],
+    fails: bool,
+    kept: &[u32],
+    parts: usize,
+    tests: u64,
+    place: usize,
+) -> Result<Look, AllocError>
+    requires two { 2 ≤ parts }
+    requires few { parts ≤ length kept.now }
+    requires small { length kept.now < 2 ^ 31 }
+    requires counted { IsCounted (known_map.get (known_map.insert known.now set.now fails)) (Round kept.now parts tests) place }
+    ensures { IfOk result (IsLook (known_map.get (known_map.insert known.now set.now fails)) kept.now parts tests) }
+{
+    let mut looked = tests.saturating_add(place as u64);
+    for place in place..candidate_count(parts) {
+        let attempt = attempt_at(alloc, kept, parts, place)?;
+        let Some(bad) = answer_with(known, set, fails, attempt.set.as_slice()) else {
+            return Ok(Look::Stuck(place));
+        };
+        looked = looked.saturating_add(1);
+        if bad {
+            return Ok(Look::Decided(Some(attempt), looked));
+        }
+    }
+    Ok(Look::Decided(None, looked))
+}
+
+/// A round, or the end where there is nothing to leave out.
+pub(crate) fn round_or_end(kept: Vec<u32>, parts: usize, tests: u64) -> Stage
+    ensures { position_of result ≡ at_round kept.items parts tests }
+{
+    if kept.len() <= 1 {
+        Stage::End(Reduction { kept, tests })
+    } else {
+        Stage::Round(kept, parts, tests)
+    }
+}
+
+/// The stage after this one, where the known answers decide it.
+fn stepped(
+    alloc: Global,
+    known: &Known,
+    set: &[u32],
+    fails: bool,
+    stage: &Stage,
+    place: usize,
+) -> Result<Step, AllocError>
+    requires lawful { IsLawful (position_of stage.now) }
+    requires small { IsSmall (position_of stage.now) }
+    requires counted { IsCounted (known_map.get (known_map.insert known.now set.now fails)) (position_of stage.now) place }
+    ensures { IfOk result (IsStep (known_map.get (known_map.insert known.now set.now fails)) (position_of stage.now)) }
+{
+    match stage {
+        Stage::Empty(faults) => match answer_with(known, set, fails, &[]) {
+            None => Ok(Step::Stays(0)),
+            Some(bad) => Ok(Step::Moves(after_empty_set(alloc, *faults, bad)?)),
+        },
+        Stage::Round(kept, parts, tests) => {
+            let kept = kept.as_slice();
+            match looked_at(alloc, known, set, fails, kept, *parts, *tests, place)? {
+                Look::Stuck(place) => Ok(Step::Stays(place)),
+                Look::Decided(found, looked) => {
+                    Ok(Step::Moves(after_round(alloc, kept, *parts, found, looked)?))
+                }
+            }
+        }
+        Stage::End(_) => Ok(Step::Stays(0)),
+    }
+}
+
+/// The stage after the empty set.
+fn after_empty_set(alloc: Global, faults: u32, bad: bool) -> Result<Stage, AllocError>
+    ensures { IfOk result (λ s. position_of s ≡ after_empty faults bad) }
+{
+    if bad {
+        let kept = Vec::new(alloc);
+        Ok(Stage::End(Reduction { kept, tests: 1 }))
+    } else {
+        let kept = all_faults(alloc, faults)?;
+        Ok(round_or_end(kept, 2, 1))
+    }
+}
+
+/// The stage after a round that was decided.
+fn after_round(
+    alloc: Global,
+    kept: &[u32],
+    parts: usize,
+    found: Option<Attempt>,
+    looked: u64,
+) -> Result<Stage, AllocError>
+    requires { length kept.now < 2 ^ 31 }
+    ensures { IfOk result (λ s. position_of s ≡ after_decision kept.now parts (decision_of found looked)) }
+{
+    match found {
+        Some(attempt) => Ok(round_or_end(attempt.set, attempt.parts, looked)),
+        None => {
+            let kept = Vec::from_slice(alloc, kept)?;
+            if parts < kept.len() {
+                let finer = (2 * parts).min(kept.len());
+                Ok(Stage::Round(kept, finer, looked))
+            } else {
+                Ok(Stage::End(Reduction {
+                    kept,
+                    tests: looked,
+                }))
+            }
+        }
+    }
+}
+
+/// The furthest stage that the known answers lead to, once `set` is known too, and how far its round has
+/// come. No stage where it stays.
+pub(crate) fn advanced(
+    alloc: Global,
+    known: &Known,
+    set: &[u32],
+    fails: bool,
+    stage: &Stage,
+    place: usize,
+) -> Result<(Option<Stage>, usize), AllocError>
+    requires lawful { IsLawful (position_of stage.now) }
+    requires small { IsSmall (position_of stage.now) }
+    requires counted { IsCounted (known_map.get (known_map.insert known.now set.now fails)) (position_of stage.now) place }
+    ensures { IfOk result (λ r. IsAdvanced (known_map.get (known_map.insert known.now set.now fails)) (position_of stage.now) r.0 r.1) }
+{
+    let mut current = match stepped(alloc, known, set, fails, stage, place)? {
+        Step::Stays(place) => return Ok((None, place)),
+        Step::Moves(next) => next,
+    };
+    loop {
+        match stepped(alloc, known, set, fails, &current, 0)? {
+            Step::Moves(next) => current = next,
+            Step::Stays(place) => return Ok((Some(current), place)),
+        }
+    }
+}
+
+/// The stage one further, if of the candidates that are not known none fails. Its count of tests means
+/// nothing.
+pub(crate) fn following(
+    alloc: Global,
+    stage: &Stage,
+    failing: Option<Attempt>,
+) -> Result<Stage, AllocError>
+    requires small { IsSmall (position_of stage.now) }
+    ensures { IfOk result (λ s. position_of s ≡ follow (position_of stage.now) failing) }
+{
+    match stage {
+        Stage::Empty(faults) => after_empty_set(alloc, *faults, false),
+        Stage::Round(kept, parts, _) => after_round(alloc, kept.as_slice(), *parts, failing, 0),
+        Stage::End(reduction) => {
+            let kept = Vec::from_slice(alloc, reduction.kept.as_slice())?;
+            let tests = reduction.tests;
+            Ok(Stage::End(Reduction { kept, tests }))
+        }
+    }
+}

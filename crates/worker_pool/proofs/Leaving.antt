@@ -1,0 +1,137 @@
+-- From stations back to hands and lists of answers.
+use Rattle.std.proofs.Common.{◌≡◌, ◌∙◌, ℕ, ◌+◌, ◌<◌, ◌≤◌, ◌^◌, Bool, true, List, [], ◌∷◌, All, vec_len, count_by, map, length, get_or, sym, subst, ap, refl, arith}
+use Rattle.std.specs.List.{sum_by}
+use Rattle.std.proofs.lemmas.List.{length-map}
+use Rattle.std.proofs.lemmas.List.Sums.{sum_by-cons}
+use Rattle.worker_pool.specs.declared.hand.Hand.{Hand}
+use Rattle.worker_pool.specs.declared.station.Station.{Station}
+use Rattle.worker_pool.specs.Hands.{hand_job, hand_performed, PerformsPart}
+use Rattle.worker_pool.specs.Tickets.{count_below}
+use Rattle.worker_pool.proofs.Places.{map_at, maps_same, count_all, count_below_all, performed_sum}
+use Rattle.worker_pool.proofs.Rounds.{pick}
+
+module _ {J A S T : Type 0} (setup : J → T) (hands : List (Hand J A S)) (seated ended : List (Station J A S)) where
+  abbrev hand_of : Station J A S → Hand J A S
+  hand_of s = s.hand
+
+  pub setups_back : (back : List (Hand J A S)) → map hand_of seated ≡ hands → back ≡ map hand_of ended → length ended ≡ length seated
+      → ((k : ℕ) (s : Station J A S) → k < length seated → setup (get_or ended k s).hand.job ≡ setup (get_or seated k s).hand.job)
+      → map (λ h. setup (hand_job h)) back ≡ map (λ h. setup (hand_job h)) hands
+  setups_back back sat left len same =
+      let len_s : length seated ≡ length hands = sym (length-map seated hand_of) ∙ ap length sat in
+      let len_b : length back ≡ length ended = ap length left ∙ length-map ended hand_of in
+      maps_same (λ h. setup (hand_job h)) (λ h. setup (hand_job h)) back hands (omega arith) (λ k x y within.
+      let in_s : k < length seated = omega arith in
+      let in_b : k < length back = omega arith in
+      let d : Station J A S = pick seated k in_s in
+      let now : (get_or ended k d).hand ≡ get_or back k x = map_at hand_of ended back (sym left) k d x in_b in
+      let was : (get_or seated k d).hand ≡ get_or hands k y = map_at hand_of seated hands sat k d y within in
+      ap (λ (h : Hand J A S). setup (hand_job h)) (sym now) ∙ same k d in_s ∙ ap (λ (h : Hand J A S). setup (hand_job h)) was)
+
+  module _ {L : Type 0} (items : L → List (ℕ × A)) (size : L → ℕ) (list_of : Station J A S → L) (lists : List L) where
+    pub right_back : (answers : T → ℕ → A → Type 0) → map hand_of seated ≡ hands → lists ≡ map list_of ended → length ended ≡ length seated
+        → ((s : Station J A S) → items (list_of s) ≡ s.answers.items)
+        → ((k : ℕ) (s : Station J A S) → k < length seated → All (λ p. answers (setup (get_or seated k s).hand.job) p.0 p.1) (get_or ended k s).answers.items)
+        → (k : ℕ) (h : Hand J A S) (l : L) → k < length hands → All (λ p. answers (setup (hand_job (get_or hands k h))) p.0 p.1) (items (get_or lists k l))
+    right_back answers sat left len items_is right k h l within =
+        let len_s : length seated ≡ length hands = sym (length-map seated hand_of) ∙ ap length sat in
+        let len_l : length lists ≡ length ended = ap length left ∙ length-map ended list_of in
+        let in_s : k < length seated = omega arith in
+        let in_l : k < length lists = omega arith in
+        let d : Station J A S = pick seated k in_s in
+        let now : list_of (get_or ended k d) ≡ get_or lists k l = map_at list_of ended lists (sym left) k d l in_l in
+        let was : (get_or seated k d).hand ≡ get_or hands k h = map_at hand_of seated hands sat k d h within in
+        let is : (get_or ended k d).answers.items ≡ items (get_or lists k l) = sym (items_is (get_or ended k d)) ∙ ap items now in
+        subst (λ (x : Hand J A S). All (λ p. answers (setup (hand_job x)) p.0 p.1) (items (get_or lists k l))) was
+        (subst (λ (xs : List (ℕ × A)). All (λ p. answers (setup (get_or seated k d).hand.job) p.0 p.1) xs) is (right k d in_s))
+
+    pub counted_back : (back : List (Hand J A S)) → map hand_of seated ≡ hands → back ≡ map hand_of ended → lists ≡ map list_of ended → length ended ≡ length seated
+        → ((s : Station J A S) → size (list_of s) ≡ vec_len s.answers)
+        → ((k : ℕ) (s : Station J A S) → k < length seated → (get_or seated k s).hand.performed + vec_len (get_or ended k s).answers < 2 ^ 64 → (get_or ended k s).hand.performed ≡ (get_or seated k s).hand.performed + vec_len (get_or ended k s).answers)
+        → (k : ℕ) (h : Hand J A S) (l : L) → k < length hands → hand_performed (get_or hands k h) + size (get_or lists k l) < 2 ^ 64 → hand_performed (get_or back k h) ≡ hand_performed (get_or hands k h) + size (get_or lists k l)
+    counted_back back sat left left' len size_is counted k h l within fits =
+        let len_s : length seated ≡ length hands = sym (length-map seated hand_of) ∙ ap length sat in
+        let len_b : length back ≡ length ended = ap length left ∙ length-map ended hand_of in
+        let len_l : length lists ≡ length ended = ap length left' ∙ length-map ended list_of in
+        let in_s : k < length seated = omega arith in
+        let in_b : k < length back = omega arith in
+        let in_l : k < length lists = omega arith in
+        let d : Station J A S = pick seated k in_s in
+        let now : (get_or ended k d).hand.performed ≡ hand_performed (get_or back k h) = ap (λ (x : Hand J A S). x.performed) (map_at hand_of ended back (sym left) k d h in_b) in
+        let was : (get_or seated k d).hand.performed ≡ hand_performed (get_or hands k h) = ap (λ (x : Hand J A S). x.performed) (map_at hand_of seated hands sat k d h within) in
+        let is : vec_len (get_or ended k d).answers ≡ size (get_or lists k l) = sym (size_is (get_or ended k d)) ∙ ap size (map_at list_of ended lists (sym left') k d l in_l) in
+        let e : (get_or ended k d).hand.performed ≡ (get_or seated k d).hand.performed + vec_len (get_or ended k d).answers = counted k d in_s (omega arith) in
+        omega arith
+
+-- sums over the lists are sums over the stations
+sum_map : {X L : Type 0} (f : L → ℕ) (g : X → ℕ) (list_of : X → L) (xs : List X) → ((x : X) → f (list_of x) ≡ g x) → sum_by f (map list_of xs) ≡ sum_by g xs
+sum_map f g list_of [] same = refl
+sum_map f g list_of (x ∷ xs) same =
+    let here : f (list_of x) ≡ g x = same x in
+    omega (arith, sum_by-cons f (list_of x) (map list_of xs), sum_by-cons g x xs, here, sum_map f g list_of xs same)
+
+pub sum_left : {X L : Type 0} (f : L → ℕ) (g : X → ℕ) (list_of : X → L) (xs : List X) (lists : List L) → lists ≡ map list_of xs → ((x : X) → f (list_of x) ≡ g x) → sum_by f lists ≡ sum_by g xs
+sum_left f g list_of xs lists left same = ap (sum_by f) left ∙ sum_map f g list_of xs same
+
+-- how long the lists are together, by the test that all pass
+pub lengths_counted : {A : Type 0} (lists : List (List (ℕ × A))) → sum_by (λ (l : List (ℕ × A)). count_by (λ p. true) l) lists ≡ sum_by (λ (l : List (ℕ × A)). length l) lists
+lengths_counted {A = A} [] = refl
+lengths_counted {A = A} (l ∷ ls) =
+    omega (arith, sum_by-cons (λ (x : List (ℕ × A)). count_by (λ p. true) x) l ls, sum_by-cons (λ (x : List (ℕ × A)). length x) l ls, count_all l, lengths_counted ls)
+
+pub lists_most : {A : Type 0} (lists : List (List (ℕ × A))) (count : ℕ) → ((test : ℕ → Bool) → sum_by (λ (l : List (ℕ × A)). count_by (λ p. test p.0) l) lists ≤ count_below test count) → sum_by (λ (l : List (ℕ × A)). length l) lists ≤ count
+lists_most lists count once = (let e = once (λ n. true) in omega (arith, lengths_counted lists, count_below_all count))
+
+module _ {J A S T : Type 0} (setup : J → T) (hands : List (Hand J A S)) (seated ended : List (Station J A S)) where
+  abbrev given : Station J A S → List (ℕ × A)
+  given s = s.answers.items
+
+  abbrev hand_at : Station J A S → Hand J A S
+  hand_at s = s.hand
+
+  -- a refused run
+  pub performs_part : (answers : T → ℕ → A → Type 0) (back : List (Hand J A S)) (count : ℕ) → map hand_at seated ≡ hands → back ≡ map hand_at ended → length ended ≡ length seated
+      → ((k : ℕ) (s : Station J A S) → k < length seated → All (λ p. answers (setup (get_or seated k s).hand.job) p.0 p.1) (get_or ended k s).answers.items)
+      → ((k : ℕ) (s : Station J A S) → k < length seated → (get_or seated k s).hand.performed + vec_len (get_or ended k s).answers < 2 ^ 64 → (get_or ended k s).hand.performed ≡ (get_or seated k s).hand.performed + vec_len (get_or ended k s).answers)
+      → ((test : ℕ → Bool) → sum_by (λ (s : Station J A S). count_by (λ p. test p.0) s.answers.items) ended ≤ count_below test count)
+      → PerformsPart setup answers hands back count
+  performs_part answers back count sat left len right counted most =
+      let lists : List (List (ℕ × A)) = map given ended in
+      let len_s : length seated ≡ length hands = sym (length-map seated hand_at) ∙ ap length sat in
+      let len_b : length back ≡ length ended = ap length left ∙ length-map ended hand_at in
+      let len_l : length lists ≡ length ended = length-map ended given in
+      let once : (test : ℕ → Bool) → sum_by (λ (l : List (ℕ × A)). count_by (λ p. test p.0) l) lists ≤ count_below test count = λ test.
+      (let e = sum_left (λ (l : List (ℕ × A)). count_by (λ p. test p.0) l) (λ (s : Station J A S). count_by (λ p. test p.0) s.answers.items) given ended lists refl (λ s. refl) in let m = most test in omega arith) in
+      let few : sum_by (λ (l : List (ℕ × A)). length l) lists ≤ count = lists_most lists count once in
+      record {
+        lists = lists;
+        many = len_l ∙ len ∙ len_s;
+        right = right_back setup hands seated ended (λ (l : List (ℕ × A)). l) (λ (l : List (ℕ × A)). length l) given lists answers sat refl len (λ s. refl) right;
+        once = once;
+        most = few;
+        performed = λ fits. performed_sum hand_performed (λ (l : List (ℕ × A)). length l) (2 ^ 64) hands back lists (omega arith) (omega arith)
+            (counted_back setup hands seated ended (λ (l : List (ℕ × A)). l) (λ (l : List (ℕ × A)). length l) given lists back sat left refl len (λ s. sym s.answers.ok.0) counted) (omega arith);
+      }
+
+zeros : {X : Type 0} (xs : List X) → sum_by (λ (x : X). 0) xs ≡ 0
+zeros [] = refl
+zeros {X = X} (x ∷ xs) = omega (arith, sum_by-cons (λ (y : X). 0) x xs, zeros xs)
+
+module _ {J A S T : Type 0} (setup : J → T) (answers : T → ℕ → A → Type 0) (hands : List (Hand J A S)) (count : ℕ) where
+  abbrev none_of : Hand J A S → List (ℕ × A)
+  none_of h = []
+
+  -- a run that never began
+  pub performs_none : PerformsPart setup answers hands hands count
+  performs_none =
+      let lists : List (List (ℕ × A)) = map none_of hands in
+      let none : (f : List (ℕ × A) → ℕ) → f [] ≡ 0 → sum_by f lists ≡ 0 = λ f empty. sum_left f (λ (h : Hand J A S). 0) none_of hands lists refl (λ h. empty) ∙ zeros hands in
+      let len : length lists ≡ length hands = length-map hands none_of in
+      record {
+        lists = lists;
+        many = len;
+        right = λ k h l lt. (let in_l : k < length lists = omega arith in subst (λ (xs : List (ℕ × A)). All (λ p. answers (setup (hand_job (get_or hands k h))) p.0 p.1) xs) (map_at none_of hands lists refl k h l in_l) (λ i d low. absurd (omega arith)));
+        once = λ test. (let e = none (λ (l : List (ℕ × A)). count_by (λ p. test p.0) l) refl in omega arith);
+        most = (let e = none (λ (l : List (ℕ × A)). length l) refl in omega arith);
+        performed = λ fits. (let e = none (λ (l : List (ℕ × A)). length l) refl in omega arith);
+      }

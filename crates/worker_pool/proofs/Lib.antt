@@ -1,0 +1,10 @@
+pub mod Keeps
+pub mod Below
+pub mod Same
+pub mod Rings
+pub mod Seated
+pub mod Places
+pub mod Rounds
+pub mod Dealing
+pub mod Balance
+pub mod Leaving

@@ -1,0 +1,90 @@
+-- What holds at each place of a list after one write or under a function, and sums over two lists.
+use Rattle.std.proofs.Common.{◌≡◌, true, Vec, Global, vec_len, ℕ, zero, suc, ◌+◌, ◌<◌, List, [], ◌∷◌, length, get_or, set, map, refl, sym, ap, ◌∙◌, arith}
+use Rattle.std.specs.List.{sum_by}
+use Rattle.worker_pool.specs.Tickets.{count_below}
+use Rattle.std.proofs.lemmas.List.{length-map}
+use Rattle.std.proofs.lemmas.List.Sums.{sum_by-set, sum_by-cons}
+
+module _ {A : Type 0} where
+  pub holds_set : (P : ℕ → A → Type 0) (xs : List A) (i : ℕ) (v d : A) → P i v → ((j : ℕ) → P j (get_or xs j d)) → (j : ℕ) → P j (get_or (set xs i v) j d)
+  holds_set P [] i v d here old j = old j
+  holds_set P (x ∷ xs) zero v d here old zero = here
+  holds_set P (x ∷ xs) zero v d here old (suc j) = old (suc j)
+  holds_set P (x ∷ xs) (suc i) v d here old zero = old zero
+  holds_set P (x ∷ xs) (suc i) v d here old (suc j) = holds_set (λ n. P (suc n)) xs i v d here (λ n. old (suc n)) j
+
+-- the balance of sums over two lists, of which one place each changes
+pub balance_at : {X H : Type 0} (t q : X → ℕ) (a : H → ℕ) (xs : List X) (hs : List H) (i : ℕ) (x x' : X) (h h' : H) → i < length xs → i < length hs → x ≡ get_or xs i x → h ≡ get_or hs i h
+    → t x + a h' + q x' ≡ t x' + a h + q x
+    → sum_by t xs + sum_by a (set hs i h') + sum_by q (set xs i x') ≡ sum_by t (set xs i x') + sum_by a hs + sum_by q xs
+balance_at t q a xs hs i x x' h h' in_x in_h is_x is_h now =
+    omega (arith, sum_by-set t xs i x' x in_x, sum_by-set q xs i x' x in_x, sum_by-set a hs i h' h in_h, ap t is_x, ap q is_x, ap a is_h, now)
+
+-- sums over two lists that agree place by place
+pub sums_same : {X H : Type 0} (f e : X → ℕ) (g : H → ℕ) (xs : List X) (hs : List H) → length xs ≡ length hs → ((k : ℕ) (d : X) (h : H) → k < length hs → f (get_or xs k d) ≡ g (get_or hs k h) + e (get_or xs k d))
+    → sum_by f xs ≡ sum_by g hs + sum_by e xs
+sums_same f e g [] [] len each = refl
+sums_same f e g [] (h ∷ hs) len each = absurd (omega arith)
+sums_same f e g (x ∷ xs) [] len each = absurd (omega arith)
+sums_same f e g (x ∷ xs) (h ∷ hs) len each =
+    let here : f x ≡ g h + e x = each 0 x h (omega arith) in
+    let rest = sums_same f e g xs hs (omega arith) (λ k d i within. each (suc k) d i (omega arith)) in
+    omega (arith, sum_by-cons f x xs, sum_by-cons g h hs, sum_by-cons e x xs)
+
+pub sums_by_place : {X : Type 0} (f : X → ℕ) (xs ys : List X) → length xs ≡ length ys → ((k : ℕ) (d : X) → k < length xs → f (get_or xs k d) ≡ f (get_or ys k d)) → sum_by f xs ≡ sum_by f ys
+sums_by_place f [] [] len each = refl
+sums_by_place f [] (y ∷ ys) len each = absurd (omega arith)
+sums_by_place f (x ∷ xs) [] len each = absurd (omega arith)
+sums_by_place f (x ∷ xs) (y ∷ ys) len each =
+    let here : f x ≡ f y = each 0 x (omega arith) in
+    let rest = sums_by_place f xs ys (omega arith) (λ k d within. each (suc k) d (omega arith)) in
+    omega (arith, sum_by-cons f x xs, sum_by-cons f y ys)
+
+pub count_all : {A : Type 0} (xs : List A) → sum_by (λ x. 1) xs ≡ length xs
+count_all [] = refl
+count_all (x ∷ xs) = let rest = count_all xs in omega (arith, sum_by-cons (λ x. 1) x xs)
+
+-- where each of three lists' places adds up, and the whole fits, the sums add up
+pub performed_sum : {H L : Type 0} (c : H → ℕ) (n : L → ℕ) (most : ℕ) (olds news : List H) (ls : List L) → length news ≡ length olds → length ls ≡ length olds
+    → ((k : ℕ) (h : H) (l : L) → k < length olds → c (get_or olds k h) + n (get_or ls k l) < most → c (get_or news k h) ≡ c (get_or olds k h) + n (get_or ls k l))
+    → sum_by c olds + sum_by n ls < most → sum_by c news ≡ sum_by c olds + sum_by n ls
+performed_sum c n most [] [] [] len len' each fits = refl
+performed_sum c n most [] (x ∷ news) ls len len' each fits = absurd (omega arith)
+performed_sum c n most [] [] (l ∷ ls) len len' each fits = absurd (omega arith)
+performed_sum c n most (o ∷ olds) [] ls len len' each fits = absurd (omega arith)
+performed_sum c n most (o ∷ olds) (x ∷ news) [] len len' each fits = absurd (omega arith)
+performed_sum c n most (o ∷ olds) (x ∷ news) (l ∷ ls) len len' each fits =
+    let a = sum_by-cons c o olds in
+    let b = sum_by-cons c x news in
+    let d = sum_by-cons n l ls in
+    let here : c x ≡ c o + n l = each 0 o l (omega arith) (omega arith) in
+    let rest : sum_by c news ≡ sum_by c olds + sum_by n ls = performed_sum c n most olds news ls (omega arith) (omega arith) (λ k h i lt. each (suc k) h i (omega arith)) (omega arith) in
+    omega arith
+
+pub count_below_all : (n : ℕ) → count_below (λ _. true) n ≡ n
+count_below_all zero = refl
+count_below_all (suc n) = let rest = count_below_all n in omega arith
+
+pub sum_len : {A : Type 0} (ls : List (Vec A Global)) → sum_by (λ (v : Vec A Global). sum_by (λ p. 1) v.items) ls ≡ sum_by (λ (v : Vec A Global). vec_len v) ls
+sum_len {A = A} [] = refl
+sum_len {A = A} (v ∷ vs) = omega (arith, sum_by-cons (λ (w : Vec A Global). sum_by (λ p. 1) w.items) v vs, sum_by-cons (λ (w : Vec A Global). vec_len w) v vs, count_all v.items, v.ok.0, sum_len vs)
+
+-- a list and its images, place by place
+pub map_get : {A B : Type 0} (f : A → B) (xs : List A) (k : ℕ) (x : A) (y : B) → k < length xs → f (get_or xs k x) ≡ get_or (map f xs) k y
+map_get f [] k x y within = absurd (omega arith)
+map_get f (z ∷ xs) zero x y within = refl
+map_get f (z ∷ xs) (suc k) x y within = map_get f xs k x y (omega arith)
+
+pub map_at : {A B : Type 0} (f : A → B) (xs : List A) (ys : List B) → map f xs ≡ ys → (k : ℕ) (x : A) (y : B) → k < length ys → f (get_or xs k x) ≡ get_or ys k y
+map_at f xs ys same k x y within =
+    map_get f xs k x y (let e : length xs ≡ length ys = sym (length-map xs f) ∙ ap length same in omega arith) ∙ ap (λ zs. get_or zs k y) same
+
+-- two lists whose images agree place by place
+pub maps_same : {A B C : Type 0} (f : A → C) (g : B → C) (xs : List A) (ys : List B) → length xs ≡ length ys → ((k : ℕ) (x : A) (y : B) → k < length ys → f (get_or xs k x) ≡ g (get_or ys k y)) → map f xs ≡ map g ys
+maps_same f g [] [] len each = refl
+maps_same f g [] (y ∷ ys) len each = absurd (omega arith)
+maps_same f g (x ∷ xs) [] len each = absurd (omega arith)
+maps_same f g (x ∷ xs) (y ∷ ys) len each =
+    let here : f x ≡ g y = each 0 x y (omega arith) in
+    let rest = maps_same f g xs ys (omega arith) (λ k a b within. each (suc k) a b (omega arith)) in
+    ap (λ z. z ∷ map f xs) here ∙ ap (λ zs. g y ∷ zs) rest

@@ -1,0 +1,42 @@
+-- A desk stays fresh where its thief's seat is made, and where it gets a seat.
+use Rattle.std.proofs.Common.{◌≡◌, ℕ, ◌<◌, ◌≤◌, List, [], All, Option, Some, None, count_by, sym, subst, ap, ◌∙◌, arith}
+use Rattle.std.proofs.lemmas.List.Elements.{All-same, All-weaker}
+use Rattle.crossbeam_deque.specs.Handles.{view, worker_view}
+use Rattle.worker_pool.specs.declared.rule.Seat.{Seat}
+use Rattle.worker_pool.specs.declared.desk.Next.{Next}
+use Rattle.worker_pool.specs.declared.desk.Desk.{Desk}
+use Rattle.worker_pool.specs.Tickets.{seat}
+use Rattle.worker_pool.specs.Desks.{taken_next, NextBelow}
+use Rattle.worker_pool.specs.Ring.{Fresh}
+
+pub fresh_shared : (count : ℕ) (old mid : Desk) → worker_view mid.own ≡ seat 1 (worker_view old.own).pushed (worker_view old.own).taken → mid.next ≡ old.next → mid.kept ≡ old.kept → Fresh count old → Fresh count mid
+fresh_shared count old mid own next kept was = record {
+  below = (
+    All-same (λ x. x < count) (worker_view mid.own).pushed (worker_view old.own).pushed (ap (λ (v : Seat). v.pushed) own) was.below.0,
+    subst (NextBelow count) (sym next) was.below.1,
+  );
+  kept = kept ∙ was.kept;
+  took_none = λ test. omega (arith, ap (λ (v : Seat). count_by test v.taken) own, ap (taken_next test) next, was.took_none test);
+}
+
+pub fresh_seated : (count : ℕ) (there new : Desk) (n : Next) (pushed : List ℕ) → worker_view new.own ≡ worker_view there.own → new.next ≡ Some n → new.kept ≡ there.kept
+    → view n.seat ≡ seat 1 pushed [] → All (λ x. x < count) pushed → Fresh count there → Fresh count new
+fresh_seated count there new n pushed own next kept seated below was = record {
+  below = (
+    All-same (λ x. x < count) (worker_view new.own).pushed (worker_view there.own).pushed (ap (λ (v : Seat). v.pushed) own) was.below.0,
+    subst (NextBelow count) (sym next) (All-same (λ x. x < count) (view n.seat).pushed pushed (ap (λ (v : Seat). v.pushed) seated) below),
+  );
+  kept = kept ∙ was.kept;
+  took_none = λ test. omega (arith, ap (λ (v : Seat). count_by test v.taken) own, ap (taken_next test) next, ap (λ (v : Seat). count_by test v.taken) seated, was.took_none test);
+}
+
+NextBelow-weaker : (count limit : ℕ) (n : Option Next) → count ≤ limit → NextBelow count n → NextBelow limit n
+NextBelow-weaker count limit None le below = tt
+NextBelow-weaker count limit (Some n) le below = All-weaker (λ x. x < count) (λ x. x < limit) (λ x lt. omega arith) (view n.seat).pushed below
+
+pub Fresh-weaker : (count limit : ℕ) (d : Desk) → count ≤ limit → Fresh count d → Fresh limit d
+Fresh-weaker count limit d le was = record {
+  below = (All-weaker (λ x. x < count) (λ x. x < limit) (λ x lt. omega arith) (worker_view d.own).pushed was.below.0, NextBelow-weaker count limit d.next le was.below.1);
+  kept = was.kept;
+  took_none = was.took_none;
+}

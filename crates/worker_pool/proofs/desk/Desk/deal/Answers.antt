@@ -1,0 +1,5 @@
+use Rattle.worker_pool.proofs.Keeps.{puts}
+use Rattle.worker_pool.proofs.desk.Desk.deal.Goals as goal
+
+pub push_as-requires-clause-pushes : goal.push_as-requires-clause-pushes
+push_as-requires-clause-pushes c = puts _ _ _ c.requires.alone

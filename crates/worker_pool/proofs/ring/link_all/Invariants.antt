@@ -1,0 +1,15 @@
+use Rattle.std.proofs.Common.{◌≡◌, ℕ, ◌<◌, ◌≤◌, Bool, None, IsSome, All, vec_len, slice_index_or}
+use Rattle.std.specs.List.{sum_by}
+use Rattle.worker_pool.specs.declared.desk.Desk.{Desk}
+use Rattle.worker_pool.specs.Ring.{IsRing, Fresh, pushed_by}
+use Rattle.worker_pool.proofs.ring.link_all.Given as goal
+
+abbrev pub invariant-loop-k : goal.invariant-loop-k
+invariant-loop-k l = record {
+  len : vec_len l.desks ≡ l.n;
+  ring : IsRing l.desks.items;
+  none : (j : ℕ) (d : Desk) → l.k ≤ j → j < l.n → (slice_index_or l.desks.items j d).next ≡ None;
+  linked : (j : ℕ) (d : Desk) → j < l.k → IsSome (slice_index_or l.desks.items j d).next;
+  fresh : All (Fresh l.count) l.desks.items;
+  pushed : (test : ℕ → Bool) → sum_by (pushed_by test) l.desks.items ≡ sum_by (pushed_by test) l.initial.desks.items;
+}

@@ -1,0 +1,40 @@
+-- What a caller sees of hands, and of what they performed in a run.
+use Rattle.std.specs.Prelude.{◌≡◌, ℕ, ◌+◌, ◌<◌, ◌≤◌, ◌^◌, Bool, List, Vec, length, map, All, count_by, slice_index_or}
+use Rattle.std.specs.List.{sum_by}
+use Rattle.std.specs.declared.alloc.Global.{Global}
+use Rattle.worker_pool.specs.declared.hand.Hand.{Hand}
+use Rattle.worker_pool.specs.Tickets.{count_below}
+
+-- its job
+abbrev pub hand_job : {J A S : Type 0} → Hand J A S → J
+hand_job hand = hand.job
+
+-- how many tickets it has performed over all runs
+abbrev pub hand_performed : {J A S : Type 0} → Hand J A S → ℕ
+hand_performed hand = hand.performed
+
+-- the setups of the hands' jobs, in the order of the hands
+abbrev pub setups_of : {J A S T : Type 0} → (J → T) → List (Hand J A S) → List T
+setups_of setup hands = map (λ h. setup (hand_job h)) hands
+
+-- how many answers over all lists are of a number that passes the test
+abbrev pub answered : {A : Type 0} → (ℕ → Bool) → List (Vec (ℕ × A) Global) → ℕ
+answered test lists = sum_by (λ l. count_by (λ p. test p.0) l.items) lists
+
+-- over all lists each number below the count stands once, and no other: take for the test that a number is n, or that it
+-- is not below the count
+abbrev pub EachOnce : {A : Type 0} → List (Vec (ℕ × A) Global) → ℕ → Type 0
+EachOnce lists count = (test : ℕ → Bool) → answered test lists ≡ count_below test count
+
+-- A run that performed a part of the tickets: what the hands were, and what they are.
+pub record PerformsPart {J A S T : Type 0} (setup : J → T) (answers : T → ℕ → A → Type 0) (before after : List (Hand J A S)) (count : ℕ) : Type 0 where
+  -- for each hand the numbers that it performed, with the answers of its job
+  pub lists : List (List (ℕ × A))
+  pub many : length lists ≡ length before
+  pub right : (k : ℕ) (h : Hand J A S) (l : List (ℕ × A)) → k < length before
+      → All (λ p. answers (setup (hand_job (slice_index_or before k h))) p.0 p.1) (slice_index_or lists k l)
+  -- over all lists each number below the count stands at most once, and no other
+  pub once : (test : ℕ → Bool) → sum_by (λ l. count_by (λ p. test p.0) l) lists ≤ count_below test count
+  pub most : sum_by (λ l. length l) lists ≤ count
+  pub performed : sum_by hand_performed before + count < 2 ^ 64
+      → sum_by hand_performed after ≡ sum_by hand_performed before + sum_by (λ l. length l) lists

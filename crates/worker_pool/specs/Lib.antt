@@ -1,0 +1,4 @@
+pub mod Hands
+pub mod Tickets
+pub mod Desks
+pub mod Ring

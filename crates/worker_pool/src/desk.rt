@@ -1,0 +1,24 @@
+//! What a station works at: its own deque, and a seat at the next station's.
+ghost use Rattle.std.specs.Prelude.{◌≡◌, ◌<◌};
+ghost use Rattle.crossbeam_deque.specs.Handles.{view, IsPassOf, stealer_deque, worker_flavor, worker_view};
+
+use crate::rule::{Owner, SeatPass, Thief};
+use crate::ticket::Ticket;
+
+/// The thief's seat at a deque.
+#[derive(Drop)]
+pub struct Next {
+    pub from: Thief,
+    pub seat: SeatPass,
+    pub ghost table: { IsPassOf (stealer_deque from) seat },
+    pub ghost part: { (view seat).parts ≡ 1 },
+}
+
+#[derive(Drop)]
+pub struct Desk {
+    pub own: Owner,
+    pub next: Option<Next>,
+    pub kept: Option<Ticket>,
+    pub ghost fifo: { worker_flavor own ≡ 0 },
+    pub ghost part: { 0 < (worker_view own).parts },
+}

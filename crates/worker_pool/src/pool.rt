@@ -1,0 +1,160 @@
+//! Every ticket once, by any number of hands.
+ghost use Rattle.std.specs.Prelude.{◌≡◌, ℕ, ◌+◌, ◌<◌, ◌≤◌, ◌^◌, Bool, [], All, IfOk, IfErr, OnOk, MatchResult, count_by, vec_len, vec_capacity, slice_index_or};
+ghost use Rattle.std.specs.List.{sum_by};
+ghost use Rattle.worker_pool.specs.declared.desk.Desk.{Desk};
+ghost use Rattle.worker_pool.specs.Hands.{hand_job, hand_performed, setups_of, EachOnce, PerformsPart};
+ghost use Rattle.worker_pool.specs.Tickets.{count_below};
+ghost use Rattle.worker_pool.specs.Ring.{IsRing, Fresh, pushed_by};
+
+use crate::desk::Desk;
+use crate::finish::finish_all;
+use crate::hand::Hand;
+use crate::job::Job;
+use crate::ring::{absorb_all, settle_all};
+use crate::room::{Room, leave_all, seat_all};
+use crate::run::round;
+use crate::station::Station;
+use std::alloc::{AllocError, Global};
+use std::sync::Wait;
+use std::thread::Threads;
+use target_trait::Gate;
+
+/// All hands, in their order, and for each the numbers that it performed with their answers.
+#[derive(Drop)]
+pub struct Gathered<J: Job> {
+    pub hands: Vec<Hand<J>>,
+    pub answers: Vec<Vec<(u32, J::Answer)>>,
+}
+
+/// Want of memory. All hands come back, in their order; the answers that they gave are gone.
+#[derive(Drop)]
+pub struct PoolFault<J: Job> {
+    pub hands: Vec<Hand<J>>,
+}
+
+/// Has the tickets at the desks performed: by each station in a thread of its own, and what they leave by the caller's thread.
+fn work_all<J: Job, G: Gate, R: Threads + Wait + Sync>(
+    rt: &R,
+    gate: &G,
+    stations: &mut Vec<Station<J>>,
+    desks: Vec<Desk>,
+    spare: Vec<Desk>,
+) -> Result<(), AllocError>
+    requires some { 0 < vec_len stations.old }
+    requires len { vec_len desks ≡ vec_len stations.old }
+    requires rest { (k : ℕ) (h : _) → k < vec_len stations.old → (slice_index_or stations.old.items k h).answers.items ≡ [] }
+    requires spare { (spare.items ≡ []) × (vec_len stations.old ≤ vec_capacity spare) }
+    requires fresh { (k : ℕ) (h : _) (d : Desk) → k < vec_len stations.old → Fresh (J.limit (J.setup (slice_index_or stations.old.items k h).hand.job)) (slice_index_or desks.items k d) }
+    requires ring { IsRing desks.items }
+    ensures len { vec_len stations.new ≡ vec_len stations.old }
+    ensures setup { (k : ℕ) (h : _) → k < vec_len stations.old → J.setup (slice_index_or stations.new.items k h).hand.job ≡ J.setup (slice_index_or stations.old.items k h).hand.job }
+    ensures right { (k : ℕ) (h : _) → k < vec_len stations.old → All (λ p. J.answers (J.setup (slice_index_or stations.old.items k h).hand.job) p.0 p.1) (slice_index_or stations.new.items k h).answers.items }
+    ensures counted { (k : ℕ) (h : _) → k < vec_len stations.old → (slice_index_or stations.old.items k h).hand.performed + vec_len (slice_index_or stations.new.items k h).answers < 2 ^ 64 → (slice_index_or stations.new.items k h).hand.performed ≡ (slice_index_or stations.old.items k h).hand.performed + vec_len (slice_index_or stations.new.items k h).answers }
+    ensures once { OnOk result ((test : ℕ → Bool) → sum_by (λ h. count_by (λ p. test p.0) h.answers.items) stations.new.items ≡ sum_by (pushed_by test) desks.items) }
+    ensures most { (test : ℕ → Bool) → sum_by (λ h. count_by (λ p. test p.0) h.answers.items) stations.new.items ≤ sum_by (pushed_by test) desks.items }
+{
+    let mut back = round(rt, gate, stations, desks, spare);
+    absorb_all(&mut back);
+    let finished = finish_all(rt, stations, &mut back);
+    settle_all(back);
+    finished
+}
+
+/// A run, once it has its room.
+fn run_in<J: Job, G: Gate, R: Threads + Wait + Sync>(
+    rt: &R,
+    alloc: Global,
+    gate: &G,
+    hands: Vec<Hand<J>>,
+    room: Room<J>,
+    count: u32,
+) -> Result<Gathered<J>, PoolFault<J>>
+    requires some { 0 < vec_len hands }
+    requires limit { All (λ h. count ≤ J.limit (J.setup (hand_job h))) hands.items }
+    requires len { vec_len room.desks ≡ vec_len hands }
+    requires ring { IsRing room.desks.items }
+    requires fresh { All (Fresh count) room.desks.items }
+    requires pushed { (test : ℕ → Bool) → sum_by (pushed_by test) room.desks.items ≡ count_below test count }
+    requires spare { (room.spare.items ≡ []) × (vec_len hands ≤ vec_capacity room.spare) }
+    requires stations { (room.stations.items ≡ []) × (vec_len hands ≤ vec_capacity room.stations) }
+    requires hands { (room.hands.items ≡ []) × (vec_len hands ≤ vec_capacity room.hands) }
+    requires answers { (room.answers.items ≡ []) × (vec_len hands ≤ vec_capacity room.answers) }
+    ensures hands { MatchResult result (λ g. vec_len g.hands ≡ vec_len hands) (λ e. vec_len e.hands ≡ vec_len hands) }
+    ensures setups { MatchResult result (λ g. setups_of J.setup g.hands.items ≡ setups_of J.setup hands.items) (λ e. setups_of J.setup e.hands.items ≡ setups_of J.setup hands.items) }
+    ensures many { IfOk result (λ g. vec_len g.answers ≡ vec_len hands) }
+    ensures right { IfOk result (λ g. (k : ℕ) (h : _) (l : _) → k < vec_len hands → All (λ p. J.answers (J.setup (hand_job (slice_index_or hands.items k h))) p.0 p.1) (slice_index_or g.answers.items k l).items) }
+    ensures once { IfOk result (λ g. EachOnce g.answers.items count) }
+    ensures counted { IfOk result (λ g. (k : ℕ) (h : _) (l : _) → k < vec_len hands → hand_performed (slice_index_or hands.items k h) + vec_len (slice_index_or g.answers.items k l) < 2 ^ 64 → hand_performed (slice_index_or g.hands.items k h) ≡ hand_performed (slice_index_or hands.items k h) + vec_len (slice_index_or g.answers.items k l)) }
+    ensures performed { IfOk result (λ g. sum_by hand_performed hands.items + count < 2 ^ 64 → sum_by hand_performed g.hands.items ≡ sum_by hand_performed hands.items + count) }
+    ensures refused { IfErr result (λ e. PerformsPart J.setup J.answers hands.items e.hands.items count) }
+{
+    let Room {
+        desks,
+        spare,
+        stations,
+        hands: back,
+        answers,
+    } = room;
+    let mut stations = seat_all(alloc, hands, stations);
+    let finished = work_all(rt, gate, &mut stations, desks, spare);
+    let (hands, answers) = leave_all(stations, back, answers);
+    match finished {
+        Ok(()) => Ok(Gathered { hands, answers }),
+        Err(_) => Err(PoolFault { hands }),
+    }
+}
+
+/// Performs each number below `count` once, and gives the answers.
+///
+/// Ticket i is dealt to hand `i mod n`, for n hands. Each hand works in a thread of its own: it takes from the front of its
+/// own deque, and then steals from the front of the next hand's, as the only thief there. It makes room for the answer,
+/// calls `arrive` with `Phase::Plans` and i, and performs ticket i. A thread that can't be started is done without. A hand
+/// that finds no memory keeps its ticket and leaves. After the joins the caller's thread performs what is left, without
+/// `arrive`.
+///
+/// # Errors
+///
+/// Want of memory alone: before the first ticket, or where the caller's thread finds none for a ticket that was left. All
+/// hands come back, and have counted what they performed; the answers are gone.
+pub fn run_all<J: Job, G: Gate, R: Threads + Wait + Sync>(
+    rt: &R,
+    alloc: Global,
+    gate: &G,
+    hands: Vec<Hand<J>>,
+    count: u32,
+) -> Result<Gathered<J>, PoolFault<J>>
+    requires some { 0 < vec_len hands }
+    requires limit { All (λ h. count ≤ J.limit (J.setup (hand_job h))) hands.items }
+
+    // Each hand comes back with its setup.
+    ensures hands { MatchResult result
+        (λ g. vec_len g.hands ≡ vec_len hands)
+        (λ e. vec_len e.hands ≡ vec_len hands) }
+    ensures setups { MatchResult result
+        (λ g. setups_of J.setup g.hands.items ≡ setups_of J.setup hands.items)
+        (λ e. setups_of J.setup e.hands.items ≡ setups_of J.setup hands.items) }
+
+    // One list for each hand, of numbers with the answers that its setup gives. Over all lists each number below the
+    // count stands once.
+    ensures many { IfOk result (λ g. vec_len g.answers ≡ vec_len hands) }
+    ensures right { IfOk result (λ g. (k : ℕ) (h : _) (l : _) → k < vec_len hands
+        → All (λ p. J.answers (J.setup (hand_job (slice_index_or hands.items k h))) p.0 p.1)
+              (slice_index_or g.answers.items k l).items) }
+    ensures once { IfOk result (λ g. EachOnce g.answers.items count) }
+
+    // What the hands count, where the counter does not saturate.
+    ensures counted { IfOk result (λ g. (k : ℕ) (h : _) (l : _) → k < vec_len hands
+        → hand_performed (slice_index_or hands.items k h) + vec_len (slice_index_or g.answers.items k l) < 2 ^ 64
+        → hand_performed (slice_index_or g.hands.items k h)
+            ≡ hand_performed (slice_index_or hands.items k h) + vec_len (slice_index_or g.answers.items k l)) }
+    ensures performed { IfOk result (λ g. sum_by hand_performed hands.items + count < 2 ^ 64
+        → sum_by hand_performed g.hands.items ≡ sum_by hand_performed hands.items + count) }
+
+    // A refused run has performed a part of the tickets, each at most once, and counted just these.
+    ensures refused { IfErr result (λ e. PerformsPart J.setup J.answers hands.items e.hands.items count) }
+{
+    match Room::new(alloc, hands.len(), count) {
+        Ok(room) => run_in(rt, alloc, gate, hands, room, count),
+        Err(_) => Err(PoolFault { hands }),
+    }
+}

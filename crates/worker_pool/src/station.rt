@@ -1,0 +1,50 @@
+//! A hand at work.
+ghost use Rattle.std.specs.Prelude.{◌≡◌, ℕ, ◌+◌, ◌<◌, ◌^◌, Bool, [], ◌∷◌, ◌++◌, None, IfErr, OnOk, vec_len, vec_capacity};
+ghost use Rattle.worker_pool.specs.Hands.{hand_job, hand_performed};
+
+use crate::desk::Desk;
+use crate::hand::Hand;
+use crate::job::Job;
+use crate::ticket::Ticket;
+use std::alloc::Global;
+
+/// A hand, the desk that it works at, and the answers that it gave in this run.
+#[derive(Drop)]
+pub struct Station<J: Job> {
+    pub hand: Hand<J>,
+    pub answers: Vec<(u32, J::Answer)>,
+    pub desk: Option<Desk>,
+}
+
+impl<J: Job> Station<J> {
+    pub fn new(alloc: Global, hand: Hand<J>) -> Station<J>
+        ensures hand { result.hand ≡ hand }
+        ensures rest { (result.answers.items ≡ []) × (result.desk ≡ None) }
+    {
+        Station {
+            hand,
+            answers: Vec::new(alloc),
+            desk: None,
+        }
+    }
+
+    /// Performs a ticket and keeps its answer. Where the job refuses, the ticket comes back, and nothing changed but the job, whose setup stays.
+    pub fn perform(&mut self, ticket: Ticket) -> Result<(), Ticket>
+        requires limit { ticket < J.limit (J.setup (hand_job self.old.hand)) }
+        requires room { vec_len self.old.answers < vec_capacity self.old.answers }
+        ensures setup { J.setup (hand_job self.new.hand) ≡ J.setup (hand_job self.old.hand) }
+        ensures desk { self.new.desk ≡ self.old.desk }
+        ensures done { OnOk result ((answer : J.Answer) × J.answers (J.setup (hand_job self.old.hand)) ticket answer × (self.new.answers.items ≡ self.old.answers.items ++ (ticket, answer) ∷ [])) }
+        ensures counted { OnOk result (hand_performed self.old.hand + 1 < 2 ^ 64 → hand_performed self.new.hand ≡ hand_performed self.old.hand + 1) }
+        ensures refused { IfErr result (λ back. (back ≡ ticket) × (self.new.answers.items ≡ self.old.answers.items) × (hand_performed self.new.hand ≡ hand_performed self.old.hand)) }
+    {
+        let number = ticket.number();
+        match self.hand.perform(ticket) {
+            Ok(answer) => {
+                self.answers.push_reserved((number, answer));
+                Ok(())
+            }
+            Err(ticket) => Err(ticket),
+        }
+    }
+}

@@ -1,0 +1,124 @@
+//! The steps at a desk.
+ghost use Rattle.std.specs.Prelude.{◌≡◌, ℕ, ◌+◌, ◌<◌, ◌≤◌, Bool, List, [], ◌∷◌, ◌++◌, count_by, All, IfOk, IfSome, IfNone, MatchOption};
+ghost use Rattle.crossbeam_deque.specs.Handles.{view, IsPassOf, stealer_deque, worker_deque, worker_view, worker_index, worker_capacity};
+ghost use Rattle.worker_pool.specs.Desks.{took, taken_next, Below, SameDesk};
+ghost use Rattle.worker_pool.specs.Ring.{TakenIn};
+ghost use Rattle.worker_pool.specs.Tickets.{seat as seat_of};
+
+use crate::desk::{Desk, Next};
+use crate::rule::{Owner, Puts, SeatPass, Shared, Takes, Thief, Total};
+use crate::ticket::Ticket;
+use crossbeam_deque::Steal;
+use std::alloc::{AllocError, Global};
+use std::sync::Wait;
+use std::thread;
+
+impl Desk {
+    /// A desk with an empty deque, which has room for so many tickets.
+    pub fn new(alloc: Global, room: usize) -> Result<Desk, AllocError>
+        ensures view { IfOk result (λ d. worker_view d.own ≡ seat_of 2 [] []) }
+        ensures next { IfOk result (λ d. d.next ≡ None) }
+        ensures kept { IfOk result (λ d. d.kept ≡ None) }
+        ensures room { IfOk result (λ d. (room ≤ worker_capacity d.own) × (worker_index d.own ≡ 0)) }
+    {
+        let own = Owner::fifo_as(alloc, room)?;
+        Ok(Desk {
+            own,
+            next: None,
+            kept: None,
+        })
+    }
+
+    /// Puts a ticket at the back, in room that was reserved.
+    pub fn deal(&mut self, ticket: Ticket)
+        requires alone { 2 ≤ (worker_view self.old.own).parts }
+        requires room { worker_index self.old.own < worker_capacity self.old.own }
+        ensures same { (self.new.next ≡ self.old.next) × (self.new.kept ≡ self.old.kept) × (worker_deque self.new.own ≡ worker_deque self.old.own) }
+        ensures view { worker_view self.new.own ≡ seat_of (worker_view self.old.own).parts ((worker_view self.old.own).pushed ++ ticket ∷ []) (worker_view self.old.own).taken }
+        ensures room { (worker_index self.new.own ≡ worker_index self.old.own + 1) × (worker_capacity self.old.own ≤ worker_capacity self.new.own) }
+    {
+        let Ok(()) = self.own.push_as::<Puts>(ticket) else {
+            unreachable!()
+        };
+    }
+
+    /// Makes the thief's seat at this desk's deque.
+    pub fn share(&mut self) -> Result<Next, AllocError>
+        requires { 2 ≤ (worker_view self.old.own).parts }
+        ensures same { (self.new.next ≡ self.old.next) × (self.new.kept ≡ self.old.kept) × (worker_deque self.new.own ≡ worker_deque self.old.own) }
+        ensures own { IfOk result (λ n. worker_view self.new.own ≡ seat_of 1 (worker_view self.old.own).pushed (worker_view self.old.own).taken) }
+        ensures next { IfOk result (λ n. (view n.seat ≡ seat_of 1 (worker_view self.old.own).pushed []) × (stealer_deque n.from ≡ worker_deque self.old.own)) }
+    {
+        let from = self.own.stealer()?;
+        let seat = self.own.another::<Shared>();
+        Ok(Next { from, seat })
+    }
+
+    /// Takes the thief's seat in.
+    pub fn take_in(&mut self, next: Next)
+        requires { stealer_deque next.from ≡ worker_deque self.old.own }
+        ensures same { (self.new.next ≡ self.old.next) × (self.new.kept ≡ self.old.kept) × (worker_deque self.new.own ≡ worker_deque self.old.own) }
+        ensures view { worker_view self.new.own ≡ seat_of ((worker_view self.old.own).parts + 1) (worker_view self.old.own).pushed ((worker_view self.old.own).taken ++ (view next.seat).taken) }
+    {
+        let Next { from, seat } = next;
+        self.own.absorb::<Shared>(seat);
+        drop(from);
+    }
+
+    /// Learns that no more was taken than was pushed.
+    pub fn settle(&mut self)
+        requires { TakenIn self.old }
+        ensures { (test : ℕ → Bool) → took test self.old ≤ count_by test (worker_view self.old.own).pushed }
+    {
+        let _held = self.own.len_as::<Total>();
+    }
+
+    /// Takes the front of the desk's own deque.
+    pub fn pop(&mut self) -> Option<Ticket>
+        ensures same { SameDesk self.old self.new × (self.new.next ≡ self.old.next) × (self.new.kept ≡ self.old.kept) }
+        ensures some { IfSome result (λ x. worker_view self.new.own ≡ seat_of (worker_view self.old.own).parts (worker_view self.old.own).pushed ((worker_view self.old.own).taken ++ x ∷ [])) }
+        ensures among { IfSome result (λ x. (test : ℕ → Bool) → count_by test (worker_view self.old.own).pushed ≡ 0 → count_by test (x ∷ []) ≡ 0) }
+        ensures none { IfNone result ((worker_view self.new.own ≡ worker_view self.old.own) × (2 ≤ (worker_view self.old.own).parts → (test : ℕ → Bool) → count_by test (worker_view self.old.own).pushed ≡ count_by test (worker_view self.old.own).taken)) }
+    {
+        self.own.pop_as::<Takes>()
+    }
+
+    /// Takes a ticket from the desk's own deque, or else from the next one.
+    pub fn find<R: Wait>(&mut self, rt: &R) -> Option<Ticket>
+        ensures same { SameDesk self.old self.new × (self.new.kept ≡ self.old.kept) }
+        ensures some { IfSome result (λ x. (test : ℕ → Bool) → took test self.new ≡ took test self.old + count_by test (x ∷ [])) }
+        ensures none { IfNone result ((test : ℕ → Bool) → took test self.new ≡ took test self.old) }
+        ensures below { (count : ℕ) → Below count self.old → IfSome result (λ x. x < count) }
+    {
+        let own = self.pop();
+        if own.is_some() {
+            return own;
+        }
+        let Some(next) = self.next.take() else {
+            return None;
+        };
+        let Next { from, mut seat } = next;
+        let found = steal(rt, &from, &mut seat);
+        self.next = Some(Next { from, seat });
+        found
+    }
+}
+
+/// Takes the front of the deque, and tries again where another was first.
+fn steal<R: Wait>(rt: &R, from: &Thief, seat: &mut SeatPass) -> Option<Ticket>
+    requires table { IsPassOf (stealer_deque from.now) seat.old }
+    requires part { (view seat.old).parts ≡ 1 }
+    ensures table { IsPassOf (stealer_deque from.now) seat.new }
+    ensures some { IfSome result (λ x. view seat.new ≡ seat_of 1 (view seat.old).pushed ((view seat.old).taken ++ x ∷ [])) }
+    ensures among { IfSome result (λ x. (test : ℕ → Bool) → count_by test (view seat.old).pushed ≡ 0 → count_by test (x ∷ []) ≡ 0) }
+    ensures none { IfNone result (view seat.new ≡ view seat.old) }
+{
+    for _ in rt.forever() {
+        match from.steal_as::<Takes>(seat) {
+            Steal::Success(x) => return Some(x),
+            Steal::Empty => return None,
+            Steal::Retry => thread::yield_now(),
+        }
+    }
+    unreachable!()
+}
