@@ -1,13 +1,73 @@
--- The words and lines of a report.
-use Rattle.std.specs.Prelude.{ℕ, List, [], ◌∷◌, ◌++◌, codes, flat_map}
+-- The words and lines of a report. A target gives the names of its points and codes.
+use Rattle.std.specs.Prelude.{ℕ, ◌+◌, List, [], ◌∷◌, ◌++◌, Option, Some, None, length, codes, flat_map}
+use Rattle.std.specs.Fmt.{decimal}
+use Rattle.scenario_values.specs.Scenario.{Entries}
+use Rattle.scenario_values.specs.Printed.{printed}
 use Rattle.target_trait.specs.declared.judgement.Verdict.{Verdict}
 use Rattle.target_trait.specs.declared.judgement.Verdict.TheVariants as verdict
+use Rattle.report.specs.Reports.{FindingFacts, ReportFacts}
 
 -- `pass`, `unresolved`, or `fail` and the name of the code
 abbrev pub verdict_text : (ℕ → List ℕ) → Verdict → List ℕ
 verdict_text code_name verdict.Pass = codes "pass"
 verdict_text code_name (verdict.Fail code) = codes "fail " ++ code_name code
 verdict_text code_name verdict.Unresolved = codes "unresolved"
+
+-- the printed form of a scenario, or `none` for one without entries, whose printed form is empty
+abbrev pub scenario_text : Entries → List ℕ
+scenario_text [] = codes "none"
+scenario_text (entry ∷ entries) = printed (entry ∷ entries)
+
+-- the target's label, the seed, and the verdict without faults
+abbrev pub head_lines : (ℕ → List ℕ) → ReportFacts → List (List ℕ)
+head_lines code_name report =
+    (codes "target " ++ report.label) ∷ (codes "seed " ++ decimal report.seed) ∷ (codes "clean " ++ verdict_text code_name report.clean) ∷ []
+
+-- a point with how often it is asked
+abbrev pub census_line : List ℕ → ℕ → List ℕ
+census_line point count = codes "census " ++ point ++ codes " " ++ decimal count
+
+-- a line for each point, in the order of the catalogue
+abbrev pub census_lines : List (List ℕ) → List ℕ → List (List ℕ)
+census_lines [] counts = []
+census_lines (point ∷ points) [] = []
+census_lines (point ∷ points) (count ∷ counts) = census_line point count ∷ census_lines points counts
+
+-- how many plans there are
+abbrev pub count_line : List Verdict → List ℕ
+count_line verdicts = codes "plans " ++ decimal (length verdicts)
+
+-- a plan's number and verdict
+abbrev pub verdict_line : (ℕ → List ℕ) → ℕ → Verdict → List ℕ
+verdict_line code_name number verdict = codes "verdict " ++ decimal number ++ codes " " ++ verdict_text code_name verdict
+
+-- a line for each plan, of plans numbered from n on
+abbrev pub verdict_lines : (ℕ → List ℕ) → ℕ → List Verdict → List (List ℕ)
+verdict_lines code_name n [] = []
+verdict_lines code_name n (v ∷ vs) = verdict_line code_name n v ∷ verdict_lines code_name (n + 1) vs
+
+-- the plan's number and the name of its code, its scenario, what that was reduced to, and the tests
+abbrev pub finding_lines : (ℕ → List ℕ) → FindingFacts → List (List ℕ)
+finding_lines code_name finding =
+    (codes "first " ++ decimal finding.number ++ codes " " ++ code_name finding.code)
+    ∷ (codes "scenario " ++ scenario_text finding.scenario)
+    ∷ (codes "reduced " ++ scenario_text finding.reduced)
+    ∷ (codes "tests " ++ decimal finding.tests)
+    ∷ []
+
+-- `first none` and nothing more, or the lines of the first failure
+abbrev pub first_lines : (ℕ → List ℕ) → Option FindingFacts → List (List ℕ)
+first_lines code_name None = codes "first none" ∷ []
+first_lines code_name (Some finding) = finding_lines code_name finding
+
+-- all lines, by the names of the points and codes
+abbrev pub report_lines : List (List ℕ) → (ℕ → List ℕ) → ReportFacts → List (List ℕ)
+report_lines names code_name report =
+    head_lines code_name report
+    ++ census_lines names report.census
+    ++ count_line report.verdicts ∷ []
+    ++ verdict_lines code_name 0 report.verdicts
+    ++ first_lines code_name report.first
 
 -- a line with its line feed
 abbrev pub ended : List ℕ → List ℕ

@@ -1,8 +1,15 @@
-//! The text of a report, and writing it.
+//! Reports: what they tell, their text, and writing it.
 #![tactic(auto)]
 
+mod facts;
+mod lines;
 mod verdicts;
 mod writing;
 
+pub use facts::{Finding, Report};
+pub use lines::{text, write_scenario};
 pub use verdicts::write_verdict;
 pub use writing::{WriteFault, write_report};
+
+#[cfg(test)]
+mod tests;

@@ -1,0 +1,8 @@
+pub mod Lists
+pub mod Rigged
+pub mod Counting
+pub mod StormLemmas
+pub mod Limits
+pub mod Meeting
+pub mod CleanRuns
+pub mod Turns

@@ -1,0 +1,15 @@
+use Rattle.std.proofs.Common.{◌≡◌, ◌++◌, ◌≤◌, ◌<◌, ◌^◌, drop, length}
+use Rattle.std.specs.List.{AllByRecursion}
+use Rattle.rand_chacha.specs.ChaCha.{word_at}
+use Rattle.plan_gen.specs.PlanList.{storm_from}
+use Rattle.plan_gen.proofs.storms.storm.Given as goal
+
+abbrev pub invariant-loop-site : goal.invariant-loop-site
+invariant-loop-site l = record {
+  key : l.rng.key ≡ l.initial.rng.key;
+  stream : l.rng.stream ≡ l.initial.rng.stream;
+  place : l.rng.word_pos ≡ l.site-index;
+  small : AllByRecursion (λ r. r.site.hit < 2 ^ 32) l.rigs.items;
+  few : length l.rigs.items ≤ 64;
+  built : l.rigs.items ++ storm_from (word_at 4 l.initial.rng.key l.initial.rng.stream) l.rate l.site-index (length l.rigs.items) (drop l.site-index l.sites) ≡ storm_from (word_at 4 l.initial.rng.key l.initial.rng.stream) l.rate 0 0 l.sites;
+}

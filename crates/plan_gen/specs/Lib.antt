@@ -1,0 +1,6 @@
+pub mod Census
+pub mod Rigging
+pub mod PlanList
+pub mod Counts
+pub mod LoopRuns
+pub mod CountedRuns

@@ -1,0 +1,26 @@
+-- What the runs of the census by a loop show; private contracts cite it.
+use Rattle.std.specs.Prelude.{◌≡◌, ℕ, ◌<◌, ◌==◌, nat_le, if◌then◌else◌, Bool, List, [], ◌∷◌, count_by, length}
+use Rattle.scenario_values.specs.Scenario.{Entries}
+use Rattle.action_eval.specs.Answers.{Reply, given_of}
+use Rattle.target_trait.specs.Play.{Move}
+use Rattle.target_trait.specs.Outcomes.{outcome}
+use Rattle.plan_gen.specs.declared.site.Kind.{Kind}
+use Rattle.plan_gen.specs.declared.site.Kind.TheVariants.{OnceReturn, OnwardReturn}
+use Rattle.plan_gen.specs.Rigging.{rig, rigging}
+
+-- how often a point is among those asked
+abbrev pub times : ℕ → List ℕ → ℕ
+times p asked = count_by (λ q. q == p) asked
+
+-- how often a play of a scenario asks a point
+unfoldable pub times_of : (List Reply → Move) → List (List ℕ) → ℕ → ℕ → Entries → ℕ → ℕ
+times_of asks names seed limit s p = times p (outcome asks (given_of s names seed 0 limit)).asked
+
+abbrev pub loop_kind : Bool → Kind
+loop_kind onward = if onward then OnwardReturn else OnceReturn
+
+-- a rigged hit is met just where the clean run has it
+abbrev pub IsMetAlike : (List Reply → Move) → List (List ℕ) → ℕ → ℕ → Kind → Type 0
+IsMetAlike asks names seed limit kind =
+    (p k : ℕ) → p < length names → 0 < k →
+    nat_le k (times_of asks names seed limit (rigging names (rig (record { point = p; hit = k }) kind ∷ [])) p) ≡ nat_le k (times_of asks names seed limit [] p)

@@ -1,0 +1,83 @@
+-- The list of plans: the empty plan; each site alone; each two sites; storms; listed scenarios. The parts, their order and the limits are
+-- this project's own.
+use Rattle.std.specs.Prelude.{ℕ, ◌+◌, ◌/◌, ◌%◌, ◌==◌, ◌&&◌, nat_lt, if◌then◌else◌, Bool, List, [], ◌∷◌, ◌++◌, map, flat_map, length}
+use Rattle.std.specs.List.{range_with_len}
+use Rattle.scenario_values.specs.Scenario.{Entries}
+use Rattle.action_eval.specs.Words.{word}
+use Rattle.plan_gen.specs.declared.site.Site.{Site}
+use Rattle.plan_gen.specs.declared.site.Rig.{Rig}
+use Rattle.plan_gen.specs.declared.site.Kind.{Kind}
+use Rattle.plan_gen.specs.declared.site.Kind.TheVariants.{OnceReturn, OnwardReturn, OncePanic}
+use Rattle.plan_gen.specs.Census.{sites_of}
+use Rattle.plan_gen.specs.Rigging.{rig, rigging}
+
+-- a list has at most so many plans
+abbrev pub most_plans : ℕ
+most_plans = 65536
+
+-- a storm takes at most so many sites
+abbrev pub most_sites : ℕ
+most_sites = 64
+
+-- the stream number of the first storm's words; plans run under those from 0 on
+abbrev pub first_stream : ℕ
+first_stream = 4294967296
+
+-- each site alone, in each of these ways
+abbrev pub alone : List Kind
+alone = OnceReturn ∷ OnwardReturn ∷ OncePanic ∷ []
+
+abbrev pub site_plans : List (List ℕ) → Site → List Entries
+site_plans names s = map (λ kind. rigging names (rig s kind ∷ [])) alone
+
+-- two sites, the first failing once, the second in each of these ways
+abbrev pub second : List Kind
+second = OnceReturn ∷ []
+
+abbrev pub pair_plans : List (List ℕ) → Site × Site → List Entries
+pair_plans names p = map (λ kind. rigging names (rig p.0 OnceReturn ∷ rig p.1 kind ∷ [])) second
+
+-- each two, in order of the first and then of the second
+abbrev pub pairs_of : List Site → List (Site × Site)
+pairs_of [] = []
+pairs_of (a ∷ rest) = map (λ b. (a, b)) rest ++ pairs_of rest
+
+-- what a site's word does there, if it takes the site
+abbrev pub storm_kind : ℕ → Kind
+storm_kind w = if w / 1000 % 8 == 0 then OncePanic else OnceReturn
+
+-- a site is taken where its word modulo 1000 is below the rate, and fewer than the most are taken so far
+abbrev pub drawn : ℕ → ℕ → ℕ → Site → List Rig
+drawn rate w taken s = if nat_lt (w % 1000) rate && nat_lt taken most_sites then rig s (storm_kind w) ∷ [] else []
+
+-- the rigged hits of a storm, by the words from number i on, one a site, after `taken` sites were taken
+abbrev pub storm_from : (ℕ → ℕ) → ℕ → ℕ → ℕ → List Site → List Rig
+storm_from word rate i taken [] = []
+storm_from word rate i taken (s ∷ ss) = drawn rate (word i) taken s ++ storm_from word rate (i + 1) (taken + length (drawn rate (word i) taken s)) ss
+
+-- storm number j
+unfoldable pub storm : ℕ → ℕ → List Site → ℕ → List Rig
+storm seed rate sites j = storm_from (word seed (first_stream + j)) rate 0 0 sites
+
+-- what is asked of the list of plans
+pub record Asked : Type 0 where
+  pub pairs : Bool
+  pub storms : ℕ
+  pub rate : ℕ
+  pub listed : List Entries
+  pub seed : ℕ
+
+abbrev pub pair_part : List (List ℕ) → Bool → List Site → List Entries
+pair_part names wanted sites = if wanted then flat_map (pair_plans names) (pairs_of sites) else []
+
+abbrev pub storm_part : List (List ℕ) → ℕ → ℕ → ℕ → List Site → List Entries
+storm_part names seed rate storms sites = map (λ j. rigging names (storm seed rate sites j)) (range_with_len 0 storms)
+
+-- the list of plans, by the sites
+abbrev pub plans_over : List (List ℕ) → Asked → List Site → List Entries
+plans_over names asked sites =
+    ([] ∷ []) ++ flat_map (site_plans names) sites ++ pair_part names asked.pairs sites ++ storm_part names asked.seed asked.rate asked.storms sites ++ asked.listed
+
+-- the list of plans, by the counts of a census
+unfoldable pub plan_list : List (List ℕ) → List ℕ → Asked → List Entries
+plan_list names counts asked = plans_over names asked (sites_of counts)

@@ -1,0 +1,57 @@
+-- The scenario in which faults are rigged for hits of points: entries in catalogue order, and one chain for all rigged hits of a point.
+use Rattle.std.specs.Prelude.{ℕ, ◌+◌, ◌-◌, ◌==◌, if◌then◌else◌, List, [], ◌∷◌, ◌++◌, Option, Some, None}
+use Rattle.scenario_values.specs.declared.term.Term.{Term}
+use Rattle.scenario_values.specs.declared.term.Task.{Task}
+use Rattle.scenario_values.specs.declared.term.Task.TheVariants as task
+use Rattle.scenario_values.specs.Scenario.{Entries}
+use Rattle.plan_gen.specs.declared.site.Site.{Site}
+use Rattle.plan_gen.specs.declared.site.Rig.{Rig}
+use Rattle.plan_gen.specs.declared.site.Kind.{Kind}
+use Rattle.plan_gen.specs.declared.site.Kind.TheVariants.{OnceReturn, OnwardReturn, OncePanic}
+
+-- a term of full share, a million millionths: it acts wherever it is reached
+abbrev pub full : Option ℕ → Task → Term
+full count what = record { share = 1000000; count = count; task = what }
+
+-- so many hits in which nothing is done; no term for none
+abbrev pub offs : ℕ → List Term
+offs n = if n == 0 then [] else (full (Some n) task.Off ∷ [])
+
+-- what is done at a rigged hit: `1*return`, `return` (from then on) or `1*panic`
+abbrev pub term_of : Kind → Term
+term_of OnceReturn = full (Some 1) (task.Return None)
+term_of OnwardReturn = full None (task.Return None)
+term_of OncePanic = full (Some 1) (task.Panic None)
+
+-- the terms of a rigged hit, after `done` hits of its point
+abbrev pub rigged : ℕ → Rig → List Term
+rigged done r = offs (r.site.hit - done - 1) ++ term_of r.kind ∷ []
+
+-- what a rigged hit adds to the chain of point p, and the hits of p after it
+abbrev pub terms_at : ℕ → ℕ → Rig → List Term
+terms_at p done r = if r.site.point == p then rigged done r else []
+
+abbrev pub done_after : ℕ → ℕ → Rig → ℕ
+done_after p done r = if r.site.point == p then r.site.hit else done
+
+-- the chain of point p for rigged hits that ascend, after `done` hits of it
+abbrev pub chain_from : ℕ → ℕ → List Rig → List Term
+chain_from p done [] = []
+chain_from p done (r ∷ rs) = terms_at p done r ++ chain_from p (done_after p done r) rs
+
+-- the entry of a point, where it has a rigged hit
+abbrev pub entry : List ℕ → List Term → Entries
+entry name [] = []
+entry name (t ∷ ts) = (name, t ∷ ts) ∷ []
+
+-- the entries of points from number p on, in catalogue order
+abbrev pub entries_from : ℕ → List (List ℕ) → List Rig → Entries
+entries_from p [] rigs = []
+entries_from p (name ∷ names) rigs = entry name (chain_from p 0 rigs) ++ entries_from (p + 1) names rigs
+
+-- the scenario of rigged hits, over a catalogue of names
+unfoldable pub rigging : List (List ℕ) → List Rig → Entries
+rigging names rigs = entries_from 0 names rigs
+
+abbrev pub rig : Site → Kind → Rig
+rig s kind = record { site = s; kind = kind }

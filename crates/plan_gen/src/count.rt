@@ -1,0 +1,38 @@
+//! How many plans there are.
+ghost use Rattle.std.specs.Prelude.{◌≡◌, ◌<◌, ◌≤◌, ◌+◌, ◌*◌, IfSome, IfNone, if◌then◌else◌};
+ghost use Rattle.plan_gen.specs.Counts.{pairs_count};
+ghost use Rattle.plan_gen.specs.PlanList.{most_plans};
+
+/// A list has at most so many plans.
+const MOST_PLANS: u64 = 65536;
+
+/// How many pairs so many sites make.
+fn pair_count(sites: u64) -> u64
+    requires { sites ≤ most_plans }
+    ensures pairs { result ≡ pairs_count sites }
+    ensures small { result ≤ most_plans * sites }
+{
+    if sites == 0 {
+        return 0;
+    }
+    sites * (sites - 1) / 2
+}
+
+/// How many plans there are, where they aren't too many. Nothing wraps: past the limit no more is counted.
+pub fn plan_count(sites: u64, pairs: bool, storms: u32, listed: usize) -> Option<u64>
+    ensures few { IfSome result (λ count. count ≡ 1 + 3 * sites + (if pairs then 1 * pairs_count sites else 0) + storms + listed) }
+    ensures small { IfSome result (λ count. count ≤ most_plans) }
+    ensures many { IfNone result (most_plans < 1 + 3 * sites + (if pairs then 1 * pairs_count sites else 0) + storms + listed) }
+{
+    if sites > MOST_PLANS {
+        return None;
+    }
+    let mut made = 1 + 3 * sites + u64::from(storms);
+    if pairs {
+        made += pair_count(sites);
+    }
+    if made > MOST_PLANS || listed as u64 > MOST_PLANS - made {
+        return None;
+    }
+    Some(made + listed as u64)
+}

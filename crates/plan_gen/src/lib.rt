@@ -1,0 +1,22 @@
+//! Censuses of a target's points, and the list of plans of faults that they give.
+#![tactic(auto)]
+
+mod census;
+mod copies;
+mod count;
+mod list;
+mod looped;
+mod parts;
+mod plan;
+mod rigging;
+mod site;
+mod sites;
+mod storms;
+
+pub use census::{Census, by_census};
+pub use list::{PlanFault, plans};
+pub use looped::by_loop;
+pub use plan::{Plan, PlanSettings};
+
+#[cfg(test)]
+mod tests;

@@ -1,0 +1,129 @@
+//! Scenarios of rigged hits.
+ghost use Rattle.std.specs.Prelude.{◌≡◌, ◌++◌, ◌≤◌, ◌<◌, ◌^◌, [], length, IfOk, OnOk};
+ghost use Rattle.std.specs.List.{AllByRecursion};
+ghost use Rattle.std.specs.Str.{bytes_eq};
+ghost use Rattle.indexmap.specs.IndexMap.{insert_all};
+ghost use Rattle.action_eval.specs.Answers.{texts};
+ghost use Rattle.target_trait.specs.Catalogue.{IsCatalogue};
+ghost use Rattle.scenario_values.specs.Scenario.{entries_of};
+ghost use Rattle.plan_gen.specs.PlanList.{most_sites};
+ghost use Rattle.plan_gen.specs.Rigging.{term_of, rigged, terms_at, done_after, chain_from, entry, rigging};
+
+use crate::site::{Kind, Rig};
+use indexmap::IndexMap;
+use scenario_values::{Chain, Scenario, Task, Term, Text};
+use std::alloc::{AllocError, Global};
+
+/// A million millionths: the term acts wherever it is reached.
+const FULL_SHARE: u32 = 1_000_000;
+
+/// The term of a rigged hit.
+fn term_of(kind: Kind) -> Term
+    ensures { result ≡ term_of kind }
+{
+    let count = match kind {
+        Kind::OnwardReturn => None,
+        Kind::OnceReturn | Kind::OncePanic => Some(1),
+    };
+    let task = match kind {
+        Kind::OnceReturn | Kind::OnwardReturn => Task::Return(None),
+        Kind::OncePanic => Task::Panic(None),
+    };
+    Term {
+        share: FULL_SHARE,
+        count,
+        task,
+    }
+}
+
+/// Adds the terms of a rigged hit, after some hits of its point.
+fn push_rigged(terms: &mut Vec<Term>, done: u32, rig: Rig) -> Result<(), AllocError>
+    ensures { OnOk result (terms.new.items ≡ terms.old.items ++ rigged done rig) }
+{
+    let between = rig.site.hit.saturating_sub(done).saturating_sub(1);
+    if between > 0 {
+        terms.push(Term {
+            share: FULL_SHARE,
+            count: Some(between),
+            task: Task::Off,
+        })?;
+    }
+    terms.push(term_of(rig.kind))?;
+    Ok(())
+}
+
+/// Adds what a rigged hit adds to the chain of a point, and gives the hits of the point after it.
+fn push_at(terms: &mut Vec<Term>, point: u32, done: u32, rig: Rig) -> Result<u32, AllocError>
+    ensures terms { OnOk result (terms.new.items ≡ terms.old.items ++ terms_at point done rig) }
+    ensures done { IfOk result (λ next. next ≡ done_after point done rig) }
+{
+    if rig.site.point != point {
+        return Ok(done);
+    }
+    push_rigged(terms, done, rig)?;
+    Ok(rig.site.hit)
+}
+
+/// The chain of a point.
+fn chain_of(alloc: Global, point: u32, rigs: &[Rig]) -> Result<Vec<Term>, AllocError>
+    ensures { IfOk result (λ terms. terms.items ≡ chain_from point 0 rigs.now) }
+{
+    let mut terms = Vec::new(alloc);
+    let mut done = 0;
+    for rig in rigs {
+        done = push_at(&mut terms, point, done, *rig)?;
+    }
+    Ok(terms)
+}
+
+/// Puts the entry of a point in, where its chain has a term.
+fn put_chain(
+    alloc: Global,
+    to: &mut IndexMap<Text, Chain>,
+    name: &str,
+    terms: Vec<Term>,
+) -> Result<(), AllocError>
+    ensures { OnOk result (to.new.entries ≡ insert_all bytes_eq to.old.entries (entry name.now terms.items)) }
+{
+    if !terms.is_empty() {
+        to.insert(Text::copy_of(alloc, name)?, Chain::from_vec(terms))?;
+    }
+    Ok(())
+}
+
+/// The entries of rigged hits, put in one by one.
+fn rigged_entries(
+    alloc: Global,
+    catalogue: &[&str],
+    rigs: &[Rig],
+) -> Result<IndexMap<Text, Chain>, AllocError>
+    requires { length catalogue.now ≤ 64 }
+    ensures { IfOk result (λ m. m.entries ≡ entries_of (rigging (texts catalogue.now) rigs.now)) }
+{
+    let mut to = IndexMap::new(alloc);
+    let mut point = 0u32;
+    for name in catalogue {
+        let terms = chain_of(alloc, point, rigs)?;
+        put_chain(alloc, &mut to, name, terms)?;
+        point += 1;
+    }
+    Ok(to)
+}
+
+/// The scenario of rigged hits.
+pub fn scenario_of(alloc: Global, catalogue: &[&str], rigs: &[Rig]) -> Result<Scenario, AllocError>
+    requires lawful { IsCatalogue (texts catalogue.now) }
+    requires few { length rigs.now ≤ most_sites }
+    requires small { AllByRecursion (λ r. r.site.hit < 2 ^ 32) rigs.now }
+    ensures { IfOk result (λ s. s ≡ rigging (texts catalogue.now) rigs.now) }
+{
+    let entries = rigged_entries(alloc, catalogue, rigs)?;
+    Ok(Scenario::from_entries(entries))
+}
+
+/// The scenario without faults.
+pub fn empty_scenario(alloc: Global) -> Scenario
+    ensures { result ≡ [] }
+{
+    Scenario::from_entries(IndexMap::new(alloc))
+}

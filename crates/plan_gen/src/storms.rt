@@ -1,0 +1,85 @@
+//! Storms: rigged hits drawn by random words.
+ghost use Rattle.std.specs.Prelude.{◌≡◌, ◌++◌, ◌≤◌, ◌<◌, ◌^◌, length, IfOk, OnOk};
+ghost use Rattle.std.specs.List.{AllByRecursion};
+ghost use Rattle.action_eval.specs.Words.{seed_bytes, at_word};
+ghost use Rattle.plan_gen.specs.PlanList.{most_plans, most_sites, storm_kind, drawn, storm};
+
+use crate::site::{Kind, Rig, Site};
+use rand_chacha::ChaCha8Rng;
+use rand_core::SeedableRng;
+use rand_core::utils::NextWord;
+use std::alloc::{AllocError, Global};
+
+/// A storm takes at most so many sites.
+const MOST_SITES: usize = 64;
+
+/// The stream number of the first storm's words. Plans run under those from 0 on.
+const FIRST_STREAM: u64 = 4_294_967_296;
+
+/// A seed of eight bytes, low byte first, and then zeros.
+fn seed_bytes(seed: u64) -> [u8; 32]
+    ensures { result ≡ seed_bytes seed }
+{
+    let mut bytes = [0; 32];
+    bytes[..8].copy_from_slice(&seed.to_le_bytes());
+    bytes
+}
+
+/// The generator of a stream's words, from the first on.
+#[tactic(auto, unfolding(action_eval::specs::Words::at_word))]
+#[inline(never)]
+fn generator(seed: u64, stream: u64) -> ChaCha8Rng
+    ensures { result ≡ at_word seed stream 0 }
+{
+    let mut generator = ChaCha8Rng::from_seed(seed_bytes(seed));
+    generator.set_stream(stream);
+    generator
+}
+
+/// What a word does at a site that it takes.
+fn storm_kind(word: u32) -> Kind
+    ensures { result ≡ storm_kind word }
+{
+    if word / 1000 % 8 == 0 {
+        Kind::OncePanic
+    } else {
+        Kind::OnceReturn
+    }
+}
+
+/// Adds a site that its word takes.
+fn draw(rigs: &mut Vec<Rig>, rate: u32, word: u32, site: Site) -> Result<(), AllocError>
+    ensures drawn { OnOk result (rigs.new.items ≡ rigs.old.items ++ drawn rate word (length rigs.old.items) site) }
+    ensures few { OnOk result (length rigs.old.items ≤ most_sites → length rigs.new.items ≤ most_sites) }
+    ensures small { OnOk result (AllByRecursion (λ r. r.site.hit < 2 ^ 32) rigs.old.items → AllByRecursion (λ r. r.site.hit < 2 ^ 32) rigs.new.items) }
+{
+    if word % 1000 < rate && rigs.len() < MOST_SITES {
+        rigs.push(Rig {
+            site,
+            kind: storm_kind(word),
+        })?;
+    }
+    Ok(())
+}
+
+/// The rigged hits of a storm: each site takes a word, also after the most are taken.
+#[tactic(auto, unfolding(crate::specs::PlanList::storm))]
+pub fn storm(
+    alloc: Global,
+    seed: u64,
+    rate: u32,
+    sites: &[Site],
+    number: u32,
+) -> Result<Vec<Rig>, AllocError>
+    requires { length sites.now ≤ most_plans }
+    ensures rigs { IfOk result (λ rigs. rigs.items ≡ storm seed rate sites.now number) }
+    ensures few { IfOk result (λ rigs. length rigs.items ≤ most_sites) }
+    ensures small { IfOk result (λ rigs. AllByRecursion (λ r. r.site.hit < 2 ^ 32) rigs.items) }
+{
+    let mut rng = generator(seed, FIRST_STREAM + u64::from(number));
+    let mut rigs = Vec::new(alloc);
+    for site in sites {
+        draw(&mut rigs, rate, rng.next_word(), *site)?;
+    }
+    Ok(rigs)
+}

@@ -1,0 +1,172 @@
+mod counted;
+
+ghost use Rattle.std.specs.Prelude.{◌≡◌, length, IfOk};
+
+use crate::census::{Census, by_census};
+use crate::list::{PlanFault, plans};
+use crate::looped::by_loop;
+use crate::plan::{Plan, PlanSettings};
+use crate::tests::counted::Counted;
+use scenario_values::{Scenario, Task, Term, faults};
+use std::alloc::{AllocError, Global};
+use std::test::Fail;
+
+const NAMES: [&str; 7] = [
+    "replace::clear",
+    "replace::create",
+    "replace::write",
+    "replace::sync",
+    "replace::rename",
+    "replace::sync_dir",
+    "replace::unlink",
+];
+
+fn settings(alloc: Global, pairs: bool, storms: u32, rate: u32) -> PlanSettings {
+    PlanSettings {
+        pairs,
+        storms,
+        rate,
+        listed: Vec::new(alloc),
+        seed: 7,
+    }
+}
+
+/// The census of the replacement of a file by so many chunks.
+fn census(alloc: Global, chunks: u32) -> Result<Census, AllocError>
+    ensures { IfOk result (λ census. length census.counts.items ≡ 7) }
+{
+    let counts = vec![in alloc; 0, 1, chunks, 1, 1, 1, 0]?;
+    Ok(Census { counts })
+}
+
+fn list(
+    alloc: Global,
+    chunks: u32,
+    settings: &PlanSettings,
+) -> Result<Result<Vec<Plan>, PlanFault>, AllocError> {
+    let census = census(alloc, chunks)?;
+    Ok(plans(alloc, &census, &NAMES, settings))
+}
+
+/// Whether a plan is one entry of this name and these terms.
+fn is_one(plan: Option<&Plan>, name: &str, terms: &[Term]) -> bool {
+    match plan {
+        Some(plan) => is_entry(&plan.scenario, name, terms),
+        None => false,
+    }
+}
+
+fn is_entry(scenario: &Scenario, name: &str, terms: &[Term]) -> bool {
+    match scenario.entries().get_index(0) {
+        Some((first, chain)) => {
+            scenario.len() == 1 && first.as_str() == name && chain.terms() == terms
+        }
+        None => false,
+    }
+}
+
+fn is_empty(plan: Option<&Plan>) -> bool {
+    match plan {
+        Some(plan) => plan.scenario.len() == 0,
+        None => false,
+    }
+}
+
+fn term(count: Option<u32>, task: Task) -> Term {
+    Term {
+        share: 1_000_000,
+        count,
+        task,
+    }
+}
+
+#[test]
+fn lists_each_site_of_a_small_census(rt: HostRuntime) -> Result<(), Fail> {
+    let alloc = rt.alloc();
+    let list = list(alloc, 2, &settings(alloc, false, 0, 0))?.map_err(|_| "fault")?;
+    assert_eq!(rt; list.len(), 19);
+    assert!(rt; is_empty(list.first()));
+    let write = "replace::write";
+    let once = [term(Some(1), Task::Off), term(Some(1), Task::Return(None))];
+    assert!(rt; is_one(list.get(7), write, &once));
+    let onward = [term(Some(1), Task::Off), term(None, Task::Return(None))];
+    assert!(rt; is_one(list.get(8), write, &onward));
+    let panic = [term(Some(1), Task::Off), term(Some(1), Task::Panic(None))];
+    assert!(rt; is_one(list.get(9), write, &panic));
+    Ok(())
+}
+
+#[test]
+fn two_hits_of_a_point_share_a_chain(rt: HostRuntime) -> Result<(), Fail> {
+    let alloc = rt.alloc();
+    let list = list(alloc, 2, &settings(alloc, true, 0, 0))?.map_err(|_| "fault")?;
+    assert_eq!(rt; list.len(), 34);
+    let both = [
+        term(Some(1), Task::Return(None)),
+        term(Some(1), Task::Return(None)),
+    ];
+    assert!(rt; is_one(list.get(24), "replace::write", &both));
+    Ok(())
+}
+
+#[test]
+fn storms_take_sites_by_their_rate(rt: HostRuntime) -> Result<(), Fail> {
+    let alloc = rt.alloc();
+    let calm = list(alloc, 2, &settings(alloc, false, 2, 0))?.map_err(|_| "fault")?;
+    assert_eq!(rt; calm.len(), 21);
+    assert!(rt; is_empty(calm.get(19)));
+    assert!(rt; is_empty(calm.get(20)));
+    let full = list(alloc, 2, &settings(alloc, false, 1, 1000))?.map_err(|_| "fault")?;
+    let storm = full.get(19).ok_or("no storm")?;
+    assert_eq!(rt; faults(alloc, &storm.scenario)?.len(), 6);
+    let wide = list(alloc, 100, &settings(alloc, false, 1, 1000))?.map_err(|_| "fault")?;
+    let storm = wide.last().ok_or("no storm")?;
+    assert_eq!(rt; faults(alloc, &storm.scenario)?.len(), 64);
+    Ok(())
+}
+
+#[test]
+fn copies_the_listed_scenarios(rt: HostRuntime) -> Result<(), Fail> {
+    let alloc = rt.alloc();
+    let mut made = list(alloc, 2, &settings(alloc, false, 0, 0))?.map_err(|_| "fault")?;
+    let last = made.pop().ok_or("no plan")?;
+    let mut asked = settings(alloc, false, 0, 0);
+    asked.listed.push(last.scenario)?;
+    let list = list(alloc, 1, &asked)?.map_err(|_| "fault")?;
+    assert_eq!(rt; list.len(), 17);
+    let panic = [term(Some(1), Task::Panic(None))];
+    assert!(rt; is_one(list.last(), "replace::sync_dir", &panic));
+    Ok(())
+}
+
+#[test]
+fn lists_the_most_plans_and_no_more(rt: HostRuntime) -> Result<(), Fail> {
+    let alloc = rt.alloc();
+    let most = list(alloc, 355, &settings(alloc, true, 197, 100))?.map_err(|_| "fault")?;
+    assert_eq!(rt; most.len(), 65536);
+    let more = list(alloc, 355, &settings(alloc, true, 198, 100))?;
+    assert!(rt; matches!(more, Err(PlanFault::TooManyPlans)));
+    // the number of these is 55605 modulo 2^32
+    let wrapped = list(alloc, 92_676, &settings(alloc, true, 0, 0))?;
+    assert!(rt; matches!(wrapped, Err(PlanFault::TooManyPlans)));
+    Ok(())
+}
+
+#[test]
+fn both_censuses_agree(rt: HostRuntime) -> Result<(), Fail> {
+    let alloc = rt.alloc();
+    let points = vec![in alloc; 1, 2, 2, 3, 4, 5]?;
+    let counts = [0, 1, 2, 1, 1, 1, 0];
+    let mut target = Counted { runs: 0 };
+    let once = by_census(alloc, &mut target, &points, 7, 1000)?;
+    assert_eq!(rt; once.counts.as_slice(), counts.as_slice());
+    assert_eq!(rt; target.runs, 1);
+    for onward in [false, true] {
+        let mut target = Counted { runs: 0 };
+        let looped = by_loop(alloc, &mut target, &points, 7, 1000, onward)?;
+        assert_eq!(rt; looped.counts.as_slice(), counts.as_slice());
+        // one for each of six sites, and one more for each of seven points
+        assert_eq!(rt; target.runs, 13);
+    }
+    Ok(())
+}

@@ -1,0 +1,18 @@
+-- Lines that a loop writes.
+use Rattle.std.proofs.Common.{◌≡◌, ℕ, zero, suc, ◌+◌, ◌<◌, List, [], ◌∷◌, ◌++◌, map, drop, length, get_or, refl, ap, sym, ◌∙◌, append_assoc, add-one, arith, drop-cons}
+use Rattle.report.specs.ReportText.{census_line, census_lines, ended, text_of}
+
+goes_on : {A : Type 0} (old new here rest whole : List A) → old ++ (here ++ rest) ≡ whole → new ≡ old ++ here → new ++ rest ≡ whole
+goes_on old new here rest whole h e = ap (λ r. r ++ rest) e ∙ append_assoc old here rest ∙ h
+
+pub next_of : {A : Type 0} (xs : List A) (i : ℕ) (d : A) → i < length xs → drop i xs ≡ get_or xs i d ∷ drop (i + 1) xs
+next_of xs i d h = drop-cons xs i d h ∙ ap (λ k. get_or xs i d ∷ drop k xs) (sym (add-one i))
+
+pub map_length : {A B : Type 0} (f : A → B) (xs : List A) → length (map f xs) ≡ length xs
+map_length f [] = refl
+map_length f (x ∷ xs) = ap suc (map_length f xs)
+
+pub census_next : (old new : List ℕ) (name : List ℕ) (n : ℕ) (names rest : List (List ℕ)) (counts left whole : List ℕ) → names ≡ name ∷ rest → counts ≡ n ∷ left → new ≡ old ++ ended (census_line name n) → old ++ text_of (census_lines names counts) ≡ whole → new ++ text_of (census_lines rest left) ≡ whole
+census_next old new name n names rest counts left whole a b added h =
+    goes_on old new (ended (census_line name n)) (text_of (census_lines rest left)) whole
+    (ap (λ (l : List ℕ). old ++ text_of (census_lines (name ∷ rest) l)) (sym b) ∙ ap (λ (l : List (List ℕ)). old ++ text_of (census_lines l counts)) (sym a) ∙ h) added

@@ -1,0 +1,133 @@
+//! The lines of a report.
+ghost use Rattle.std.specs.Prelude.{◌≡◌, ◌++◌, ◌∷◌, [], length, string_bytes, codes, IfOk, OnOk};
+ghost use Rattle.std.specs.Fmt.{decimal};
+ghost use Rattle.report.specs.ReportText.{verdict_text, scenario_text, census_line, census_lines, count_line, verdict_line, verdict_lines, finding_lines, first_lines, report_lines, ended, text_of};
+
+use crate::facts::{Finding, Report};
+use crate::verdicts::write_verdict;
+use scenario_grammar::print;
+use scenario_values::Scenario;
+use std::alloc::{AllocError, Global};
+use std::fmt::Write;
+use target_trait::{Target, Verdict};
+
+fn write_head<T: Target>(
+    out: &mut String,
+    label: &str,
+    seed: u64,
+    clean: Verdict,
+) -> Result<(), AllocError>
+    ensures { OnOk result (string_bytes out.new ≡ string_bytes out.old ++ text_of ((codes "target " ++ label.now) ∷ (codes "seed " ++ decimal seed) ∷ (codes "clean " ++ verdict_text T.code_text clean) ∷ [])) }
+{
+    write!(out, "target {label}\nseed {seed}\nclean ")?;
+    write_verdict::<T>(out, clean)?;
+    out.push_str("\n")
+}
+
+fn write_point(out: &mut String, name: &str, count: u32) -> Result<(), AllocError>
+    ensures { OnOk result (string_bytes out.new ≡ string_bytes out.old ++ ended (census_line name.now count)) }
+{
+    writeln!(out, "census {name} {count}")
+}
+
+fn write_census<T: Target>(out: &mut String, counts: &[u32]) -> Result<(), AllocError>
+    requires { length counts.now ≡ length T.names }
+    ensures { OnOk result (string_bytes out.new ≡ string_bytes out.old ++ text_of (census_lines T.names counts.now)) }
+{
+    let names = T::catalogue();
+    for (i, count) in counts.iter().enumerate() {
+        write_point(out, names[i], *count)?;
+    }
+    Ok(())
+}
+
+fn write_numbered<T: Target>(
+    out: &mut String,
+    number: usize,
+    verdict: Verdict,
+) -> Result<(), AllocError>
+    ensures { OnOk result (string_bytes out.new ≡ string_bytes out.old ++ ended (verdict_line T.code_text number verdict)) }
+{
+    write!(out, "verdict {number} ")?;
+    write_verdict::<T>(out, verdict)?;
+    out.push_str("\n")
+}
+
+fn write_verdicts<T: Target>(out: &mut String, verdicts: &[Verdict]) -> Result<(), AllocError>
+    ensures { OnOk result (string_bytes out.new ≡ string_bytes out.old ++ text_of (verdict_lines T.code_text 0 verdicts.now)) }
+{
+    for (number, verdict) in verdicts.iter().enumerate() {
+        write_numbered::<T>(out, number, *verdict)?;
+    }
+    Ok(())
+}
+
+/// Appends a scenario as reports say it: its printed form, or `none` where it has no entry.
+///
+/// An error means that memory was refused; the text may then have some of the bytes.
+pub fn write_scenario(
+    alloc: Global,
+    out: &mut String,
+    scenario: &Scenario,
+) -> Result<(), AllocError>
+    ensures { OnOk result (string_bytes out.new ≡ string_bytes out.old ++ scenario_text scenario.now) }
+{
+    if scenario.is_empty() {
+        return out.push_str("none");
+    }
+    let text = print(alloc, scenario)?;
+    out.push_str(text.as_str())
+}
+
+fn write_finding<T: Target>(
+    alloc: Global,
+    out: &mut String,
+    finding: &Finding<'_>,
+) -> Result<(), AllocError>
+    ensures { OnOk result (string_bytes out.new ≡ string_bytes out.old ++ text_of (finding_lines T.code_text finding.now)) }
+{
+    let number = finding.number;
+    let name = T::code_name(finding.code);
+    write!(out, "first {number} {name}\nscenario ")?;
+    write_scenario(alloc, out, finding.scenario)?;
+    out.push_str("\nreduced ")?;
+    write_scenario(alloc, out, &finding.reduced)?;
+    let tests = finding.tests;
+    writeln!(out, "\ntests {tests}")
+}
+
+fn write_first<T: Target>(
+    alloc: Global,
+    out: &mut String,
+    first: &Option<Finding<'_>>,
+) -> Result<(), AllocError>
+    ensures { OnOk result (string_bytes out.new ≡ string_bytes out.old ++ text_of (first_lines T.code_text first.now)) }
+{
+    match first {
+        None => out.push_str("first none\n"),
+        Some(finding) => write_finding::<T>(alloc, out, finding),
+    }
+}
+
+fn write_count(out: &mut String, plans: usize) -> Result<(), AllocError>
+    ensures { OnOk result (string_bytes out.new ≡ string_bytes out.old ++ ended (codes "plans " ++ decimal plans)) }
+{
+    writeln!(out, "plans {plans}")
+}
+
+/// The text of a report, each line with its line feed, by the target's names of points and codes. The census has to have a count for
+/// each point of the target's catalogue.
+///
+/// An error means that memory was refused.
+pub fn text<T: Target>(alloc: Global, report: &Report<'_>) -> Result<Vec<u8>, AllocError>
+    requires { length report.now.census ≡ length T.names }
+    ensures { IfOk result (λ text. text.items ≡ text_of (report_lines T.names T.code_text report.now)) }
+{
+    let mut out = String::new(alloc);
+    write_head::<T>(&mut out, report.label, report.seed, report.clean)?;
+    write_census::<T>(&mut out, report.census)?;
+    write_count(&mut out, report.verdicts.len())?;
+    write_verdicts::<T>(&mut out, report.verdicts)?;
+    write_first::<T>(alloc, &mut out, &report.first)?;
+    Ok(out.into_bytes())
+}

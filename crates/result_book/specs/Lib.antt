@@ -1,0 +1,5 @@
+pub mod Verdicts
+pub mod FirstFailure
+pub mod Slots
+pub mod Refused
+pub mod OneStep

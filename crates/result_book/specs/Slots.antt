@@ -1,0 +1,51 @@
+-- A book: for each number its verdict, where it was put.
+use Rattle.std.specs.Prelude.{◌≡◌, ℕ, zero, suc, ◌+◌, Vec, Bool, true, false, ◌&&◌, List, [], ◌∷◌, Option, Some, None, slice_index_or}
+use Rattle.std.specs.Global.{Global}
+use Rattle.target_trait.specs.declared.judgement.Verdict.{Verdict}
+use Rattle.result_book.specs.FirstFailure.{failing}
+
+-- a number and its verdict
+pub record Pair : Type 0 where
+  pub number : ℕ
+  pub verdict : Verdict
+
+-- whether the number has its verdict; a number past the end has none
+abbrev pub has : List (Option Verdict) → ℕ → Bool
+has slots n = elim (slice_index_or slots n None) [ None ↦ false | Some v ↦ true ]
+
+abbrev pub failing_slot : ℕ → Option Verdict → Option (ℕ × ℕ) → Option (ℕ × ℕ)
+failing_slot n None later = later
+failing_slot n (Some v) later = failing n v later
+
+-- the least number with a failure among the pairs in the book
+abbrev pub first_in : ℕ → List (Option Verdict) → Option (ℕ × ℕ)
+first_in n [] = None
+first_in n (s ∷ slots) = failing_slot n s (first_in (n + 1) slots)
+
+-- whether a place is taken
+abbrev pub is_full : Option Verdict → Bool
+is_full None = false
+is_full (Some v) = true
+
+-- a verdict in its place, unless there is one, or no such place
+abbrev pub enter : List (Option Verdict) → ℕ → Verdict → List (Option Verdict)
+enter [] n v = []
+enter (None ∷ slots) zero v = Some v ∷ slots
+enter (Some w ∷ slots) zero v = Some w ∷ slots
+enter (s ∷ slots) (suc n) v = s ∷ enter slots n v
+
+-- pairs, the last one first
+abbrev pub enter_all : List (Option Verdict) → List (ℕ × Pair) → List (Option Verdict)
+enter_all slots [] = slots
+enter_all slots (p ∷ ps) = enter (enter_all slots ps) p.1.number p.1.verdict
+
+-- the pairs of several lists, the last list first
+abbrev pub enter_lists : List (Option Verdict) → List (Vec (ℕ × Pair) Global) → List (Option Verdict)
+enter_lists slots [] = slots
+enter_lists slots (l ∷ ls) = enter_all (enter_lists slots ls) l.items
+
+-- the verdicts that are there
+abbrev pub present : List (Option Verdict) → List Verdict
+present [] = []
+present (None ∷ slots) = present slots
+present (Some v ∷ slots) = v ∷ present slots

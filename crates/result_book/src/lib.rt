@@ -1,0 +1,15 @@
+//! Plans run as numbered results, the book in which each number has its result once, and the first failure.
+#![tactic(auto)]
+
+mod book;
+mod course;
+mod laws;
+mod numbered;
+
+pub use book::{Book, PutFault, put_all};
+pub use course::Course;
+pub use laws::{first_failures_are_the_least, full_books_tell_their_verdicts};
+pub use numbered::Numbered;
+
+#[cfg(test)]
+mod tests;
