@@ -1,0 +1,143 @@
+-- Each step finds what it needs.
+use Rattle.std.proofs.Common.{◌≡◌, ℕ, ◌==◌, cond, Bool, true, false, List, [], ◌∷◌, Option, None, Some, is_some, is_none, refl, ap, sym, ◌∙◌, subst}
+use Rattle.std.proofs.lemmas.Bool.{eq-eqb}
+use Rattle.sim_device.specs.FileEffects.{Effect, Create, Append, Sync, Link, Unlink, SyncDir, Live, leads, created}
+use Rattle.sim_device.specs.Disk.{Disk, StandsFor, entry_at}
+use Rattle.action_eval.specs.Answers.{Run, Reply, Go, Return, Halt, replies}
+use Rattle.maildir_target.specs.declared.variant.Variant.{Variant}
+use Rattle.maildir_target.specs.declared.variant.Variant.TheVariants.{Sound, LinkFirst, IgnoreWrite, AppendTmp}
+use Rattle.maildir_target.specs.declared.name.Attempt.{Attempt}
+use Rattle.maildir_target.specs.declared.name.Attempt.TheVariants.{First, Second}
+use Rattle.maildir_target.specs.Steps.{Step, Looking, Creating, Writing, Syncing, Linking, Unlinking, SyncingDir, Cleaning, Over, Tally, State, state, at_step, first_step, begun_of, acknowledged, failed_of, failed, looked, linked, is_there, write_step, create_unless, created_by, after_create, after_link, after_sync, after_half, tmp_of, new_of, on_go, on_return, stepped, start_of, laid, before_all}
+use Rattle.maildir_target.specs.Ready.{CanCreate, IsReady, IsReadyAfter, IsReadyOn}
+use Rattle.maildir_target.specs.Seen.{Played}
+
+abbrev Ready : Variant → State → Type 0
+Ready v s = IsReadyAfter v s.tally s.effects
+
+first_ready : (v : Variant) (tmp : Option ℕ) → IsReady v (first_step v) tmp
+first_ready Sound tmp = tt
+first_ready LinkFirst tmp = tt
+first_ready IgnoreWrite tmp = tt
+first_ready AppendTmp tmp = tt
+
+begun_ready : (v : Variant) (t : Tally) (rest : List (List (List ℕ))) (es : List Effect) → IsReadyAfter v (begun_of v t rest) es
+begun_ready v t [] es = tt
+begun_ready v t (chunks ∷ more) es = first_ready v (leads es Live (tmp_of v (begun_of v t (chunks ∷ more))))
+
+failed_ready : (v : Variant) (t : Tally) (attempt : Attempt) (es : List Effect) → IsReadyAfter v (failed_of v t attempt) es
+failed_ready v t First es = first_ready v (leads es Live (tmp_of v (failed_of v t First)))
+failed_ready v t Second es = begun_ready v t t.rest es
+
+write_ready : (v : Variant) (cs : List (List ℕ)) (tmp : Option ℕ) → is_none tmp ≡ false → IsReady v (write_step cs) tmp
+write_ready v [] tmp r = r
+write_ready v (c ∷ cs) tmp r = r
+
+create_ready : (v : Variant) (cs : List (List ℕ)) (tmp : Option ℕ) → is_none tmp ≡ false → IsReady v (after_create v cs) tmp
+create_ready Sound cs tmp r = write_ready Sound cs tmp r
+create_ready LinkFirst cs tmp r = r
+create_ready IgnoreWrite cs tmp r = write_ready IgnoreWrite cs tmp r
+create_ready AppendTmp cs tmp r = write_ready AppendTmp cs tmp r
+
+link_ready : (v : Variant) (cs : List (List ℕ)) (tmp : Option ℕ) → is_none tmp ≡ false → IsReady v (after_link v cs) tmp
+link_ready Sound cs tmp r = r
+link_ready LinkFirst cs tmp r = write_ready LinkFirst cs tmp r
+link_ready IgnoreWrite cs tmp r = r
+link_ready AppendTmp cs tmp r = r
+
+sync_ready : (v : Variant) (tmp : Option ℕ) → is_none tmp ≡ false → IsReady v (after_sync v) tmp
+sync_ready Sound tmp r = r
+sync_ready LinkFirst tmp r = r
+sync_ready IgnoreWrite tmp r = r
+sync_ready AppendTmp tmp r = r
+
+half_ready : (v : Variant) (cs : List (List ℕ)) (tmp : Option ℕ) → is_none tmp ≡ false → IsReady v (after_half v cs) tmp
+half_ready Sound cs tmp r = r
+half_ready LinkFirst cs tmp r = r
+half_ready IgnoreWrite cs tmp r = write_ready IgnoreWrite cs tmp r
+half_ready AppendTmp cs tmp r = r
+
+-- a name that was created is there
+there_now : (n : ℕ) (es : List Effect) → is_none (leads (Create n ∷ es) Live n) ≡ false
+there_now n es = ap (λ b. is_none (cond b (Some (created es)) (leads es Live n))) (eq-eqb n n refl)
+
+not_none : (o : Option ℕ) → is_some o ≡ true → is_none o ≡ false
+not_none (Some f) e = refl
+not_none None e = cc
+
+there_unless : (b : Bool) (n : ℕ) (es : List Effect) → is_there n es ≡ b → is_none (leads (create_unless b n es) Live n) ≡ false
+there_unless false n es e = there_now n es
+there_unless true n es e = not_none (leads es Live n) e
+
+there_created : (v : Variant) (n : ℕ) (es : List Effect) → is_none (leads (created_by v n es) Live n) ≡ false
+there_created Sound n es = there_now n es
+there_created LinkFirst n es = there_now n es
+there_created IgnoreWrite n es = there_now n es
+there_created AppendTmp n es = there_unless (is_there n es) n es refl
+
+-- a link leaves the name that it comes from
+linked_there : (b : Bool) (x y : Option ℕ) → is_none x ≡ false → is_none y ≡ false → is_none (cond b x y) ≡ false
+linked_there true x y p q = p
+linked_there false x y p q = q
+
+can_create : (v : Variant) (tmp : Option ℕ) → is_some tmp ≡ false → CanCreate v tmp
+can_create Sound tmp e = e
+can_create LinkFirst tmp e = e
+can_create IgnoreWrite tmp e = e
+can_create AppendTmp tmp e = tt
+
+looked_ready : (b : Bool) (v : Variant) (t : Tally) (es : List Effect) → is_there (tmp_of v t) es ≡ b → IsReadyAfter v (looked b v t) es
+looked_ready true v t es e = failed_ready v t t.attempt es
+looked_ready false v t es e = can_create v (leads es Live (tmp_of v t)) e
+
+linked_ready : (b : Bool) (v : Variant) (t : Tally) (es : List Effect) → is_none (leads es Live (tmp_of v t)) ≡ false → Ready v (linked b v t es)
+linked_ready true v t es r = r
+linked_ready false v t es r =
+    link_ready v t.chunks (leads (Link (tmp_of v t) (new_of v t) ∷ es) Live (tmp_of v t))
+    (linked_there (tmp_of v t == new_of v t) (leads es Live (tmp_of v t)) (leads es Live (tmp_of v t)) r r)
+
+go_ready : (v : Variant) (t : Tally) (es : List Effect) (step : Step) → IsReady v step (leads es Live (tmp_of v t)) → Ready v (on_go v t es step)
+go_ready v t es Looking r = looked_ready (is_there (tmp_of v t) es) v t es refl
+go_ready v t es Creating r = create_ready v t.chunks (leads (created_by v (tmp_of v t) es) Live (tmp_of v t)) (there_created v (tmp_of v t) es)
+go_ready v t es (Writing c cs) r = write_ready v cs (leads es Live (tmp_of v t)) r
+go_ready v t es Syncing r = sync_ready v (leads es Live (tmp_of v t)) r
+go_ready v t es Linking r = linked_ready (is_there (new_of v t) es) v t es r
+go_ready v t es Unlinking r = tt
+go_ready v t es SyncingDir r = begun_ready v (acknowledged t) t.rest (SyncDir ∷ es)
+go_ready v t es Cleaning r = failed_ready v t t.attempt (Unlink (tmp_of v t) ∷ es)
+go_ready v t es Over r = tt
+
+return_ready : (v : Variant) (t : Tally) (es : List Effect) (step : Step) → IsReady v step (leads es Live (tmp_of v t)) → Ready v (on_return v t es step)
+return_ready v t es Looking r = failed_ready v t t.attempt es
+return_ready v t es Creating r = failed_ready v t t.attempt es
+return_ready v t es (Writing c cs) r = half_ready v cs (leads es Live (tmp_of v t)) r
+return_ready v t es Syncing r = r
+return_ready v t es Linking r = r
+return_ready v t es Unlinking r = tt
+return_ready v t es SyncingDir r = begun_ready v t t.rest es
+return_ready v t es Cleaning r = failed_ready v t t.attempt es
+return_ready v t es Over r = tt
+
+step_ready : (v : Variant) (s : State) (a : Reply) → Ready v s → Ready v (stepped v s a)
+step_ready v s Go r = go_ready v s.tally s.effects s.tally.step r
+step_ready v s (Return text) r = return_ready v s.tally s.effects s.tally.step r
+step_ready v s Halt r = tt
+
+laid_ready : (v : Variant) (s : State) (answers : List Reply) → Ready v s → Ready v (laid v s answers)
+laid_ready v s [] r = r
+laid_ready v s (a ∷ answers) r = laid_ready v (stepped v s a) answers (step_ready v s a r)
+
+-- whatever was answered, the next step is not refused
+pub steps_ready : (v : Variant) (w : List (List (List ℕ))) (answers : List Reply) → Ready v (laid v (start_of v w) answers)
+steps_ready v w answers = laid_ready v (start_of v w) answers (begun_ready v (before_all w) w [])
+
+pub ready_on : (v : Variant) (t : Tally) (d : Disk) (es : List Effect) → StandsFor d es → IsReadyAfter v t es → IsReadyOn v t d.names
+ready_on v t d es k r =
+    let P : Option ℕ → Type 0 = λ o. IsReady v t.step o in
+    subst P (sym (k.live (tmp_of v t))) r
+
+pub ready_now : (v : Variant) (w : List (List (List ℕ))) (r : Run) (t : Tally) (d : Disk) → Played v w r t d → IsReadyOn v t d.names
+ready_now v w r t d k =
+    let s = laid v (start_of v w) (replies r) in
+    let P : Tally → Type 0 = λ x. IsReadyAfter v x s.effects in
+    ready_on v t d s.effects k.shows.device (subst P (sym k.shows.tally) (steps_ready v w (replies r)))

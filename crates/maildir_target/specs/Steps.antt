@@ -1,0 +1,250 @@
+-- The steps of a run, laid against the list of answers: what is asked, what each answer does, and what comes next.
+-- The delivery is that of the maildir manual page: stat, create, write, sync, link, and then the name under `tmp/` is removed.
+use Rattle.std.specs.Prelude.{ℕ, ◌+◌, Bool, true, false, List, [], ◌∷◌, ◌++◌, Option, Some, None, is_some}
+use Rattle.sim_device.specs.FileEffects.{Effect, Create, Append, Sync, Link, Unlink, SyncDir, Live, leads}
+use Rattle.action_eval.specs.Answers.{Reply, Go, Return, Halt}
+use Rattle.target_trait.specs.declared.judgement.Judgement.{Judgement}
+use Rattle.target_trait.specs.Play.{Move, Ask, Done, IsWithin, IsDone}
+use Rattle.file_replace.specs.Steps.{half}
+use Rattle.std.proofs.Common.{arith}
+use Rattle.maildir_target.specs.declared.variant.Variant.{Variant}
+use Rattle.maildir_target.specs.declared.variant.Variant.TheVariants.{Sound, LinkFirst, IgnoreWrite, AppendTmp}
+use Rattle.maildir_target.specs.declared.name.Attempt.{Attempt}
+use Rattle.maildir_target.specs.declared.name.Attempt.TheVariants.{First, Second}
+use Rattle.maildir_target.specs.Words.{tmp_name, new_name, stat_point, create_point, write_point, sync_point, link_point, unlink_point, sync_dir_point}
+use Rattle.maildir_target.specs.Judgement.{judged}
+
+-- the step whose question comes next
+pub data Step : Type 0 where
+  -- is the name under `tmp/` free?
+  Looking : Step
+  Creating : Step
+  -- the chunk, and those after it
+  Writing : List ℕ → List (List ℕ) → Step
+  Syncing : Step
+  Linking : Step
+  Unlinking : Step
+  SyncingDir : Step
+  -- the name under `tmp/` is taken away after a failure
+  Cleaning : Step
+  Over : Step
+
+-- how far the delivery has come
+pub record Tally : Type 0 where
+  pub step : Step
+  -- the message under way, numbered from 1, with its attempt and its chunks, and the messages after it
+  pub message : ℕ
+  pub attempt : Attempt
+  pub chunks : List (List ℕ)
+  pub rest : List (List (List ℕ))
+  -- the messages acknowledged so far, by their numbers
+  pub acknowledged : List ℕ
+
+-- that, and what the device accepted, the newest effect first
+pub record State : Type 0 where
+  pub tally : Tally
+  pub effects : List Effect
+
+abbrev pub state : Tally → List Effect → State
+state t es = record { tally = t; effects = es }
+
+abbrev pub at_step : Tally → Step → Tally
+at_step t step = record { step = step; message = t.message; attempt = t.attempt; chunks = t.chunks; rest = t.rest; acknowledged = t.acknowledged }
+
+-- ---- where the variants differ
+
+-- append_tmp doesn't ask whether the name is free
+abbrev pub first_step : Variant → Step
+first_step Sound = Looking
+first_step LinkFirst = Looking
+first_step IgnoreWrite = Looking
+first_step AppendTmp = Creating
+
+-- append_tmp uses the names of the first attempt in both
+abbrev pub named_by : Variant → Attempt → Attempt
+named_by Sound attempt = attempt
+named_by LinkFirst attempt = attempt
+named_by IgnoreWrite attempt = attempt
+named_by AppendTmp attempt = First
+
+-- the names of the attempt under way
+abbrev pub tmp_of : Variant → Tally → ℕ
+tmp_of v t = tmp_name t.message (named_by v t.attempt)
+
+abbrev pub new_of : Variant → Tally → ℕ
+new_of v t = new_name t.message (named_by v t.attempt)
+
+abbrev pub is_there : ℕ → List Effect → Bool
+is_there name es = is_some (leads es Live name)
+
+-- append_tmp keeps a file that is there
+abbrev pub create_unless : Bool → ℕ → List Effect → List Effect
+create_unless false name es = Create name ∷ es
+create_unless true name es = es
+
+abbrev pub created_by : Variant → ℕ → List Effect → List Effect
+created_by Sound name es = Create name ∷ es
+created_by LinkFirst name es = Create name ∷ es
+created_by IgnoreWrite name es = Create name ∷ es
+created_by AppendTmp name es = create_unless (is_there name es) name es
+
+abbrev pub write_step : List (List ℕ) → Step
+write_step [] = Syncing
+write_step (c ∷ cs) = Writing c cs
+
+-- link_first links before it writes
+abbrev pub after_create : Variant → List (List ℕ) → Step
+after_create Sound chunks = write_step chunks
+after_create LinkFirst chunks = Linking
+after_create IgnoreWrite chunks = write_step chunks
+after_create AppendTmp chunks = write_step chunks
+
+abbrev pub after_link : Variant → List (List ℕ) → Step
+after_link Sound chunks = Unlinking
+after_link LinkFirst chunks = write_step chunks
+after_link IgnoreWrite chunks = Unlinking
+after_link AppendTmp chunks = Unlinking
+
+abbrev pub after_sync : Variant → Step
+after_sync Sound = Linking
+after_sync LinkFirst = Unlinking
+after_sync IgnoreWrite = Linking
+after_sync AppendTmp = Linking
+
+-- ignore_write goes on after half a chunk as after the whole
+abbrev pub after_half : Variant → List (List ℕ) → Step
+after_half Sound cs = Cleaning
+after_half LinkFirst cs = Cleaning
+after_half IgnoreWrite cs = write_step cs
+after_half AppendTmp cs = Cleaning
+
+-- ---- between messages and attempts
+
+-- the next message is begun with its first attempt: its question is the next
+abbrev pub begun_of : Variant → Tally → List (List (List ℕ)) → Tally
+begun_of v t [] = at_step t Over
+begun_of v t (chunks ∷ more) = record { step = first_step v; message = t.message + 1; attempt = First; chunks = chunks; rest = more; acknowledged = t.acknowledged }
+
+abbrev pub begun : Variant → Tally → Tally
+begun v t = begun_of v t t.rest
+
+abbrev pub acknowledged : Tally → Tally
+acknowledged t = record { step = t.step; message = t.message; attempt = t.attempt; chunks = t.chunks; rest = t.rest; acknowledged = t.acknowledged ++ t.message ∷ [] }
+
+-- the attempt fails: after the first there is a second, and after the second the message is given up
+abbrev pub failed_of : Variant → Tally → Attempt → Tally
+failed_of v t First = record { step = first_step v; message = t.message; attempt = Second; chunks = t.chunks; rest = t.rest; acknowledged = t.acknowledged }
+failed_of v t Second = begun v t
+
+abbrev pub failed : Variant → Tally → Tally
+failed v t = failed_of v t t.attempt
+
+-- ---- the table of steps
+
+-- a name under `tmp/` that is there isn't used
+abbrev pub looked : Bool → Variant → Tally → Tally
+looked true v t = failed v t
+looked false v t = at_step t Creating
+
+-- a name under `new/` that is there stays as it is, and the link fails
+abbrev pub linked : Bool → Variant → Tally → List Effect → State
+linked true v t es = state (at_step t Cleaning) es
+linked false v t es = state (at_step t (after_link v t.chunks)) (Link (tmp_of v t) (new_of v t) ∷ es)
+
+-- what a step does where it is answered to go on
+abbrev pub on_go : Variant → Tally → List Effect → Step → State
+on_go v t es Looking = state (looked (is_there (tmp_of v t) es) v t) es
+on_go v t es Creating = state (at_step t (after_create v t.chunks)) (created_by v (tmp_of v t) es)
+on_go v t es (Writing c cs) = state (at_step t (write_step cs)) (Append (tmp_of v t) c ∷ es)
+on_go v t es Syncing = state (at_step t (after_sync v)) (Sync (tmp_of v t) ∷ es)
+on_go v t es Linking = linked (is_there (new_of v t) es) v t es
+on_go v t es Unlinking = state (at_step t SyncingDir) (Unlink (tmp_of v t) ∷ es)
+on_go v t es SyncingDir = state (begun v (acknowledged t)) (SyncDir ∷ es)
+on_go v t es Cleaning = state (failed v t) (Unlink (tmp_of v t) ∷ es)
+on_go v t es Over = state (at_step t Over) es
+
+-- what it does where it is answered that it fails
+abbrev pub on_return : Variant → Tally → List Effect → Step → State
+on_return v t es Looking = state (failed v t) es
+on_return v t es Creating = state (failed v t) es
+on_return v t es (Writing c cs) = state (at_step t (after_half v cs)) (Append (tmp_of v t) (half c) ∷ es)
+on_return v t es Syncing = state (at_step t Cleaning) es
+on_return v t es Linking = state (at_step t Cleaning) es
+on_return v t es Unlinking = state (at_step t SyncingDir) es
+on_return v t es SyncingDir = state (begun v t) es
+on_return v t es Cleaning = state (failed v t) es
+on_return v t es Over = state (at_step t Over) es
+
+-- after a halt nothing is done or asked
+abbrev pub stepped : Variant → State → Reply → State
+stepped v s Go = on_go v s.tally s.effects s.tally.step
+stepped v s (Return text) = on_return v s.tally s.effects s.tally.step
+stepped v s Halt = state (at_step s.tally Over) s.effects
+
+-- ---- a whole run
+
+abbrev pub before_all : List (List (List ℕ)) → Tally
+before_all messages = record { step = Over; message = 0; attempt = First; chunks = []; rest = messages; acknowledged = [] }
+
+-- before a run the device is cleared
+abbrev pub start_of : Variant → List (List (List ℕ)) → State
+start_of v messages = state (begun v (before_all messages)) []
+
+abbrev pub laid : Variant → State → List Reply → State
+laid v s [] = s
+laid v s (a ∷ as') = laid v (stepped v s a) as'
+
+-- the point that a step asks
+abbrev pub point_at : Step → Option ℕ
+point_at Looking = Some stat_point
+point_at Creating = Some create_point
+point_at (Writing c cs) = Some write_point
+point_at Syncing = Some sync_point
+point_at Linking = Some link_point
+point_at Unlinking = Some unlink_point
+point_at SyncingDir = Some sync_dir_point
+point_at Cleaning = Some unlink_point
+point_at Over = None
+
+-- a point is asked; without one the run is over, with this judgement
+abbrev pub move_by : Judgement → Option ℕ → Move
+move_by j (Some p) = Ask p
+move_by j None = Done j
+
+abbrev pub move_of : List (List (List ℕ)) → State → Move
+move_of messages s = move_by (judged messages s.tally.acknowledged s.effects) (point_at s.tally.step)
+
+-- what is asked after these answers
+abbrev pub asks_of : Variant → List (List (List ℕ)) → List Reply → Move
+asks_of v messages answers = move_of messages (laid v (start_of v messages) answers)
+
+-- ---- laws
+
+step_within : (j : Judgement) (step : Step) → IsWithin 7 (move_by j (point_at step))
+step_within j Looking = omega arith
+step_within j Creating = omega arith
+step_within j (Writing c cs) = omega arith
+step_within j Syncing = omega arith
+step_within j Linking = omega arith
+step_within j Unlinking = omega arith
+step_within j SyncingDir = omega arith
+step_within j Cleaning = omega arith
+step_within j Over = tt
+
+-- each question is of one of the seven points
+pub asks-within : (v : Variant) (messages : List (List (List ℕ))) (answers : List Reply) → IsWithin 7 (asks_of v messages answers)
+asks-within v messages answers = let s = laid v (start_of v messages) answers in step_within (judged messages s.tally.acknowledged s.effects) s.tally.step
+
+over_stays : (v : Variant) (messages : List (List (List ℕ))) (t : Tally) (es : List Effect) (answers : List Reply) → IsDone (move_of messages (laid v (state (at_step t Over) es) answers))
+over_stays v messages t es [] = tt
+over_stays v messages t es (Go ∷ answers) = over_stays v messages t es answers
+over_stays v messages t es (Return text ∷ answers) = over_stays v messages t es answers
+over_stays v messages t es (Halt ∷ answers) = over_stays v messages t es answers
+
+halt_ends : (v : Variant) (messages : List (List (List ℕ))) (s : State) (before after : List Reply) → IsDone (move_of messages (laid v s (before ++ Halt ∷ after)))
+halt_ends v messages s [] after = over_stays v messages s.tally s.effects after
+halt_ends v messages s (a ∷ before) after = halt_ends v messages (stepped v s a) before after
+
+-- no question follows a halt
+pub asks-halts : (v : Variant) (messages : List (List (List ℕ))) (before after : List Reply) → IsDone (asks_of v messages (before ++ Halt ∷ after))
+asks-halts v messages before after = halt_ends v messages (start_of v messages) before after

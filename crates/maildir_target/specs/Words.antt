@@ -1,0 +1,70 @@
+-- Names and numbers of the delivery: points, labels, codes of failures, and the names on the device.
+use Rattle.std.specs.Prelude.{ℕ, ◌+◌, ◌*◌, ◌==◌, if◌then◌else◌, List, [], ◌∷◌, codes}
+use Rattle.maildir_target.specs.declared.variant.Variant.{Variant}
+use Rattle.maildir_target.specs.declared.variant.Variant.TheVariants.{Sound, LinkFirst, IgnoreWrite, AppendTmp}
+use Rattle.maildir_target.specs.declared.name.Folder.{Folder}
+use Rattle.maildir_target.specs.declared.name.Folder.TheVariants as folder
+use Rattle.maildir_target.specs.declared.name.Attempt.{Attempt}
+use Rattle.maildir_target.specs.declared.name.Attempt.TheVariants.{First, Second}
+use Rattle.maildir_target.specs.declared.name.Name.{Name}
+
+-- the points, in the order of their numbers
+abbrev pub point_names : List (List ℕ)
+point_names =
+    codes "maildir::stat" ∷ codes "maildir::create" ∷ codes "maildir::write" ∷ codes "maildir::sync" ∷ codes "maildir::link" ∷ codes "maildir::unlink" ∷ codes "maildir::sync_dir" ∷ []
+
+abbrev pub stat_point : ℕ
+stat_point = 0
+
+abbrev pub create_point : ℕ
+create_point = 1
+
+abbrev pub write_point : ℕ
+write_point = 2
+
+abbrev pub sync_point : ℕ
+sync_point = 3
+
+abbrev pub link_point : ℕ
+link_point = 4
+
+abbrev pub unlink_point : ℕ
+unlink_point = 5
+
+abbrev pub sync_dir_point : ℕ
+sync_dir_point = 6
+
+abbrev pub label : Variant → List ℕ
+label Sound = codes "maildir sound"
+label LinkFirst = codes "maildir link_first"
+label IgnoreWrite = codes "maildir ignore_write"
+label AppendTmp = codes "maildir append_tmp"
+
+-- the codes of failures: a delivered message that isn't whole, and an acknowledged message that is gone
+abbrev pub torn : ℕ
+torn = 0
+
+abbrev pub lost : ℕ
+lost = 1
+
+abbrev pub code_text : ℕ → List ℕ
+code_text code = if code == torn then codes "torn" else codes "lost"
+
+-- the names on the device, by their numbers: four for each message, which is itself numbered from 1
+abbrev pub folder_part : Folder → ℕ
+folder_part folder.Tmp = 0
+folder_part folder.New = 1
+
+abbrev pub attempt_part : Attempt → ℕ
+attempt_part First = 0
+attempt_part Second = 2
+
+abbrev pub number_of : Name → ℕ
+number_of name = 4 * name.message + attempt_part name.attempt + folder_part name.folder
+
+-- `tmp/i.a` and `new/i.a`, of message i and attempt a
+abbrev pub tmp_name : ℕ → Attempt → ℕ
+tmp_name message attempt = number_of (record { folder = folder.Tmp; message = message; attempt = attempt })
+
+abbrev pub new_name : ℕ → Attempt → ℕ
+new_name message attempt = number_of (record { folder = folder.New; message = message; attempt = attempt })

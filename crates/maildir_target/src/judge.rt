@@ -1,0 +1,120 @@
+//! The judgement: what the names under `new/` hold after a power cut.
+ghost use Rattle.std.specs.Prelude.{◌≡◌, ◌≤◌, ◌∷◌, ℕ, List, length, not};
+ghost use Rattle.std.specs.Str.{bytes_eq};
+ghost use Rattle.sim_device.specs.FileEffects.{Effect, Live, held};
+ghost use Rattle.sim_device.specs.Disk.{StandsFor};
+ghost use Rattle.file_replace.specs.Work.{joined};
+ghost use Rattle.maildir_target.specs.Words.{new_name};
+ghost use Rattle.maildir_target.specs.Judgement.{differs, is_torn, has_torn, is_delivered, has_lost, judged_by, judged};
+
+use crate::name::{Attempt, Folder, Name};
+use file_replace::Chunks;
+use scenario_values::Text;
+use sim_device::FileDevice;
+use target_trait::Judgement;
+
+/// The code of a name under `new/` that holds anything but its whole message.
+pub const TORN: u32 = 0;
+/// The code of an acknowledged message without a name under `new/`.
+pub const LOST: u32 = 1;
+
+/// The name of a message under `new/`.
+fn new_name(message: u16, attempt: Attempt) -> u32
+    ensures { result ≡ new_name message attempt }
+{
+    let name = Name {
+        folder: Folder::New,
+        message,
+        attempt,
+    };
+    name.number()
+}
+
+/// Whether bytes are these chunks, one after another.
+fn chunks_are(chunks: &[Text], bytes: &[u8]) -> bool
+    ensures { result ≡ bytes_eq bytes.now (joined chunks.now) }
+{
+    let mut rest = bytes;
+    for chunk in chunks {
+        match rest.strip_prefix(chunk.as_str().as_bytes()) {
+            Some(after) => rest = after,
+            None => return false,
+        }
+    }
+    rest.is_empty()
+}
+
+/// Whether a name is there and holds anything but these chunks.
+fn differs(device: &FileDevice, name: u32, chunks: &[Text]) -> bool
+    ensures { (es : List Effect) → StandsFor device.now es → result ≡ differs (joined chunks.now) (held es Live name) }
+{
+    match device.read(name) {
+        Ok(bytes) => !chunks_are(chunks, bytes),
+        Err(_) => false,
+    }
+}
+
+/// Whether a name of this message under `new/` holds anything but the whole of it.
+fn is_torn(device: &FileDevice, message: u16, chunks: &[Text]) -> bool
+    ensures { (es : List Effect) → StandsFor device.now es → result ≡ is_torn es message (joined chunks.now) }
+{
+    differs(device, new_name(message, Attempt::First), chunks)
+        || differs(device, new_name(message, Attempt::Second), chunks)
+}
+
+/// Whether that is so of one of these messages.
+fn has_torn(device: &FileDevice, messages: &[Chunks]) -> bool
+    requires { length messages.now ≤ 1000 }
+    ensures { (es : List Effect) → StandsFor device.now es → result ≡ has_torn es 1 messages.now }
+{
+    let mut number = 1;
+    for message in messages {
+        if is_torn(device, number, message.as_slice()) {
+            return true;
+        }
+        number += 1;
+    }
+    false
+}
+
+/// Whether a message has a name under `new/`.
+fn is_delivered(device: &FileDevice, message: u16) -> bool
+    ensures { (es : List Effect) → StandsFor device.now es → result ≡ is_delivered es message }
+{
+    device.exists(new_name(message, Attempt::First))
+        || device.exists(new_name(message, Attempt::Second))
+}
+
+/// Whether one of these messages, by their numbers, has no name under `new/`.
+fn has_lost(device: &FileDevice, messages: &[u16]) -> bool
+    ensures { (es : List Effect) → StandsFor device.now es → result ≡ has_lost es messages.now }
+{
+    for message in messages {
+        if !is_delivered(device, *message) {
+            return true;
+        }
+    }
+    false
+}
+
+/// The judgement of what is known of a device.
+fn judgement(is_one_torn: bool, is_one_lost: bool) -> Judgement
+    ensures { result ≡ judged_by is_one_torn is_one_lost }
+{
+    if is_one_torn {
+        Judgement::Broken(TORN)
+    } else if is_one_lost {
+        Judgement::Broken(LOST)
+    } else {
+        Judgement::Kept
+    }
+}
+
+/// Cuts the power, and judges what the device then holds of these messages, of which these numbers were acknowledged.
+pub fn judge(device: &mut FileDevice, messages: &[Chunks], acknowledged: &[u16]) -> Judgement
+    requires { length messages.now ≤ 1000 }
+    ensures { (es : List Effect) → StandsFor device.old es → result ≡ judged messages.now acknowledged.now es }
+{
+    device.power_cut();
+    judgement(has_torn(device, messages), has_lost(device, acknowledged))
+}

@@ -1,0 +1,21 @@
+//! Maildir delivery, as a target, in four variants.
+#![tactic(auto)]
+
+mod disk;
+mod judge;
+mod maildir;
+mod messages;
+mod name;
+mod play;
+mod progress;
+mod stage;
+mod steps;
+mod variant;
+
+pub use judge::{LOST, TORN};
+pub use maildir::Maildir;
+pub use messages::Messages;
+pub use variant::Variant;
+
+#[cfg(test)]
+mod tests;

@@ -1,0 +1,117 @@
+ghost use Rattle.std.specs.Prelude.{◌≡◌, IfOk};
+ghost use Rattle.std.proofs.Common.{rules};
+ghost use Rattle.action_eval.specs.Answers.{start};
+ghost use Rattle.target_trait.specs.Play.{IsPlay};
+ghost use Rattle.maildir_target.specs.Words.{label, code_text, point_names};
+ghost use Rattle.maildir_target.specs.Steps.{asks_of, asks-within, asks-halts};
+
+use crate::judge::TORN;
+use crate::messages::Messages;
+use crate::play::play;
+use crate::variant::Variant;
+use sim_device::FileDevice;
+use std::alloc::{AllocError, Global};
+use std::marker::Model;
+use target_trait::{Judgement, Session, Target};
+
+/// Maildir delivery, as a target. Its setup, which is all that contracts see of it, is the variant.
+///
+/// A run delivers the messages of its workload one after another, as the maildir manual page has it: each is written to a file under
+/// `tmp/`, chunk by chunk, which is then linked under `new/`. A message has two attempts at most. At the end the power is cut; what
+/// then stands under `new/` must be whole messages, and no acknowledged one may be missing.
+///
+/// The device is kept from run to run for its memory alone: each run clears it first.
+#[derive(Drop)]
+pub struct Maildir {
+    alloc: Global,
+    variant: Variant,
+    device: FileDevice,
+}
+
+impl Model for Maildir {
+    ghost use Rattle.maildir_target.specs.declared.variant.Variant.{Variant};
+
+    ghost Value = { Variant };
+
+    ghost view = { λ m. m.variant };
+}
+
+impl Maildir {
+    /// A target of this variant. It takes no memory.
+    pub fn new(alloc: Global, variant: Variant) -> Self
+        ensures { result ≡ variant }
+    {
+        Maildir {
+            alloc,
+            variant,
+            device: FileDevice::new(alloc),
+        }
+    }
+}
+
+impl Target for Maildir {
+    type Workload = Messages;
+
+    ghost names = { point_names };
+
+    ghost label_of = { label };
+
+    ghost code_text = { code_text };
+
+    ghost asks = { asks_of };
+
+    fn label(&self) -> &'static str {
+        match self.variant {
+            Variant::Sound => "maildir sound",
+            Variant::LinkFirst => "maildir link_first",
+            Variant::IgnoreWrite => "maildir ignore_write",
+            Variant::AppendTmp => "maildir append_tmp",
+        }
+    }
+
+    fn catalogue() -> &'static [&'static str] {
+        &[
+            "maildir::stat",
+            "maildir::create",
+            "maildir::write",
+            "maildir::sync",
+            "maildir::link",
+            "maildir::unlink",
+            "maildir::sync_dir",
+        ]
+    }
+
+    fn code_name(code: u32) -> &'static str {
+        if code == TORN { "torn" } else { "lost" }
+    }
+
+    fn twin(&self) -> Result<Self, AllocError> {
+        Ok(Maildir::new(self.alloc, self.variant))
+    }
+
+    fn run(
+        &mut self,
+        messages: &Messages,
+        session: &mut Session<'_>,
+    ) -> Result<Judgement, AllocError>
+        requires new { session.old ≡ start session.old.given }
+        requires points { session.old.given.catalogue ≡ point_names }
+        ensures play { IfOk result (IsPlay (asks_of self.old messages.now) session.new) }
+        ensures given { session.new.given ≡ session.old.given }
+        ensures setup { self.new ≡ self.old }
+    {
+        play(
+            self.alloc,
+            self.variant,
+            messages,
+            &mut self.device,
+            session,
+        )
+    }
+
+    ghost within = { asks-within };
+
+    ghost halts = { asks-halts };
+
+    ghost lawful = { Prim.search rules };
+}

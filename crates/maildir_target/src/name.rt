@@ -1,0 +1,59 @@
+ghost use Rattle.std.specs.Prelude.{◌≡◌, ◌≤◌};
+ghost use Rattle.maildir_target.specs.Words.{number_of, folder_part, attempt_part};
+
+/// A folder of the mail box.
+#[derive(Clone, Copy)]
+pub enum Folder {
+    /// Where a message is written.
+    Tmp,
+    /// Where it is delivered.
+    New,
+}
+
+/// An attempt at one message. There are at most two.
+#[derive(Clone, Copy)]
+pub enum Attempt {
+    First,
+    Second,
+}
+
+impl Folder {
+    fn part(self) -> u32
+        ensures is { result ≡ folder_part self }
+        ensures small { result ≤ 1 }
+    {
+        match self {
+            Folder::Tmp => 0,
+            Folder::New => 1,
+        }
+    }
+}
+
+impl Attempt {
+    fn part(self) -> u32
+        ensures is { result ≡ attempt_part self }
+        ensures small { result ≤ 2 }
+    {
+        match self {
+            Attempt::First => 0,
+            Attempt::Second => 2,
+        }
+    }
+}
+
+/// The name `tmp/i.a` or `new/i.a` of message i, numbered from 1, and attempt a.
+#[derive(Clone, Copy)]
+pub struct Name {
+    pub folder: Folder,
+    pub message: u16,
+    pub attempt: Attempt,
+}
+
+impl Name {
+    /// The number that stands for the name on the device.
+    pub fn number(self) -> u32
+        ensures { result ≡ number_of self }
+    {
+        4 * u32::from(self.message) + self.attempt.part() + self.folder.part()
+    }
+}

@@ -1,0 +1,13 @@
+/// How a delivery goes about its steps.
+#[derive(Clone, Copy, Debug, PartialEq, Eq)]
+pub enum Variant {
+    /// Look, create, write, sync, link, remove the name under `tmp/`, sync the directory: a message is acknowledged only once all of
+    /// it lasts, and no name under `new/` leads to a file that isn't whole and synced.
+    Sound,
+    /// The name under `new/` is made directly after the file, before anything is written.
+    LinkFirst,
+    /// A write that fails is taken for one that went well, though only half of the chunk was written.
+    IgnoreWrite,
+    /// Both attempts use the names of the first, without a look, and what a failed attempt left under `tmp/` is written on.
+    AppendTmp,
+}
