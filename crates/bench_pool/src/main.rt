@@ -7,11 +7,10 @@ mod mixer;
 
 use mixer::{Mixer, mixed};
 use std::alloc::{AllocError, Global};
-use std::io;
 use std::sync::Wait;
-use std::thread;
 use std::thread::Threads;
 use std::time::{Clock, Duration, Instant};
+use std::{io, thread};
 use target_trait::FreeGate;
 use worker_pool::{Hand, run_all};
 
@@ -55,9 +54,12 @@ fn by_slices<R: Threads + Sync + Clock>(
     let start = Instant::now(rt)?;
     let mut slots = slots(alloc)?;
     let threads = (threads as usize).max(1);
-    thread::for_each_mut(rt, &mut slots, threads, &|_, slot: &mut (u32, u64)| {
-        slot.1 = mixed(slot.0, rounds)
-    });
+    thread::for_each_mut(
+        rt,
+        &mut slots,
+        threads,
+        &|_, slot: &mut (u32, u64)| { slot.1 = mixed(slot.0, rounds) },
+    );
     let mut sum = 0u64;
     for slot in slots.iter() {
         sum = sum.wrapping_add(slot.1);
@@ -104,7 +106,12 @@ fn by_pool<R: Threads + Wait + Sync + Clock>(
     })
 }
 
-fn show(rt: &(impl Print + io::Eprint), way: &str, rounds: u32, figures: &Figures) -> io::Result<()> {
+fn show(
+    rt: &(impl Print + io::Eprint),
+    way: &str,
+    rounds: u32,
+    figures: &Figures,
+) -> io::Result<()> {
     let nanos = figures.time.as_nanos() / u128::from(TICKETS);
     let performed = figures.performed;
     let sum = figures.sum;
@@ -115,12 +122,37 @@ fn show(rt: &(impl Print + io::Eprint), way: &str, rounds: u32, figures: &Figure
 fn main(rt: HostRuntime) -> io::Result<()> {
     for rounds in [0u32, 500] {
         show(&rt, "plain loop", rounds, &by_loop(&rt, rounds)?)?;
-        show(&rt, "1 thread", rounds, &by_slices(&rt, rt.alloc(), 1, rounds)?)?;
+        show(
+            &rt,
+            "1 thread",
+            rounds,
+            &by_slices(&rt, rt.alloc(), 1, rounds)?,
+        )?;
         show(&rt, "1 hand", rounds, &by_pool(&rt, rt.alloc(), 1, rounds)?)?;
-        show(&rt, "2 threads", rounds, &by_slices(&rt, rt.alloc(), 2, rounds)?)?;
-        show(&rt, "2 hands", rounds, &by_pool(&rt, rt.alloc(), 2, rounds)?)?;
-        show(&rt, "4 threads", rounds, &by_slices(&rt, rt.alloc(), 4, rounds)?)?;
-        show(&rt, "4 hands", rounds, &by_pool(&rt, rt.alloc(), 4, rounds)?)?;
+        show(
+            &rt,
+            "2 threads",
+            rounds,
+            &by_slices(&rt, rt.alloc(), 2, rounds)?,
+        )?;
+        show(
+            &rt,
+            "2 hands",
+            rounds,
+            &by_pool(&rt, rt.alloc(), 2, rounds)?,
+        )?;
+        show(
+            &rt,
+            "4 threads",
+            rounds,
+            &by_slices(&rt, rt.alloc(), 4, rounds)?,
+        )?;
+        show(
+            &rt,
+            "4 hands",
+            rounds,
+            &by_pool(&rt, rt.alloc(), 4, rounds)?,
+        )?;
     }
     Ok(())
 }

@@ -27,9 +27,10 @@ impl Job for Mixer {
     ghost use Rattle.std.specs.Prelude.{◌^◌, ⊤};
 
     type Answer = u64;
+
     type Setup = Setup;
 
-    ghost setup = { λ _. record { } };
+    ghost setup = { λ _. record {} };
 
     ghost limit = { λ _. 2 ^ 32 };
 

@@ -1,9 +1,10 @@
-//! What parsing and printing a scenario costs: counts of work on standard output, times on standard error.
+//! What parsing, printing, keeping and tidying a scenario costs: counts of work on standard output, times on standard error.
 //!
 //! A word on the command line says how many times each is done, as in `bench_scenario 1000`.
 #![tactic(auto)]
 
-use scenario_grammar::{Scenario, parse, print};
+use scenario_grammar::{Scenario, are_faults, faults, keep, parse, print, tidy};
+use scenario_values::faults_are_counted;
 use std::alloc::{AllocError, Global};
 use std::fmt::Write;
 use std::rt::Clock;
@@ -46,7 +47,53 @@ fn tell(rt: &impl Eprint, what: &str, bytes: usize, rounds: u32, took: Duration)
     eprintln!(rt; "{what} of {bytes} bytes: {each} ns, {byte} ps a byte")
 }
 
-/// Parses and prints a text of so many entries and terms, so many times.
+/// Every second one of so many faults.
+fn every_second(alloc: Global, count: u32) -> Result<Vec<u32>, AllocError> {
+    let mut set = Vec::new(alloc);
+    for place in 0..count / 2 {
+        set.push(2 * place)?;
+    }
+    Ok(set)
+}
+
+/// Keeps every second fault of a scenario, and tidies it, so many times.
+fn measure_edits(
+    rt: &(impl AllocGlobal + Print + Eprint + Clock),
+    scenario: &Scenario,
+    bytes: usize,
+    rounds: u32,
+) -> anyhow::Result<()> {
+    let alloc = rt.alloc();
+    let count = faults(alloc, scenario)?.len();
+    faults_are_counted();
+    if count > 1024 {
+        return Err(anyhow::anyhow!("a scenario has too many faults"));
+    }
+    let set = every_second(alloc, count as u32)?;
+    if !are_faults(count as u32, &set) {
+        return Err(anyhow::anyhow!("every second fault is no set of faults"));
+    }
+    let start = Instant::now(rt)?;
+    let mut kept = keep(alloc, scenario, &set)?;
+    for _ in 1..rounds {
+        kept = keep(alloc, scenario, &set)?;
+    }
+    tell(rt, "keep", bytes, rounds, start.elapsed(rt)?)?;
+    let start = Instant::now(rt)?;
+    let mut tidied = tidy(alloc, &kept)?;
+    for _ in 1..rounds {
+        tidied = tidy(alloc, &kept)?;
+    }
+    tell(rt, "tidy", bytes, rounds, start.elapsed(rt)?)?;
+    println!(rt;
+        "{} of {count} faults kept, {} terms tidied",
+        set.len(),
+        count_terms(&tidied)
+    )?;
+    Ok(())
+}
+
+/// Parses and prints a text of so many entries and terms, and edits what it spells, so many times.
 fn measure(
     rt: &(impl AllocGlobal + Print + Eprint + Clock),
     entries: u32,
@@ -74,7 +121,7 @@ fn measure(
         count_terms(&scenario),
         printed.len()
     )?;
-    Ok(())
+    measure_edits(rt, &scenario, text.len(), rounds)
 }
 
 fn main(rt: HostRuntime) -> anyhow::Result<()> {

@@ -1,17 +1,15 @@
 use Rattle.std.proofs.Common.{◌≡◌, ℕ, ◌+◌, Bool, true, false, List, [], ◌∷◌, ◌++◌, map, refl, sym, ◌∙◌, ap, subst, cond, Option, None, Some}
 use Rattle.std.specs.List.{AllByRecursion}
-use Rattle.std.specs.FinMap.{get, insert, empty, get-insert, get-empty}
+use Rattle.std.specs.FinMap.{get, insert, get-insert, get-empty}
 use Rattle.std.specs.Cmp.Lexicographic.{slice_cmp}
 use Rattle.std.specs.Ordering.{nat_cmp}
 use Rattle.std.proofs.lemmas.Cmp.{nat_list_cmp_total}
 use Rattle.ddmin_parallel.specs.Ddmin.{Reduced, ddmin}
 use Rattle.ddmin_parallel.specs.CoreEvents as core
 use Rattle.ddmin_parallel.specs.CoreEvents.{Known, State, begin, apply, replay, position, Agrees, Position, End, same_set, start, furthest}
-use Rattle.ddmin_parallel.specs.Logs.{IsOwn, AreOwn, Tells, says, is_told, is_event_backed, is_backed, AreAnswers, AllAnswers, Log, state_of}
+use Rattle.ddmin_parallel.specs.Logs.{AreOwn, Tells, says, is_told, is_event_backed, is_backed, AreAnswers, AllAnswers, Log, state_of}
 use Rattle.std.proofs.lemmas.Bool.Decides.{nat_tests}
-use Rattle.std.proofs.Common.{arith, eqb, get_or, length, ℕ, ◌<◌, zero, suc}
-use Rattle.std.proofs.lemmas.List.Elements.{recursion_from_All}
-use Rattle.std.specs.Prelude.{All}
+use Rattle.std.proofs.Common.{arith, eqb, length, ℕ}
 use Rattle.std.specs.Prelude.{Vec, not, ◌&&◌, ◌||◌}
 use Rattle.std.specs.Global.{Global}
 use Rattle.std.specs.List.{list_any, list_all}

@@ -1,6 +1,6 @@
-use Rattle.std.proofs.Common.{◌≡◌, ℕ, zero, suc, ◌≤◌, Bool, true, false, ◌||◌, List, [], ◌∷◌, ◌++◌, refl, sym, ◌∙◌, ap, subst, cond, Option, None, Some, unwrap_or, inl, inr, add-one}
+use Rattle.std.proofs.Common.{◌≡◌, ℕ, zero, suc, ◌≤◌, Bool, true, false, ◌||◌, List, [], ◌∷◌, ◌++◌, refl, sym, ◌∙◌, ap, subst, cond, Option, None, Some, unwrap_or, inl, inr}
 use Rattle.std.specs.List.{list_any}
-use Rattle.std.specs.Ordering.{nat_cmp, is_eq}
+use Rattle.std.specs.Ordering.{nat_cmp}
 use Rattle.std.specs.FinMap.{get, insert, empty, get-insert, get-empty}
 use Rattle.std.specs.Cmp.Lexicographic.{slice_cmp}
 use Rattle.std.proofs.lemmas.Cmp.{nat_list_cmp_total}
@@ -11,7 +11,7 @@ use Rattle.ddmin_parallel.specs.CoreEvents.{Known, Answers, State, same_set, wit
 use Rattle.ddmin_parallel.specs.CoreStates.{AreOpen, IsSettled, IsLawful, IsSmall}
 use Rattle.ddmin_parallel.proofs.KnownLemmas.{exact_sets, is_equal}
 use Rattle.ddmin_parallel.proofs.Walk.{furthest_more, furthest_lawful, furthest_small, furthest_stop, furthest_stuck, start_lawful, start_small}
-use Rattle.std.specs.Prelude.{◌⊎◌, is_some, Result, Ok, Err, IfOk, OnErr}
+use Rattle.std.specs.Prelude.{is_some, Result, Ok, Err, IfOk, OnErr}
 use Rattle.ddmin_parallel.specs.Candidates.{candidate}
 use Rattle.ddmin_parallel.specs.Stages.{position_of}
 use Rattle.ddmin_parallel.specs.Cursors.{is_shut, is_among, IsShutBelow, IsCounted, IsReached, IsAdvanced, onward, moved, stage_after, next_at, out_after}

@@ -1,7 +1,7 @@
-use Rattle.std.specs.Prelude.{◌≡◌, ℕ, Bool, true, false, List, Option, None, Some, length, ◌≤◌}
+use Rattle.std.specs.Prelude.{◌≡◌, ℕ, true, false, List, Option, None, Some}
 use Rattle.std.specs.List.{list_any}
 use Rattle.ddmin_parallel.specs.Ddmin.{Reduced}
-use Rattle.ddmin_parallel.specs.CoreEvents.{State, same_set, is_out, Position, Empty, Round, End}
+use Rattle.ddmin_parallel.specs.CoreEvents.{State, same_set, Position, End}
 use Rattle.ddmin_parallel.specs.declared.reducer_core.CardFault.{CardFault}
 use Rattle.ddmin_parallel.specs.declared.reducer_core.CardFault.TheVariants.{Stranger, Memory}
 

@@ -1,9 +1,9 @@
-use Rattle.std.specs.Prelude.{◌≡◌, ℕ, zero, suc, Bool, true, false, List, [], ◌∷◌, ◌++◌, ◌&&◌, ◌||◌, ◌==◌, map, refl, if◌then◌else◌, not, Vec, Option, None, Some}
+use Rattle.std.specs.Prelude.{◌≡◌, ℕ, zero, suc, Bool, true, false, List, [], ◌∷◌, ◌++◌, ◌&&◌, ◌==◌, refl, if◌then◌else◌, not, Vec, Option, None, Some}
 use Rattle.std.specs.Global.{Global}
 use Rattle.std.specs.FinMap.{get}
 use Rattle.std.specs.List.{list_any, list_all, AllByRecursion}
-use Rattle.std.specs.Coded.{Coded, code_by, coded×, coded⊎, coded_ℕ, coded_bool, coded_list}
-use Rattle.ddmin_parallel.specs.CoreEvents.{State, begin, apply, replay, Event, Take, Put, GiveBack, Recall, is_out, same_set, Agrees}
+use Rattle.std.specs.Coded.{Coded, code_by, coded×, coded_ℕ, coded_bool, coded_list}
+use Rattle.ddmin_parallel.specs.CoreEvents.{State, begin, replay, Event, Take, Put, GiveBack, Recall, is_out, same_set, Agrees}
 
 -- how many faults there are, and what happened
 pub record Log : Type 0 where

@@ -1,4 +1,3 @@
-use Rattle.std.specs.Prelude.{ℕ}
 use Rattle.ddmin_parallel.specs.CoreEvents.{Position, Empty, Round, End}
 use Rattle.ddmin_parallel.specs.declared.stage.Stage.{Stage}
 use Rattle.ddmin_parallel.specs.declared.stage.Stage.TheVariants as stages

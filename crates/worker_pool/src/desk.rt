@@ -14,6 +14,8 @@ pub struct Next {
     pub ghost part: { (view seat).parts ≡ 1 },
 }
 
+/// A station's own deque, the thief's seat at the next station's, if there is one, and the ticket that it kept where memory
+/// was refused.
 #[derive(Drop)]
 pub struct Desk {
     pub own: Owner,

@@ -139,14 +139,14 @@ pub fn run_all<J: Job, G: Gate, R: Threads + Wait + Sync>(
     ensures many { IfOk result (λ g. vec_len g.answers ≡ vec_len hands) }
     ensures right { IfOk result (λ g. (k : ℕ) (h : _) (l : _) → k < vec_len hands
         → All (λ p. J.answers (J.setup (hand_job (slice_index_or hands.items k h))) p.0 p.1)
-              (slice_index_or g.answers.items k l).items) }
+        (slice_index_or g.answers.items k l).items) }
     ensures once { IfOk result (λ g. EachOnce g.answers.items count) }
 
     // What the hands count, where the counter does not saturate.
     ensures counted { IfOk result (λ g. (k : ℕ) (h : _) (l : _) → k < vec_len hands
         → hand_performed (slice_index_or hands.items k h) + vec_len (slice_index_or g.answers.items k l) < 2 ^ 64
         → hand_performed (slice_index_or g.hands.items k h)
-            ≡ hand_performed (slice_index_or hands.items k h) + vec_len (slice_index_or g.answers.items k l)) }
+        ≡ hand_performed (slice_index_or hands.items k h) + vec_len (slice_index_or g.answers.items k l)) }
     ensures performed { IfOk result (λ g. sum_by hand_performed hands.items + count < 2 ^ 64
         → sum_by hand_performed g.hands.items ≡ sum_by hand_performed hands.items + count) }
 

@@ -1,4 +1,4 @@
-use Rattle.std.proofs.Common.{◌≡◌, ℕ, ◌<◌, Bool, true, get_or}
+use Rattle.std.proofs.Common.{◌≡◌, ℕ, ◌<◌, true, get_or}
 use Rattle.ddmin_parallel.specs.Logs.{is_event_backed}
 use Rattle.ddmin_parallel.specs.InsideBoard.{event_of}
 use Rattle.ddmin_parallel.specs.declared.board.Event.{Event}

@@ -1,10 +1,8 @@
-use Rattle.std.proofs.Common.{◌≡◌, ℕ, List, Bool, refl, sym, ◌∙◌, ap, subst, Option, Some}
-use Rattle.std.specs.Prelude.{IfOk}
+use Rattle.std.proofs.Common.{◌≡◌, sym, ◌∙◌, ap, subst}
 use Rattle.std.proofs.lemmas.Result.{IfOk-weaker}
-use Rattle.ddmin_parallel.specs.Ddmin.{ddmin, Reduced}
-use Rattle.ddmin_parallel.specs.CoreEvents.{State, after_take, apply, position, Put}
+use Rattle.ddmin_parallel.specs.Ddmin.{ddmin}
 use Rattle.ddmin_parallel.specs.Logs.{Tells}
-use Rattle.ddmin_parallel.proofs.BoardLemmas.{tells_start, tells_take, tells_put, tells_end}
+use Rattle.ddmin_parallel.proofs.BoardLemmas.{tells_take, tells_put, tells_end}
 use Rattle.ddmin_parallel.proofs.by_core.finish.Goals as goal
 
 pub returns-in-Some-clause-reduced : goal.returns-in-Some-clause-reduced

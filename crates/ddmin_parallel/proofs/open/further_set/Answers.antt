@@ -1,12 +1,12 @@
-use Rattle.std.proofs.Common.{◌≡◌, ℕ, List, Bool, Option, sym, ◌∙◌, ap, subst, None}
+use Rattle.std.proofs.Common.{◌≡◌, ℕ, List, Bool, Option, sym, subst, None}
 use Rattle.std.specs.FinMap.{get}
 use Rattle.ddmin_parallel.specs.Rounds.{Candidate}
 use Rattle.ddmin_parallel.specs.CoreEvents.{Answers, Position, step}
 use Rattle.ddmin_parallel.specs.CoreStates.{IsLawful, IsSmall}
 use Rattle.ddmin_parallel.specs.Stages.{position_of}
-use Rattle.ddmin_parallel.specs.Cursors.{IsShutBelow, Leads, follow, IsScan, is_among}
+use Rattle.ddmin_parallel.specs.Cursors.{Leads, follow, is_among}
 use Rattle.ddmin_parallel.proofs.Places.{sets}
-use Rattle.ddmin_parallel.proofs.Scans.{IsFollowed, followed, further_open, further_none}
+use Rattle.ddmin_parallel.proofs.Scans.{IsFollowed, followed}
 use Rattle.ddmin_parallel.proofs.open.further_set.Goals as goal
 
 on : (known : Answers) (out : List ℕ → Bool) (p q : Position) (o : Option Candidate) → IsLawful p → IsSmall p → step known p ≡ None → Leads known p o → q ≡ follow p o → IsFollowed known out p q

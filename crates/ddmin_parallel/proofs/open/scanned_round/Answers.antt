@@ -1,9 +1,7 @@
-use Rattle.std.proofs.Common.{◌≡◌, ℕ, ◌+◌, ◌<◌, Bool, true, false, List, sym, ◌∙◌, ap, subst, arith, Option, None, Some}
+use Rattle.std.proofs.Common.{◌≡◌, ℕ, true, false, List, sym, ◌∙◌, ap, subst, arith, Option, None, Some}
 use Rattle.std.specs.Prelude.{is_some}
-use Rattle.std.specs.List.{list_any}
 use Rattle.std.specs.FinMap.{get}
-use Rattle.ddmin_parallel.specs.Candidates.{candidate, candidates}
-use Rattle.ddmin_parallel.specs.CoreEvents.{Round, same_set}
+use Rattle.ddmin_parallel.specs.CoreEvents.{Round}
 use Rattle.ddmin_parallel.specs.CoreStates.{IsPlaceOf}
 use Rattle.ddmin_parallel.specs.Cursors.{is_among, IsShutBelow}
 use Rattle.ddmin_parallel.proofs.Places.{sets}

@@ -1,4 +1,3 @@
-use Rattle.std.proofs.Common.{◌≡◌, List, ℕ, map}
 use Rattle.std.specs.FinMap.{get}
 use Rattle.ddmin_parallel.specs.CoreEvents.{Round}
 use Rattle.ddmin_parallel.specs.Cursors.{IsShutBelow, is_among}

@@ -1,4 +1,4 @@
-use Rattle.std.proofs.Common.{sym, ◌∙◌, ap}
+use Rattle.std.proofs.Common.{◌∙◌, ap}
 use Rattle.ddmin_parallel.proofs.Places.{sets, some_taken, none_taken}
 use Rattle.ddmin_parallel.proofs.sets.take_from.Goals as goal
 

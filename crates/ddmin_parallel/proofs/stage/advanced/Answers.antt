@@ -1,6 +1,6 @@
-use Rattle.std.proofs.Common.{◌≡◌, ◌<◌, ℕ, sym, ◌∙◌, ap, subst}
+use Rattle.std.proofs.Common.{◌≡◌, ℕ, sym, ◌∙◌, subst}
 use Rattle.std.specs.FinMap.{get, insert}
-use Rattle.ddmin_parallel.specs.CoreEvents.{Position, Answers, step, furthest, position_rank}
+use Rattle.ddmin_parallel.specs.CoreEvents.{Position, Answers, furthest}
 use Rattle.ddmin_parallel.specs.CoreStates.{IsLawful, IsSmall}
 use Rattle.ddmin_parallel.specs.Stages.{position_of}
 use Rattle.ddmin_parallel.specs.Cursors.{IsStep, IsCounted}

@@ -1,11 +1,10 @@
-use Rattle.std.proofs.Common.{◌≡◌, ℕ, ◌+◌, Bool, true, false, refl, sym, ◌∙◌, ap, arith, Option, Some, None}
+use Rattle.std.proofs.Common.{◌≡◌, ◌+◌, false, sym, ◌∙◌, ap, arith, Some}
 use Rattle.std.specs.FinMap.{get, insert}
-use Rattle.ddmin_parallel.specs.Rounds.{round}
-use Rattle.ddmin_parallel.specs.Candidates.{candidate, candidates}
+use Rattle.ddmin_parallel.specs.Candidates.{candidate}
 use Rattle.ddmin_parallel.specs.CoreEvents.{decided}
 use Rattle.ddmin_parallel.proofs.Steps.{from}
 use Rattle.ddmin_parallel.proofs.KnownSteps.{decided_pass}
-use Rattle.ddmin_parallel.proofs.Counted.{extended, counted_times, counted_times_is, decided_moved}
+use Rattle.ddmin_parallel.proofs.Counted.{extended, counted_times_is, decided_moved}
 use Rattle.ddmin_parallel.proofs.stage.looked_at.Goals as goal
 
 pub loop-place-init : goal.loop-place-init

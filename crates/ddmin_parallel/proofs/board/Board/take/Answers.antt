@@ -1,4 +1,4 @@
-use Rattle.std.proofs.Common.{◌≡◌, sym, ◌∙◌, ap, subst, arith, ◌++◌, ◌∷◌, [], Some, IfSome}
+use Rattle.std.proofs.Common.{◌≡◌, ◌∙◌, ap, subst, arith, ◌++◌, ◌∷◌, [], IfSome}
 use Rattle.ddmin_parallel.specs.CoreEvents as core
 use Rattle.ddmin_parallel.specs.declared.board.Event.TheVariants.{Take}
 use Rattle.ddmin_parallel.proofs.BoardLemmas.{board_push, out_taken}

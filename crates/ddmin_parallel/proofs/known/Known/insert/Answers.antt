@@ -1,4 +1,4 @@
-use Rattle.std.proofs.Common.{refl, sym, ◌∙◌, ap, subst, OnOk, Result, Ok, Err}
+use Rattle.std.proofs.Common.{◌∙◌, ap}
 use Rattle.std.specs.FinMap as map
 use Rattle.ddmin_parallel.specs.Entries.{plain}
 use Rattle.ddmin_parallel.proofs.KnownLemmas.{insert_plain, set_cmp}

@@ -1,4 +1,4 @@
-use Rattle.std.proofs.Common.{sym, ◌∙◌, ap, subst}
+use Rattle.std.proofs.Common.{sym, subst}
 use Rattle.std.specs.FinMap.{get}
 use Rattle.ddmin_parallel.specs.CoreEvents.{position}
 use Rattle.ddmin_parallel.specs.CoreStates.{AreOpen}

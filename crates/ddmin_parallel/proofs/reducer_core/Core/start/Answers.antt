@@ -1,7 +1,6 @@
-use Rattle.std.proofs.Common.{refl, sym, ◌∙◌, ap, subst, ◌≡◌, ℕ, zero, suc, ◌<◌, arith, List, [], true, false}
+use Rattle.std.proofs.Common.{refl, sym, ◌∙◌, ap, subst, ◌≡◌, ℕ, zero, suc, ◌<◌, arith, []}
 use Rattle.ddmin_parallel.specs.Ddmin.{kept_after}
-use Rattle.ddmin_parallel.specs.CoreEvents.{position, Known, Position, Empty, End, start}
-use Rattle.ddmin_parallel.specs.CoreStates.{AreOpen}
+use Rattle.ddmin_parallel.specs.CoreEvents.{position, Empty, End, start}
 use Rattle.ddmin_parallel.specs.Stages.{position_of}
 use Rattle.ddmin_parallel.proofs.Places.{sets}
 use Rattle.ddmin_parallel.proofs.CoreLemmas.{IsGood, good_start}

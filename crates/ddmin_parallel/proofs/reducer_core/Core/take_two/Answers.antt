@@ -1,12 +1,12 @@
-use Rattle.std.proofs.Common.{refl, sym, ◌∙◌, ap, subst, ◌≡◌, ℕ, Bool, false, List, ◌++◌, ◌∷◌, [], Option, None, Some}
-use Rattle.ddmin_parallel.specs.CoreEvents.{position, State, next, option_then}
+use Rattle.std.proofs.Common.{◌∙◌, ap, ◌≡◌}
+use Rattle.ddmin_parallel.specs.CoreEvents.{position, next, option_then}
 use Rattle.ddmin_parallel.specs.Stages.{position_of}
 use Rattle.std.specs.FinMap.{get}
 use Rattle.std.proofs.lemmas.Result.{IfOk-weaker}
 use Rattle.ddmin_parallel.specs.Inside.{state_of}
 use Rattle.ddmin_parallel.specs.Cursors.{is_among, next_at}
 use Rattle.ddmin_parallel.proofs.Places.{sets}
-use Rattle.ddmin_parallel.proofs.CoreLemmas.{IsGood, good_lawful, good_small, good_stuck, next_is, handed_open}
+use Rattle.ddmin_parallel.proofs.CoreLemmas.{good_lawful, good_small, good_stuck, next_is, handed_open}
 use Rattle.ddmin_parallel.proofs.reducer_core.Core.take_two.Goals as goal
 
 pub hand_out-requires-clause-lawful : goal.hand_out-requires-clause-lawful
