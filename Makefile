@@ -4,6 +4,10 @@
 run:
 	@cd crates/paklour && rt try < stdin
 
+# Tries each scenario of examples/, again without a proof, and compares what is written with the file NAME.stdout beside it.
+examples:
+	@cd crates/paklour && rt try --cases ../../examples
+
 # Everything: the house rules, every proof from nothing, the must-fail edits, the tests and the program.
 test:
 	@tools/house_rules
@@ -25,4 +29,4 @@ refuse:
 bench:
 	@bench/run
 
-.PHONY: run test check fmt refuse bench
+.PHONY: run examples test check fmt refuse bench
