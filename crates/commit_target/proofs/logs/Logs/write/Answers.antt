@@ -1,0 +1,10 @@
+use Rattle.std.proofs.Common.{OnOk, sym, subst}
+use Rattle.commit_target.specs.declared.records.Write.{Write}
+use Rattle.commit_target.specs.Writes.{Written, AddsEvent}
+use Rattle.commit_target.proofs.logs.Logs.write.Goals as goal
+
+pub returns-in-Append : goal.returns-in-Append
+returns-in-Append c = subst (λ (w : Write). OnOk c.append.result (AddsEvent c.args.self.now c.append.new.self (Written w))) (sym c.in-Append.is) c.append.ensures
+
+pub returns-in-Force : goal.returns-in-Force
+returns-in-Force c = subst (λ (w : Write). OnOk c.force.result (AddsEvent c.args.self.now c.force.new.self (Written w))) (sym c.in-Force.is) c.force.ensures

@@ -1,0 +1,12 @@
+use Rattle.std.proofs.Common.{◌≡◌, ◌+◌, ◌-◌, length}
+use Rattle.commit_target.specs.Seen.{Played}
+use Rattle.commit_target.proofs.play.play.Given as goal
+
+abbrev pub invariant-loop-point : goal.invariant-loop-point
+invariant-loop-point l = record {
+  given : l.session.given ≡ l.fn.session.given;
+  played : Played l.variant l.workload l.session l.progress l.logs;
+}
+
+abbrev pub decreases-loop-point : goal.decreases-loop-point
+decreases-loop-point l = l.session.given.limit + 1 - length l.session.hits

@@ -1,0 +1,6 @@
+pub mod Words
+pub mod Work
+pub mod Writes
+pub mod Judgement
+pub mod Steps
+pub mod Seen

@@ -1,0 +1,292 @@
+-- The steps of a run, laid against the list of answers: what is asked, what each answer writes and where it leads. The protocol is
+-- two-phase commit with presumed abort: a yes is sent on a forced prepare record, the decision to commit is a forced commit record, a
+-- commit is acknowledged and then ended, and an abort is neither recorded by the coordinator nor acknowledged.
+use Rattle.std.specs.Prelude.{ℕ, ◌+◌, ◌-◌, ◌==◌, nat_lt, if◌then◌else◌, Bool, true, false, List, [], ◌∷◌, ◌++◌, Option, Some, None, length, slice_index_or}
+use Rattle.action_eval.specs.Answers.{Reply, Go, Return, Halt}
+use Rattle.target_trait.specs.declared.judgement.Judgement.{Judgement}
+use Rattle.target_trait.specs.Play.{Move, Ask, Done, IsWithin, IsDone}
+use Rattle.std.proofs.Common.{arith}
+use Rattle.commit_target.specs.declared.variant.Variant.{Variant}
+use Rattle.commit_target.specs.declared.variant.Variant.TheVariants.{Sound, LazyPrepare, EarlyEnd, TwoTries}
+use Rattle.commit_target.specs.declared.work.Vote.{Vote}
+use Rattle.commit_target.specs.declared.work.Vote.TheVariants.{Yes, No}
+use Rattle.commit_target.specs.declared.records.Record.{Record}
+use Rattle.commit_target.specs.declared.records.Kind.{Kind}
+use Rattle.commit_target.specs.declared.records.Kind.TheVariants as kind
+use Rattle.commit_target.specs.declared.records.Party.TheVariants.{Coordinator, Participant}
+use Rattle.commit_target.specs.declared.records.Write.{Write}
+use Rattle.commit_target.specs.declared.records.Write.TheVariants.{Append, Force}
+use Rattle.commit_target.specs.declared.step.Step.{Step}
+use Rattle.commit_target.specs.declared.step.Step.TheVariants.{SendPrepare, ForcePrepare, SendVote, ForceCommit, ForceCommitAgain, SendCommit, ForceOutcome, SendAck, SendAbort, Over}
+use Rattle.commit_target.specs.Words.{send_prepare_point, force_prepare_point, send_vote_point, force_commit_point, send_outcome_point, force_outcome_point, send_ack_point}
+use Rattle.commit_target.specs.Work.{Work, wish}
+use Rattle.commit_target.specs.Writes.{Event, Written}
+use Rattle.commit_target.specs.Judgement.{judged}
+
+-- how far the transactions have come
+pub record Tally : Type 0 where
+  pub step : Step
+  -- how many transactions were begun; the last of them is under way
+  pub begun : ℕ
+  -- the participants whose yes arrived, in order
+  pub yes : List ℕ
+  -- whether every participant so far has acknowledged the commit
+  pub acknowledged : Bool
+  -- the transactions of which the client was told that they are committed
+  pub told : List ℕ
+
+-- that, and what befell the logs, the newest first
+pub record State : Type 0 where
+  pub tally : Tally
+  pub events : List Event
+
+-- the number of the transaction under way, from 0
+abbrev pub number : Tally → ℕ
+number t = t.begun - 1
+
+abbrev pub at_step : Tally → Step → Tally
+at_step t step = record { step = step; begun = t.begun; yes = t.yes; acknowledged = t.acknowledged; told = t.told }
+
+abbrev pub with_yes : Tally → ℕ → Tally
+with_yes t i = record { step = t.step; begun = t.begun; yes = t.yes ++ i ∷ []; acknowledged = t.acknowledged; told = t.told }
+
+-- an acknowledgement is missing
+abbrev pub unacknowledged : Tally → Tally
+unacknowledged t = record { step = t.step; begun = t.begun; yes = t.yes; acknowledged = false; told = t.told }
+
+-- the client is told that the transaction under way is committed
+abbrev pub with_told : Tally → Tally
+with_told t = record { step = t.step; begun = t.begun; yes = t.yes; acknowledged = t.acknowledged; told = t.told ++ number t ∷ [] }
+
+-- the first of so many, and the one after another of them
+abbrev pub first_of : ℕ → Option ℕ
+first_of count = if nat_lt 0 count then Some 0 else None
+
+abbrev pub next_of : ℕ → ℕ → Option ℕ
+next_of i count = if nat_lt (i + 1) count then Some (i + 1) else None
+
+-- ---- between transactions
+
+-- the next transaction is begun, if there is one: its question is the next
+abbrev pub begun : Work → Tally → Tally
+begun w t =
+    if nat_lt t.begun (length w.transactions)
+    then record { step = SendPrepare 0; begun = t.begun + 1; yes = []; acknowledged = true; told = t.told }
+    else at_step t Over
+
+-- ---- the second phase
+
+-- an outcome of commit is sent to this participant; without one the transaction is over
+abbrev pub commit_to : Work → Tally → Option ℕ → Tally
+commit_to w t (Some i) = at_step t (SendCommit i)
+commit_to w t None = begun w t
+
+abbrev pub after_commit_to : Work → Tally → ℕ → Tally
+after_commit_to w t i = commit_to w t (next_of i w.participants)
+
+-- an outcome of abort is sent to those whose yes arrived
+abbrev pub abort_to : Work → Tally → Option ℕ → Tally
+abort_to w t (Some k) = at_step t (SendAbort k)
+abort_to w t None = begun w t
+
+abbrev pub aborted : Work → Tally → Tally
+aborted w t = abort_to w t (first_of (length t.yes))
+
+abbrev pub after_abort_to : Work → Tally → ℕ → Tally
+after_abort_to w t k = abort_to w t (next_of k (length t.yes))
+
+-- the decision is commit, and the client is told
+abbrev pub committed : Tally → Tally
+committed t = at_step (with_told t) (SendCommit 0)
+
+-- ---- the first phase
+
+-- commit only where every participant's yes arrived
+abbrev pub decided : Work → Tally → Tally
+decided w t = if length t.yes == w.participants then at_step t ForceCommit else aborted w t
+
+abbrev pub prepare_to : Work → Tally → Option ℕ → Tally
+prepare_to w t (Some i) = at_step t (SendPrepare i)
+prepare_to w t None = decided w t
+
+-- the participant has voted, or its vote is lost
+abbrev pub after_vote : Work → Tally → ℕ → Tally
+after_vote w t i = prepare_to w t (next_of i w.participants)
+
+-- one that wishes yes prepares first
+abbrev pub vote_step : Vote → ℕ → Step
+vote_step Yes i = ForcePrepare i
+vote_step No i = SendVote i No
+
+abbrev pub with_vote : Tally → ℕ → Vote → Tally
+with_vote t i Yes = with_yes t i
+with_vote t i No = t
+
+-- two_tries forces the commit record once more
+abbrev pub after_no_commit : Variant → Work → Tally → Tally
+after_no_commit Sound w t = aborted w t
+after_no_commit LazyPrepare w t = aborted w t
+after_no_commit EarlyEnd w t = aborted w t
+after_no_commit TwoTries w t = at_step t ForceCommitAgain
+
+-- ---- the table of steps
+
+-- where a step leads that was answered to go on
+abbrev pub on_go : Variant → Work → Tally → Step → Tally
+on_go v w t (SendPrepare i) = at_step t (vote_step (wish w (number t) i) i)
+on_go v w t (ForcePrepare i) = at_step t (SendVote i Yes)
+on_go v w t (SendVote i vote) = after_vote w (with_vote t i vote) i
+on_go v w t ForceCommit = committed t
+on_go v w t ForceCommitAgain = committed t
+on_go v w t (SendCommit i) = at_step t (ForceOutcome i)
+on_go v w t (ForceOutcome i) = at_step t (SendAck i)
+on_go v w t (SendAck i) = after_commit_to w t i
+on_go v w t (SendAbort k) = after_abort_to w t k
+on_go v w t Over = at_step t Over
+
+-- where it leads where it was answered that it fails. What was sent is lost, and a participant that can't prepare votes no. After its
+-- second try two_tries goes on as if the commit record stood
+abbrev pub on_return : Variant → Work → Tally → Step → Tally
+on_return v w t (SendPrepare i) = after_vote w t i
+on_return v w t (ForcePrepare i) = at_step t (SendVote i No)
+on_return v w t (SendVote i vote) = after_vote w t i
+on_return v w t ForceCommit = after_no_commit v w t
+on_return v w t ForceCommitAgain = committed t
+on_return v w t (SendCommit i) = after_commit_to w (unacknowledged t) i
+on_return v w t (ForceOutcome i) = after_commit_to w (unacknowledged t) i
+on_return v w t (SendAck i) = after_commit_to w (unacknowledged t) i
+on_return v w t (SendAbort k) = after_abort_to w t k
+on_return v w t Over = at_step t Over
+
+-- ---- what is written
+
+abbrev pub entry : Tally → Kind → Record
+entry t k = record { transaction = number t; kind = k }
+
+-- lazy_prepare only appends it
+abbrev pub prepare_write : Variant → Tally → ℕ → Write
+prepare_write Sound t i = Force (Participant i) (entry t kind.Prepare)
+prepare_write LazyPrepare t i = Append (Participant i) (entry t kind.Prepare)
+prepare_write EarlyEnd t i = Force (Participant i) (entry t kind.Prepare)
+prepare_write TwoTries t i = Force (Participant i) (entry t kind.Prepare)
+
+-- the end record of a commit, once all have acknowledged; early_end forces it, whatever was acknowledged
+abbrev pub end_if : Bool → Tally → Option Write
+end_if all t = if all then Some (Append Coordinator (entry t kind.End)) else None
+
+abbrev pub end_write : Variant → Tally → Bool → Option Write
+end_write Sound t all = end_if all t
+end_write LazyPrepare t all = end_if all t
+end_write EarlyEnd t all = Some (Force Coordinator (entry t kind.End))
+end_write TwoTries t all = end_if all t
+
+-- the second phase of a commit is over with its last participant
+abbrev pub end_unless : Variant → Tally → Bool → Option ℕ → Option Write
+end_unless v t all (Some i) = None
+end_unless v t all None = end_write v t all
+
+abbrev pub go_write : Variant → Work → Tally → Step → Option Write
+go_write v w t (SendPrepare i) = None
+go_write v w t (ForcePrepare i) = Some (prepare_write v t i)
+go_write v w t (SendVote i vote) = None
+go_write v w t ForceCommit = Some (Force Coordinator (entry t kind.Commit))
+go_write v w t ForceCommitAgain = Some (Force Coordinator (entry t kind.Commit))
+go_write v w t (SendCommit i) = None
+go_write v w t (ForceOutcome i) = Some (Force (Participant i) (entry t kind.Commit))
+go_write v w t (SendAck i) = end_unless v t t.acknowledged (next_of i w.participants)
+go_write v w t (SendAbort k) = Some (Append (Participant (slice_index_or t.yes k 0)) (entry t kind.Abort))
+go_write v w t Over = None
+
+abbrev pub return_write : Variant → Work → Tally → Step → Option Write
+return_write v w t (SendPrepare i) = None
+return_write v w t (ForcePrepare i) = None
+return_write v w t (SendVote i vote) = None
+return_write v w t ForceCommit = None
+return_write v w t ForceCommitAgain = None
+return_write v w t (SendCommit i) = end_unless v t false (next_of i w.participants)
+return_write v w t (ForceOutcome i) = end_unless v t false (next_of i w.participants)
+return_write v w t (SendAck i) = end_unless v t false (next_of i w.participants)
+return_write v w t (SendAbort k) = None
+return_write v w t Over = None
+
+abbrev pub with_write : Option Write → List Event → List Event
+with_write None es = es
+with_write (Some w) es = Written w ∷ es
+
+-- ---- a whole run
+
+-- after a halt nothing is done or asked
+abbrev pub stepped : Variant → Work → State → Reply → State
+stepped v w s Go = record { tally = on_go v w s.tally s.tally.step; events = with_write (go_write v w s.tally s.tally.step) s.events }
+stepped v w s (Return text) = record { tally = on_return v w s.tally s.tally.step; events = with_write (return_write v w s.tally s.tally.step) s.events }
+stepped v w s Halt = record { tally = at_step s.tally Over; events = s.events }
+
+abbrev pub before_all : Tally
+before_all = record { step = Over; begun = 0; yes = []; acknowledged = true; told = [] }
+
+abbrev pub start_of : Work → State
+start_of w = record { tally = begun w before_all; events = [] }
+
+abbrev pub laid : Variant → Work → State → List Reply → State
+laid v w s [] = s
+laid v w s (a ∷ as') = laid v w (stepped v w s a) as'
+
+-- the point that a step asks
+abbrev pub point_at : Step → Option ℕ
+point_at (SendPrepare i) = Some send_prepare_point
+point_at (ForcePrepare i) = Some force_prepare_point
+point_at (SendVote i vote) = Some send_vote_point
+point_at ForceCommit = Some force_commit_point
+point_at ForceCommitAgain = Some force_commit_point
+point_at (SendCommit i) = Some send_outcome_point
+point_at (ForceOutcome i) = Some force_outcome_point
+point_at (SendAck i) = Some send_ack_point
+point_at (SendAbort k) = Some send_outcome_point
+point_at Over = None
+
+-- a point is asked; without one the run is over, with this judgement
+abbrev pub move_by : Judgement → Option ℕ → Move
+move_by j (Some p) = Ask p
+move_by j None = Done j
+
+abbrev pub judged_at : Work → State → Judgement
+judged_at w s = judged w.participants s.tally.told s.events s.tally.begun
+
+abbrev pub move_of : Work → State → Move
+move_of w s = move_by (judged_at w s) (point_at s.tally.step)
+
+-- what is asked after these answers
+abbrev pub asks_of : Variant → Work → List Reply → Move
+asks_of v w answers = move_of w (laid v w (start_of w) answers)
+
+-- ---- laws
+
+step_within : (j : Judgement) (step : Step) → IsWithin 7 (move_by j (point_at step))
+step_within j (SendPrepare i) = omega arith
+step_within j (ForcePrepare i) = omega arith
+step_within j (SendVote i vote) = omega arith
+step_within j ForceCommit = omega arith
+step_within j ForceCommitAgain = omega arith
+step_within j (SendCommit i) = omega arith
+step_within j (ForceOutcome i) = omega arith
+step_within j (SendAck i) = omega arith
+step_within j (SendAbort k) = omega arith
+step_within j Over = tt
+
+-- each question is of one of the seven points
+pub asks-within : (v : Variant) (w : Work) (answers : List Reply) → IsWithin 7 (asks_of v w answers)
+asks-within v w answers = let s = laid v w (start_of w) answers in step_within (judged_at w s) s.tally.step
+
+over_stays : (v : Variant) (w : Work) (t : Tally) (es : List Event) (answers : List Reply) → IsDone (move_of w (laid v w (record { tally = at_step t Over; events = es }) answers))
+over_stays v w t es [] = tt
+over_stays v w t es (Go ∷ answers) = over_stays v w t es answers
+over_stays v w t es (Return text ∷ answers) = over_stays v w t es answers
+over_stays v w t es (Halt ∷ answers) = over_stays v w t es answers
+
+halt_ends : (v : Variant) (w : Work) (s : State) (before after : List Reply) → IsDone (move_of w (laid v w s (before ++ Halt ∷ after)))
+halt_ends v w s [] after = over_stays v w s.tally s.events after
+halt_ends v w s (a ∷ before) after = halt_ends v w (stepped v w s a) before after
+
+-- no question follows a halt
+pub asks-halts : (v : Variant) (w : Work) (before after : List Reply) → IsDone (asks_of v w (before ++ Halt ∷ after))
+asks-halts v w before after = halt_ends v w (start_of w) before after

@@ -1,0 +1,50 @@
+-- Names and numbers of two-phase commit: points, labels, and codes of failures.
+use Rattle.std.specs.Prelude.{ℕ, ◌==◌, if◌then◌else◌, List, [], ◌∷◌, codes}
+use Rattle.commit_target.specs.declared.variant.Variant.{Variant}
+use Rattle.commit_target.specs.declared.variant.Variant.TheVariants.{Sound, LazyPrepare, EarlyEnd, TwoTries}
+
+-- the points, in the order of their numbers
+abbrev pub point_names : List (List ℕ)
+point_names =
+    codes "commit::send_prepare" ∷ codes "commit::force_prepare" ∷ codes "commit::send_vote" ∷ codes "commit::force_commit" ∷ codes "commit::send_outcome" ∷ codes "commit::force_outcome" ∷ codes "commit::send_ack" ∷ []
+
+abbrev pub send_prepare_point : ℕ
+send_prepare_point = 0
+
+abbrev pub force_prepare_point : ℕ
+force_prepare_point = 1
+
+abbrev pub send_vote_point : ℕ
+send_vote_point = 2
+
+abbrev pub force_commit_point : ℕ
+force_commit_point = 3
+
+abbrev pub send_outcome_point : ℕ
+send_outcome_point = 4
+
+abbrev pub force_outcome_point : ℕ
+force_outcome_point = 5
+
+abbrev pub send_ack_point : ℕ
+send_ack_point = 6
+
+abbrev pub label : Variant → List ℕ
+label Sound = codes "commit sound"
+label LazyPrepare = codes "commit lazy_prepare"
+label EarlyEnd = codes "commit early_end"
+label TwoTries = codes "commit two_tries"
+
+-- the codes of failures: two participants ended differently; the client was told of a commit that nobody kept; all committed what the
+-- client was not told of
+abbrev pub split : ℕ
+split = 0
+
+abbrev pub lost : ℕ
+lost = 1
+
+abbrev pub phantom : ℕ
+phantom = 2
+
+abbrev pub code_text : ℕ → List ℕ
+code_text code = if code == split then codes "split" else (if code == lost then codes "lost" else codes "phantom")

@@ -1,0 +1,48 @@
+-- What the parties wrote to their logs, the newest write first, and what each log then holds.
+use Rattle.std.specs.Prelude.{ℕ, ◌<◌, ◌≤◌, ◌==◌, if◌then◌else◌, List, [], ◌∷◌, length, slice_index_or}
+use Rattle.sim_device.specs.LogEffects.{LogEffect, Append, Force, Restart, Log, LogStandsFor}
+use Rattle.commit_target.specs.declared.records.Record.{Record}
+use Rattle.commit_target.specs.declared.records.Party.TheVariants.{Coordinator, Participant}
+use Rattle.commit_target.specs.declared.records.Write.{Write}
+use Rattle.commit_target.specs.declared.records.Write.TheVariants as write
+
+-- what befalls the logs: a write of one party, or a restart of all
+pub data Event : Type 0 where
+  Written : Write → Event
+  AllRestart : Event
+
+-- the effects on the coordinator's log
+abbrev pub on_coordinator : List Event → List (LogEffect Record)
+on_coordinator [] = []
+on_coordinator (Written (write.Append Coordinator r) ∷ before) = Append r ∷ on_coordinator before
+on_coordinator (Written (write.Append (Participant m) r) ∷ before) = on_coordinator before
+on_coordinator (Written (write.Force Coordinator r) ∷ before) = Force r ∷ on_coordinator before
+on_coordinator (Written (write.Force (Participant m) r) ∷ before) = on_coordinator before
+on_coordinator (AllRestart ∷ before) = Restart ∷ on_coordinator before
+
+-- the effects on a participant's log
+abbrev pub on_participant : List Event → ℕ → List (LogEffect Record)
+on_participant [] n = []
+on_participant (Written (write.Append Coordinator r) ∷ before) n = on_participant before n
+on_participant (Written (write.Append (Participant m) r) ∷ before) n = if n == m then Append r ∷ on_participant before n else on_participant before n
+on_participant (Written (write.Force Coordinator r) ∷ before) n = on_participant before n
+on_participant (Written (write.Force (Participant m) r) ∷ before) n = if n == m then Force r ∷ on_participant before n else on_participant before n
+on_participant (AllRestart ∷ before) n = Restart ∷ on_participant before n
+
+-- the logs of all parties, as contracts see them
+pub record AllLogs : Type 0 where
+  pub coordinator : Log Record
+  pub participants : List (Log Record)
+
+abbrev pub log_at : List (Log Record) → ℕ → Log Record
+log_at logs n = slice_index_or logs n (record { live = []; lasting = [] })
+
+-- the logs of the coordinator and of so many participants are what these events give
+pub record LogsStandFor (count : ℕ) (logs : AllLogs) (events : List Event) : Type 0 where
+  pub enough : count ≤ length logs.participants
+  pub coordinator : LogStandsFor logs.coordinator (on_coordinator events)
+  pub participants : (n : ℕ) → n < count → LogStandsFor (log_at logs.participants n) (on_participant events n)
+
+-- from each list of events that the logs stood for they go to that list with the event added
+abbrev pub AddsEvent : AllLogs → AllLogs → Event → Type 0
+AddsEvent old new event = (count : ℕ) (es : List Event) → LogsStandFor count old es → LogsStandFor count new (event ∷ es)

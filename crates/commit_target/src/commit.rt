@@ -1,0 +1,108 @@
+ghost use Rattle.std.specs.Prelude.{◌≡◌};
+ghost use Rattle.std.proofs.Common.{rules};
+ghost use Rattle.commit_target.specs.Words.{label, code_text, point_names};
+ghost use Rattle.commit_target.specs.Steps.{asks_of, asks-within, asks-halts};
+
+use crate::judge::{LOST, SPLIT};
+use crate::logs::Logs;
+use crate::play::play;
+use crate::variant::Variant;
+use crate::work::Transactions;
+use std::alloc::{AllocError, Global};
+use std::marker::Model;
+use target_trait::{Judgement, Session, Target};
+
+/// Two-phase commit with presumed abort, as a target. Its setup, which is all that contracts see of it, is the variant.
+///
+/// A run does the transactions of its workload one after another, with one coordinator and the workload's participants, each with a log of
+/// its own. At the end all restart. Each participant then must have ended each transaction as all others did, and as the client was told.
+///
+/// The logs are kept from run to run for their memory alone: each run clears them first.
+#[derive(Drop)]
+pub struct Commit {
+    alloc: Global,
+    variant: Variant,
+    logs: Logs,
+}
+
+impl Model for Commit {
+    ghost use Rattle.commit_target.specs.declared.variant.Variant.{Variant};
+
+    ghost Value = { Variant };
+
+    ghost view = { λ c. c.variant };
+}
+
+impl Commit {
+    /// A target of this variant. It takes no memory.
+    pub fn new(alloc: Global, variant: Variant) -> Self
+        ensures { result ≡ variant }
+    {
+        Commit {
+            alloc,
+            variant,
+            logs: Logs::new(alloc),
+        }
+    }
+}
+
+impl Target for Commit {
+    type Workload = Transactions;
+
+    ghost names = { point_names };
+
+    ghost label_of = { label };
+
+    ghost code_text = { code_text };
+
+    ghost asks = { asks_of };
+
+    fn label(&self) -> &'static str {
+        match self.variant {
+            Variant::Sound => "commit sound",
+            Variant::LazyPrepare => "commit lazy_prepare",
+            Variant::EarlyEnd => "commit early_end",
+            Variant::TwoTries => "commit two_tries",
+        }
+    }
+
+    fn catalogue() -> &'static [&'static str] {
+        &[
+            "commit::send_prepare",
+            "commit::force_prepare",
+            "commit::send_vote",
+            "commit::force_commit",
+            "commit::send_outcome",
+            "commit::force_outcome",
+            "commit::send_ack",
+        ]
+    }
+
+    fn code_name(code: u32) -> &'static str {
+        if code == SPLIT {
+            "split"
+        } else if code == LOST {
+            "lost"
+        } else {
+            "phantom"
+        }
+    }
+
+    fn twin(&self) -> Result<Self, AllocError> {
+        Ok(Commit::new(self.alloc, self.variant))
+    }
+
+    fn run(
+        &mut self,
+        workload: &Transactions,
+        session: &mut Session<'_>,
+    ) -> Result<Judgement, AllocError> {
+        play(self.alloc, self.variant, workload, &mut self.logs, session)
+    }
+
+    ghost within = { asks-within };
+
+    ghost halts = { asks-halts };
+
+    ghost lawful = { Prim.search rules };
+}

@@ -1,0 +1,20 @@
+//! Two-phase commit with presumed abort, as a target, in four variants.
+#![tactic(auto)]
+
+mod commit;
+mod judge;
+mod logs;
+mod play;
+mod progress;
+mod records;
+mod step;
+mod variant;
+mod work;
+
+pub use commit::Commit;
+pub use judge::{LOST, PHANTOM, SPLIT};
+pub use variant::Variant;
+pub use work::{Transactions, Vote, Votes};
+
+#[cfg(test)]
+mod tests;

@@ -1,0 +1,135 @@
+ghost use Rattle.std.specs.Prelude.{◌≡◌, ◌<◌, ◌≤◌, ℕ, List, [], OnOk, length};
+ghost use Rattle.sim_device.specs.FileEffects.{Live};
+ghost use Rattle.sim_device.specs.LogEffects.{Restart, LogStandsFor, AddsLogEffect, records};
+ghost use Rattle.commit_target.specs.declared.records.Write.TheVariants as write;
+ghost use Rattle.commit_target.specs.Writes.{Event, Written, AllRestart, LogsStandFor, AddsEvent, log_at, on_coordinator, on_participant};
+
+use crate::records::{Party, Record, Write};
+use sim_device::RecordLog;
+use std::alloc::{AllocError, Global};
+use std::marker::Model;
+
+/// The logs of a coordinator and of its participants.
+#[derive(Drop)]
+pub struct Logs {
+    alloc: Global,
+    coordinator: RecordLog<Record>,
+    participants: Vec<RecordLog<Record>>,
+}
+
+impl Model for Logs {
+    ghost use Rattle.commit_target.specs.Writes.{AllLogs};
+
+    ghost Value = { AllLogs };
+
+    ghost view = { λ l. record { coordinator = l.coordinator; participants = l.participants.items } };
+}
+
+/// Empty logs for so many participants.
+fn clear_first(
+    alloc: Global,
+    logs: &mut Vec<RecordLog<Record>>,
+    count: usize,
+) -> Result<(), AllocError>
+    ensures enough { OnOk result (count ≤ length logs.new.items) }
+    ensures empty { OnOk result ((n : ℕ) → n < count → LogStandsFor (log_at logs.new.items n) []) }
+{
+    for number in 0..count {
+        if number < logs.len() {
+            logs[number].clear();
+        } else {
+            logs.push(RecordLog::new(alloc))?;
+        }
+    }
+    Ok(())
+}
+
+/// Each log keeps what lasts.
+fn restart_each(logs: &mut [RecordLog<Record>])
+    ensures same { length logs.new ≡ length logs.old }
+    ensures each { (n : ℕ) → n < length logs.old → AddsLogEffect (log_at logs.old n) (log_at logs.new n) Restart }
+{
+    for number in 0..logs.len() {
+        logs[number].restart();
+    }
+}
+
+impl Logs {
+    /// The log of a coordinator alone, empty. It takes no memory.
+    pub fn new(alloc: Global) -> Self {
+        Logs {
+            alloc,
+            coordinator: RecordLog::new(alloc),
+            participants: Vec::new(alloc),
+        }
+    }
+
+    /// Empty logs for the coordinator and so many participants. What was there is forgotten; its memory is used again.
+    pub fn clear(&mut self, participants: usize) -> Result<(), AllocError>
+        ensures { OnOk result (LogsStandFor participants self.new []) }
+    {
+        self.coordinator.clear();
+        clear_first(self.alloc, &mut self.participants, participants)
+    }
+
+    /// Adds a record to the log of a party, which does not last yet. A participant without a log writes nothing.
+    fn append(&mut self, party: Party, entry: Record) -> Result<(), AllocError>
+        ensures { OnOk result (AddsEvent self.old self.new (Written (write.Append party entry))) }
+    {
+        match party {
+            Party::Coordinator => self.coordinator.append(entry),
+            Party::Participant(number) if number < self.participants.len() => {
+                self.participants[number].append(entry)
+            }
+            Party::Participant(_) => Ok(()),
+        }
+    }
+
+    /// Adds a record to the log of a party, and all there lasts. A participant without a log writes nothing.
+    fn force(&mut self, party: Party, entry: Record) -> Result<(), AllocError>
+        ensures { OnOk result (AddsEvent self.old self.new (Written (write.Force party entry))) }
+    {
+        match party {
+            Party::Coordinator => self.coordinator.force(entry),
+            Party::Participant(number) if number < self.participants.len() => {
+                self.participants[number].force(entry)
+            }
+            Party::Participant(_) => Ok(()),
+        }
+    }
+
+    /// Does a write.
+    pub fn write(&mut self, write: Write) -> Result<(), AllocError>
+        ensures { OnOk result (AddsEvent self.old self.new (Written write)) }
+    {
+        match write {
+            Write::Append(party, entry) => self.append(party, entry),
+            Write::Force(party, entry) => self.force(party, entry),
+        }
+    }
+
+    /// All parties restart, and each log keeps what lasts.
+    pub fn restart(&mut self)
+        ensures { AddsEvent self.old self.new AllRestart }
+    {
+        self.coordinator.restart();
+        restart_each(self.participants.as_mut_slice());
+    }
+
+    /// The records in the coordinator's log, the oldest first.
+    pub fn coordinator(&self) -> &[Record]
+        ensures { (count : ℕ) (es : List Event) → LogsStandFor count self.now es → result.now ≡ records (on_coordinator es) Live }
+    {
+        self.coordinator.records()
+    }
+
+    /// The records in a participant's log, the oldest first. A participant without a log has none.
+    pub fn participant(&self, number: usize) -> &[Record]
+        ensures { (count : ℕ) (es : List Event) → LogsStandFor count self.now es → number < count → result.now ≡ records (on_participant es number) Live }
+    {
+        match self.participants.get(number) {
+            Some(log) => log.records(),
+            None => &[],
+        }
+    }
+}

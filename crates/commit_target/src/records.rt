@@ -1,0 +1,36 @@
+/// What a record says of its transaction.
+#[derive(Clone, Copy, Debug, PartialEq, Eq)]
+pub enum Kind {
+    /// A participant is prepared to commit.
+    Prepare,
+    /// The transaction is committed.
+    Commit,
+    /// A participant knows that the transaction is aborted.
+    Abort,
+    /// The coordinator may forget the transaction.
+    End,
+}
+
+/// A record of a log.
+#[derive(Clone, Copy, Debug, PartialEq, Eq)]
+pub struct Record {
+    /// The number of the transaction, from 0.
+    pub transaction: usize,
+    pub kind: Kind,
+}
+
+/// Whose log it is. Participants are numbered from 0.
+#[derive(Clone, Copy, Debug, PartialEq, Eq)]
+pub enum Party {
+    Coordinator,
+    Participant(usize),
+}
+
+/// What is written to a party's log.
+#[derive(Clone, Copy, Debug, PartialEq, Eq)]
+pub enum Write {
+    /// A record that does not last yet.
+    Append(Party, Record),
+    /// A record that lasts, with all before it in that log.
+    Force(Party, Record),
+}

@@ -1,0 +1,12 @@
+/// How the parties of a commit go about their steps.
+#[derive(Clone, Copy, Debug, PartialEq, Eq)]
+pub enum Variant {
+    /// Presumed abort as published.
+    Sound,
+    /// A participant votes yes on a prepare record that it did not force.
+    LazyPrepare,
+    /// The coordinator ends a commit whatever was acknowledged, and forces that.
+    EarlyEnd,
+    /// A commit record that is refused is tried once more, and then taken for one that stands.
+    TwoTries,
+}
