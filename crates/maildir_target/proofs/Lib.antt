@@ -1,3 +1,4 @@
 pub mod Playing
 pub mod Readying
 pub mod Scenarios
+pub mod Numbers

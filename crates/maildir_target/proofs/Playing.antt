@@ -13,7 +13,7 @@ use Rattle.target_trait.specs.Play.{Ask, Done, Follows, IsPlay}
 use Rattle.target_trait.proofs.Plays.{follows_more}
 use Rattle.maildir_target.specs.declared.variant.Variant.{Variant}
 use Rattle.maildir_target.specs.Judgement.{judged}
-use Rattle.maildir_target.specs.Steps.{Step, Tally, State, on_go, on_return, stepped, Over, at_step, start_of, laid, point_at, move_by, move_of, asks_of}
+use Rattle.maildir_target.specs.Steps.{Tally, State, on_go, on_return, stepped, Over, at_step, start_of, laid, point_at, move_by, move_of, asks_of}
 use Rattle.maildir_target.specs.Seen.{IsRunning, Shows, Played}
 
 laid_more : (v : Variant) (s : State) (as' : List Reply) (a : Reply) → laid v s (as' ++ a ∷ []) ≡ stepped v (laid v s as') a

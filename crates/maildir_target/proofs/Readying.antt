@@ -1,14 +1,14 @@
 -- Each step finds what it needs.
-use Rattle.std.proofs.Common.{◌≡◌, ℕ, ◌==◌, cond, Bool, true, false, List, [], ◌∷◌, Option, None, Some, is_some, is_none, refl, ap, sym, ◌∙◌, subst}
+use Rattle.std.proofs.Common.{◌≡◌, ℕ, ◌==◌, cond, Bool, true, false, List, [], ◌∷◌, Option, None, Some, is_some, is_none, refl, ap, sym, subst}
 use Rattle.std.proofs.lemmas.Bool.{eq-eqb}
-use Rattle.sim_device.specs.FileEffects.{Effect, Create, Append, Sync, Link, Unlink, SyncDir, Live, leads, created}
-use Rattle.sim_device.specs.Disk.{Disk, StandsFor, entry_at}
+use Rattle.sim_device.specs.FileEffects.{Effect, Create, Link, Unlink, SyncDir, Live, leads, created}
+use Rattle.sim_device.specs.Disk.{Disk, StandsFor}
 use Rattle.action_eval.specs.Answers.{Run, Reply, Go, Return, Halt, replies}
 use Rattle.maildir_target.specs.declared.variant.Variant.{Variant}
 use Rattle.maildir_target.specs.declared.variant.Variant.TheVariants.{Sound, LinkFirst, IgnoreWrite, AppendTmp}
 use Rattle.maildir_target.specs.declared.name.Attempt.{Attempt}
 use Rattle.maildir_target.specs.declared.name.Attempt.TheVariants.{First, Second}
-use Rattle.maildir_target.specs.Steps.{Step, Looking, Creating, Writing, Syncing, Linking, Unlinking, SyncingDir, Cleaning, Over, Tally, State, state, at_step, first_step, begun_of, acknowledged, failed_of, failed, looked, linked, is_there, write_step, create_unless, created_by, after_create, after_link, after_sync, after_half, tmp_of, new_of, on_go, on_return, stepped, start_of, laid, before_all}
+use Rattle.maildir_target.specs.Steps.{Step, Looking, Creating, Writing, Syncing, Linking, Unlinking, SyncingDir, Cleaning, Over, Tally, State, first_step, begun_of, acknowledged, failed_of, looked, linked, is_there, write_step, create_unless, created_by, after_create, after_link, after_sync, after_half, tmp_of, new_of, on_go, on_return, stepped, start_of, laid, before_all}
 use Rattle.maildir_target.specs.Ready.{CanCreate, IsReady, IsReadyAfter, IsReadyOn}
 use Rattle.maildir_target.specs.Seen.{Played}
 

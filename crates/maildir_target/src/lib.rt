@@ -15,6 +15,7 @@ mod variant;
 pub use judge::{LOST, TORN};
 pub use maildir::Maildir;
 pub use messages::Messages;
+pub use name::names_are_apart;
 pub use variant::Variant;
 
 #[cfg(test)]

@@ -20,12 +20,14 @@ use target_trait::{Judgement, Session, Target};
 /// `tmp/`, chunk by chunk, which is then linked under `new/`. A message has two attempts at most. At the end the power is cut; what
 /// then stands under `new/` must be whole messages, and no acknowledged one may be missing.
 ///
-/// The device is kept from run to run for its memory alone: each run clears it first.
+/// The device, and the list of acknowledged messages, are kept from run to run for their memory alone: each run clears them first.
 #[derive(Drop)]
 pub struct Maildir {
     alloc: Global,
     variant: Variant,
     device: FileDevice,
+    // the numbers of the messages that the last run acknowledged
+    acknowledged: Vec<u16>,
 }
 
 impl Model for Maildir {
@@ -45,6 +47,7 @@ impl Maildir {
             alloc,
             variant,
             device: FileDevice::new(alloc),
+            acknowledged: Vec::new(alloc),
         }
     }
 }
@@ -105,6 +108,7 @@ impl Target for Maildir {
             self.variant,
             messages,
             &mut self.device,
+            &mut self.acknowledged,
             session,
         )
     }

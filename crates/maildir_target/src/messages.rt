@@ -21,7 +21,7 @@ impl Model for Messages {
 }
 
 impl Messages {
-    /// These messages, moved in. It takes no memory.
+    /// These messages, at most 1,000, moved in. It takes no memory.
     pub fn new(messages: Vec<Chunks>) -> Self
         requires { length messages.items ≤ 1000 }
         ensures { result ≡ messages.items }

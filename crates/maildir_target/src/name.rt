@@ -1,5 +1,6 @@
 ghost use Rattle.std.specs.Prelude.{◌≡◌, ◌≤◌};
 ghost use Rattle.maildir_target.specs.Words.{number_of, folder_part, attempt_part};
+ghost use Rattle.maildir_target.specs.declared.name.Name.{Name};
 
 /// A folder of the mail box.
 #[derive(Clone, Copy)]
@@ -57,3 +58,8 @@ impl Name {
         4 * u32::from(self.message) + self.attempt.part() + self.folder.part()
     }
 }
+
+/// No two names have the same number.
+pub fn names_are_apart()
+    ensures { (a b : Name) → number_of a ≡ number_of b → a ≡ b }
+{}

@@ -14,6 +14,7 @@ use crate::steps::{fail, go};
 use crate::variant::Variant;
 use sim_device::FileDevice;
 use std::alloc::{AllocError, Global};
+use std::mem;
 use target_trait::{Answer, Judgement, Session};
 
 // the numbers of the points in the catalogue
@@ -71,12 +72,13 @@ fn ask(
     Ok(())
 }
 
-/// Plays a run.
+/// Plays a run. The device and the list of what is acknowledged lend their memory.
 pub fn play(
     alloc: Global,
     variant: Variant,
     messages: &Messages,
     device: &mut FileDevice,
+    acknowledged: &mut Vec<u16>,
     session: &mut Session<'_>,
 ) -> Result<Judgement, AllocError>
     requires new { session.old ≡ start session.old.given }
@@ -85,10 +87,13 @@ pub fn play(
     ensures given { session.new.given ≡ session.old.given }
 {
     device.clear();
-    let mut progress = Progress::new(alloc, messages);
+    let lent = mem::replace(acknowledged, Vec::new(alloc));
+    let mut progress = Progress::new(lent, messages);
     progress.begin(variant);
     while let Some(point) = point_of(progress.stage()) {
         ask(variant, messages, point, &mut progress, device, session)?;
     }
-    Ok(judge(device, messages.as_slice(), progress.acknowledged()))
+    let judgement = judge(device, messages.as_slice(), progress.acknowledged());
+    *acknowledged = progress.into_acknowledged();
+    Ok(judgement)
 }

@@ -8,7 +8,7 @@ use crate::stage::Stage;
 use crate::variant::Variant;
 use file_replace::Chunks;
 use scenario_values::Text;
-use std::alloc::{AllocError, Global};
+use std::alloc::AllocError;
 use std::marker::Model;
 
 /// The first stage of an attempt.
@@ -63,17 +63,18 @@ impl<'w> Model for Progress<'w> {
 }
 
 impl<'w> Progress<'w> {
-    /// Before the first message.
-    pub fn new(alloc: Global, messages: &'w Messages) -> Self
+    /// Before the first message. The numbers of messages are dropped, and their memory is kept for those that are acknowledged.
+    pub fn new(mut acknowledged: Vec<u16>, messages: &'w Messages) -> Self
         ensures { result ≡ before_all messages.now }
     {
+        acknowledged.clear();
         Progress {
             stage: Stage::Over,
             message: 0,
             attempt: Attempt::First,
             chunks: &[],
             rest: messages.as_slice(),
-            acknowledged: Vec::new(alloc),
+            acknowledged,
         }
     }
 
@@ -138,6 +139,13 @@ impl<'w> Progress<'w> {
         ensures { result.now ≡ self.now.acknowledged }
     {
         self.acknowledged.as_slice()
+    }
+
+    /// The numbers of the messages acknowledged, given back.
+    pub fn into_acknowledged(self) -> Vec<u16>
+        ensures { result.items ≡ self.entry.acknowledged }
+    {
+        self.acknowledged
     }
 
     /// The name under `tmp/` of the attempt under way.

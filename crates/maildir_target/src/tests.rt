@@ -183,28 +183,6 @@ fn a_write_that_fails(rt: HostRuntime) -> Result<(), Fail> {
 }
 
 #[test]
-fn half_a_chunk_is_rounded_down(rt: HostRuntime) -> Result<(), Fail> {
-    let alloc = rt.alloc();
-    let scenario = fails(alloc, "maildir::write")?;
-    let mut ignore = Maildir::new(alloc, Variant::IgnoreWrite);
-    // the half of an empty chunk is the whole of it
-    let empty = workload(alloc, &[&[""]])?;
-    check(
-        &rt,
-        alloc,
-        &mut ignore,
-        &empty,
-        &scenario,
-        Verdict::Pass,
-        ALL_STEPS,
-    )?;
-    // nothing of the first `a` is written, and the second alone is not the message
-    let odd = workload(alloc, &[&["a", "a"]])?;
-    let asked = &[STAT, CREATE, WRITE, WRITE, SYNC, LINK, UNLINK, SYNC_DIR];
-    check(&rt, alloc, &mut ignore, &odd, &scenario, TORN, asked)
-}
-
-#[test]
 fn append_tmp_is_torn_by_a_pair(rt: HostRuntime) -> Result<(), Fail> {
     let alloc = rt.alloc();
     let mut append = Maildir::new(alloc, Variant::AppendTmp);
@@ -324,8 +302,17 @@ fn an_acknowledged_message_may_be_lost(rt: HostRuntime) -> Result<(), Fail> {
         judge(&mut device, two.as_slice(), &[2]),
         Judgement::Broken(1)
     );
+    // a file whose name does not last
     let _made = device.create(name.number());
     let _written = device.append(name.number(), b"ab");
+    let _synced_first = device.sync(name.number());
+    assert_eq!(rt;
+        judge(&mut device, two.as_slice(), &[1]),
+        Judgement::Broken(1)
+    );
+    device.clear();
+    let _made_again = device.create(name.number());
+    let _written_again = device.append(name.number(), b"ab");
     let _synced = device.sync(name.number());
     device.sync_dir();
     assert_eq!(rt; judge(&mut device, two.as_slice(), &[1]), Judgement::Kept);
@@ -341,40 +328,4 @@ fn an_acknowledged_message_may_be_lost(rt: HostRuntime) -> Result<(), Fail> {
         Judgement::Broken(0)
     );
     Ok(())
-}
-
-#[test]
-fn a_name_that_does_not_last_is_lost(rt: HostRuntime) -> Result<(), Fail> {
-    let alloc = rt.alloc();
-    let one = workload(alloc, &[&["ab"]])?;
-    let name = Name {
-        folder: Folder::New,
-        message: 1,
-        attempt: Attempt::First,
-    };
-    let mut device = FileDevice::new(alloc);
-    let _made = device.create(name.number());
-    let _written = device.append(name.number(), b"ab");
-    let _synced = device.sync(name.number());
-    assert_eq!(rt;
-        judge(&mut device, one.as_slice(), &[1]),
-        Judgement::Broken(1)
-    );
-    Ok(())
-}
-
-#[test]
-fn names_have_numbers_of_their_own(rt: HostRuntime) {
-    let first = Name {
-        folder: Folder::Tmp,
-        message: 1,
-        attempt: Attempt::First,
-    };
-    let last = Name {
-        folder: Folder::New,
-        message: 1000,
-        attempt: Attempt::Second,
-    };
-    assert_eq!(rt; first.number(), 4);
-    assert_eq!(rt; last.number(), 4003);
 }

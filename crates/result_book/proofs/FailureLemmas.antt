@@ -1,9 +1,9 @@
 -- The recursion of first failures finds the least one.
-use Rattle.std.proofs.Common.{◌≡◌, ℕ, zero, suc, ◌+◌, ◌<◌, Bool, true, false, List, [], ◌∷◌, Option, Some, None, refl, arith, ap, sym, subst, ◌∙◌}
+use Rattle.std.proofs.Common.{◌≡◌, ℕ, zero, suc, ◌+◌, ◌<◌, Bool, true, false, List, [], ◌∷◌, Option, Some, None, refl, arith, ap, sym, subst}
 use Rattle.std.proofs.lemmas.Bool.{false≢true}
 use Rattle.target_trait.specs.declared.judgement.Verdict.{Verdict}
 use Rattle.target_trait.specs.declared.judgement.Verdict.TheVariants as verdict
-use Rattle.result_book.specs.FirstFailure.{failing, first_from, FailsAt, IsFirstFailure}
+use Rattle.result_book.specs.FirstFailure.{first_from, FailsAt, IsFirstFailure}
 
 abbrev failed : Verdict → Bool
 failed verdict.Pass = false

@@ -2,14 +2,13 @@
 use Rattle.std.proofs.Common.{◌≡◌, ◌≢◌, is_some, ℕ, zero, suc, ◌+◌, ◌<◌, ◌≤◌, Bool, true, false, cond, nat_eq, Option, Some, None, List, [], ◌∷◌, ◌++◌, length, map, get_or, set, replicate, Vec, Global, All, count_by, refl, sym, ap, ◌∙◌, subst, arith, eq-eqb, add-zero, add-one}
 use Rattle.std.specs.List.{sum_by, list_all, AllByRecursion}
 use Rattle.std.proofs.lemmas.List.Sums.{sum_by-cons}
-use Rattle.std.proofs.lemmas.List.Elements.{recursion_from_All}
 use Rattle.std.proofs.lemmas.Bool.{false≢true}
 use Rattle.target_trait.specs.declared.judgement.Verdict.{Verdict}
 use Rattle.target_trait.specs.declared.judgement.Verdict.TheVariants as verdict
 use Rattle.scenario_values.specs.Scenario.{Entries}
 use Rattle.result_book.specs.Verdicts.{verdicts_from}
 use Rattle.result_book.specs.FirstFailure.{failing, first_from}
-use Rattle.result_book.specs.Slots.{Pair, has, failing_slot, first_in, is_full, enter, enter_all, enter_lists, present}
+use Rattle.result_book.specs.Slots.{Pair, has, first_in, is_full, enter, enter_all, enter_lists, present}
 
 -- what was put agrees with these verdicts
 abbrev pub agrees_at : Option Verdict → Verdict → Type 0

@@ -1,5 +1,5 @@
 -- A book: for each number its verdict, where it was put.
-use Rattle.std.specs.Prelude.{◌≡◌, ℕ, zero, suc, ◌+◌, Vec, Bool, true, false, ◌&&◌, List, [], ◌∷◌, Option, Some, None, slice_index_or}
+use Rattle.std.specs.Prelude.{ℕ, zero, suc, ◌+◌, Vec, Bool, true, false, List, [], ◌∷◌, Option, Some, None, slice_index_or}
 use Rattle.std.specs.Global.{Global}
 use Rattle.target_trait.specs.declared.judgement.Verdict.{Verdict}
 use Rattle.result_book.specs.FirstFailure.{failing}

@@ -1,4 +1,4 @@
-use Rattle.std.proofs.Common.{◌≡◌, ◌<◌, List, ℕ, ap, length, arith, Bor}
+use Rattle.std.proofs.Common.{◌<◌, List, ℕ, ap, length, arith, Bor}
 use Rattle.action_eval.specs.Answers.{texts}
 use Rattle.report.proofs.Written.{next_of, map_length, census_next}
 use Rattle.report.proofs.lines.write_census.Goals as goal

@@ -1,4 +1,4 @@
-use Rattle.std.proofs.Common.{◌≡◌, ℕ, ◌≤◌, [], ◌∷◌, ◌++◌, length, true, None, codes, refl, arith, length-append}
+use Rattle.std.proofs.Common.{[], ◌∷◌, None, codes, refl, arith}
 use Rattle.scenario_values.specs.declared.term.Task.TheVariants as task
 use Rattle.scenario_values.specs.Printed.{printed, chain_text, term_text, share_text}
 use Rattle.scenario_values.specs.Scenario.{IsScenario}
