@@ -1,0 +1,3 @@
+pub mod Minimal
+pub mod Firsts
+pub mod Gathered

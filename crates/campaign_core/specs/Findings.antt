@@ -1,0 +1,55 @@
+-- What a report tells of a list of plans: a map and recursions on lists. Which verdict a stream number and a scenario have, the first
+-- argument says.
+use Rattle.std.specs.Prelude.{◌≡◌, ℕ, true, List, [], option_map, slice_index_or}
+use Rattle.std.specs.List.{range_with_len}
+use Rattle.scenario_values.specs.Scenario.{Entries, all_faults}
+use Rattle.scenario_values.specs.Keep.{kept}
+use Rattle.scenario_values.specs.Tidied.{tidied}
+use Rattle.target_trait.specs.declared.judgement.Verdict.{Verdict}
+use Rattle.target_trait.specs.declared.judgement.Verdict.TheVariants as verdict
+use Rattle.result_book.specs.Verdicts.{verdicts_from}
+use Rattle.result_book.specs.FirstFailure.{first_from}
+use Rattle.ddmin_parallel.specs.Ddmin.{Reduced, ddmin}
+use Rattle.ddmin_parallel.specs.OneMinimal.{IsOneMinimal}
+use Rattle.report.specs.Reports.{FindingFacts, ReportFacts}
+use Rattle.campaign_core.specs.FaultTest.{fails_with, fault_test}
+
+-- the reduction of a scenario's faults: which are kept so that it fails with this code, under this stream number
+abbrev pub reduction : (ℕ → Entries → Verdict) → ℕ → ℕ → Entries → Reduced
+reduction say stream code s = ddmin (fault_test (say stream) code s) (all_faults s)
+
+-- the reduced scenario: that with the faults that were kept, tidied
+abbrev pub reduced : (ℕ → Entries → Verdict) → ℕ → ℕ → Entries → Entries
+reduced say stream code s = tidied (kept (reduction say stream code s).kept s)
+
+-- the plan of this number
+abbrev pub plan_at : List Entries → ℕ → Entries
+plan_at plans number = slice_index_or plans number []
+
+-- what is told of the first failure, by its number and code
+abbrev pub finding : (ℕ → Entries → Verdict) → List Entries → (ℕ × ℕ) → FindingFacts
+finding say plans first = record {
+  number = first.0;
+  code = first.1;
+  scenario = plan_at plans first.0;
+  reduced = reduced say first.0 first.1 (plan_at plans first.0);
+  tests = (reduction say first.0 first.1 (plan_at plans first.0)).tests;
+}
+
+-- what a report tells, of a label, a seed, a census and plans
+abbrev pub findings : (ℕ → Entries → Verdict) → List ℕ → ℕ → List ℕ → List Entries → ReportFacts
+findings say label seed census plans = record {
+  label = label;
+  seed = seed;
+  clean = slice_index_or (verdicts_from say 0 plans) 0 verdict.Unresolved;
+  census = census;
+  verdicts = verdicts_from say 0 plans;
+  first = option_map (finding say plans) (first_from 0 (verdicts_from say 0 plans));
+}
+
+-- a scenario fails with this code, and no single fault can be left out of it: it fails with all its faults, and without any one of
+-- them it does not
+abbrev pub IsMinimal : (Entries → Verdict) → ℕ → Entries → Type 0
+IsMinimal say code s =
+    (fails_with code (say s) ≡ true)
+    × IsOneMinimal (fault_test say code s) (range_with_len 0 (all_faults s))

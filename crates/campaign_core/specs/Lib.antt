@@ -1,0 +1,3 @@
+pub mod FaultTest
+pub mod Findings
+pub mod Headline

@@ -1,0 +1,156 @@
+//! Tests of sets of faults, on a target, and reductions by them.
+ghost use Rattle.std.specs.Prelude.{◌≡◌, ◌≤◌, ◌<◌, All, IfOk, vec_len};
+ghost use Rattle.scenario_values.specs.Scenario.{all_faults};
+ghost use Rattle.target_trait.specs.Outcomes.{verdict_with};
+ghost use Rattle.campaign_core.specs.FaultTest.{fails_with, fault_test};
+ghost use Rattle.campaign_core.specs.Findings.{reduction};
+
+use ddmin_parallel::{Probe, Reduction, reduce, reduce_plain};
+use scenario_values::{Scenario, are_faults, faults, faults_are_counted, keep};
+use std::alloc::{AllocError, Global};
+use std::sync::Wait;
+use std::thread::Threads;
+use target_trait::{Case, Gate, Target, Verdict, run_verdict};
+
+/// How many faults a scenario has. An error means that memory was refused.
+pub fn fault_count(alloc: Global, scenario: &Scenario) -> Result<u32, AllocError>
+    ensures count { IfOk result (λ n. n ≡ all_faults scenario.now) }
+    ensures few { IfOk result (λ n. n ≤ 1024) }
+{
+    faults_are_counted();
+    let _ = scenario.entries();
+    let places = faults(alloc, scenario)?;
+    Ok(places.len() as u32)
+}
+
+/// A failure that is reduced: what all its tests share.
+#[derive(Drop)]
+pub struct Failure<'a, T: Target> {
+    pub workload: &'a T::Workload,
+    /// What fails.
+    pub scenario: &'a Scenario,
+    /// How many faults the scenario has.
+    pub faults: u32,
+    /// The seed of the random words of each run.
+    pub seed: u64,
+    /// The stream number of the random words, that of the run that failed.
+    pub stream: u64,
+    /// A run that hits more often than this is unresolved.
+    pub max_hits: u32,
+    /// The code of the failure; a run that fails with another code doesn't count.
+    pub code: u32,
+    ghost counted: { faults ≡ all_faults scenario.now },
+}
+
+/// A target, with the failure whose tests it runs.
+#[derive(Drop)]
+pub struct CaseProbe<'a, T: Target> {
+    pub target: T,
+    pub failure: &'a Failure<'a, T>,
+    pub alloc: Global,
+}
+
+/// Whether a verdict is a failure with this code.
+fn fails_with(code: u32, verdict: Verdict) -> bool
+    ensures { result ≡ fails_with code verdict }
+{
+    match verdict {
+        Verdict::Fail(other) => other == code,
+        Verdict::Pass | Verdict::Unresolved => false,
+    }
+}
+
+impl<'a, T: Target + Send> Probe for CaseProbe<'a, T>
+where
+    T::Workload: Sync,
+{
+    ghost answers = { λ probe set. fault_test (verdict_with (T.asks probe.target probe.failure.now.workload.now) T.names
+        probe.failure.now.seed probe.failure.now.max_hits probe.failure.now.stream)
+        probe.failure.now.code probe.failure.now.scenario.now set };
+
+    /// Runs the scenario with the faults of the set alone, under the failure's seed, stream number and limit. A list that isn't faults
+    /// of the scenario in ascending order is no.
+    fn test(&mut self, set: &[u32]) -> Result<bool, AllocError> {
+        let failure = self.failure;
+        if !are_faults(failure.faults, set) {
+            return Ok(false);
+        }
+        let kept = keep(self.alloc, failure.scenario, set)?;
+        let case = Case {
+            scenario: &kept,
+            seed: failure.seed,
+            stream: failure.stream,
+            max_hits: failure.max_hits,
+        };
+        let verdict = run_verdict(self.alloc, &mut self.target, failure.workload, &case)?;
+        Ok(fails_with(failure.code, verdict))
+    }
+}
+
+/// Reduces a failure on the caller's thread, with a twin of the target. An error means that memory was refused.
+pub fn reduced_plain<T: Target + Send>(
+    alloc: Global,
+    target: &T,
+    failure: &Failure<'_, T>,
+) -> Result<Reduction, AllocError>
+where
+    T::Workload: Sync,
+    ensures { IfOk result (λ r. r ≡ reduction
+        (verdict_with (T.asks target.now failure.now.workload.now) T.names failure.now.seed failure.now.max_hits)
+        failure.now.stream failure.now.code failure.now.scenario.now) }
+{
+    let target = target.twin()?;
+    let mut probe: CaseProbe<'_, T> = CaseProbe {
+        target,
+        failure: &*failure,
+        alloc,
+    };
+    let _ = failure.scenario.entries();
+    reduce_plain(alloc, &mut probe, failure.faults)
+}
+
+/// A probe for each worker, with a twin of the target.
+fn probes<'a, T: Target + Send>(
+    alloc: Global,
+    target: &T,
+    failure: &'a Failure<'a, T>,
+    workers: usize,
+) -> Result<Vec<CaseProbe<'a, T>>, AllocError>
+where
+    T::Workload: Sync,
+    ensures many { IfOk result (λ probes. vec_len probes ≡ workers) }
+    ensures same { IfOk result (λ probes. All (λ p. (p.target ≡ target.now) × (p.failure.now ≡ failure.now)) probes.items) }
+{
+    let mut all = Vec::new(alloc);
+    for _ in 0..workers {
+        let target = target.twin()?;
+        all.push(CaseProbe {
+            target,
+            failure,
+            alloc,
+        })?;
+    }
+    Ok(all)
+}
+
+/// Reduces a failure with a thread for each worker, and a twin of the target for each. The result is that of one thread. An error means
+/// that memory was refused.
+pub fn reduced<T: Target + Send, G: Gate, R: Threads + Wait + Sync>(
+    rt: &R,
+    alloc: Global,
+    gate: &G,
+    target: &T,
+    failure: &Failure<'_, T>,
+    workers: usize,
+) -> Result<Reduction, AllocError>
+where
+    T::Workload: Sync,
+    requires { 0 < workers }
+    ensures { IfOk result (λ r. r ≡ reduction
+        (verdict_with (T.asks target.now failure.now.workload.now) T.names failure.now.seed failure.now.max_hits)
+        failure.now.stream failure.now.code failure.now.scenario.now) }
+{
+    let _ = failure.scenario.entries();
+    let hands: Vec<CaseProbe<'_, T>> = probes(alloc, target, failure, workers)?;
+    reduce(rt, alloc, gate, hands, failure.faults)
+}
