@@ -1,0 +1,5 @@
+mod HelpLemmas
+mod ValueLemmas
+mod WordsLemmas
+pub mod ListLemmas
+pub mod SettingsLemmas

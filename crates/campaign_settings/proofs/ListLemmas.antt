@@ -1,0 +1,119 @@
+use Rattle.std.proofs.Common.{◌≡◌, ◌<◌, ◌≤◌, ◌+◌, ℕ, List, [], ◌∷◌, ◌++◌, Option, Some, None, Ok, Err, All, ◌∙◌, ap, subst, sym, false, if◌then◌else◌, drop, get_or, is_some, length, map, nat_le, option_and_then, option_map, refl, true, ◌==◌, ◌&&◌}
+use Rattle.std.proofs.lemmas.List.{append_assoc, length-map}
+use Rattle.std.proofs.lemmas.Bool.{and_parts, eqb-true, leb-true, le-leb, lt-leb}
+use Rattle.std.proofs.lemmas.List.Elements.{All-from_recursion}
+use Rattle.std.proofs.lemmas.Option.{same_Some}
+use Rattle.commit_target.specs.declared.work.Vote.{Vote}
+use Rattle.file_replace.specs.Work.{IsChunks}
+use Rattle.std.specs.List.{AllByRecursion, list_all}
+use Rattle.std.specs.Option.{option_map_or}
+use Rattle.toml.specs.Data.{Data, Items, item, no_items}
+use Rattle.toml.specs.View.{items_view, view}
+use Rattle.toml.specs.declared.value.Value.{Value}
+use Rattle.toml.proofs.Views.{items_view-drop}
+use Rattle.campaign_settings.specs.Keys.{Text}
+use Rattle.campaign_settings.specs.Lists.{all_in, before, each, is_chunk, is_chunk_list, is_wish, is_wish_list, list_in, lists_in, wish_of, wishes_of}
+use Rattle.campaign_settings.specs.Values.{at_most, in_ranges, typed}
+use Rattle.campaign_settings.specs.declared.keys.KeyFault.TheVariants.{OutOfRange}
+
+module _ {X : Type 0} where
+  -- some, and then the others
+  abbrev pub joined : List X → Option (List X) → Option (List X)
+  joined xs o = option_map (λ rest. xs ++ rest) o
+
+  pub joined-before : (xs : List X) (x : X) (o : Option (List X)) → joined xs (before (Some x) o) ≡ joined (xs ++ x ∷ []) o
+  joined-before xs x None = refl
+  joined-before xs x (Some rest) = rw (append_assoc xs (x ∷ []) rest)
+
+  -- one more item
+  pub item-more : (f : Data → Option X) (vs : List Value) (i : ℕ) (d : Value) (xs : List X) (x : X) → i < length vs → Some x ≡ f (view (get_or vs i d))
+      → joined xs (all_in f (items_view (drop i vs))) ≡ joined (xs ++ x ∷ []) (all_in f (items_view (drop (i + 1) vs)))
+  item-more f vs i d xs x h e = rw (items_view-drop vs i d h, ← e) (joined-before xs x _)
+
+  -- an item that is none
+  pub item-none : (f : Data → Option X) (vs : List Value) (i : ℕ) (d : Value) (xs : List X) → i < length vs → None ≡ f (view (get_or vs i d))
+      → joined xs (all_in f (items_view (drop i vs))) ≡ None
+  item-none f vs i d xs h e = rw (items_view-drop vs i d h, ← e)
+
+  -- all items are something where each is
+  some-before : (a : Option X) (o : Option (List X)) → is_some (before a o) ≡ (is_some a && is_some o)
+  some-before None o = refl
+  some-before (Some x) None = refl
+  some-before (Some x) (Some xs) = refl
+
+  pub all-some : (f : Data → Option X) (vs : List Value) → list_all (λ v. is_some (f (view v))) vs ≡ is_some (all_in f (items_view vs))
+  all-some f [] = refl
+  all-some f (v ∷ vs) = rw (some-before (f (view v)) (all_in f (items_view vs)), ← all-some f vs)
+
+  -- ---- lists in two steps
+
+  step-before : (f : List Text → Option X) (a : Option (List Text)) (o : Option (List (List Text))) → before (option_and_then f a) (option_and_then (each f) o) ≡ option_and_then (each f) (before a o)
+  step-before f None o = refl
+  step-before f (Some ts) (Some ls) = refl
+  step-before f (Some ts) None = none (f ts)
+    where
+      none : (x : Option X) → before x None ≡ None
+      none None = refl
+      none (Some x) = refl
+
+  -- what all items come to: first their texts, then what these give
+  pub two-steps : (f : List Text → Option X) (ds : Items) → all_in (λ d. option_and_then f (list_in d)) ds ≡ option_and_then (each f) (lists_in ds)
+  two-steps f no_items = refl
+  two-steps f (item d ds) = rw (two-steps f ds) (step-before f (list_in d) (lists_in ds))
+
+  typed-lists : (f : List Text → Option X) (most : ℕ) (o : Option (List (List Text))) → is_some o ≡ true → typed (in_ranges f most) o ≡ option_map_or (at_most most) (option_and_then (each f) o) (Err OutOfRange)
+  typed-lists f most None h = cc
+  typed-lists f most (Some ls) h = refl
+
+  -- what lists of texts give is what their items give
+  lists-read : (f : List Text → Option X) (most : ℕ) (ds : Items) → is_some (lists_in ds) ≡ true → typed (in_ranges f most) (lists_in ds) ≡ option_map_or (at_most most) (all_in (λ d. option_and_then f (list_in d)) ds) (Err OutOfRange)
+  lists-read f most ds h = rw (two-steps f ds) (typed-lists f most (lists_in ds) h)
+
+  pub lists-none : (f : List Text → Option X) (most : ℕ) (ds : Items) → is_some (lists_in ds) ≡ true → all_in (λ d. option_and_then f (list_in d)) ds ≡ None → typed (in_ranges f most) (lists_in ds) ≡ Err OutOfRange
+  lists-none f most ds h e = lists-read f most ds h ∙ ap (λ o. option_map_or (at_most most) o (Err OutOfRange)) e
+
+  pub lists-many : (f : List Text → Option X) (most : ℕ) (ds : Items) (xs : List X) → is_some (lists_in ds) ≡ true → all_in (λ d. option_and_then f (list_in d)) ds ≡ Some xs → most < length xs → typed (in_ranges f most) (lists_in ds) ≡ Err OutOfRange
+  lists-many f most ds xs h e many =
+      lists-read f most ds h ∙ ap (λ o. option_map_or (at_most most) o (Err OutOfRange)) e
+      ∙ ap (λ b. if b then Ok xs else Err OutOfRange) (lt-leb (length xs) most many)
+
+  pub lists-some : (f : List Text → Option X) (most : ℕ) (ds : Items) (xs : List X) → is_some (lists_in ds) ≡ true → all_in (λ d. option_and_then f (list_in d)) ds ≡ Some xs → length xs ≤ most → typed (in_ranges f most) (lists_in ds) ≡ Ok xs
+  lists-some f most ds xs h e few =
+      lists-read f most ds h ∙ ap (λ o. option_map_or (at_most most) o (Err OutOfRange)) e
+      ∙ ap (λ b. if b then Ok xs else Err OutOfRange) (le-leb (length xs) most few)
+
+  -- what each item gives has a property where all that it may give has
+  before-fits : (P : X → Type 0) (a : Option X) (o : Option (List X)) (xs : List X) → ((x : X) → a ≡ Some x → P x) → ((ys : List X) → o ≡ Some ys → AllByRecursion P ys) → before a o ≡ Some xs → AllByRecursion P xs
+  before-fits P None o xs p q e = cc
+  before-fits P (Some x) None xs p q e = cc
+  before-fits P (Some x) (Some ys) xs p q e = subst (AllByRecursion P) (same_Some _ _ e) (p x refl, q ys refl)
+
+  pub all-fit : (P : X → Type 0) (f : Data → Option X) → ((d : Data) (x : X) → f d ≡ Some x → P x) → (ds : Items) (xs : List X) → all_in f ds ≡ Some xs → AllByRecursion P xs
+  all-fit P f p no_items xs e = subst (AllByRecursion P) (same_Some _ _ e) tt
+  all-fit P f p (item d ds) xs e = before-fits P (f d) (all_in f ds) xs (p d) (λ ys h. all-fit P f p ds ys h) e
+
+-- ---- ranges
+
+short-chunks : (cs : List Text) → list_all is_chunk cs ≡ true → AllByRecursion (λ c. length c ≤ 4096) cs
+short-chunks [] h = tt
+short-chunks (c ∷ cs) h =
+    let (here, more) = and_parts (is_chunk c) (list_all is_chunk cs) h in
+    (leb-true (length c) 4096 here, short-chunks cs more)
+
+pub chunks-fit : (cs : List Text) → is_chunk_list cs ≡ true → IsChunks cs
+chunks-fit cs h =
+    let (few, short) = and_parts (nat_le (length cs) 1000) (list_all is_chunk cs) h in
+    record { few = leb-true (length cs) 1000 few; short = short-chunks cs short }
+
+wishes-count : (n : ℕ) (o : Option (List Text)) (vs : List Vote) → option_and_then (wishes_of n) o ≡ Some vs → length vs ≡ n
+wishes-count n None vs e = cc
+wishes-count n (Some ts) vs e =
+    elim (is_wish_list n ts) as (λ b. is_wish_list n ts ≡ b → (if b then Some (map wish_of ts) else None) ≡ Some vs → length vs ≡ n) [
+      | true ↦ λ is same. ap length (sym (same_Some _ _ same)) ∙ length-map ts wish_of ∙ eqb-true (length ts) n (and_parts (length ts == n) (list_all is_wish ts) is).0
+      | false ↦ λ _ none. cc
+    ] refl e
+
+-- the wishes of each list are as many as there are participants
+pub wishes-fit : (n : ℕ) (ds : Items) (vs : List (List Vote)) → all_in (λ d. option_and_then (wishes_of n) (list_in d)) ds ≡ Some vs → All (λ v. length v ≡ n) vs
+wishes-fit n ds vs e =
+    All-from_recursion (λ v. length v ≡ n) vs (all-fit (λ v. length v ≡ n) (λ d. option_and_then (wishes_of n) (list_in d)) (λ d v h. wishes-count n (list_in d) v h) ds vs e)

@@ -1,0 +1,17 @@
+use Rattle.std.proofs.Common.{◌∙◌, ap, ap₂}
+use Rattle.std.proofs.lemmas.Result.{IfOk-weaker}
+use Rattle.clap.specs.Words.{App, with_subcommand}
+use Rattle.campaign_settings.specs.Words.{paklour}
+use Rattle.campaign_settings.proofs.words.command.Goals as goal
+
+pub returns : goal.returns
+unfolding paklour
+returns c =
+    let one = c.in_ok-subcommand.ensures.shape c.in_ok-file_command.ensures.local
+    ∙ ap₂ with_subcommand c.new.ensures.app (ap (λ (a : App). a.top) c.in_ok-file_command.ensures.app) in
+    let two = c.in_ok-subcommand-2.ensures.shape c.in_ok-file_command-2.ensures.local
+    ∙ ap₂ with_subcommand one (ap (λ (a : App). a.top) c.in_ok-file_command-2.ensures.app) in
+    let three = c.in_ok-subcommand-3.ensures.shape c.in_ok-scenario_command.ensures.local
+    ∙ ap₂ with_subcommand two (ap (λ (a : App). a.top) c.in_ok-scenario_command.ensures.app) in
+    IfOk-weaker c.subcommand-4.result _ _ (λ r h. h.shape c.in_ok-scenario_command-2.ensures.local
+    ∙ ap₂ with_subcommand three (ap (λ (a : App). a.top) c.in_ok-scenario_command-2.ensures.app)) c.subcommand-4.ensures

@@ -1,0 +1,54 @@
+-- The names of the settings' keys, and which table has which. The keys are this project's own.
+use Rattle.std.specs.Prelude.{◌||◌, ◌++◌, ℕ, Bool, List, [], ◌∷◌, Some, None, codes}
+use Rattle.std.specs.List.{list_any}
+use Rattle.std.specs.Str.{bytes_eq}
+use Rattle.campaign_settings.specs.declared.keys.Key.{Key}
+use Rattle.campaign_settings.specs.declared.keys.Key.TheVariants as key
+use Rattle.campaign_settings.specs.declared.keys.Place.{Place}
+use Rattle.campaign_settings.specs.declared.keys.Place.TheVariants.{Top, Within}
+use Rattle.campaign_settings.specs.declared.keys.TargetName.{TargetName}
+use Rattle.campaign_settings.specs.declared.keys.TargetName.TheVariants.{Replace, Maildir, Commit}
+
+abbrev pub Text : Type 0
+Text = List ℕ
+
+abbrev pub target_name : TargetName → Text
+target_name Replace = codes "replace"
+target_name Maildir = codes "maildir"
+target_name Commit = codes "commit"
+
+-- a key, with its table in front where it stands in a target's table
+abbrev pub key_name : Key → Text
+key_name key.Target = codes "target"
+key_name key.Variant = codes "variant"
+key_name key.Seed = codes "seed"
+key_name key.Workers = codes "workers"
+key_name key.MaxHits = codes "max_hits"
+key_name key.Pairs = codes "pairs"
+key_name key.Storms = codes "storms"
+key_name key.Rate = codes "rate"
+key_name key.Scenarios = codes "scenarios"
+key_name (key.Table target) = target_name target
+key_name key.Old = codes "replace.old"
+key_name key.Replacements = codes "replace.replacements"
+key_name key.Messages = codes "maildir.messages"
+key_name key.Participants = codes "commit.participants"
+key_name key.Transactions = codes "commit.transactions"
+
+abbrev pub is_top_key : Text → Bool
+is_top_key name = list_any (bytes_eq name) (codes "target" ∷ codes "variant" ∷ codes "seed"
+    ∷ codes "workers" ∷ codes "max_hits" ∷ codes "pairs" ∷ codes "storms" ∷ codes "rate"
+    ∷ codes "scenarios" ∷ [])
+
+-- whether the table has this key: the table of another target is unknown, and all are where the target is none of the three
+abbrev pub is_known : Place → Text → Bool
+is_known (Top None) name = is_top_key name
+is_known (Top (Some target)) name = is_top_key name || bytes_eq name (target_name target)
+is_known (Within Replace) name = list_any (bytes_eq name) (codes "old" ∷ codes "replacements" ∷ [])
+is_known (Within Maildir) name = list_any (bytes_eq name) (codes "messages" ∷ [])
+is_known (Within Commit) name = list_any (bytes_eq name) (codes "participants" ∷ codes "transactions" ∷ [])
+
+-- a key of a table, with the table in front
+abbrev pub full_name : Place → Text → Text
+full_name (Top target) name = name
+full_name (Within target) name = target_name target ++ codes "." ++ name

@@ -1,0 +1,6 @@
+pub mod Keys
+pub mod Values
+pub mod Lists
+pub mod Settings
+pub mod Lines
+pub mod Words

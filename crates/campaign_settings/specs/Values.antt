@@ -1,0 +1,101 @@
+-- What the value at one key means, by its kind and range.
+use Rattle.std.specs.Prelude.{◌&&◌, ℕ, ℤ, pos, negsuc, Bool, false, List, [], length, Option, Some, None, Result, Ok, Err, codes, nat_le, if◌then◌else◌}
+use Rattle.std.specs.Option.{option_map_or}
+use Rattle.std.specs.Str.{bytes_eq}
+use Rattle.toml.specs.Data.{Data, Members, as_array, as_bool, as_integer, as_str, as_table}
+use Rattle.campaign_settings.specs.Keys.{Text}
+use Rattle.campaign_settings.specs.Lists.{each, lists_in, texts_in}
+use Rattle.campaign_settings.specs.declared.keys.KeyFault.{KeyFault}
+use Rattle.campaign_settings.specs.declared.keys.KeyFault.TheVariants.{Missing, WrongType, OutOfRange}
+use Rattle.campaign_settings.specs.declared.keys.TargetName.{TargetName}
+use Rattle.campaign_settings.specs.declared.keys.TargetName.TheVariants.{Replace, Maildir, Commit}
+use Rattle.file_replace.specs.declared.variant.Variant.TheVariants as replace
+use Rattle.maildir_target.specs.declared.variant.Variant.TheVariants as maildir
+use Rattle.commit_target.specs.declared.variant.Variant.TheVariants as commit
+use Rattle.campaign_settings.specs.declared.choice.Setup.{Setup}
+use Rattle.campaign_settings.specs.declared.choice.Setup.TheVariants as setup
+
+-- what is of the wrong type, or what its value gives
+abbrev pub typed : {X Y : Type 0} → (X → Result Y KeyFault) → Option X → Result Y KeyFault
+typed f o = option_map_or f o (Err WrongType)
+
+-- a number from low to high, or what stands for it where there is none
+abbrev pub within : ℕ → ℕ → ℕ → Result ℕ KeyFault
+within low high n = if nat_le low n && nat_le n high then Ok n else Err OutOfRange
+
+abbrev pub in_range : ℕ → ℕ → ℤ → Result ℕ KeyFault
+in_range low high (pos n) = within low high n
+in_range low high (negsuc n) = Err OutOfRange
+
+abbrev pub number_at : Result ℕ KeyFault → ℕ → ℕ → Option Data → Result ℕ KeyFault
+number_at missing low high None = missing
+number_at missing low high (Some d) = typed (in_range low high) (as_integer d)
+
+abbrev pub boolean_at : Option Data → Result Bool KeyFault
+boolean_at None = Ok false
+boolean_at (Some d) = typed (λ b. Ok b) (as_bool d)
+
+-- one of the targets
+abbrev pub target_named : Text → Result TargetName KeyFault
+target_named name = if bytes_eq name (codes "replace") then Ok Replace
+    else (if bytes_eq name (codes "maildir") then Ok Maildir
+    else (if bytes_eq name (codes "commit") then Ok Commit else Err OutOfRange))
+
+abbrev pub target_at : Option Data → Result TargetName KeyFault
+target_at None = Err Missing
+target_at (Some d) = typed target_named (as_str d)
+
+-- one of the target's variants, which is `sound` where none is given
+abbrev pub replace_named : Text → Result Setup KeyFault
+replace_named name = if bytes_eq name (codes "sound") then Ok (setup.Replace replace.Sound)
+    else (if bytes_eq name (codes "late_sync") then Ok (setup.Replace replace.LateSync)
+    else (if bytes_eq name (codes "ignore_sync") then Ok (setup.Replace replace.IgnoreSync)
+    else (if bytes_eq name (codes "retry_write") then Ok (setup.Replace replace.RetryWrite) else Err OutOfRange)))
+
+abbrev pub maildir_named : Text → Result Setup KeyFault
+maildir_named name = if bytes_eq name (codes "sound") then Ok (setup.Maildir maildir.Sound)
+    else (if bytes_eq name (codes "link_first") then Ok (setup.Maildir maildir.LinkFirst)
+    else (if bytes_eq name (codes "ignore_write") then Ok (setup.Maildir maildir.IgnoreWrite)
+    else (if bytes_eq name (codes "append_tmp") then Ok (setup.Maildir maildir.AppendTmp) else Err OutOfRange)))
+
+abbrev pub commit_named : Text → Result Setup KeyFault
+commit_named name = if bytes_eq name (codes "sound") then Ok (setup.Commit commit.Sound)
+    else (if bytes_eq name (codes "lazy_prepare") then Ok (setup.Commit commit.LazyPrepare)
+    else (if bytes_eq name (codes "early_end") then Ok (setup.Commit commit.EarlyEnd)
+    else (if bytes_eq name (codes "two_tries") then Ok (setup.Commit commit.TwoTries) else Err OutOfRange)))
+
+abbrev pub setup_named : TargetName → Text → Result Setup KeyFault
+setup_named Replace name = replace_named name
+setup_named Maildir name = maildir_named name
+setup_named Commit name = commit_named name
+
+abbrev pub setup_at : TargetName → Option Data → Result Setup KeyFault
+setup_at target None = setup_named target (codes "sound")
+setup_at target (Some d) = typed (setup_named target) (as_str d)
+
+-- up to `most` of something
+abbrev pub at_most : {X : Type 0} → ℕ → List X → Result (List X) KeyFault
+at_most most xs = if nat_le (length xs) most then Ok xs else Err OutOfRange
+
+-- up to `most` texts, and none where there is no list
+abbrev pub texts_at : ℕ → Option Data → Result (List Text) KeyFault
+texts_at most None = Ok []
+texts_at most (Some d) = typed (λ ds. typed (at_most most) (texts_in ds)) (as_array d)
+
+-- a text of up to `most` bytes, which has to be there
+abbrev pub text_at : ℕ → Option Data → Result Text KeyFault
+text_at most None = Err Missing
+text_at most (Some d) = typed (at_most most) (as_str d)
+
+-- up to `most` lists of texts, which have to be there, each in its range. The types of all are looked at before any range.
+abbrev pub in_ranges : {X : Type 0} → (List Text → Option X) → ℕ → List (List Text) → Result (List X) KeyFault
+in_ranges f most lists = option_map_or (at_most most) (each f lists) (Err OutOfRange)
+
+abbrev pub lists_at : {X : Type 0} → (List Text → Option X) → ℕ → Option Data → Result (List X) KeyFault
+lists_at f most None = Err Missing
+lists_at f most (Some d) = typed (λ ds. typed (in_ranges f most) (lists_in ds)) (as_array d)
+
+-- a table, which has to be there
+abbrev pub table_at : Option Data → Result Members KeyFault
+table_at None = Err Missing
+table_at (Some d) = typed (λ ms. Ok ms) (as_table d)

@@ -1,0 +1,22 @@
+use commit_target::Transactions;
+use file_replace::Replacements;
+use maildir_target::Messages;
+
+/// A bundled target with its variant.
+#[derive(Clone, Copy, Debug, PartialEq, Eq)]
+pub enum Setup {
+    Replace(file_replace::Variant),
+    Maildir(maildir_target::Variant),
+    Commit(commit_target::Variant),
+}
+
+/// A bundled target with its variant and its workload.
+#[derive(Debug, Drop)]
+pub enum Choice {
+    /// Atomic replacement of a file.
+    Replace(file_replace::Variant, Replacements),
+    /// Delivery of messages into a maildir.
+    Maildir(maildir_target::Variant, Messages),
+    /// Two-phase commit with presumed abort.
+    Commit(commit_target::Variant, Transactions),
+}
