@@ -3,4 +3,3 @@ pub mod Values
 pub mod Lists
 pub mod Settings
 pub mod Lines
-pub mod Words

@@ -1,35 +1,70 @@
-ghost use Rattle.std.specs.Prelude.{◌≡◌, Some, is_some, false, true, IfOk, IfErr, map, codes, string_bytes};
-ghost use Rattle.clap.specs.Words.{app_of, first_value, found_of, kind_of, rule_of, subcommand_of, takes};
+ghost use Rattle.std.specs.Prelude.{◌≡◌, ◌↔◌, ◌⊎◌, [], ◌∷◌, IsErrAnd, IsTrue, Some, is_some, false, true, IfOk, IfErr, map, codes, string_bytes};
+ghost use Rattle.clap.specs.Words.{IsAmong, app_of, fault_of, first_value, found_of, kind_of, rule_of, subcommand_of, takes};
 ghost use Rattle.clap.specs.declared.builder.command.Command.TheViews.{out-Command as fields_of};
-ghost use Rattle.campaign_settings.specs.Words.{IsLine, IsLineOf, IsName, TakesText, file_app, file_rule, paklour, scenario_app, scenario_rule};
-ghost use Rattle.campaign_settings.specs.declared.words.WordsFault.TheVariants.{Memory};
+ghost use Rattle.command_words.specs.Words.{AsksForHelp, IsLine, IsLineOf, IsName, TakesText, file_app, file_rule, paklour, scenario_app, scenario_rule};
+ghost use Rattle.command_words.specs.declared.words.WordsFault.TheVariants.{Memory};
 
+use crate::help;
 use clap::error::ErrorKind;
 use clap::{Arg, ArgMatches, Command};
 use std::alloc::{AllocError, Global};
+use std::error::Error;
+use std::fmt;
 
 /// What the program is to do.
-#[derive(Drop)]
+#[derive(Debug, Drop)]
 pub enum Order {
+    /// Run a campaign.
     Run,
+    /// List a campaign's plans.
     Plans,
+    /// Try the scenario of this text.
     Try(String),
+    /// Reduce the scenario of this text.
     Reduce(String),
 }
 
-/// What the words ask for: an order, and the file of its settings.
-#[derive(Drop)]
+/// What the words ask for.
+#[derive(Debug, Drop)]
 pub struct Line {
     pub order: Order,
+    /// The file of the settings; `None` where they come from standard input.
     pub file: Option<String>,
 }
 
 /// Why the words give no line.
-#[derive(Drop)]
+#[derive(Debug, Drop)]
 pub enum WordsFault {
+    /// The words ask for help, or the reader of command lines refuses them.
     Refused(clap::Error),
+    /// Memory was refused.
     Memory,
 }
+
+impl WordsFault {
+    /// Whether the words asked for help. Its text goes to standard output, and the program ends with status 0; any other
+    /// refusal goes to standard error.
+    pub fn is_help(&self) -> bool
+        ensures { IsTrue result ↔ AsksForHelp self.now }
+    {
+        match self {
+            WordsFault::Refused(error) => error.kind() == ErrorKind::DisplayHelp,
+            WordsFault::Memory => false,
+        }
+    }
+}
+
+/// The lines to show, each ended by its line feed.
+impl fmt::Display for WordsFault {
+    fn fmt<W: fmt::Write>(&self, f: &mut fmt::Formatter<W>) -> fmt::Result {
+        match self {
+            WordsFault::Refused(error) => write!(f, "{error}"),
+            WordsFault::Memory => f.write_str("no memory\n"),
+        }
+    }
+}
+
+impl Error for WordsFault {}
 
 impl From<AllocError> for WordsFault {
     ghost from_gives = { λ _ fault. fault ≡ Memory };
@@ -43,7 +78,7 @@ fn file_arg<'a>(alloc: Global) -> Arg<'a>
     ensures rule { rule_of result ≡ file_rule }
     ensures local { result.global ≡ false }
 {
-    Arg::new(alloc, "file").value_name("FILE")
+    Arg::new(alloc, "file").value_name("FILE").help(help::FILE)
 }
 
 fn scenario_arg<'a>(alloc: Global) -> Arg<'a>
@@ -54,20 +89,27 @@ fn scenario_arg<'a>(alloc: Global) -> Arg<'a>
         .long("scenario")
         .value_name("TEXT")
         .required(true)
+        .help(help::SCENARIO)
 }
 
-fn file_command<'a>(alloc: Global, name: &'a str) -> Result<Command<'a>, AllocError>
+fn file_command<'a>(alloc: Global, name: &'a str, about: &'a str) -> Result<Command<'a>, AllocError>
     ensures app { IfOk result (λ command. app_of command ≡ file_app name.entry.now) }
     ensures local { IfOk result (λ command. (fields_of command).has_globals ≡ false) }
 {
-    Command::new(alloc, name).arg(file_arg(alloc))
+    Command::new(alloc, name).about(about).arg(file_arg(alloc))
 }
 
-fn scenario_command<'a>(alloc: Global, name: &'a str) -> Result<Command<'a>, AllocError>
+fn scenario_command<'a>(
+    alloc: Global,
+    name: &'a str,
+    about: &'a str,
+) -> Result<Command<'a>, AllocError>
     ensures app { IfOk result (λ command. app_of command ≡ scenario_app name.entry.now) }
     ensures local { IfOk result (λ command. (fields_of command).has_globals ≡ false) }
 {
     Command::new(alloc, name)
+        .about(about)
+        .after_help(help::SCENARIO_TEXT)
         .arg(scenario_arg(alloc))?
         .arg(file_arg(alloc))
 }
@@ -76,16 +118,21 @@ fn command<'a>(alloc: Global) -> Result<Command<'a>, AllocError>
     ensures { IfOk result (λ command. app_of command ≡ paklour) }
 {
     Command::new(alloc, "paklour")
-        .subcommand(file_command(alloc, "run")?)?
-        .subcommand(file_command(alloc, "plans")?)?
-        .subcommand(scenario_command(alloc, "try")?)?
-        .subcommand(scenario_command(alloc, "reduce")?)
+        .about(help::ABOUT)
+        .after_help(help::SETTINGS)
+        .subcommand(file_command(alloc, "run", help::RUN)?)?
+        .subcommand(file_command(alloc, "plans", help::PLANS)?)?
+        .subcommand(scenario_command(alloc, "try", help::TRY)?)?
+        .subcommand(scenario_command(alloc, "reduce", help::REDUCE)?)
 }
 
-/// The order and the file that the words give, of which the first is the program's name.
+/// The order and the file that the words give, of which the first is the program's name. `Err` is a refusal or help, as the
+/// reader of command lines tells it, or that memory ran out; help comes only where the words ask for it.
 pub fn read_words(alloc: Global, words: &[String]) -> Result<Line, WordsFault>
     ensures ok { IfOk result (IsLine (subcommand_of paklour (map string_bytes words.now))) }
     ensures refused { IfErr result (λ fault. takes paklour (map string_bytes words.now) ≡ true → fault ≡ Memory) }
+    ensures help_only { IfErr result (λ fault. AsksForHelp fault → IsAmong ErrorKind.DisplayHelp (fault_of paklour (map string_bytes words.now))) }
+    ensures help { fault_of paklour (map string_bytes words.now) ≡ ErrorKind.DisplayHelp ∷ [] → IsErrAnd result (λ fault. AsksForHelp fault ⊎ (fault ≡ Memory)) }
 {
     let command = command(alloc)?;
     let matches = match command.try_get_matches_from(words) {
@@ -102,7 +149,8 @@ pub fn read_words(alloc: Global, words: &[String]) -> Result<Line, WordsFault>
 }
 
 fn refusal(error: clap::Error) -> WordsFault
-    ensures { kind_of error ≡ ErrorKind.OutOfMemory → result ≡ Memory }
+    ensures memory { kind_of error ≡ ErrorKind.OutOfMemory → result ≡ Memory }
+    ensures help { AsksForHelp result ↔ (kind_of error ≡ ErrorKind.DisplayHelp) }
 {
     if error.kind() == ErrorKind::OutOfMemory {
         WordsFault::Memory
@@ -115,6 +163,7 @@ fn refusal(error: clap::Error) -> WordsFault
 fn line_of<'a>(alloc: Global, name: &str, own: &ArgMatches<'a>) -> Result<Line, WordsFault>
     ensures ok { IfOk result (λ line. IsLineOf name.now (first_value (found_of own.now) (codes "scenario")) (first_value (found_of own.now) (codes "file")) line) }
     ensures refused { IfErr result (λ fault. IsName name.now → (TakesText name.now → is_some (first_value (found_of own.now) (codes "scenario")) ≡ true) → fault ≡ Memory) }
+    ensures no_help { IfErr result (λ fault. AsksForHelp fault → ⊥) }
 {
     let file = match own.get_str("file") {
         Some(file) => Some(String::from_str(alloc, file)?),
@@ -134,6 +183,7 @@ fn line_of<'a>(alloc: Global, name: &str, own: &ArgMatches<'a>) -> Result<Line, 
 fn scenario_of<'a>(alloc: Global, own: &ArgMatches<'a>) -> Result<String, WordsFault>
     ensures text { IfOk result (λ text. first_value (found_of own.now) (codes "scenario") ≡ Some (string_bytes text)) }
     ensures refused { IfErr result (λ fault. is_some (first_value (found_of own.now) (codes "scenario")) ≡ true → fault ≡ Memory) }
+    ensures no_help { IfErr result (λ fault. AsksForHelp fault → ⊥) }
 {
     match own.get_str("scenario") {
         Some(text) => Ok(String::from_str(alloc, text)?),
@@ -141,6 +191,8 @@ fn scenario_of<'a>(alloc: Global, own: &ArgMatches<'a>) -> Result<String, WordsF
     }
 }
 
-fn missing(alloc: Global) -> Result<clap::Error, AllocError> {
+fn missing(alloc: Global) -> Result<clap::Error, AllocError>
+    ensures { IfOk result (λ error. kind_of error ≡ ErrorKind.MissingRequiredArgument) }
+{
     command(alloc)?.error(ErrorKind::MissingRequiredArgument, "no scenario is given")
 }

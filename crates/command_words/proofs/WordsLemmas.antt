@@ -1,4 +1,4 @@
-use Rattle.std.proofs.Common.{◌≡◌, ◌⊎◌, ◌∙◌, List, [], ◌∷◌, Bool, Option, Some, None, Box, ap, ap₂, codes, cond, find, inl, inr, option_map, refl, sym, true, false}
+use Rattle.std.proofs.Common.{◌≡◌, ◌⊎◌, ◌∙◌, List, [], ◌∷◌, Bool, Option, Some, None, Box, ap, ap₂, codes, cond, find, inl, inr, option_map, refl, subst, sym, true, false}
 use Rattle.std.proofs.lemmas.Option.{same_Some}
 use Rattle.std.specs.Box.{box_value}
 use Rattle.std.proofs.lemmas.Slice.Eq.{bytes_eq-Decides}
@@ -11,18 +11,23 @@ use Rattle.std.specs.Option.{option_map_or}
 use Rattle.std.specs.Str.{bytes_eq}
 use Rattle.std.specs.Prelude.{is_some, ◌&&◌, ◌||◌}
 use Rattle.std.proofs.lemmas.Bool.{false≢true}
+use Rattle.clap.specs.Faults.{fault_of, is_simple_and_free}
+use Rattle.clap.specs.Kinds.{HasKind, IsAmong, Kinds}
+use Rattle.clap.specs.Values.{kind_of}
+use Rattle.clap.specs.declared.error.Error.{Error}
+use Rattle.clap.specs.declared.error.kind.ErrorKind.TheVariants.{DisplayHelp, OutOfMemory}
 use Rattle.clap.specs.declared.builder.command.Command.{Command}
 use Rattle.clap.specs.declared.parser.matches.Found.{Found}
 use Rattle.clap.proofs.WalkLemmas.{both, first_value-rows}
-use Rattle.campaign_settings.specs.declared.words.Line.{Line}
+use Rattle.command_words.specs.declared.words.Line.{Line}
 use Rattle.clap.specs.Words.{App, HasMatchesOf, Row, Shape, Text, app_of, first_value, is_simple, takes, rows_of, first_of, subcommand_name_of, subcommand_of}
 use Rattle.clap.specs.declared.parser.matches.ArgMatches.{ArgMatches}
 use Rattle.clap.specs.declared.parser.matches.ArgMatches.TheViews.{out-ArgMatches, out-SubCommand}
 use Rattle.clap.specs.declared.parser.matches.SubCommand.{SubCommand}
 use Rattle.clap.proofs.OnLiterals.{clap_on_literals}
-use Rattle.campaign_settings.proofs.HelpLemmas.{NotHelp, not-help}
-use Rattle.campaign_settings.proofs.ValueLemmas.{all_have, first-there, level-has}
-use Rattle.campaign_settings.specs.Words.{TakesText, IsLine, IsLineOf, IsName, paklour}
+use Rattle.command_words.proofs.HelpLemmas.{NotHelp, not-help}
+use Rattle.command_words.proofs.ValueLemmas.{all_have, first-there, level-has}
+use Rattle.command_words.specs.Words.{TakesText, IsLine, IsLineOf, IsName, paklour}
 
 -- clap defines the matches of the program's command
 pub paklour-simple : is_simple paklour ≡ true
@@ -198,3 +203,45 @@ text-given words name f t e n =
 
 pub taken : (command : Command) (words : List Text) → app_of command ≡ paklour → takes paklour words ≡ true → takes (app_of command) words ≡ true
 taken command words a t = ap (λ (x : App). takes x words) a ∙ t
+
+-- ---- help is answered where the words ask for it
+
+paklour-free : is_simple_and_free paklour ≡ true
+unfolding paklour clap_on_literals
+paklour-free = refl
+
+no-memory : DisplayHelp ≡ OutOfMemory → ⊥
+no-memory e = cc
+
+-- help that clap answers is among the kinds that it defines for the words
+pub help-among : (command : Command) (words : List Text) (error : Error) → app_of command ≡ paklour → (is_simple_and_free (app_of command) ≡ true → HasKind (fault_of (app_of command) words) error)
+    → kind_of error ≡ DisplayHelp → IsAmong DisplayHelp (fault_of paklour words)
+help-among command words error a kinds is =
+    elim (kinds (ap is_simple_and_free a ∙ paklour-free)) [
+      | inl memory ↦ absurd (no-memory (sym is ∙ memory))
+      | inr among ↦ rw (← is, ← a) among
+    ]
+
+-- where help is all that it defines, it is help or want of memory
+pub help-alone : (command : Command) (words : List Text) (error : Error) → app_of command ≡ paklour → (is_simple_and_free (app_of command) ≡ true → HasKind (fault_of (app_of command) words) error)
+    → fault_of paklour words ≡ DisplayHelp ∷ [] → (kind_of error ≡ DisplayHelp) ⊎ (kind_of error ≡ OutOfMemory)
+help-alone command words error a kinds alone =
+    elim (kinds (ap is_simple_and_free a ∙ paklour-free)) [
+      | inl memory ↦ inr memory
+      | inr among ↦
+          let same : fault_of (app_of command) words ≡ DisplayHelp ∷ [] = ap (λ (x : App). fault_of x words) a ∙ alone in
+          let one : IsAmong (kind_of error) (DisplayHelp ∷ []) = subst (λ (ks : Kinds). IsAmong (kind_of error) ks) same among in
+          elim one [
+            | inl is ↦ inl is
+            | inr none ↦ absurd none
+          ]
+    ]
+
+-- words of which clap gives the matches ask for no help
+pub no-help-matched : (command : Command) (words : List Text) → app_of command ≡ paklour → (is_simple_and_free (app_of command) ≡ true → fault_of (app_of command) words ≡ []) → fault_of paklour words ≡ DisplayHelp ∷ [] → ⊥
+no-help-matched command words a kinds alone =
+    let none : fault_of paklour words ≡ [] = rw (← a) (kinds (ap is_simple_and_free a ∙ paklour-free)) in
+    differs (sym none ∙ alone)
+  where
+    differs : [] ≡ DisplayHelp ∷ [] → ⊥
+    differs e = cc

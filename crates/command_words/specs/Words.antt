@@ -1,9 +1,13 @@
 -- The program's command line: the command that clap builds, and what its matches mean.
 use Rattle.std.specs.Prelude.{◌≡◌, ◌⊎◌, List, true, Option, Some, None, codes, option_map, string_bytes}
 use Rattle.clap.specs.Words.{App, Row, Rule, Text, first_of, new_app, new_rule, with_rule, with_subcommand}
-use Rattle.campaign_settings.specs.declared.words.Line.{Line}
-use Rattle.campaign_settings.specs.declared.words.Order.{Order}
-use Rattle.campaign_settings.specs.declared.words.Order.TheVariants.{Run, Plans, Try, Reduce}
+use Rattle.clap.specs.Values.{kind_of}
+use Rattle.clap.specs.declared.error.kind.ErrorKind.TheVariants.{DisplayHelp}
+use Rattle.command_words.specs.declared.words.Line.{Line}
+use Rattle.command_words.specs.declared.words.Order.{Order}
+use Rattle.command_words.specs.declared.words.Order.TheVariants.{Run, Plans, Try, Reduce}
+use Rattle.command_words.specs.declared.words.WordsFault.{WordsFault}
+use Rattle.command_words.specs.declared.words.WordsFault.TheVariants.{Refused, Memory}
 
 -- FILE
 abbrev pub file_rule : Rule
@@ -62,3 +66,8 @@ IsName name = (name ≡ codes "run") ⊎ ((name ≡ codes "plans") ⊎ ((name �
 -- the names of the commands that take a scenario
 abbrev pub TakesText : Text → Type 0
 TakesText name = (name ≡ codes "try") ⊎ (name ≡ codes "reduce")
+
+-- the words asked for help
+abbrev pub AsksForHelp : WordsFault → Type 0
+AsksForHelp (Refused error) = kind_of error ≡ DisplayHelp
+AsksForHelp Memory = ⊥

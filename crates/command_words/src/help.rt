@@ -1,0 +1,81 @@
+//! The texts of the help, which the reader of command lines lays out.
+
+/// What the program does.
+pub const ABOUT: &str =
+    "Run a component under planned faults, and report what it kept of its promises";
+
+pub const RUN: &str = "Run a campaign and write its report; with no command at all, this is done";
+
+pub const PLANS: &str = "Write the plans of a campaign, one scenario each, without running them";
+
+pub const TRY: &str = "Try one scenario and write its verdict";
+
+pub const REDUCE: &str = "Reduce a scenario that fails to the faults that it needs to fail";
+
+pub const FILE: &str =
+    "TOML settings, of which `paklour help` lists the keys; left out, standard input is read";
+
+pub const SCENARIO: &str = "The scenario, as 'POINT=TERM->TERM;POINT=TERM'";
+
+/// What a scenario's text is, for the commands that take one.
+pub const SCENARIO_TEXT: &str = "\
+A scenario gives points of the target their chains of terms; the census in a report names the
+points. At each hit of a point the first term of its chain that isn't used up acts. With a
+percentage a term acts by chance, and where it doesn't, the next one is looked at. Where none acts,
+the step is done.
+
+A term is [PERCENT%][COUNT*]TASK[(ARGUMENT)], used up when it has acted COUNT times. The tasks:
+  off, yield             the step is done
+  print(TEXT)            the step is done, and a note is taken
+  sleep(MS), delay(MS)   the step is done, and up to 1000000000 milliseconds are counted, not waited
+  return                 the step fails
+  panic                  the component stops there
+  pause                  the run ends there, unresolved
+
+Examples:
+  replace::sync=1*return            the first sync fails
+  replace::write=2*off->1*panic     the component stops at the third write
+  replace::create=20%return;replace::unlink=return";
+
+/// The settings, an example of them, and the exit statuses.
+pub const SETTINGS: &str = "\
+Settings are TOML. Their keys, with ranges and defaults:
+  target     \"replace\", \"maildir\" or \"commit\"; has to be there
+  variant    \"sound\", or one with a flaw, by the target; default \"sound\"
+               replace: \"late_sync\", \"ignore_sync\", \"retry_write\"
+               maildir: \"link_first\", \"ignore_write\", \"append_tmp\"
+               commit:  \"lazy_prepare\", \"early_end\", \"two_tries\"
+  seed       the seed of all that is drawn, 0 to 9223372036854775807; default 0
+  workers    how many threads run plans, 1 to 64; default 1
+  max_hits   how many steps a run may take before it counts as unresolved, 1 to 100000; default 1000
+  pairs      true or false: whether there are plans of two steps that fail; default false
+  storms     how many plans of faults drawn at random there are, 0 to 10000; default 0
+  rate       how many steps in a thousand each of these plans draws, 0 to 1000; default 100
+  scenarios  scenarios to run as plans too, up to 1000 texts; default none
+and the table of the target, with all of its keys:
+  [replace]
+    old           the contents at first, a text of up to 65536 bytes
+    replacements  up to 1000 lists of up to 1000 chunks
+  [maildir]
+    messages      up to 1000 lists of up to 1000 chunks
+  [commit]
+    participants  1 to 8
+    transactions  up to 100 lists of \"yes\" and \"no\", one for each participant
+A chunk is a text of up to 4096 bytes.
+
+Example:
+  target = \"replace\"
+  variant = \"late_sync\"
+  seed = 7
+  workers = 2
+  [replace]
+  old = \"old\"
+  replacements = [[\"ne\", \"w\"]]
+
+Exit status:
+  0  no verdict is fail
+  1  a verdict is fail
+  2  the words, the settings, a scenario or the number of plans is refused, or the settings can't
+     be read
+  3  memory is refused
+  4  a write failed";

@@ -1,0 +1,10 @@
+//! The words of the command line: which command they name, with its scenario and its file.
+#![tactic(auto)]
+
+mod help;
+mod words;
+
+pub use words::{Line, Order, WordsFault, read_words};
+
+#[cfg(test)]
+mod tests;
