@@ -174,6 +174,16 @@ pub point_found : (r now : Run) (found : List (Option Found)) (left : List ℕ) 
 point_found r now found left taken notes millis halt k same p h d o e =
     sym (ap seen e ∙ sym (seen_at found p d) ∙ ap (λ l. get_or l p (seen d)) k.found_is ∙ entry_at r.given.scenario r.given.catalogue p (seen d) (known_by r now p same h))
 
+-- what is known of a session's value is known of the run that its fields keep
+pub room_of : (r now : Run) → r ≡ now → length now.hits < now.given.limit → length r.hits < r.given.limit
+room_of r now same h = subst (λ (x : Run). length x.hits < x.given.limit) (sym same) h
+
+pub limit_of : (r now : Run) → r ≡ now → now.given.limit < 2 ^ 32 → r.given.limit < 2 ^ 32
+limit_of r now same h = subst (λ (x : Run). x.given.limit < 2 ^ 32) (sym same) h
+
+pub chain_of_point : (r now : Run) (p : ℕ) (o : Option (List Term × ℕ)) → r ≡ now → found_of now.given.scenario (name_of now.given p) ≡ o → found_of r.given.scenario (name_of r.given p) ≡ o
+chain_of_point r now p o same h = subst (λ (x : Run). found_of x.given.scenario (name_of x.given p) ≡ o) (sym same) h
+
 -- a hit of a point without a chain
 pub finds_none : (r : Run) (p : ℕ) (found : List (Option (List Term × ℕ))) (left : List ℕ) (taken : ℕ) (notes : List Note) (millis : ℕ) (halt : Option Stop) → Keeps r found left taken notes millis halt
     → found_of r.given.scenario (name_of r.given p) ≡ None → Finds r p left task.Off taken
@@ -204,6 +214,29 @@ finds_some r p found left drawn notes millis halt k seed stream read read_is cha
     ∙ ap (λ (l : List ℕ). tried (word r.given.seed r.given.stream) (is_spent (slice_range l start (start + length chain))) 0 chain (words_of (history_of r))) read_is
     in
     finds r p left k.scenario k.left_is chain start at place did drawn'.taken (place_is ∙ ap (λ (t : Trial). t.place) same) (ap (λ (d : Drawn). d.taken) drawn_is ∙ ap (λ (t : Trial). t.next) same) within did_is
+
+-- a hit of a point with one that comes to nothing, where these counts were read
+pub finds_off : (r : Run) (p : ℕ) (found : List (Option (List Term × ℕ))) (left : List ℕ) (taken : ℕ) (notes : List Note) (millis : ℕ) (halt : Option Stop) → Keeps r found left taken notes millis halt
+    → (read : List ℕ) → read ≡ left → (chain : List Term) (start : ℕ) → found_of r.given.scenario (name_of r.given p) ≡ Some (chain, start) → (place : Option ℕ)
+    → ((word : ℕ → ℕ) (n : ℕ) → tried word (is_spent (slice_range read start (start + length chain))) 0 chain n ≡ record { place = place; next = n })
+    → IfSome place (λ i. i < length chain) → task_at chain place ≡ task.Off
+    → Finds r p (left_after left start place) task.Off taken
+finds_off r p found left taken notes millis halt k read read_is chain start at place idle within off =
+    let w = word r.given.seed r.given.stream in
+    let n = words_of (history_of r) in
+    let same : tried w (is_spent (slice_range left start (start + length chain))) 0 chain n ≡ record { place = place; next = n } =
+    ap (λ (l : List ℕ). tried w (is_spent (slice_range l start (start + length chain))) 0 chain n) (sym read_is) ∙ idle w n
+    in
+    subst (λ (m : ℕ). Finds r p (left_after left start place) task.Off m) (sym k.taken_is)
+    (finds r p left k.scenario k.left_is chain start at place task.Off n (sym (ap (λ (t : Trial). t.place) same)) (sym (ap (λ (t : Trial). t.next) same)) within (sym off))
+
+pub keeps_off : (r : Run) (p : ℕ) (found : List (Option (List Term × ℕ))) (left : List ℕ) (taken : ℕ) (notes : List Note) (millis : ℕ) (halt : Option Stop) → Keeps r found left taken notes millis halt
+    → length r.hits < r.given.limit → stopped r ≡ None → (left' : List ℕ) → Finds r p left' task.Off taken → (hits : List ℕ) → hits ≡ r.hits ++ p ∷ [] → (after : List ℕ) → after ≡ left'
+    → Keeps (record { given = r.given; hits = hits }) found after taken notes millis halt
+keeps_off r p found left taken notes millis halt k room running left' f hits more after same =
+    let kept = keeps_hit r p found left taken notes millis halt k room running left' task.Off taken f (omega arith) in
+    keeps_same r.given.scenario r.given.catalogue r.given.limit found _ hits left' after (record { seed = r.given.seed; stream = r.given.stream; taken = taken }) (record { seed = r.given.seed; stream = r.given.stream; taken = taken })
+    _ notes _ millis None halt (sym more) (sym same) refl (append-nil notes) (add-zero millis) (sym running ∙ sym k.stop_is) kept
 
 -- the counts of a found chain are among those of all
 pub found_within : (r : Run) (found : List (Option (List Term × ℕ))) (left : List ℕ) (taken : ℕ) (notes : List Note) (millis : ℕ) (halt : Option Stop) → Keeps r found left taken notes millis halt

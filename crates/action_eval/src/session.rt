@@ -1,13 +1,14 @@
 //! A session: one run, hit by hit.
-ghost use Rattle.std.specs.Prelude.{◌≡◌, ◌+◌, ◌<◌, ◌≤◌, [], length, IfOk, OnOk, OnErr, None, ◌++◌, ◌∷◌};
+ghost use Rattle.std.specs.Prelude.{◌≡◌, ◌+◌, ◌^◌, ◌<◌, ◌≤◌, [], length, IfOk, OnOk, OnErr, None, Some, ◌++◌, ◌∷◌};
 ghost use Rattle.std.specs.Option.{ForSome};
-ghost use Rattle.action_eval.specs.Answers.{did, task_at, replies, GoesOn, reply_to, reply_of_answer, hit, stopped, notes_of_task, asked, history_of, notes_of, total_millis, words_of, start, given_of, texts};
+ghost use Rattle.action_eval.specs.Answers.{did, task_at, replies, GoesOn, reply_to, reply_of_answer, hit, stopped, notes_of_task, asked, history_of, notes_of, total_millis, words_of, start, given_of, texts, name_of};
+ghost use Rattle.action_eval.specs.Session.{found_of, seen};
 
 use crate::answer::{Answer, Note, Stop, answer_of, millis_of, push_note, stop_of};
 use crate::counts::{full_counts, spend};
 use crate::draws::Draws;
 use crate::found::{Found, find_all};
-use crate::terms::try_terms;
+use crate::terms::{idle_place, try_terms};
 use scenario_values::{Scenario, Task, Term};
 use std::alloc::{AllocError, Global};
 use std::marker::Model;
@@ -130,6 +131,8 @@ impl<'a> Session<'a> {
     /// in order; the hit after `max_hits` answered ones is answered `Halt`, and isn't asked.
     ///
     /// Want of memory leaves the session as it was, its stream of words too.
+    // Most hits come to nothing. They are answered within the caller's loop, and only the others by a call.
+    #[inline(always)]
     pub fn hit(&mut self, point: u32) -> Result<Answer<'a>, AllocError>
         requires known { point < length self.old.given.catalogue }
         requires running { stopped self.old ≡ None }
@@ -149,7 +152,29 @@ impl<'a> Session<'a> {
             return Ok(Answer::Go);
         };
         let end = found.start + found.chain.len();
+        if let Some(idle) = idle_place(found.chain, &self.left[found.start..end]) {
+            self.hits.push(point)?;
+            spend(&mut self.left, found.start, idle);
+            return Ok(Answer::Go);
+        }
+        self.hit_chain(point, found)
+    }
+
+    /// Hits a point with a chain.
+    #[inline(never)]
+    fn hit_chain(&mut self, point: u32, found: Found<'a>) -> Result<Answer<'a>, AllocError>
+        requires room { length self.old.hits < self.old.given.limit }
+        requires limit { self.old.given.limit < 2 ^ 32 }
+        requires chain { found_of self.old.given.scenario (name_of self.old.given point) ≡ seen (Some found) }
+        requires running { stopped self.old ≡ None }
+        ensures answer { IfOk result (λ a. reply_of_answer a ≡ reply_to self.old point) }
+        ensures ok { OnOk result (self.new ≡ hit self.old point) }
+        ensures told { IfOk result (λ a. replies self.new ≡ replies self.old ++ reply_of_answer a ∷ []) }
+        ensures goes_on { IfOk result (λ a. GoesOn (reply_of_answer a) self.new) }
+        ensures err { OnErr result (self.new ≡ self.old) }
+    {
         let taken = self.draws.taken();
+        let end = found.start + found.chain.len();
         let place = try_terms(found.chain, &self.left[found.start..end], &mut self.draws);
         let task = task_at(found.chain, place);
         if let Err(refused) = keep(&mut self.hits, &mut self.notes, point, task) {

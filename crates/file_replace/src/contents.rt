@@ -1,5 +1,5 @@
 //! Contents, compared with those of a workload.
-ghost use Rattle.std.specs.Prelude.{◌≡◌, ◌≤◌, length, map};
+ghost use Rattle.std.specs.Prelude.{◌≡◌, ◌≤◌, length, map, take, drop, true, false, MatchOption};
 ghost use Rattle.std.specs.Str.{bytes_eq};
 ghost use Rattle.file_replace.specs.Work.{joined};
 ghost use Rattle.file_replace.specs.Judgement.{is_among};
@@ -8,13 +8,25 @@ ghost use Rattle.file_replace.specs.Seen.{all_contents, contents_between};
 use crate::work::{Chunks, Replacements};
 use scenario_values::Text;
 
+/// What is left of bytes after a chunk that they begin with.
+// A chunk of one byte is compared within the caller's loop, and only a longer one by a call.
+#[inline]
+fn after_chunk<'b>(bytes: &'b [u8], chunk: &[u8]) -> Option<&'b [u8]>
+    ensures { MatchOption result (bytes_eq (take (length chunk.now) bytes.now) chunk.now ≡ false) (λ rest. (bytes_eq (take (length chunk.now) bytes.now) chunk.now ≡ true) × (rest.now ≡ drop (length chunk.now) bytes.now)) }
+{
+    if let ([byte], [first, rest @ ..]) = (chunk, bytes) {
+        return if first == byte { Some(rest) } else { None };
+    }
+    bytes.strip_prefix(chunk)
+}
+
 /// Whether bytes are these chunks, one after another.
 fn chunks_are(chunks: &[Text], bytes: &[u8]) -> bool
     ensures { result ≡ bytes_eq bytes.now (joined chunks.now) }
 {
     let mut rest = bytes;
     for chunk in chunks {
-        match rest.strip_prefix(chunk.as_str().as_bytes()) {
+        match after_chunk(rest, chunk.as_str().as_bytes()) {
             Some(after) => rest = after,
             None => return false,
         }

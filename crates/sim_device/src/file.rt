@@ -41,7 +41,22 @@ impl File {
     }
 
     /// Adds bytes at the end.
+    // A single byte is added within the caller's loop, and only more of them by a call.
+    #[inline]
     pub fn append(&mut self, bytes: &[u8]) -> Result<(), AllocError>
+        ensures ok { OnOk result (self.new ≡ record { live = self.old.live ++ bytes.now; lasting = self.old.lasting }) }
+        ensures err { OnErr result (self.new ≡ self.old) }
+    {
+        if let [byte] = bytes {
+            self.contents.push(*byte)?;
+            return Ok(());
+        }
+        self.append_many(bytes)
+    }
+
+    /// Adds any number of bytes at the end.
+    #[inline(never)]
+    fn append_many(&mut self, bytes: &[u8]) -> Result<(), AllocError>
         ensures ok { OnOk result (self.new ≡ record { live = self.old.live ++ bytes.now; lasting = self.old.lasting }) }
         ensures err { OnErr result (self.new ≡ self.old) }
     {

@@ -1,14 +1,9 @@
-use Rattle.std.proofs.Common.{◌≡◌, ◌<◌, ◌^◌, ℕ, length, refl, ap, sym, ◌∙◌, arith, subst}
-use Rattle.action_eval.specs.Answers.{Run, given_of, texts, stopped, replies, GoesOn, reply_to, reply_of_answer, did, millis_of}
-use Rattle.action_eval.specs.Words.{Drawn}
+use Rattle.std.proofs.Common.{ap, sym, ◌∙◌, arith}
+use Rattle.action_eval.specs.Answers.{stopped, reply_to}
 use Rattle.action_eval.specs.Session.{seen}
-use Rattle.action_eval.proofs.Steps.{point_found, finds_none, keeps_idle, finds_some, keeps_hit, keeps_same, reply_found, found_within}
+use Rattle.action_eval.proofs.Steps.{point_found, chain_of_point, finds_none, keeps_idle, finds_off, keeps_off, reply_found, found_within}
 use Rattle.action_eval.proofs.CallerLemmas.{told_by, goes_by}
 use Rattle.action_eval.proofs.session.Session.hit.Goals as goal
-
--- words taken leave seed and stream number
-drawn_on : (d e : Drawn) (n : ℕ) → e ≡ record d { taken = n } → (let f : Drawn = record d { taken = e.taken } in f) ≡ e
-drawn_on d e n same = ap (λ (m : ℕ). let f : Drawn = record d { taken = m } in f) (ap (λ (x : Drawn). x.taken) same) ∙ sym same
 
 -- ---- a point without a chain
 
@@ -46,43 +41,35 @@ offset_bounds-deref-found c =
     let f = found_within _ _ _ _ _ _ _ k _ _ _ at in
     omega (arith, f.0)
 
-pub slice_bounds-try_terms-end : goal.slice_bounds-try_terms-end
-slice_bounds-try_terms-end c =
+pub slice_bounds-idle_place-end : goal.slice_bounds-idle_place-end
+slice_bounds-idle_place-end c =
     let k = c.self.invariant in
     let at = point_found _ _ _ _ _ _ _ _ k c.self.view_is c.args.point c.requires.known _ _ c.index.ensures ∙ ap seen c.in-Some.is in
     let f = found_within _ _ _ _ _ _ _ k _ _ _ at in
     omega (arith, f.0)
 
-pub invariant_of-self-2 : goal.invariant_of-self-2
-invariant_of-self-2 c =
+pub invariant_of-self-in-Some-idle_place : goal.invariant_of-self-in-Some-idle_place
+invariant_of-self-in-Some-idle_place c =
     let k = c.self.invariant in
     let at = point_found _ _ _ _ _ _ _ _ k c.self.view_is c.args.point c.requires.known _ _ c.index.ensures ∙ ap seen c.in-Some.is in
-    let f = finds_some _ c.args.point _ _ c.self.inside.draws _ _ _ k refl refl _ c.deref.ensures.value _ _ at c.try_terms-place.result (did c.task_at-task.result) c.try_terms-place.new.draws c.try_terms-place.ensures.place c.try_terms-place.ensures.next c.try_terms-place.ensures.within c.task_at-task.ensures in
-    let small : millis_of (did c.task_at-task.result) < 2 ^ 32 = omega (arith, c.millis_of.ensures) in
-    let kept = keeps_hit _ c.args.point _ _ _ _ _ _ k (omega arith) (ap stopped c.self.view_is ∙ c.requires.running) _ (did c.task_at-task.result) _ f small in
-    keeps_same _ _ _ _ _ _ _ _ (record { seed = c.self.inside.draws.seed; stream = c.self.inside.draws.stream; taken = c.try_terms-place.new.draws.taken }) c.try_terms-place.new.draws _ _ _ _ _ _
-    (sym c.in_default-keep.ensures.ok_hits) (sym c.spend.ensures) (drawn_on c.self.inside.draws c.try_terms-place.new.draws _ c.try_terms-place.ensures.next) (sym c.in_default-keep.ensures.ok_notes) (omega (arith, c.millis_of.ensures, c.from.ensures)) (sym c.stop_of-self-inside.ensures) kept
+    let f = finds_off _ c.args.point _ _ _ _ _ _ k _ c.deref.ensures.value _ _ at _ c.in-Some-idle_place.ensures.idle c.in-Some-idle_place.ensures.within c.in-Some-idle_place.ensures.off in
+    keeps_off _ c.args.point _ _ _ _ _ _ k (omega arith) (ap stopped c.self.view_is ∙ c.requires.running) _ f _ c.in_ok-push-3.ensures.items _ c.spend.ensures
 
-pub returns-clause-answer : goal.returns-clause-answer
-returns-clause-answer c =
+pub returns-in-Some-idle_place-clause-answer : goal.returns-in-Some-idle_place-clause-answer
+returns-in-Some-idle_place-clause-answer c =
     let k = c.self.invariant in
     let at = point_found _ _ _ _ _ _ _ _ k c.self.view_is c.args.point c.requires.known _ _ c.index.ensures ∙ ap seen c.in-Some.is in
-    let f = finds_some _ c.args.point _ _ c.self.inside.draws _ _ _ k refl refl _ c.deref.ensures.value _ _ at c.try_terms-place.result (did c.task_at-task.result) c.try_terms-place.new.draws c.try_terms-place.ensures.place c.try_terms-place.ensures.next c.try_terms-place.ensures.within c.task_at-task.ensures in
-    let room : length c.self.inside.hits.items < c.self.inside.max_hits = omega arith in
-    c.answer_of.ensures ∙ reply_found _ _ _ _ _ f room ∙ ap (λ r. reply_to r c.args.point) c.self.view_is
+    let f = finds_off _ c.args.point _ _ _ _ _ _ k _ c.deref.ensures.value _ _ at _ c.in-Some-idle_place.ensures.idle c.in-Some-idle_place.ensures.within c.in-Some-idle_place.ensures.off in
+    reply_found _ c.args.point _ _ _ f (omega arith) ∙ ap (λ r. reply_to r c.args.point) c.self.view_is
 
-pub returns-clause-told : goal.returns-clause-told
-returns-clause-told c =
-    let before : Drawn = c.self.inside.draws in
-    let after : Drawn = c.try_terms-place.new.draws in
-    let run : Drawn → Run = λ d. record { given = given_of c.self.inside.scenario.now (texts c.self.inside.catalogue.now) d.seed d.stream c.self.inside.max_hits; hits = c.keep.new.hits.items } in
-    ap (λ (d : Drawn). replies (run d)) (sym (drawn_on before after _ c.try_terms-place.ensures.next))
-    ∙ told_by _ _ c.args.point _ _ c.self.view_is c.requires.running c.in_default-keep.ensures.ok_hits (returns-clause-answer c)
+pub returns-in-Some-idle_place-clause-told : goal.returns-in-Some-idle_place-clause-told
+returns-in-Some-idle_place-clause-told c = told_by _ _ c.args.point _ _ c.self.view_is c.requires.running c.in_ok-push-3.ensures.items (returns-in-Some-idle_place-clause-answer c)
 
-pub returns-clause-goes_on : goal.returns-clause-goes_on
-returns-clause-goes_on c =
-    let before : Drawn = c.self.inside.draws in
-    let after : Drawn = c.try_terms-place.new.draws in
-    let run : Drawn → Run = λ d. record { given = given_of c.self.inside.scenario.now (texts c.self.inside.catalogue.now) d.seed d.stream c.self.inside.max_hits; hits = c.keep.new.hits.items } in
-    subst (λ (d : Drawn). GoesOn (reply_of_answer c.answer_of.result) (run d)) (drawn_on before after _ c.try_terms-place.ensures.next)
-    (goes_by _ _ c.args.point _ _ c.self.view_is c.requires.running c.in_default-keep.ensures.ok_hits (returns-clause-answer c))
+pub returns-in-Some-idle_place-clause-goes_on : goal.returns-in-Some-idle_place-clause-goes_on
+returns-in-Some-idle_place-clause-goes_on c = goes_by _ _ c.args.point _ _ c.self.view_is c.requires.running c.in_ok-push-3.ensures.items (returns-in-Some-idle_place-clause-answer c)
+
+pub hit_chain-requires-clause-chain : goal.hit_chain-requires-clause-chain
+hit_chain-requires-clause-chain c =
+    let k = c.self.invariant in
+    let at = point_found _ _ _ _ _ _ _ _ k c.self.view_is c.args.point c.requires.known _ _ c.index.ensures ∙ ap seen c.in-Some.is in
+    chain_of_point _ _ c.args.point _ (sym c.self.view_is) at
