@@ -81,7 +81,7 @@ fn made(alloc: Global, job: Job) -> Result<Vec<Plan>, PlanFault> {
         pairs: job.pairs,
         storms: job.storms,
         rate: job.rate,
-        listed: Vec::new(alloc),
+        listed: &[],
         seed: 7,
     };
     match census(alloc, job.chunks) {

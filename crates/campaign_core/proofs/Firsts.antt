@@ -1,8 +1,6 @@
 -- The first failure, and what a report says of it.
 use Rattle.std.proofs.Common.{◌≡◌, ℕ, suc, ◌+◌, ◌<◌, true, Option, Some, None, List, [], ◌∷◌, length, get_or, option_map, refl, sym, ap, ◌∙◌, arith, eq-eqb}
 use Rattle.scenario_values.specs.Scenario.{Entries, IsScenario, all_faults}
-use Rattle.scenario_values.specs.Keep.{kept}
-use Rattle.scenario_values.specs.Tidied.{tidied}
 use Rattle.action_eval.specs.Answers.{Reply}
 use Rattle.target_trait.specs.Play.{Move}
 use Rattle.target_trait.specs.Outcomes.{verdict_with}
@@ -10,7 +8,6 @@ use Rattle.target_trait.specs.declared.judgement.Verdict.{Verdict}
 use Rattle.target_trait.specs.declared.judgement.Verdict.TheVariants as verdict
 use Rattle.result_book.specs.Verdicts.{verdicts_from}
 use Rattle.result_book.specs.FirstFailure.{failing, first_from}
-use Rattle.ddmin_parallel.specs.Ddmin.{Reduced}
 use Rattle.ddmin_parallel.specs.OneMinimal.{IsOneMinimal}
 use Rattle.ddmin_parallel.proofs.Minimal.{minimal}
 use Rattle.report.specs.Reports.{FindingFacts, ReportFacts}
@@ -60,17 +57,15 @@ first_fails say plans first is =
     ap (λ k. fails_with first.1 (say first.0 (get_or plans k []))) at ∙ ap (fails_with first.1) l.fails ∙ eq-eqb first.1 first.1 refl
 
 -- what was found is what the definition says
-pub found_is : (say : ℕ → Entries → Verdict) (plans : List Entries) (first : Option (ℕ × ℕ))
-    (number code tests stream : ℕ) (scenario t left : Entries) (set : List ℕ) (r : Reduced)
-    → first ≡ Some (number, code) → scenario ≡ get_or plans number [] → stream ≡ number → r ≡ reduction say stream code scenario → set ≡ r.kept → tests ≡ r.tests → t ≡ kept set scenario → left ≡ tidied t
+pub found_is : (say : ℕ → Entries → Verdict) (plans : List Entries) (first : Option (ℕ × ℕ)) (number code tests stream : ℕ) (scenario left : Entries)
+    → first ≡ Some (number, code) → scenario ≡ get_or plans number [] → stream ≡ number → left ≡ reduced say stream code scenario → tests ≡ (reduction say stream code scenario).tests
     → Some (let f : FindingFacts = record { number = number; code = code; scenario = scenario; reduced = left; tests = tests } in f) ≡ option_map (finding say plans) first
-found_is say plans first number code tests stream scenario t left set r is plan same_stream reduced_is same_set same_tests same_t same_left =
-    let red : Reduced = reduction say number code (get_or plans number []) in
-    let r_is : r ≡ red = reduced_is ∙ ap (λ k. reduction say k code scenario) same_stream ∙ ap (reduction say number code) plan in
-    let left_is : left ≡ tidied (kept red.kept (get_or plans number [])) = same_left ∙ ap tidied (same_t ∙ ap (λ k. kept k scenario) (same_set ∙ ap (λ (x : Reduced). x.kept) r_is) ∙ ap (λ s. kept red.kept s) plan) in
-    let tests_is : tests ≡ red.tests = same_tests ∙ ap (λ (x : Reduced). x.tests) r_is in
+found_is say plans first number code tests stream scenario left is plan same_stream same_left same_tests =
+    let planned : Entries = get_or plans number [] in
+    let left_is : left ≡ reduced say number code planned = same_left ∙ ap (λ k. reduced say k code scenario) same_stream ∙ ap (reduced say number code) plan in
+    let tests_is : tests ≡ (reduction say number code planned).tests = same_tests ∙ ap (λ k. (reduction say k code scenario).tests) same_stream ∙ ap (λ s. (reduction say number code s).tests) plan in
     let made : Entries → Entries → ℕ → Option FindingFacts = λ s l n. Some (record { number = number; code = code; scenario = s; reduced = l; tests = n }) in
-    ap (λ s. made s left tests) plan ∙ ap (λ l. made (get_or plans number []) l tests) left_is ∙ ap (made (get_or plans number []) (tidied (kept red.kept (get_or plans number [])))) tests_is
+    ap (λ s. made s left tests) plan ∙ ap (λ l. made planned l tests) left_is ∙ ap (made planned (reduced say number code planned)) tests_is
     ∙ ap (option_map (finding say plans)) (sym is)
 
 -- what a report is made of is what the definition says

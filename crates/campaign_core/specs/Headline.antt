@@ -1,21 +1,18 @@
 -- What a campaign comes to, by what its target asks and by its settings.
-use Rattle.std.specs.Prelude.{◌≡◌, ◌<◌, ◌≤◌, ℕ, true, Bool, List, Option, Some, length, take}
-use Rattle.std.specs.Io.KnownBytes.{Appends}
+use Rattle.std.specs.Prelude.{◌≡◌, ℕ, List, Option, Some}
 use Rattle.scenario_values.specs.Scenario.{Entries}
 use Rattle.action_eval.specs.Answers.{Reply}
 use Rattle.target_trait.specs.declared.judgement.Verdict.{Verdict}
 use Rattle.target_trait.specs.Outcomes.{verdict_with}
 use Rattle.target_trait.specs.Play.{Move}
 use Rattle.plan_gen.specs.Census.{census_of}
-use Rattle.plan_gen.specs.PlanList.{Asked, plan_list, most_plans}
+use Rattle.plan_gen.specs.PlanList.{Asked, plan_list}
 use Rattle.result_book.specs.Verdicts.{verdicts_from}
 use Rattle.result_book.specs.FirstFailure.{first_from}
 use Rattle.report.specs.ReportText.{report_lines, text_of}
 use Rattle.report.specs.Reports.{ReportFacts}
 use Rattle.campaign_core.specs.Findings.{findings, reduced, plan_at, IsMinimal}
-use Rattle.campaign_core.specs.declared.settings.Settings.{Settings}
-use Rattle.campaign_core.specs.declared.ending.CampaignFault.{CampaignFault}
-use Rattle.campaign_core.specs.declared.ending.CampaignFault.TheVariants as fault
+use Rattle.campaign_settings.specs.declared.settings.Settings.{Settings}
 
 -- what a campaign is given: what its target asks on the workload, the names of the points and of the codes, the target's label, the limit
 -- of hits, and what is asked of the list of plans, the seed among it. How many workers there are isn't among it.
@@ -27,8 +24,18 @@ pub record Campaign : Type 0 where
   pub limit : ℕ
   pub plans : Asked
 
+-- what the settings ask of the list of plans
+abbrev pub asked_of : Settings → Asked
+asked_of settings = record {
+  pairs = settings.pairs;
+  storms = settings.storms;
+  rate = settings.rate;
+  listed = settings.scenarios.items;
+  seed = settings.seed;
+}
+
 abbrev pub campaign_of : (List Reply → Move) → List (List ℕ) → (ℕ → List ℕ) → List ℕ → Settings → Campaign
-campaign_of asks points codes label settings = record { asks = asks; points = points; codes = codes; label = label; limit = settings.max_hits; plans = settings.plans }
+campaign_of asks points codes label settings = record { asks = asks; points = points; codes = codes; label = label; limit = settings.max_hits; plans = asked_of settings }
 
 -- the verdict of a scenario under a stream number
 abbrev pub say : Campaign → ℕ → Entries → Verdict
@@ -59,10 +66,3 @@ first_failure c = first_from 0 (verdicts_from (say c) 0 (plans c))
 abbrev pub FirstIsMinimal : Campaign → Type 0
 FirstIsMinimal c = (first : ℕ × ℕ) → first_failure c ≡ Some first
     → IsMinimal (say c first.0) first.1 (reduced (say c) first.0 first.1 (plan_at (plans c) first.0))
-
--- what a fault means, and what was written by then. A sink held `old` and holds `new`, where it tells its bytes.
-abbrev pub IsFault : Campaign → Option (List ℕ) → Option (List ℕ) → Bool → CampaignFault → Type 0
-IsFault c old new failed fault.TooManyPlans = (new ≡ old) × (most_plans < length (plans c))
-IsFault c old new failed fault.Memory = new ≡ old
-IsFault c old new failed (fault.Write n) =
-    Appends old new (take n (report_text c)) × (n ≤ length (report_text c)) × (failed ≡ true) × (length (plans c) ≤ most_plans)

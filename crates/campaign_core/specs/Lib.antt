@@ -1,3 +1,4 @@
 pub mod FaultTest
 pub mod Findings
 pub mod Headline
+pub mod CommandTexts

@@ -1,4 +1,9 @@
-//! How a campaign ends.
+//! How a campaign ends, and why a command over a target writes no whole text.
+ghost use Rattle.std.specs.Prelude.{◌≡◌};
+ghost use Rattle.campaign_core.specs.declared.ending.CampaignFault.TheVariants.{Memory, Write};
+
+use report::WriteFault;
+use std::alloc::AllocError;
 
 /// How a campaign ended whose report was written.
 #[derive(Clone, Copy, Debug, PartialEq, Eq)]
@@ -7,13 +12,29 @@ pub struct Ending {
     pub first: Option<u32>,
 }
 
-/// Why a campaign wrote no whole report.
+/// Why no whole text was written.
 #[derive(Clone, Copy, Debug, PartialEq, Eq)]
 pub enum CampaignFault {
     /// The list has more than 65536 plans. Nothing was written.
     TooManyPlans,
     /// Memory was refused. Nothing was written.
     Memory,
-    /// A write failed after this many bytes of the report's text.
+    /// A write failed after this many bytes of the text.
     Write(u64),
+}
+
+impl From<AllocError> for CampaignFault {
+    ghost from_gives = { λ _ fault. fault ≡ Memory };
+
+    fn from(_: AllocError) -> CampaignFault {
+        CampaignFault::Memory
+    }
+}
+
+impl From<WriteFault> for CampaignFault {
+    ghost from_gives = { λ cause fault. fault ≡ Write cause.written };
+
+    fn from(cause: WriteFault) -> CampaignFault {
+        CampaignFault::Write(cause.written)
+    }
 }

@@ -1,18 +1,24 @@
-//! Campaigns: a target's census and plans, their verdicts, the first failure reduced, and the report written.
+//! What is done with a target: a campaign, which runs its plans and reduces the first failure; its list of plans; one scenario tried; and
+//! one scenario reduced. Each writes one text over a sink.
 #![tactic(auto)]
 
 mod ending;
+mod listing;
+mod planned;
 mod probe;
+mod reducing;
 mod runner;
 mod running;
-mod settings;
+mod trying;
 mod workers;
 
 pub use ending::{CampaignFault, Ending};
+pub use listing::plan_list;
 pub use probe::{CaseProbe, Failure, fault_count, reduced, reduced_plain};
+pub use reducing::reduce_one;
 pub use runner::{Runner, Setup};
 pub use running::campaign;
-pub use settings::Settings;
+pub use trying::try_one;
 pub use workers::run_plans;
 
 #[cfg(test)]

@@ -7,16 +7,18 @@ ghost use Rattle.result_book.specs.Verdicts.{verdicts_from};
 ghost use Rattle.result_book.specs.FirstFailure.{first_from};
 ghost use Rattle.report.specs.ReportText.{report_lines, text_of};
 ghost use Rattle.campaign_core.specs.Findings.{finding, findings, reduced, plan_at, IsMinimal};
-ghost use Rattle.campaign_core.specs.Headline.{campaign_of, say, census, plans, report_text, first_failure, FirstIsMinimal, IsFault};
+ghost use Rattle.campaign_core.specs.Headline.{campaign_of, say, census, plans, report_text, first_failure, FirstIsMinimal};
+ghost use Rattle.campaign_core.specs.CommandTexts.{IsFault};
 
 use crate::ending::{CampaignFault, Ending};
-use crate::probe::{Failure, fault_count, reduced};
-use crate::settings::Settings;
+use crate::planned::planned;
+use crate::probe::{Failure, fault_count};
+use crate::reducing::reduced_scenario;
 use crate::workers::run_plans;
-use plan_gen::{Census, Plan, PlanFault, by_census, plans};
+use campaign_settings::Settings;
+use plan_gen::PlanFault;
 use report::{Finding, Report, text, write_report};
 use result_book::{Course, full_books_tell_their_verdicts};
-use scenario_values::{keep, tidy};
 use std::alloc::{AllocError, Global};
 use std::sync::Wait;
 use std::thread::Threads;
@@ -57,15 +59,13 @@ where
         max_hits: course.max_hits,
         code,
     };
-    let reduction = reduced(rt, alloc, gate, target, &failure, workers)?;
-    let kept = keep(alloc, scenario, reduction.kept.as_slice())?;
-    let reduced = tidy(alloc, &kept)?;
+    let (reduced, tests) = reduced_scenario(rt, alloc, gate, target, &failure, workers)?;
     Ok(Some(Finding {
         number,
         code,
         scenario,
         reduced,
-        tests: reduction.tests,
+        tests,
     }))
 }
 
@@ -120,38 +120,6 @@ where
     Ok((text, number_of(first)))
 }
 
-/// A campaign's census and its plans.
-fn planned<T: Target>(
-    alloc: Global,
-    target: &T,
-    workload: &T::Workload,
-    settings: &Settings,
-) -> Result<(Census, Vec<Plan>), PlanFault>
-    ensures census { IfOk result (λ r. r.0.counts.items ≡ census (campaign_of (T.asks target.now workload.now) T.names T.code_text (T.label_of target.now) settings.now)) }
-    ensures counts { IfOk result (λ r. length r.0.counts.items ≡ length T.names) }
-    ensures plans { IfOk result (λ r. r.1.items ≡ plans (campaign_of (T.asks target.now workload.now) T.names T.code_text (T.label_of target.now) settings.now)) }
-    ensures few { OnOk result (length (plans (campaign_of (T.asks target.now workload.now) T.names T.code_text (T.label_of target.now) settings.now)) ≤ most_plans) }
-    ensures some { IfOk result (λ r. 0 < length r.1.items) }
-    ensures many { IsErrOf result PlanFault.TooManyPlans → most_plans < length (plans (campaign_of (T.asks target.now workload.now) T.names T.code_text (T.label_of target.now) settings.now)) }
-{
-    let Ok(mut twin) = target.twin() else {
-        return Err(PlanFault::Memory);
-    };
-    let Ok(census) = by_census(
-        alloc,
-        &mut twin,
-        workload,
-        settings.plans.seed,
-        settings.max_hits,
-    ) else {
-        return Err(PlanFault::Memory);
-    };
-    match plans(alloc, &census, T::catalogue(), &settings.plans) {
-        Ok(plans) => Ok((census, plans)),
-        Err(fault) => Err(fault),
-    }
-}
-
 /// Runs a campaign, and writes its report: the census and the plans of a twin of the target, the verdict of each plan, and the first
 /// failure with its scenario reduced. The caller's target isn't touched.
 ///
@@ -177,7 +145,7 @@ where
     ensures first { IfOk result (λ ending. ending.first ≡ option_map (λ f. f.0) (first_failure (campaign_of (T.asks target.now workload.now) T.names T.code_text (T.label_of target.now) settings.now))) }
     ensures minimal { OnOk result (FirstIsMinimal (campaign_of (T.asks target.now workload.now) T.names T.code_text (T.label_of target.now) settings.now)) }
     ensures few { OnOk result (length (plans (campaign_of (T.asks target.now workload.now) T.names T.code_text (T.label_of target.now) settings.now)) ≤ most_plans) }
-    ensures fault { IfErr result (IsFault (campaign_of (T.asks target.now workload.now) T.names T.code_text (T.label_of target.now) settings.now) (W.told sink.old) (W.told sink.new) (W.has_failed sink.new)) }
+    ensures fault { IfErr result (IsFault (campaign_of (T.asks target.now workload.now) T.names T.code_text (T.label_of target.now) settings.now) (report_text (campaign_of (T.asks target.now workload.now) T.names T.code_text (T.label_of target.now) settings.now)) (W.told sink.old) (W.told sink.new) (W.has_failed sink.new)) }
 {
     let (census, plans) = match planned(alloc, target, workload, settings) {
         Ok(planned) => planned,
@@ -187,12 +155,12 @@ where
     let course = Course {
         workload,
         plans: plans.as_slice(),
-        seed: settings.plans.seed,
+        seed: settings.seed,
         max_hits: settings.max_hits,
     };
     let counts = census.counts.as_slice();
-    let Ok((text, first)) = text_over(rt, alloc, gate, target, &course, counts, settings.workers)
-    else {
+    let workers = settings.workers as usize;
+    let Ok((text, first)) = text_over(rt, alloc, gate, target, &course, counts, workers) else {
         return Err(CampaignFault::Memory);
     };
     match write_report(text.as_slice(), sink) {

@@ -1,8 +1,8 @@
-ghost use Rattle.std.specs.Prelude.{◌<◌};
+ghost use Rattle.std.specs.Prelude.{◌≤◌};
 
-use crate::{CampaignFault, Settings, campaign};
+use crate::campaign;
+use campaign_settings::Settings;
 use file_replace::{Chunks, Replace, Replacements, Variant};
-use plan_gen::PlanSettings;
 use scenario_values::Text;
 use std::alloc::{AllocError, Global};
 use std::test::Fail;
@@ -55,19 +55,19 @@ fn small_work(alloc: Global) -> Result<Replacements, AllocError> {
     Ok(Replacements::new(Text::copy_of(alloc, "old")?, replacements))
 }
 
-fn settings(alloc: Global, storms: u32, workers: usize) -> Settings
-    requires { 0 < workers }
+fn settings(alloc: Global, workers: u32) -> Settings
+    requires some { 1 ≤ workers }
+    requires few { workers ≤ 64 }
 {
     Settings {
-        plans: PlanSettings {
-            pairs: false,
-            storms,
-            rate: 0,
-            listed: Vec::new(alloc),
-            seed: 7,
-        },
-        max_hits: 1000,
+        choice: None,
+        seed: 7,
         workers,
+        max_hits: 1000,
+        pairs: false,
+        storms: 0,
+        rate: 0,
+        scenarios: Vec::new(alloc),
     }
 }
 
@@ -76,7 +76,7 @@ fn one_worker_and_three_write_the_same_report(rt: HostRuntime) -> Result<(), Fai
     let alloc = rt.alloc();
     let target = Replace::new(alloc, Variant::LateSync);
     let work = small_work(alloc)?;
-    for settings in [settings(alloc, 0, 1), settings(alloc, 0, 3)] {
+    for settings in [settings(alloc, 1), settings(alloc, 3)] {
         let mut sink = Out::new(Vec::new(alloc));
         let Ok(ending) = campaign(&rt, alloc, &target, &work, &settings, &FreeGate, &mut sink)
         else {
@@ -85,19 +85,5 @@ fn one_worker_and_three_write_the_same_report(rt: HostRuntime) -> Result<(), Fai
         assert_eq!(rt; ending.first, Some(10));
         assert_eq!(rt; sink.into_writer().as_slice(), FOUND.as_bytes());
     }
-    Ok(())
-}
-
-#[test]
-fn too_many_plans_write_nothing(rt: HostRuntime) -> Result<(), Fail> {
-    let alloc = rt.alloc();
-    let target = Replace::new(alloc, Variant::Sound);
-    let work = small_work(alloc)?;
-    // 19 plans and these
-    let settings = settings(alloc, 65_518, 2);
-    let mut sink = Out::new(Vec::new(alloc));
-    let fault = campaign(&rt, alloc, &target, &work, &settings, &FreeGate, &mut sink).err();
-    assert_eq!(rt; fault, Some(CampaignFault::TooManyPlans));
-    assert!(rt; sink.into_writer().is_empty());
     Ok(())
 }

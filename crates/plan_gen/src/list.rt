@@ -28,7 +28,7 @@ fn made_plans(
     alloc: Global,
     counts: &[u32],
     catalogue: &[&str],
-    settings: &PlanSettings,
+    settings: &PlanSettings<'_>,
     room: usize,
 ) -> Result<Vec<Plan>, AllocError>
     requires lawful { IsCatalogue (texts catalogue.now) }
@@ -54,7 +54,7 @@ fn made_plans(
         settings.storms,
         sites.as_slice(),
     )?;
-    add_listed(alloc, &mut plans, settings.listed.as_slice())?;
+    add_listed(alloc, &mut plans, settings.listed)?;
     Ok(plans)
 }
 
@@ -69,7 +69,7 @@ pub fn plans(
     alloc: Global,
     census: &Census,
     catalogue: &[&str],
-    settings: &PlanSettings,
+    settings: &PlanSettings<'_>,
 ) -> Result<Vec<Plan>, PlanFault>
     requires lawful { IsCatalogue (texts catalogue.now) }
     requires counts { length census.now.counts.items ≡ length catalogue.now }
@@ -84,7 +84,7 @@ pub fn plans(
         total_of(counts),
         settings.pairs,
         settings.storms,
-        settings.listed.as_slice().len(),
+        settings.listed.len(),
     );
     match count {
         None => Err(PlanFault::TooManyPlans),

@@ -18,7 +18,7 @@ impl Model for Plan {
 
 /// What is asked of the list of plans.
 #[derive(Debug, Drop)]
-pub struct PlanSettings {
+pub struct PlanSettings<'a> {
     /// Whether each two sites make a plan.
     pub pairs: bool,
     /// How many storms there are.
@@ -26,12 +26,12 @@ pub struct PlanSettings {
     /// A storm takes a site where its random word modulo 1000 is below this; from 1000 on it takes each, up to 64.
     pub rate: u32,
     /// Further scenarios, each of which makes a plan.
-    pub listed: Vec<Scenario>,
+    pub listed: &'a [Scenario],
     /// The seed of the storms' random words.
     pub seed: u64,
 }
 
-impl Model for PlanSettings {
+impl<'a> Model for PlanSettings<'a> {
     ghost use Rattle.plan_gen.specs.PlanList.{Asked};
 
     ghost Value = { Asked };
@@ -40,7 +40,7 @@ impl Model for PlanSettings {
       pairs = s.pairs;
       storms = s.storms;
       rate = s.rate;
-      listed = s.listed.items;
+      listed = s.listed.now;
       seed = s.seed;
     } };
 }

@@ -21,12 +21,12 @@ const NAMES: [&str; 7] = [
     "replace::unlink",
 ];
 
-fn settings(alloc: Global, pairs: bool, storms: u32, rate: u32) -> PlanSettings {
+fn settings<'a>(pairs: bool, storms: u32, rate: u32) -> PlanSettings<'a> {
     PlanSettings {
         pairs,
         storms,
         rate,
-        listed: Vec::new(alloc),
+        listed: &[],
         seed: 7,
     }
 }
@@ -42,7 +42,7 @@ fn census(alloc: Global, chunks: u32) -> Result<Census, AllocError>
 fn list(
     alloc: Global,
     chunks: u32,
-    settings: &PlanSettings,
+    settings: &PlanSettings<'_>,
 ) -> Result<Result<Vec<Plan>, PlanFault>, AllocError> {
     let census = census(alloc, chunks)?;
     Ok(plans(alloc, &census, &NAMES, settings))
@@ -83,7 +83,7 @@ fn term(count: Option<u32>, task: Task) -> Term {
 #[test]
 fn lists_each_site_of_a_small_census(rt: HostRuntime) -> Result<(), Fail> {
     let alloc = rt.alloc();
-    let list = list(alloc, 2, &settings(alloc, false, 0, 0))?.map_err(|_| "fault")?;
+    let list = list(alloc, 2, &settings(false, 0, 0))?.map_err(|_| "fault")?;
     assert_eq!(rt; list.len(), 19);
     assert!(rt; is_empty(list.first()));
     let write = "replace::write";
@@ -99,7 +99,7 @@ fn lists_each_site_of_a_small_census(rt: HostRuntime) -> Result<(), Fail> {
 #[test]
 fn two_hits_of_a_point_share_a_chain(rt: HostRuntime) -> Result<(), Fail> {
     let alloc = rt.alloc();
-    let list = list(alloc, 2, &settings(alloc, true, 0, 0))?.map_err(|_| "fault")?;
+    let list = list(alloc, 2, &settings(true, 0, 0))?.map_err(|_| "fault")?;
     assert_eq!(rt; list.len(), 34);
     let both = [
         term(Some(1), Task::Return(None)),
@@ -112,14 +112,14 @@ fn two_hits_of_a_point_share_a_chain(rt: HostRuntime) -> Result<(), Fail> {
 #[test]
 fn storms_take_sites_by_their_rate(rt: HostRuntime) -> Result<(), Fail> {
     let alloc = rt.alloc();
-    let calm = list(alloc, 2, &settings(alloc, false, 2, 0))?.map_err(|_| "fault")?;
+    let calm = list(alloc, 2, &settings(false, 2, 0))?.map_err(|_| "fault")?;
     assert_eq!(rt; calm.len(), 21);
     assert!(rt; is_empty(calm.get(19)));
     assert!(rt; is_empty(calm.get(20)));
-    let full = list(alloc, 2, &settings(alloc, false, 1, 1000))?.map_err(|_| "fault")?;
+    let full = list(alloc, 2, &settings(false, 1, 1000))?.map_err(|_| "fault")?;
     let storm = full.get(19).ok_or("no storm")?;
     assert_eq!(rt; faults(alloc, &storm.scenario)?.len(), 6);
-    let wide = list(alloc, 100, &settings(alloc, false, 1, 1000))?.map_err(|_| "fault")?;
+    let wide = list(alloc, 100, &settings(false, 1, 1000))?.map_err(|_| "fault")?;
     let storm = wide.last().ok_or("no storm")?;
     assert_eq!(rt; faults(alloc, &storm.scenario)?.len(), 64);
     Ok(())
@@ -128,10 +128,11 @@ fn storms_take_sites_by_their_rate(rt: HostRuntime) -> Result<(), Fail> {
 #[test]
 fn copies_the_listed_scenarios(rt: HostRuntime) -> Result<(), Fail> {
     let alloc = rt.alloc();
-    let mut made = list(alloc, 2, &settings(alloc, false, 0, 0))?.map_err(|_| "fault")?;
+    let mut made = list(alloc, 2, &settings(false, 0, 0))?.map_err(|_| "fault")?;
     let last = made.pop().ok_or("no plan")?;
-    let mut asked = settings(alloc, false, 0, 0);
-    asked.listed.push(last.scenario)?;
+    let listed = [last.scenario];
+    let mut asked = settings(false, 0, 0);
+    asked.listed = &listed;
     let list = list(alloc, 1, &asked)?.map_err(|_| "fault")?;
     assert_eq!(rt; list.len(), 17);
     let panic = [term(Some(1), Task::Panic(None))];
@@ -142,12 +143,12 @@ fn copies_the_listed_scenarios(rt: HostRuntime) -> Result<(), Fail> {
 #[test]
 fn lists_the_most_plans_and_no_more(rt: HostRuntime) -> Result<(), Fail> {
     let alloc = rt.alloc();
-    let most = list(alloc, 355, &settings(alloc, true, 197, 100))?.map_err(|_| "fault")?;
+    let most = list(alloc, 355, &settings(true, 197, 100))?.map_err(|_| "fault")?;
     assert_eq!(rt; most.len(), 65536);
-    let more = list(alloc, 355, &settings(alloc, true, 198, 100))?;
+    let more = list(alloc, 355, &settings(true, 198, 100))?;
     assert!(rt; matches!(more, Err(PlanFault::TooManyPlans)));
     // the number of these is 55605 modulo 2^32
-    let wrapped = list(alloc, 92_676, &settings(alloc, true, 0, 0))?;
+    let wrapped = list(alloc, 92_676, &settings(true, 0, 0))?;
     assert!(rt; matches!(wrapped, Err(PlanFault::TooManyPlans)));
     Ok(())
 }

@@ -8,14 +8,14 @@ use Rattle.plan_gen.proofs.list.plans.Goals as goal
 
 pub returns-in-None-clause-many : goal.returns-in-None-clause-many
 returns-in-None-clause-many c =
-    let all = judged (texts c.args.catalogue.now) c.args.census.now.counts.items c.args.settings.now c.total_of.result c.settings.inside.pairs c.settings.inside.storms (length c.as_slice.result.now)
-    (c.total_of.ensures ∙ ap total_of c.as_slice-counts.ensures.value) (ap (λ (s : Asked). s.pairs) c.settings.view_is) (ap (λ (s : Asked). s.storms) c.settings.view_is) (ap (λ (l : List Entries). length l) c.as_slice.ensures.value ∙ ap (λ (s : Asked). length s.listed) c.settings.view_is) in
+    let all = judged (texts c.args.catalogue.now) c.args.census.now.counts.items c.args.settings.now c.total_of.result c.settings.inside.pairs c.settings.inside.storms (length c.settings.inside.listed.now)
+    (c.total_of.ensures ∙ ap total_of c.as_slice-counts.ensures.value) (ap (λ (s : Asked). s.pairs) c.settings.view_is) (ap (λ (s : Asked). s.storms) c.settings.view_is) (ap (λ (s : Asked). length s.listed) c.settings.view_is) in
     λ _. omega (arith, all, c.in-None.ensures.many)
 
 pub returns-in-Ok-clause-few : goal.returns-in-Ok-clause-few
 returns-in-Ok-clause-few c =
-    let all = judged (texts c.args.catalogue.now) c.args.census.now.counts.items c.args.settings.now c.total_of.result c.settings.inside.pairs c.settings.inside.storms (length c.as_slice.result.now)
-    (c.total_of.ensures ∙ ap total_of c.as_slice-counts.ensures.value) (ap (λ (s : Asked). s.pairs) c.settings.view_is) (ap (λ (s : Asked). s.storms) c.settings.view_is) (ap (λ (l : List Entries). length l) c.as_slice.ensures.value ∙ ap (λ (s : Asked). length s.listed) c.settings.view_is) in
+    let all = judged (texts c.args.catalogue.now) c.args.census.now.counts.items c.args.settings.now c.total_of.result c.settings.inside.pairs c.settings.inside.storms (length c.settings.inside.listed.now)
+    (c.total_of.ensures ∙ ap total_of c.as_slice-counts.ensures.value) (ap (λ (s : Asked). s.pairs) c.settings.view_is) (ap (λ (s : Asked). s.storms) c.settings.view_is) (ap (λ (s : Asked). length s.listed) c.settings.view_is) in
     omega (arith, all, c.in-Some.ensures.few, c.in-Some.ensures.small)
 
 pub returns-in-Ok-clause-some : goal.returns-in-Ok-clause-some
@@ -25,6 +25,6 @@ returns-in-Ok-clause-some c =
 
 pub returns-in-Err-clause-memory : goal.returns-in-Err-clause-memory
 returns-in-Err-clause-memory c =
-    let all = judged (texts c.args.catalogue.now) c.args.census.now.counts.items c.args.settings.now c.total_of.result c.settings.inside.pairs c.settings.inside.storms (length c.as_slice.result.now)
-    (c.total_of.ensures ∙ ap total_of c.as_slice-counts.ensures.value) (ap (λ (s : Asked). s.pairs) c.settings.view_is) (ap (λ (s : Asked). s.storms) c.settings.view_is) (ap (λ (l : List Entries). length l) c.as_slice.ensures.value ∙ ap (λ (s : Asked). length s.listed) c.settings.view_is) in
+    let all = judged (texts c.args.catalogue.now) c.args.census.now.counts.items c.args.settings.now c.total_of.result c.settings.inside.pairs c.settings.inside.storms (length c.settings.inside.listed.now)
+    (c.total_of.ensures ∙ ap total_of c.as_slice-counts.ensures.value) (ap (λ (s : Asked). s.pairs) c.settings.view_is) (ap (λ (s : Asked). s.storms) c.settings.view_is) (ap (λ (s : Asked). length s.listed) c.settings.view_is) in
     λ _. omega (arith, all, c.in-Some.ensures.few, c.in-Some.ensures.small)

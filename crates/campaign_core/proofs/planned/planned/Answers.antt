@@ -4,7 +4,7 @@ use Rattle.std.proofs.lemmas.List.FromFn.{length-map-range_with_len}
 use Rattle.action_eval.specs.Answers.{Reply}
 use Rattle.target_trait.specs.Play.{Move}
 use Rattle.plan_gen.specs.Census.{census_of}
-use Rattle.campaign_core.proofs.running.planned.Goals as goal
+use Rattle.campaign_core.proofs.planned.planned.Goals as goal
 
 -- a census has a count for each point
 length_census : (asks : List Reply → Move) (names : List (List ℕ)) (seed limit : ℕ) → length (census_of asks names seed limit) ≡ length names

@@ -1,0 +1,29 @@
+use Rattle.std.proofs.Common.{◌≡◌, ℕ, ap, ◌∙◌}
+use Rattle.scenario_values.specs.Scenario.{Entries, all_faults}
+use Rattle.scenario_values.specs.Keep.{are_faults}
+use Rattle.target_trait.specs.declared.judgement.Verdict.{Verdict}
+use Rattle.target_trait.specs.Outcomes.{verdict_with}
+use Rattle.ddmin_parallel.specs.Ddmin.{Reduced}
+use Rattle.ddmin_parallel.proofs.Minimal.{minimal}
+use Rattle.campaign_core.specs.FaultTest.{fault_test}
+use Rattle.campaign_core.specs.Findings.{reduction}
+use Rattle.campaign_core.proofs.Minimal.{all_fail, minimal_tidied, own_faults}
+use Rattle.campaign_core.proofs.reducing.reduced_scenario.Goals as goal
+
+pub keep-requires : goal.keep-requires
+keep-requires g c =
+    let f = c.args.failure.now in
+    let say : ℕ → Entries → Verdict = verdict_with (g.T.Target.asks c.args.target.now f.workload.now) g.T.Target.names f.seed f.max_hits in
+    let s : Entries = f.scenario.now in
+    let red : Reduced = reduction say f.stream f.code s in
+    let set : c.as_slice.result.now ≡ red.kept = c.as_slice.ensures.value ∙ ap (λ (x : Reduced). x.kept) (c.reduction.view_is ∙ c.in_ok-reduction.ensures) in
+    ap (are_faults (all_faults s)) set ∙ own_faults (say f.stream) f.code s red.kept (minimal (fault_test (say f.stream) f.code s) (all_faults s) (all_fail (say f.stream) f.code s c.requires.fails))
+
+pub returns-clause-minimal : goal.returns-clause-minimal
+returns-clause-minimal g c =
+    let f = c.args.failure.now in
+    let asks = g.T.Target.asks c.args.target.now f.workload.now in
+    let say : ℕ → Entries → Verdict = verdict_with asks g.T.Target.names f.seed f.max_hits in
+    let s : Entries = f.scenario.now in
+    minimal_tidied asks g.T.Target.names f.seed f.max_hits f.stream f.code s (reduction say f.stream f.code s).kept c.entries.ensures.limits
+    (minimal (fault_test (say f.stream) f.code s) (all_faults s) (all_fail (say f.stream) f.code s c.requires.fails))

@@ -1,0 +1,84 @@
+-- What the commands write: the list of plans, one scenario tried, one scenario reduced.
+use Rattle.std.specs.Prelude.{◌≡◌, ◌≤◌, ◌<◌, ℕ, ◌+◌, Bool, true, List, [], ◌∷◌, ◌++◌, Option, length, codes, take}
+use Rattle.std.specs.Fmt.{decimal}
+use Rattle.std.specs.Io.KnownBytes.{Appends}
+use Rattle.scenario_values.specs.Scenario.{Entries}
+use Rattle.action_eval.specs.Answers.{given_of}
+use Rattle.target_trait.specs.declared.judgement.Verdict.{Verdict}
+use Rattle.target_trait.specs.declared.judgement.Verdict.TheVariants as verdict
+use Rattle.target_trait.specs.Outcomes.{Told, outcome}
+use Rattle.plan_gen.specs.PlanList.{most_plans}
+use Rattle.report.specs.ReportText.{scenario_text, verdict_text, text_of}
+use Rattle.campaign_core.specs.Findings.{reduced, reduction}
+use Rattle.campaign_core.specs.Headline.{Campaign, say, plans}
+use Rattle.campaign_core.specs.declared.ending.CampaignFault.{CampaignFault}
+use Rattle.campaign_core.specs.declared.ending.CampaignFault.TheVariants as fault
+
+-- ---- the list of plans
+
+abbrev pub plan_line : ℕ → Entries → List ℕ
+plan_line number plan = codes "plan " ++ decimal number ++ codes " " ++ scenario_text plan
+
+-- a line for each plan, of plans numbered from n on
+abbrev pub plan_lines : ℕ → List Entries → List (List ℕ)
+plan_lines n [] = []
+plan_lines n (plan ∷ plans) = plan_line n plan ∷ plan_lines (n + 1) plans
+
+abbrev pub plans_text : Campaign → List ℕ
+plans_text c = text_of (plan_lines 0 (plans c))
+
+-- ---- one scenario tried, under stream number 0
+
+-- the verdict, how many points were asked, how many words were taken, the simulated milliseconds, and how many notes there are
+abbrev pub try_lines : (ℕ → List ℕ) → Told → List (List ℕ)
+try_lines code_name told =
+    (codes "verdict " ++ verdict_text code_name told.verdict)
+    ∷ (codes "asked " ++ decimal (length told.asked))
+    ∷ (codes "words " ++ decimal told.words)
+    ∷ (codes "millis " ++ decimal told.millis)
+    ∷ (codes "notes " ++ decimal (length told.notes))
+    ∷ []
+
+abbrev pub try_text : (ℕ → List ℕ) → Told → List ℕ
+try_text code_name told = text_of (try_lines code_name told)
+
+-- the outcome of a scenario on what a campaign is given
+abbrev pub tried : Campaign → Entries → Told
+tried c scenario = outcome c.asks (given_of scenario c.points c.plans.seed 0 c.limit)
+
+-- ---- one scenario reduced, under stream number 0
+
+-- what a scenario that fails with this code under this stream number is reduced to, and how many tests that took
+abbrev pub found_lines : (ℕ → Entries → Verdict) → ℕ → ℕ → Entries → List (List ℕ)
+found_lines say stream code scenario =
+    (codes "reduced " ++ scenario_text (reduced say stream code scenario))
+    ∷ (codes "tests " ++ decimal (reduction say stream code scenario).tests)
+    ∷ []
+
+-- the same where the verdict is a failure, and nothing where it isn't
+abbrev pub reduced_lines : Campaign → Entries → Verdict → List (List ℕ)
+reduced_lines c scenario verdict.Pass = []
+reduced_lines c scenario (verdict.Fail code) = found_lines (say c) 0 code scenario
+reduced_lines c scenario verdict.Unresolved = []
+
+abbrev pub reduce_lines : Campaign → Entries → List (List ℕ)
+reduce_lines c scenario = (codes "verdict " ++ verdict_text c.codes (say c 0 scenario)) ∷ reduced_lines c scenario (say c 0 scenario)
+
+abbrev pub reduce_text : Campaign → Entries → List ℕ
+reduce_text c scenario = text_of (reduce_lines c scenario)
+
+-- ---- faults
+
+-- What a fault means of a text that wasn't written whole, and what was written by then: for want of memory nothing; a failed write left
+-- the first bytes, and the sink says so. A sink held `old` and holds `new`, where it tells its bytes.
+abbrev pub LeavesOnly : Option (List ℕ) → Option (List ℕ) → Bool → List ℕ → CampaignFault → Type 0
+LeavesOnly old new failed text fault.TooManyPlans = ⊥
+LeavesOnly old new failed text fault.Memory = new ≡ old
+LeavesOnly old new failed text (fault.Write n) = Appends old new (take n text) × (n ≤ length text) × (failed ≡ true)
+
+-- The same of a text over the list of plans: it is refused where the list is too long, and then nothing is written.
+abbrev pub IsFault : Campaign → List ℕ → Option (List ℕ) → Option (List ℕ) → Bool → CampaignFault → Type 0
+IsFault c text old new failed fault.TooManyPlans = (new ≡ old) × (most_plans < length (plans c))
+IsFault c text old new failed fault.Memory = new ≡ old
+IsFault c text old new failed (fault.Write n) =
+    Appends old new (take n text) × (n ≤ length text) × (failed ≡ true) × (length (plans c) ≤ most_plans)

@@ -1,0 +1,70 @@
+//! The list of a campaign's plans.
+ghost use Rattle.std.specs.Prelude.{◌≡◌, ◌++◌, ◌≤◌, false, length, string_bytes, IfOk, IfErr, OnOk};
+ghost use Rattle.std.specs.Io.KnownBytes.{Appends};
+ghost use Rattle.plan_gen.specs.PlanList.{most_plans};
+ghost use Rattle.report.specs.ReportText.{ended, text_of};
+ghost use Rattle.campaign_core.specs.Headline.{campaign_of, plans};
+ghost use Rattle.campaign_core.specs.CommandTexts.{plan_line, plan_lines, plans_text, IsFault};
+
+use crate::ending::CampaignFault;
+use crate::planned::planned;
+use campaign_settings::Settings;
+use plan_gen::{Plan, PlanFault};
+use report::{write_report, write_scenario};
+use scenario_values::Scenario;
+use std::alloc::{AllocError, Global};
+use std::fmt::Write;
+use target_trait::{Sink, Target};
+
+fn write_plan(
+    alloc: Global,
+    out: &mut String,
+    number: usize,
+    scenario: &Scenario,
+) -> Result<(), AllocError>
+    ensures { OnOk result (string_bytes out.new ≡ string_bytes out.old ++ ended (plan_line number scenario.now)) }
+{
+    write!(out, "plan {number} ")?;
+    write_scenario(alloc, out, scenario)?;
+    out.push_str("\n")
+}
+
+/// The lines of a list of plans. An error means that memory was refused.
+fn plans_text(alloc: Global, plans: &[Plan]) -> Result<String, AllocError>
+    ensures { IfOk result (λ text. string_bytes text ≡ text_of (plan_lines 0 plans.now)) }
+{
+    let mut text = String::new(alloc);
+    for (number, plan) in plans.iter().enumerate() {
+        write_plan(alloc, &mut text, number, &plan.scenario)?;
+    }
+    Ok(text)
+}
+
+/// Writes the list of plans of a campaign, a line for each: its number and its scenario. One run without faults counts how often each
+/// point is asked, on a twin of the target; the caller's target isn't touched.
+///
+/// Nothing is written before the whole text stands. The answer is `TooManyPlans` only where the list has more than 65536 plans, and then,
+/// and where memory was refused, the sink is as it was; `Write` tells how many bytes of the text went out before the sink failed.
+pub fn plan_list<T: Target, W: Sink>(
+    alloc: Global,
+    target: &T,
+    workload: &T::Workload,
+    settings: &Settings,
+    sink: &mut W,
+) -> Result<(), CampaignFault>
+    requires { W.has_failed sink.old ≡ false }
+    ensures text { OnOk result (Appends (W.told sink.old) (W.told sink.new) (plans_text (campaign_of (T.asks target.now workload.now) T.names T.code_text (T.label_of target.now) settings.now))) }
+    ensures few { OnOk result (length (plans (campaign_of (T.asks target.now workload.now) T.names T.code_text (T.label_of target.now) settings.now)) ≤ most_plans) }
+    ensures fault { IfErr result (IsFault (campaign_of (T.asks target.now workload.now) T.names T.code_text (T.label_of target.now) settings.now) (plans_text (campaign_of (T.asks target.now workload.now) T.names T.code_text (T.label_of target.now) settings.now)) (W.told sink.old) (W.told sink.new) (W.has_failed sink.new)) }
+{
+    let (_, plans) = match planned(alloc, target, workload, settings) {
+        Ok(planned) => planned,
+        Err(PlanFault::TooManyPlans) => return Err(CampaignFault::TooManyPlans),
+        Err(PlanFault::Memory) => return Err(CampaignFault::Memory),
+    };
+    let text = plans_text(alloc, plans.as_slice())?;
+    match write_report(text.as_bytes(), sink) {
+        Ok(()) => Ok(()),
+        Err(fault) => Err(CampaignFault::Write(fault.written)),
+    }
+}

@@ -1,0 +1,166 @@
+//! A failing scenario, reduced to what it takes to fail.
+ghost use Rattle.std.specs.Prelude.{◌≡◌, ◌++◌, ◌<◌, ℕ, true, false, string_bytes, IfOk, IfErr, OnOk};
+ghost use Rattle.std.specs.Fmt.{decimal};
+ghost use Rattle.std.specs.Io.KnownBytes.{Appends};
+ghost use Rattle.target_trait.specs.declared.judgement.Verdict.TheVariants.{Fail};
+ghost use Rattle.target_trait.specs.Outcomes.{verdict_with};
+ghost use Rattle.report.specs.ReportText.{text_of};
+ghost use Rattle.campaign_core.specs.FaultTest.{fails_with};
+ghost use Rattle.campaign_core.specs.Findings.{reduction, reduced, IsMinimal};
+ghost use Rattle.campaign_core.specs.Headline.{campaign_of, say};
+ghost use Rattle.campaign_core.specs.CommandTexts.{found_lines, reduce_text, LeavesOnly};
+
+use crate::ending::CampaignFault;
+use crate::probe::{Failure, fault_count, reduced};
+use campaign_settings::Settings;
+use report::{write_report, write_scenario, write_verdict};
+use scenario_values::{Scenario, keep, tidy};
+use std::alloc::{AllocError, Global};
+use std::fmt::Write;
+use std::sync::Wait;
+use std::thread::Threads;
+use target_trait::{Case, Gate, Sink, Target, Verdict, run_verdict};
+
+/// The scenario that a failure is reduced to, tidied, and how many sets of faults were tested. An error means that memory was refused.
+pub fn reduced_scenario<T: Target + Send, G: Gate, R: Threads + Wait + Sync>(
+    rt: &R,
+    alloc: Global,
+    gate: &G,
+    target: &T,
+    failure: &Failure<'_, T>,
+    workers: usize,
+) -> Result<(Scenario, u64), AllocError>
+where
+    T::Workload: Sync,
+    requires some { 0 < workers }
+    requires fails { fails_with failure.now.code (verdict_with (T.asks target.now failure.now.workload.now) T.names failure.now.seed failure.now.max_hits failure.now.stream failure.now.scenario.now) ≡ true }
+    ensures scenario { IfOk result (λ r. r.0 ≡ reduced (verdict_with (T.asks target.now failure.now.workload.now) T.names failure.now.seed failure.now.max_hits)
+        failure.now.stream failure.now.code failure.now.scenario.now) }
+    ensures tests { IfOk result (λ r. r.1 ≡ (reduction (verdict_with (T.asks target.now failure.now.workload.now) T.names failure.now.seed failure.now.max_hits)
+        failure.now.stream failure.now.code failure.now.scenario.now).tests) }
+    ensures minimal { OnOk result (IsMinimal (verdict_with (T.asks target.now failure.now.workload.now) T.names failure.now.seed failure.now.max_hits failure.now.stream) failure.now.code
+        (reduced (verdict_with (T.asks target.now failure.now.workload.now) T.names failure.now.seed failure.now.max_hits) failure.now.stream failure.now.code failure.now.scenario.now)) }
+{
+    let _ = failure.scenario.entries();
+    let reduction = reduced(rt, alloc, gate, target, failure, workers)?;
+    let kept = keep(alloc, failure.scenario, reduction.kept.as_slice())?;
+    Ok((tidy(alloc, &kept)?, reduction.tests))
+}
+
+/// The verdict of a scenario under stream number 0, with a twin of the target. An error means that memory was refused.
+fn verdict_of<T: Target>(
+    alloc: Global,
+    target: &T,
+    workload: &T::Workload,
+    settings: &Settings,
+    scenario: &Scenario,
+) -> Result<Verdict, AllocError>
+    ensures { IfOk result (λ verdict. verdict ≡ verdict_with (T.asks target.now workload.now) T.names settings.now.seed settings.now.max_hits 0 scenario.now) }
+{
+    let case = Case {
+        scenario,
+        seed: settings.seed,
+        stream: 0,
+        max_hits: settings.max_hits,
+    };
+    let mut twin = target.twin()?;
+    run_verdict(alloc, &mut twin, workload, &case)
+}
+
+/// Appends what a scenario that failed with this code is reduced to, and how many tests that took.
+fn write_reduced<T: Target + Send, G: Gate, R: Threads + Wait + Sync>(
+    rt: &R,
+    alloc: Global,
+    gate: &G,
+    out: &mut String,
+    target: &T,
+    failure: &Failure<'_, T>,
+    workers: usize,
+) -> Result<(), AllocError>
+where
+    T::Workload: Sync,
+    requires some { 0 < workers }
+    requires fails { fails_with failure.now.code (verdict_with (T.asks target.now failure.now.workload.now) T.names failure.now.seed failure.now.max_hits failure.now.stream failure.now.scenario.now) ≡ true }
+    ensures text { OnOk result (string_bytes out.new ≡ string_bytes out.old ++ text_of (found_lines (verdict_with (T.asks target.now failure.now.workload.now) T.names failure.now.seed failure.now.max_hits) failure.now.stream failure.now.code failure.now.scenario.now)) }
+    ensures minimal { OnOk result (IsMinimal (verdict_with (T.asks target.now failure.now.workload.now) T.names failure.now.seed failure.now.max_hits failure.now.stream) failure.now.code
+        (reduced (verdict_with (T.asks target.now failure.now.workload.now) T.names failure.now.seed failure.now.max_hits) failure.now.stream failure.now.code failure.now.scenario.now)) }
+{
+    let (scenario, tests) = reduced_scenario(rt, alloc, gate, target, failure, workers)?;
+    out.push_str("reduced ")?;
+    write_scenario(alloc, out, &scenario)?;
+    writeln!(out, "\ntests {tests}")
+}
+
+/// The lines of `reduce` for a scenario with this verdict. An error means that memory was refused.
+fn reduce_text<T: Target + Send, G: Gate, R: Threads + Wait + Sync>(
+    rt: &R,
+    alloc: Global,
+    gate: &G,
+    target: &T,
+    workload: &T::Workload,
+    settings: &Settings,
+    scenario: &Scenario,
+    verdict: Verdict,
+) -> Result<String, AllocError>
+where
+    T::Workload: Sync,
+    requires { verdict ≡ verdict_with (T.asks target.now workload.now) T.names settings.now.seed settings.now.max_hits 0 scenario.now }
+    ensures text { IfOk result (λ text. string_bytes text ≡ reduce_text (campaign_of (T.asks target.now workload.now) T.names T.code_text (T.label_of target.now) settings.now) scenario.now) }
+    ensures minimal { OnOk result ((code : ℕ) → say (campaign_of (T.asks target.now workload.now) T.names T.code_text (T.label_of target.now) settings.now) 0 scenario.now ≡ Fail code
+        → IsMinimal (say (campaign_of (T.asks target.now workload.now) T.names T.code_text (T.label_of target.now) settings.now) 0) code
+        (reduced (say (campaign_of (T.asks target.now workload.now) T.names T.code_text (T.label_of target.now) settings.now)) 0 code scenario.now)) }
+{
+    let mut text = String::new(alloc);
+    text.push_str("verdict ")?;
+    write_verdict::<T>(&mut text, verdict)?;
+    text.push_str("\n")?;
+    if let Verdict::Fail(code) = verdict {
+        let failure = Failure {
+            workload,
+            scenario,
+            faults: fault_count(alloc, scenario)?,
+            seed: settings.seed,
+            stream: 0,
+            max_hits: settings.max_hits,
+            code,
+        };
+        let workers = settings.workers as usize;
+        write_reduced(rt, alloc, gate, &mut text, target, &failure, workers)?;
+    }
+    Ok(text)
+}
+
+/// Runs a scenario under stream number 0 and, where it fails, reduces it, and writes the lines of `reduce`: the verdict, and of a failure
+/// the scenario that is left and how many sets of faults were tested.
+///
+/// As many threads as the settings say test sets of faults, each on a twin of the target; the text is that of one thread, and the
+/// caller's target isn't touched. The scenario that is left fails with the same code, and no single fault can be left out of it. Nothing
+/// is written before the text stands whole: for want of memory the sink is unchanged. A failed write tells how many bytes of the text
+/// went out.
+pub fn reduce_one<T: Target + Send, G: Gate, W: Sink, R: Threads + Wait + Sync>(
+    rt: &R,
+    alloc: Global,
+    target: &T,
+    workload: &T::Workload,
+    settings: &Settings,
+    scenario: &Scenario,
+    gate: &G,
+    sink: &mut W,
+) -> Result<Verdict, CampaignFault>
+where
+    T::Workload: Sync,
+    requires { W.has_failed sink.old ≡ false }
+    ensures verdict { IfOk result (λ verdict. verdict ≡ say (campaign_of (T.asks target.now workload.now) T.names T.code_text (T.label_of target.now) settings.now) 0 scenario.now) }
+    ensures text { OnOk result (Appends (W.told sink.old) (W.told sink.new) (reduce_text (campaign_of (T.asks target.now workload.now) T.names T.code_text (T.label_of target.now) settings.now) scenario.now)) }
+    ensures minimal { OnOk result ((code : ℕ) → say (campaign_of (T.asks target.now workload.now) T.names T.code_text (T.label_of target.now) settings.now) 0 scenario.now ≡ Fail code
+        → IsMinimal (say (campaign_of (T.asks target.now workload.now) T.names T.code_text (T.label_of target.now) settings.now) 0) code
+        (reduced (say (campaign_of (T.asks target.now workload.now) T.names T.code_text (T.label_of target.now) settings.now)) 0 code scenario.now)) }
+    ensures fault { IfErr result (LeavesOnly (W.told sink.old) (W.told sink.new) (W.has_failed sink.new) (reduce_text (campaign_of (T.asks target.now workload.now) T.names T.code_text (T.label_of target.now) settings.now) scenario.now)) }
+{
+    let verdict = verdict_of(alloc, target, workload, settings, scenario)?;
+    let text = reduce_text(
+        rt, alloc, gate, target, workload, settings, scenario, verdict,
+    )?;
+    write_report(text.as_bytes(), sink)?;
+    Ok(verdict)
+}

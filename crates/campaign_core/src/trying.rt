@@ -1,0 +1,64 @@
+//! One scenario, tried on a target.
+ghost use Rattle.std.specs.Prelude.{◌≡◌, ◌++◌, false, IfOk, IfErr, OnOk, string_bytes};
+ghost use Rattle.std.specs.Io.KnownBytes.{Appends};
+ghost use Rattle.action_eval.specs.Answers.{given_of};
+ghost use Rattle.target_trait.specs.Outcomes.{outcome};
+ghost use Rattle.campaign_core.specs.CommandTexts.{try_text, LeavesOnly};
+
+use crate::ending::CampaignFault;
+use report::{write_report, write_verdict};
+use scenario_values::Scenario;
+use std::alloc::{AllocError, Global};
+use std::fmt::Write;
+use target_trait::{Case, Outcome, Sink, Target, Verdict, run_case};
+
+/// The five lines of an outcome.
+fn try_text<T: Target>(alloc: Global, outcome: &Outcome) -> Result<String, AllocError>
+    ensures { IfOk result (λ text. string_bytes text ≡ try_text T.code_text outcome.now) }
+{
+    let mut text = String::new(alloc);
+    text.push_str("verdict ")?;
+    write_verdict::<T>(&mut text, outcome.verdict)?;
+    let asked = outcome.asked.as_slice().len();
+    let words = outcome.words;
+    let millis = outcome.millis;
+    let notes = outcome.notes.as_slice().len();
+    write!(
+        text,
+        "\nasked {asked}\nwords {words}\nmillis {millis}\nnotes {notes}\n"
+    )?;
+    Ok(text)
+}
+
+/// Runs the scenario on the target, with stream number 0, and writes the five lines of `try`: the verdict, the number of
+/// points asked, the words taken, the simulated milliseconds and the number of notes.
+///
+/// The seed is that of the run's words; after `max_hits` answered hits the run is stopped and unresolved. Nothing is
+/// written before the text stands whole: for want of memory the sink is unchanged. A failed write tells how many bytes
+/// of the text went out. The target keeps its setup in every case.
+pub fn try_one<T: Target, W: Sink>(
+    alloc: Global,
+    target: &mut T,
+    workload: &T::Workload,
+    seed: u64,
+    max_hits: u32,
+    scenario: &Scenario,
+    sink: &mut W,
+) -> Result<Verdict, CampaignFault>
+    requires { W.has_failed sink.old ≡ false }
+    ensures verdict { IfOk result (λ verdict. verdict ≡ (outcome (T.asks target.old workload.now) (given_of scenario.now T.names seed 0 max_hits)).verdict) }
+    ensures text { OnOk result (Appends (W.told sink.old) (W.told sink.new) (try_text T.code_text (outcome (T.asks target.old workload.now) (given_of scenario.now T.names seed 0 max_hits)))) }
+    ensures fault { IfErr result (LeavesOnly (W.told sink.old) (W.told sink.new) (W.has_failed sink.new) (try_text T.code_text (outcome (T.asks target.old workload.now) (given_of scenario.now T.names seed 0 max_hits)))) }
+    ensures setup { target.new ≡ target.old }
+{
+    let case = Case {
+        scenario,
+        seed,
+        stream: 0,
+        max_hits,
+    };
+    let outcome = run_case(alloc, target, workload, &case)?;
+    let text = try_text::<T>(alloc, &outcome)?;
+    write_report(text.as_bytes(), sink)?;
+    Ok(outcome.verdict)
+}
