@@ -1,15 +1,23 @@
 # The commands of every day. The toolchain's `rt` has to be on the PATH (README.md).
 
-# A first look: builds the program without proving it, and tries one scenario.
-run:
-	@cd crates/paklour && rt try < stdin
+# The settings of the campaign that `make run` runs.
+FILE = examples/replace_late_sync.toml
 
-# Tries each scenario of examples/, again without a proof, and compares what is written with the file NAME.stdout beside it.
+# A first look: builds the program without proving it, and runs a campaign. A campaign that finds a failure ends with 1, which is no error
+# here.
+run:
+	@settings=$$(realpath $(FILE)) && cd crates/paklour && { rt try -- run < $$settings || [ $$? -eq 1 ]; }
+
+# Proves the program with all that it stands on, and builds crates/paklour/out/paklour.
+build:
+	@cd crates/paklour && rt run < stdin > /dev/null
+
+# Performs each command of examples/, again without a proof, and compares what is written with the file beside it.
 examples:
 	@cd crates/paklour && rt try --cases ../../examples
 
-# Everything: the house rules, every proof from nothing, the must-fail edits, the tests and the program.
-test:
+# Everything: the house rules, the examples, every proof from nothing, the must-fail edits, the tests and the program.
+test: examples
 	@tools/house_rules
 	@rt ci
 
@@ -20,13 +28,12 @@ check:
 fmt:
 	@for crate in crates/*/; do (cd $$crate && rt fmt) || exit 1; done
 
-# Proves and builds the program, and refuses each of its allocations in turn.
-refuse:
-	@cd crates/paklour && rt run < stdin > /dev/null
-	@tools/refuse.py --input crates/paklour/stdin crates/paklour/out/paklour
+# Proves and builds the program, and refuses each of its allocations in turn, for each command of examples/.
+refuse: build
+	@tools/refuse.py crates/paklour/out/paklour examples/*.toml
 
 # Proves and builds the benchmarks, and runs them: work counts, and times beside them.
 bench:
 	@bench/run
 
-.PHONY: run examples test check fmt refuse bench
+.PHONY: run build examples test check fmt refuse bench

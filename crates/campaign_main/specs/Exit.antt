@@ -1,4 +1,4 @@
--- How a command ended, as an exit status.
+-- How a command ended, as an exit status, and which end stands for what was found.
 use Rattle.std.specs.Prelude.{ℕ, Bool, true, false}
 use Rattle.target_trait.specs.declared.judgement.Verdict.{Verdict}
 use Rattle.target_trait.specs.declared.judgement.Verdict.TheVariants as verdict
@@ -13,20 +13,13 @@ status_of Refused = 2
 status_of Memory = 3
 status_of (Write _) = 4
 
--- a verdict that is fail was found, or everything was kept as far as it was resolved
-abbrev pub exit_of : Verdict → Exit
-exit_of verdict.Pass = Kept
-exit_of (verdict.Fail _) = Found
-exit_of verdict.Unresolved = Kept
+-- how a command ends whose text was written, by whether a verdict in it is fail
+abbrev pub exit_of : Bool → Exit
+exit_of false = Kept
+exit_of true = Found
 
--- the command did what it is for, and its text stands
-abbrev pub is_answered : Exit → Bool
-is_answered Kept = true
-is_answered Found = true
-is_answered _ = false
-
--- the command did nothing: what was read has a fault, or memory was refused
-abbrev pub IsRefusedOrMemory : Exit → Type 0
-IsRefusedOrMemory Refused = Unit {0}
-IsRefusedOrMemory Memory = Unit {0}
-IsRefusedOrMemory _ = ⊥
+-- a verdict that is fail
+abbrev pub is_fail : Verdict → Bool
+is_fail verdict.Pass = false
+is_fail (verdict.Fail _) = true
+is_fail verdict.Unresolved = false

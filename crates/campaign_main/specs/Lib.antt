@@ -1,5 +1,4 @@
 pub mod Exit
 pub mod FaultLines
-pub mod TryText
-pub mod SmallWorkload
+pub mod Commands
 pub mod Ends

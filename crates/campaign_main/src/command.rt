@@ -1,45 +1,134 @@
-//! What the program does, over any reader and any sinks.
-ghost use Rattle.std.specs.Prelude.{◌≡◌, false, IfSome};
-ghost use Rattle.campaign_main.specs.Ends.{EndsAs};
+//! The commands over one target.
+ghost use Rattle.std.specs.Prelude.{◌≡◌, false, string_bytes};
+ghost use Rattle.campaign_core.specs.Headline.{campaign_of};
+ghost use Rattle.campaign_main.specs.Commands.{order_answer, plans_answer, reduce_answer, run_answer, spelled_answer, try_answer};
+ghost use Rattle.campaign_main.specs.Ends.{ComesTo};
+ghost use Rattle.scenario_grammar.specs.FirstFault.{reading};
 
-use crate::exit::{Exit, exit_of};
-use crate::fault::CampaignFault;
-use crate::input::read_all;
-use crate::lines::{cut_off, no_memory, unread, unspelled};
-use crate::small::try_small;
+use crate::exit::is_fail;
+use crate::fault::CommandFault;
+use campaign_core::{campaign, plan_list, reduce_one, try_one};
+use campaign_settings::Settings;
+use command_words::Order;
 use scenario_grammar::parse;
 use std::alloc::Global;
-use std::io::Read;
-use target_trait::Sink;
+use std::sync::Wait;
+use std::thread::Threads;
+use target_trait::{FreeGate, Sink, Target};
 
-/// Reads a scenario, tries it on the sound file replacement, and writes the five lines of `try`.
-///
-/// The workload is one replacement of the contents `old` by the chunks `ne` and `w`, with seed 7 and a limit of 1,000
-/// answered hits. It answers Kept, or Found where the verdict is fail, where the five lines stand in the output. Otherwise one
-/// line on the sink of faults says why: Refused for a text that spells no scenario or can't be read, and Memory, both with the
-/// output unchanged, or Write, which tells how many bytes of the text went out. Where that line can't be written the answer
-/// stays.
-pub fn perform<R: Read, W: Sink, E: Sink>(
+/// Runs a campaign, and writes its report.
+fn run_plans<T: Target + Send, W: Sink, H: Threads + Wait + Sync>(
+    rt: &H,
     alloc: Global,
-    reader: &mut R,
+    target: &T,
+    workload: &T::Workload,
+    settings: &Settings,
     output: &mut W,
-    faults: &mut E,
-) -> Exit
-    requires output { W.has_failed output.old ≡ false }
-    requires faults { E.has_failed faults.old ≡ false }
-    ensures { IfSome (R.remaining reader.old) (λ bytes. EndsAs result bytes (W.told output.old) (W.told output.new) (W.has_failed output.new)) }
+) -> Result<bool, CommandFault>
+where
+    T::Workload: Sync,
+    requires { W.has_failed output.old ≡ false }
+    ensures { ComesTo (run_answer (campaign_of (T.asks target.now workload.now) T.names T.code_text (T.label_of target.now) settings.now)) (W.told output.old) (W.told output.new) (W.has_failed output.new) result }
 {
-    let text = match read_all(alloc, reader) {
-        Ok(text) => text,
-        Err(fault) => return unread(fault, faults),
-    };
-    let scenario = match parse(alloc, text.as_str()) {
+    match campaign(rt, alloc, target, workload, settings, &FreeGate, output) {
+        Ok(ending) => Ok(ending.first.is_some()),
+        Err(fault) => Err(CommandFault::Campaign(fault)),
+    }
+}
+
+/// Writes the list of a campaign's plans.
+fn list_plans<T: Target, W: Sink>(
+    alloc: Global,
+    target: &T,
+    workload: &T::Workload,
+    settings: &Settings,
+    output: &mut W,
+) -> Result<bool, CommandFault>
+    requires { W.has_failed output.old ≡ false }
+    ensures { ComesTo (plans_answer (campaign_of (T.asks target.now workload.now) T.names T.code_text (T.label_of target.now) settings.now)) (W.told output.old) (W.told output.new) (W.has_failed output.new) result }
+{
+    match plan_list(alloc, target, workload, settings, output) {
+        Ok(()) => Ok(false),
+        Err(fault) => Err(CommandFault::Campaign(fault)),
+    }
+}
+
+/// Tries the scenario that a text spells.
+fn try_text<T: Target, W: Sink>(
+    alloc: Global,
+    target: &mut T,
+    workload: &T::Workload,
+    settings: &Settings,
+    text: &str,
+    output: &mut W,
+) -> Result<bool, CommandFault>
+    requires { W.has_failed output.old ≡ false }
+    ensures { ComesTo (spelled_answer (try_answer (campaign_of (T.asks target.old workload.now) T.names T.code_text (T.label_of target.old) settings.now)) (reading text.now)) (W.told output.old) (W.told output.new) (W.has_failed output.new) result }
+{
+    let scenario = match parse(alloc, text) {
         Ok(scenario) => scenario,
-        Err(fault) => return unspelled(alloc, &fault, faults),
+        Err(fault) => return Err(CommandFault::Scenario(fault)),
     };
-    match try_small(alloc, &scenario, output) {
-        Ok(verdict) => exit_of(verdict),
-        Err(CampaignFault::Memory) => no_memory(faults),
-        Err(CampaignFault::Write(written)) => cut_off(written, faults),
+    let seed = settings.seed;
+    let max_hits = settings.max_hits;
+    match try_one(alloc, target, workload, seed, max_hits, &scenario, output) {
+        Ok(verdict) => Ok(is_fail(verdict)),
+        Err(fault) => Err(CommandFault::Campaign(fault)),
+    }
+}
+
+/// Reduces the scenario that a text spells.
+fn reduce_text<T: Target + Send, W: Sink, H: Threads + Wait + Sync>(
+    rt: &H,
+    alloc: Global,
+    target: &T,
+    workload: &T::Workload,
+    settings: &Settings,
+    text: &str,
+    output: &mut W,
+) -> Result<bool, CommandFault>
+where
+    T::Workload: Sync,
+    requires { W.has_failed output.old ≡ false }
+    ensures { ComesTo (spelled_answer (reduce_answer (campaign_of (T.asks target.now workload.now) T.names T.code_text (T.label_of target.now) settings.now)) (reading text.now)) (W.told output.old) (W.told output.new) (W.has_failed output.new) result }
+{
+    let scenario = match parse(alloc, text) {
+        Ok(scenario) => scenario,
+        Err(fault) => return Err(CommandFault::Scenario(fault)),
+    };
+    let gate = FreeGate;
+    match reduce_one(
+        rt, alloc, target, workload, settings, &scenario, &gate, output,
+    ) {
+        Ok(verdict) => Ok(is_fail(verdict)),
+        Err(fault) => Err(CommandFault::Campaign(fault)),
+    }
+}
+
+/// Does what is ordered with this target, and writes the command's text.
+///
+/// It answers whether a verdict in the text is fail, where the whole text was written. Else nothing was written, or the fault tells
+/// how many bytes of the text went out.
+pub fn command<T: Target + Send, W: Sink, H: Threads + Wait + Sync>(
+    rt: &H,
+    alloc: Global,
+    order: &Order,
+    target: &mut T,
+    workload: &T::Workload,
+    settings: &Settings,
+    output: &mut W,
+) -> Result<bool, CommandFault>
+where
+    T::Workload: Sync,
+    requires { W.has_failed output.old ≡ false }
+    ensures { ComesTo (order_answer order.now (campaign_of (T.asks target.old workload.now) T.names T.code_text (T.label_of target.old) settings.now)) (W.told output.old) (W.told output.new) (W.has_failed output.new) result }
+{
+    match order {
+        Order::Run => run_plans(rt, alloc, target, workload, settings, output),
+        Order::Plans => list_plans(alloc, target, workload, settings, output),
+        Order::Try(text) => try_text(alloc, target, workload, settings, text.as_str(), output),
+        Order::Reduce(text) => {
+            reduce_text(rt, alloc, target, workload, settings, text.as_str(), output)
+        }
     }
 }

@@ -1,6 +1,6 @@
 //! How a command ended.
 ghost use Rattle.std.specs.Prelude.{◌≡◌};
-ghost use Rattle.campaign_main.specs.Exit.{status_of, exit_of};
+ghost use Rattle.campaign_main.specs.Exit.{status_of, exit_of, is_fail};
 
 use target_trait::Verdict;
 
@@ -32,12 +32,19 @@ pub fn status(exit: &Exit) -> u8
     }
 }
 
-/// How a command ends whose one verdict this is.
-pub(crate) fn exit_of(verdict: Verdict) -> Exit
-    ensures { result ≡ exit_of verdict }
+/// How a command ends whose text was written, by whether a verdict in it is fail.
+pub(crate) fn exit_of(found: bool) -> Exit
+    ensures { result ≡ exit_of found }
+{
+    if found { Exit::Found } else { Exit::Kept }
+}
+
+/// Whether a verdict is fail.
+pub(crate) fn is_fail(verdict: Verdict) -> bool
+    ensures { result ≡ is_fail verdict }
 {
     match verdict {
-        Verdict::Fail(_) => Exit::Found,
-        Verdict::Pass | Verdict::Unresolved => Exit::Kept,
+        Verdict::Fail(_) => true,
+        Verdict::Pass | Verdict::Unresolved => false,
     }
 }

@@ -1,24 +1,27 @@
 //! The ends of a command that failed, and the line that says why. A line that can't be written changes no end.
-ghost use Rattle.std.specs.Prelude.{◌≡◌, false, IfOk, string_bytes};
-ghost use Rattle.std.specs.Prelude.{◌++◌, codes, OnOk};
-ghost use Rattle.std.specs.Io.KnownBytes.{Appends};
-ghost use Rattle.campaign_main.specs.Exit.{IsRefusedOrMemory};
-ghost use Rattle.campaign_main.specs.FaultLines.{scenario_line, write_line};
+ghost use Rattle.std.specs.Prelude.{◌≡◌, false, IfOk, codes, string_bytes};
+ghost use Rattle.campaign_settings.specs.declared.fault.SettingsFault.TheVariants as settings;
+ghost use Rattle.campaign_main.specs.Ends.{IsRefusedOrMemory, IsEndOf, IsTold};
+ghost use Rattle.campaign_main.specs.FaultLines.{scenario_line, settings_line};
 
 use crate::exit::Exit;
+use crate::fault::CommandFault;
 use crate::input::ReadFault;
+use campaign_core::CampaignFault;
+use campaign_settings::SettingsFault;
 use itoa::Buffer;
 use report::{WriteFault, write_report};
 use scenario_grammar::ScenarioFault;
 use std::alloc::{AllocError, Global};
 use target_trait::Sink;
 
-/// Ends as refused, with this line.
-fn refused<E: Sink>(line: &str, faults: &mut E) -> Exit
+/// Ends as refused, with these lines.
+pub fn refused<E: Sink>(lines: &str, faults: &mut E) -> Exit
     requires { E.has_failed faults.old ≡ false }
-    ensures { result ≡ Exit.Refused }
+    ensures end { result ≡ Exit.Refused }
+    ensures told { IsTold lines.now (E.told faults.old) (E.told faults.new) (E.has_failed faults.new) }
 {
-    let _ = write_report(line.as_bytes(), faults);
+    let _ = write_report(lines.as_bytes(), faults);
     Exit::Refused
 }
 
@@ -31,16 +34,40 @@ pub fn no_memory<E: Sink>(faults: &mut E) -> Exit
     Exit::Memory
 }
 
-/// Ends where the reader gave no text.
+/// Ends where the settings couldn't be read.
 pub fn unread<E: Sink>(fault: ReadFault, faults: &mut E) -> Exit
     requires { E.has_failed faults.old ≡ false }
-    ensures { IsRefusedOrMemory result }
+    ensures end { IsRefusedOrMemory result }
+    ensures memory { fault ≡ ReadFault.Memory → result ≡ Exit.Memory }
+    ensures told { fault ≡ ReadFault.NotReadable → IsTold (codes "settings: not readable\n") (E.told faults.old) (E.told faults.new) (E.has_failed faults.new) }
 {
     match fault {
         ReadFault::TooLong => refused("settings: too long\n", faults),
         ReadFault::NotUtf8 => refused("settings: not UTF-8\n", faults),
         ReadFault::NotReadable => refused("settings: not readable\n", faults),
         ReadFault::Memory => no_memory(faults),
+    }
+}
+
+/// The line for a fault of the settings.
+fn settings_line(alloc: Global, fault: &SettingsFault) -> Result<String, AllocError>
+    ensures { IfOk result (λ line. string_bytes line ≡ settings_line fault.now) }
+{
+    format!(in alloc; "{fault}\n")
+}
+
+/// Ends where a text gives no settings.
+pub fn unset<E: Sink>(alloc: Global, fault: &SettingsFault, faults: &mut E) -> Exit
+    requires { E.has_failed faults.old ≡ false }
+    ensures end { IsRefusedOrMemory result }
+    ensures memory { fault.now ≡ settings.Memory → result ≡ Exit.Memory }
+{
+    if let SettingsFault::Memory = fault {
+        return no_memory(faults);
+    }
+    match settings_line(alloc, fault) {
+        Ok(line) => refused(line.as_str(), faults),
+        Err(AllocError) => no_memory(faults),
     }
 }
 
@@ -52,9 +79,9 @@ fn scenario_line(alloc: Global, fault: &ScenarioFault) -> Result<String, AllocEr
 }
 
 /// Ends where a text spells no scenario.
-pub fn unspelled<E: Sink>(alloc: Global, fault: &ScenarioFault, faults: &mut E) -> Exit
+fn unspelled<E: Sink>(alloc: Global, fault: &ScenarioFault, faults: &mut E) -> Exit
     requires { E.has_failed faults.old ≡ false }
-    ensures { IsRefusedOrMemory result }
+    ensures { IsEndOf (CommandFault.Scenario fault.now) result }
 {
     if let ScenarioFault::Memory = fault {
         return no_memory(faults);
@@ -82,4 +109,17 @@ pub fn cut_off<E: Sink>(written: u64, faults: &mut E) -> Exit
 {
     let _ = write_cut_off(written, faults);
     Exit::Write(written)
+}
+
+/// Ends where a command wrote no whole text.
+pub fn unanswered<E: Sink>(alloc: Global, fault: &CommandFault, faults: &mut E) -> Exit
+    requires { E.has_failed faults.old ≡ false }
+    ensures { IsEndOf fault.now result }
+{
+    match fault {
+        CommandFault::Scenario(cause) => unspelled(alloc, cause, faults),
+        CommandFault::Campaign(CampaignFault::TooManyPlans) => refused("too many plans\n", faults),
+        CommandFault::Campaign(CampaignFault::Memory) => no_memory(faults),
+        CommandFault::Campaign(CampaignFault::Write(written)) => cut_off(*written, faults),
+    }
 }

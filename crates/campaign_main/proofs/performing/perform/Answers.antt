@@ -1,0 +1,26 @@
+use Rattle.std.proofs.Common.{List, ℕ, Result, Err, ap, inl}
+use Rattle.campaign_main.specs.Commands.{Answer}
+use Rattle.campaign_main.specs.Ends.{EndsAs, IsRefused}
+use Rattle.campaign_main.proofs.EndLemmas.{cause-unread, read-answer}
+use Rattle.campaign_main.proofs.performing.perform.Goals as goal
+
+pub returns-in-Ok-clause-end : goal.returns-in-Ok-clause-end
+returns-in-Ok-clause-end g c =
+    let W = g.W.Sink in
+    let new = c.perform_text.new.output in
+    let P : Answer → Type 0 = λ a. EndsAs c.perform_text.result a (W.told c.args.output.now) (W.told new) (W.has_failed new) in
+    read-answer _ _ _ _ P c.as_str.ensures.value c.in-Ok.ensures.ok c.in-Ok.ensures.limit c.as_str.utf8 c.perform_text.ensures.end
+
+pub returns-in-Ok-clause-cause : goal.returns-in-Ok-clause-cause
+returns-in-Ok-clause-cause g c =
+    λ refused.
+    let E = g.E.Sink in
+    let new = c.perform_text.new.faults in
+    let P : Answer → Type 0 = λ a. IsRefused a (E.told c.args.faults.now) (E.told new) (E.has_failed new) in
+    read-answer _ _ _ _ P c.as_str.ensures.value c.in-Ok.ensures.ok c.in-Ok.ensures.limit c.as_str.utf8 (inl (c.perform_text.ensures.cause refused))
+
+pub returns-in-Err-clause-cause : goal.returns-in-Err-clause-cause
+returns-in-Err-clause-cause g c =
+    λ refused.
+    cause-unread _ _ _ _ _ _ c.in-Err.fault (λ e. c.in-Err.ensures.too_long (ap (λ f. Err f) e)) (λ e. c.in-Err.ensures.not_text (ap (λ f. Err f) e))
+    c.unread.ensures.told c.unread.ensures.memory refused

@@ -1,0 +1,115 @@
+-- What a command answers to the bytes of its settings: its text and its end, or why it is refused.
+use Rattle.std.specs.Prelude.{ℕ, Bool, false, List, length, Option, Some, None, is_some, Result, Ok, Err, nat_lt, if◌then◌else◌, string_bytes}
+use Rattle.std.specs.Str.{is_utf8}
+use Rattle.scenario_values.specs.Scenario.{Entries}
+use Rattle.scenario_grammar.specs.FirstFault.{Fault, reading}
+use Rattle.action_eval.specs.Answers.{Reply}
+use Rattle.target_trait.specs.Play.{Move}
+use Rattle.file_replace.specs.Steps.{asks_of as replacing}
+use Rattle.file_replace.specs.Words.{point_names as replace_points, code_text as replace_codes, label as replace_label}
+use Rattle.maildir_target.specs.Steps.{asks_of as delivering}
+use Rattle.maildir_target.specs.Words.{point_names as maildir_points, code_text as maildir_codes, label as maildir_label}
+use Rattle.commit_target.specs.Steps.{asks_of as committing}
+use Rattle.commit_target.specs.Words.{point_names as commit_points, code_text as commit_codes, label as commit_label}
+use Rattle.plan_gen.specs.PlanList.{most_plans}
+use Rattle.campaign_settings.specs.Settings.{Given, Cause, Read, settings_of, too_long, wrong}
+use Rattle.campaign_settings.specs.declared.choice.Choice.{Choice}
+use Rattle.campaign_settings.specs.declared.choice.Choice.TheVariants as choice
+use Rattle.campaign_settings.specs.declared.keys.Key.TheVariants as key
+use Rattle.campaign_settings.specs.declared.keys.KeyFault.TheVariants as fault
+use Rattle.campaign_core.specs.Headline.{Campaign, say, plans, report_text, first_failure}
+use Rattle.campaign_core.specs.CommandTexts.{plans_text, try_text, tried, reduce_text}
+use Rattle.command_words.specs.declared.words.Order.{Order}
+use Rattle.command_words.specs.declared.words.Order.TheVariants as order
+use Rattle.campaign_main.specs.Exit.{is_fail}
+
+-- ---- answers
+
+-- why a command is refused: its settings are no UTF-8 or have a fault, its scenario has one, or there are too many plans
+pub data Refusal : Type 0 where
+  not_text : Refusal
+  bad_settings : Cause → Refusal
+  bad_scenario : Fault → Refusal
+  too_many_plans : Refusal
+
+-- a command's text and whether a verdict in it is fail, or why the command is refused
+abbrev pub Answer : Type 0
+Answer = Result (List ℕ × Bool) Refusal
+
+-- ---- a command on what a campaign is given
+
+-- what comes of a list of plans that isn't too long
+abbrev pub of_few_plans : Campaign → List ℕ × Bool → Answer
+of_few_plans c text = if nat_lt most_plans (length (plans c)) then Err too_many_plans else Ok text
+
+-- the report, and whether a plan fails
+unfoldable pub run_answer : Campaign → Answer
+run_answer c = of_few_plans c (report_text c, is_some (first_failure c))
+
+-- the list of plans
+unfoldable pub plans_answer : Campaign → Answer
+plans_answer c = of_few_plans c (plans_text c, false)
+
+-- a scenario tried, and whether it fails
+unfoldable pub try_answer : Campaign → Entries → Answer
+try_answer c scenario = Ok (try_text c.codes (tried c scenario), is_fail (tried c scenario).verdict)
+
+-- a scenario reduced, and whether it fails
+unfoldable pub reduce_answer : Campaign → Entries → Answer
+reduce_answer c scenario = Ok (reduce_text c scenario, is_fail (say c 0 scenario))
+
+-- what comes of a scenario, where a text spells one
+abbrev pub spelled_answer : (Entries → Answer) → Result Entries Fault → Answer
+spelled_answer answer (Ok scenario) = answer scenario
+spelled_answer answer (Err f) = Err (bad_scenario f)
+
+abbrev pub order_answer : Order → Campaign → Answer
+order_answer order.Run c = run_answer c
+order_answer order.Plans c = plans_answer c
+order_answer (order.Try text) c = spelled_answer (try_answer c) (reading (string_bytes text))
+order_answer (order.Reduce text) c = spelled_answer (reduce_answer c) (reading (string_bytes text))
+
+-- ---- by the settings
+
+-- what a campaign is given, by what its target asks, the names of its points and codes, its label, and the settings
+abbrev pub campaign_by : (List Reply → Move) → List (List ℕ) → (ℕ → List ℕ) → List ℕ → Given → Campaign
+campaign_by asks points codes label given = record {
+  asks = asks;
+  points = points;
+  codes = codes;
+  label = label;
+  limit = given.max_hits;
+  plans = record {
+    pairs = given.pairs;
+    storms = given.storms;
+    rate = given.rate;
+    listed = given.scenarios;
+    seed = given.seed;
+  };
+}
+
+-- the same for a bundled target with its workload
+abbrev pub campaign_for : Given → Choice → Campaign
+campaign_for given (choice.Replace variant work) =
+    campaign_by (replacing variant work) replace_points replace_codes (replace_label variant) given
+campaign_for given (choice.Maildir variant messages) =
+    campaign_by (delivering variant messages) maildir_points maildir_codes (maildir_label variant) given
+campaign_for given (choice.Commit variant work) =
+    campaign_by (committing variant work) commit_points commit_codes (commit_label variant) given
+
+abbrev pub chosen_answer : Order → Given → Option Choice → Answer
+chosen_answer order given None = Err (bad_settings (wrong key.Target fault.Missing))
+chosen_answer order given (Some chosen) = order_answer order (campaign_for given chosen)
+
+abbrev pub given_answer : Order → Read Given → Answer
+given_answer order (Ok given) = chosen_answer order given given.choice
+given_answer order (Err cause) = Err (bad_settings cause)
+
+-- the answer to a text of settings
+unfoldable pub text_answer : Order → List ℕ → Answer
+text_answer order text = given_answer order (settings_of text)
+
+-- the answer to bytes, which are no text where they are no UTF-8; that there are too many comes first
+unfoldable pub answer_of : Order → List ℕ → Answer
+answer_of order bytes = if nat_lt 1048576 (length bytes) then Err (bad_settings too_long)
+    else (if is_utf8 bytes then text_answer order bytes else Err not_text)

@@ -1,0 +1,45 @@
+//! A command over the bundled target that the settings choose.
+ghost use Rattle.std.specs.Prelude.{◌≡◌, false};
+ghost use Rattle.campaign_settings.specs.Settings.{given_of};
+ghost use Rattle.campaign_main.specs.Commands.{campaign_for, order_answer};
+ghost use Rattle.campaign_main.specs.Ends.{ComesTo};
+
+use crate::command::command;
+use crate::fault::CommandFault;
+use campaign_settings::{Choice, Settings};
+use command_words::Order;
+use commit_target::Commit;
+use file_replace::Replace;
+use maildir_target::Maildir;
+use std::alloc::Global;
+use std::sync::Wait;
+use std::thread::Threads;
+use target_trait::Sink;
+
+/// Does what is ordered with a bundled target and its workload.
+pub fn chosen_command<W: Sink, H: Threads + Wait + Sync>(
+    rt: &H,
+    alloc: Global,
+    order: &Order,
+    choice: &Choice,
+    settings: &Settings,
+    output: &mut W,
+) -> Result<bool, CommandFault>
+    requires { W.has_failed output.old ≡ false }
+    ensures { ComesTo (order_answer order.now (campaign_for (given_of settings.now) choice.now)) (W.told output.old) (W.told output.new) (W.has_failed output.new) result }
+{
+    match choice {
+        Choice::Replace(variant, work) => {
+            let mut target = Replace::new(alloc, *variant);
+            command(rt, alloc, order, &mut target, work, settings, output)
+        }
+        Choice::Maildir(variant, work) => {
+            let mut target = Maildir::new(alloc, *variant);
+            command(rt, alloc, order, &mut target, work, settings, output)
+        }
+        Choice::Commit(variant, work) => {
+            let mut target = Commit::new(alloc, *variant);
+            command(rt, alloc, order, &mut target, work, settings, output)
+        }
+    }
+}

@@ -1,0 +1,87 @@
+//! What the program does, over any reader and any sinks.
+ghost use Rattle.std.specs.Prelude.{◌≡◌, false, IfSome, IsErr};
+ghost use Rattle.campaign_settings.specs.Settings.{given_of};
+ghost use Rattle.campaign_main.specs.Commands.{answer_of, campaign_for, order_answer, text_answer};
+ghost use Rattle.campaign_main.specs.Ends.{EndsAs, IsRefused};
+
+use crate::chosen::chosen_command;
+use crate::exit::{Exit, exit_of};
+use crate::input::read_all;
+use crate::lines::{unanswered, unread, unset};
+use campaign_settings::{Choice, Key, Settings, SettingsFault};
+use command_words::Order;
+use std::alloc::Global;
+use std::io::Read;
+use std::sync::Wait;
+use std::thread::Threads;
+use target_trait::Sink;
+
+/// Does what is ordered with the target that the settings choose.
+fn perform_chosen<W: Sink, E: Sink, H: Threads + Wait + Sync>(
+    rt: &H,
+    alloc: Global,
+    order: &Order,
+    choice: &Choice,
+    settings: &Settings,
+    output: &mut W,
+    faults: &mut E,
+) -> Exit
+    requires output { W.has_failed output.old ≡ false }
+    requires faults { E.has_failed faults.old ≡ false }
+    ensures end { EndsAs result (order_answer order.now (campaign_for (given_of settings.now) choice.now)) (W.told output.old) (W.told output.new) (W.has_failed output.new) }
+    ensures cause { result ≡ Exit.Refused → IsErr (order_answer order.now (campaign_for (given_of settings.now) choice.now)) }
+{
+    match chosen_command(rt, alloc, order, choice, settings, output) {
+        Ok(found) => exit_of(found),
+        Err(fault) => unanswered(alloc, &fault, faults),
+    }
+}
+
+/// Does what is ordered, by the settings that a text gives.
+fn perform_text<W: Sink, E: Sink, H: Threads + Wait + Sync>(
+    rt: &H,
+    alloc: Global,
+    order: &Order,
+    text: &str,
+    output: &mut W,
+    faults: &mut E,
+) -> Exit
+    requires output { W.has_failed output.old ≡ false }
+    requires faults { E.has_failed faults.old ≡ false }
+    ensures end { EndsAs result (text_answer order.now text.now) (W.told output.old) (W.told output.new) (W.has_failed output.new) }
+    ensures cause { result ≡ Exit.Refused → IsErr (text_answer order.now text.now) }
+{
+    let settings = match Settings::read(alloc, text) {
+        Ok(settings) => settings,
+        Err(fault) => return unset(alloc, &fault, faults),
+    };
+    match &settings.choice {
+        Some(choice) => perform_chosen(rt, alloc, order, choice, &settings, output, faults),
+        None => unset(alloc, &SettingsFault::Missing(Key::Target), faults),
+    }
+}
+
+/// Reads settings, does what is ordered with the target that they choose, and writes the command's text to the output.
+///
+/// It answers Kept, or Found where a verdict in the text is fail, where the whole text stands in the output. Else one line on the
+/// sink of faults says why there is none: Refused for settings that can't be read or have a fault, for a scenario with a fault and
+/// for more than 65536 plans, and Memory where memory was refused, both with the output unchanged; or Write, which tells how many
+/// bytes of the text went out before the output failed. Where that line can't be written the answer stays.
+pub fn perform<R: Read, W: Sink, E: Sink, H: Threads + Wait + Sync>(
+    rt: &H,
+    alloc: Global,
+    order: &Order,
+    reader: &mut R,
+    output: &mut W,
+    faults: &mut E,
+) -> Exit
+    requires output { W.has_failed output.old ≡ false }
+    requires faults { E.has_failed faults.old ≡ false }
+    ensures end { IfSome (R.remaining reader.old) (λ bytes. EndsAs result (answer_of order.now bytes) (W.told output.old) (W.told output.new) (W.has_failed output.new)) }
+    ensures cause { result ≡ Exit.Refused → IfSome (R.remaining reader.old) (λ bytes. IsRefused (answer_of order.now bytes) (E.told faults.old) (E.told faults.new) (E.has_failed faults.new)) }
+{
+    match read_all(alloc, reader) {
+        Ok(text) => perform_text(rt, alloc, order, text.as_str(), output, faults),
+        Err(fault) => unread(fault, faults),
+    }
+}

@@ -1,0 +1,72 @@
+//! What the program answers where it has no settings to read.
+ghost use Rattle.std.specs.Prelude.{◌≡◌, false};
+ghost use Rattle.campaign_main.specs.Ends.{EndsWords, IsRefusedOrMemory};
+
+use crate::exit::Exit;
+use crate::lines::{cut_off, no_memory, refused};
+use command_words::WordsFault;
+use report::write_report;
+use std::alloc::Global;
+use std::io;
+use target_trait::Sink;
+
+/// Ends where the file of the settings can't be opened: as refused, or for want of memory, where the error says so.
+pub fn unreadable_settings<E: Sink>(error: &io::Error, faults: &mut E) -> Exit
+    requires { E.has_failed faults.old ≡ false }
+    ensures { IsRefusedOrMemory result }
+{
+    unreadable(error, "settings: not readable\n", faults)
+}
+
+/// Ends where the program's words can't be had, as where one isn't UTF-8: as refused, or for want of memory, where the error says
+/// so.
+pub fn unreadable_words<E: Sink>(error: &io::Error, faults: &mut E) -> Exit
+    requires { E.has_failed faults.old ≡ false }
+    ensures { IsRefusedOrMemory result }
+{
+    unreadable(
+        error,
+        "error: invalid UTF-8 was detected in one or more arguments\n",
+        faults,
+    )
+}
+
+fn unreadable<E: Sink>(error: &io::Error, line: &str, faults: &mut E) -> Exit
+    requires { E.has_failed faults.old ≡ false }
+    ensures { IsRefusedOrMemory result }
+{
+    if error.kind() == io::ErrorKind::OutOfMemory {
+        no_memory(faults)
+    } else {
+        refused(line, faults)
+    }
+}
+
+/// Writes what the program answers to words that it doesn't take, and ends.
+///
+/// Help that was asked for goes to the output, and the end is Kept, or Write where the output failed. Any other refusal goes to the
+/// sink of faults, with the output unchanged, and the end is Refused. Where memory was refused the end is Memory.
+pub fn refuse_words<W: Sink, E: Sink>(
+    alloc: Global,
+    fault: &WordsFault,
+    output: &mut W,
+    faults: &mut E,
+) -> Exit
+    requires output { W.has_failed output.old ≡ false }
+    requires faults { E.has_failed faults.old ≡ false }
+    ensures { EndsWords result fault.now (W.told output.old) (W.told output.new) (W.has_failed output.new) }
+{
+    if let WordsFault::Memory = fault {
+        return no_memory(faults);
+    }
+    let Ok(lines) = format!(in alloc; "{fault}") else {
+        return no_memory(faults);
+    };
+    if !fault.is_help() {
+        return refused(lines.as_str(), faults);
+    }
+    match write_report(lines.as_bytes(), output) {
+        Ok(()) => Exit::Kept,
+        Err(fault) => cut_off(fault.written, faults),
+    }
+}
