@@ -34,8 +34,8 @@ def refuse_all(program, name, shim, log):
         env = {"LD_PRELOAD": shim, "REFUSE_AT": str(at), "REFUSE_LOG": log}
         with open(name, "rb") as text:
             done = subprocess.run([program] + words, stdin=text, capture_output=True, env=env, timeout=60)
-        with open(log, encoding="ascii") as count:
-            return (done.returncode, done.stdout, done.stderr), int(count.read())
+        with open(log, "rb") as count:
+            return (done.returncode, done.stdout, done.stderr), int.from_bytes(count.read(), sys.byteorder)
 
     plain, _ = run(0)
     same = memory = 0
