@@ -29,14 +29,16 @@ impl Read for Torn<'_> {
 /// What a writer does at the write where it goes wrong.
 #[derive(Clone, Copy, Debug, PartialEq, Eq)]
 pub enum Trouble {
+    Broken,
     Interrupted,
     TakesNothing,
 }
 
-/// A writer that takes one byte a write, and goes wrong at one of its writes, counted from 1.
+/// A writer that takes so many bytes a write, and goes wrong at one of its writes, counted from 1.
 #[derive(Drop)]
 pub struct Narrow {
     pub bytes: Vec<u8>,
+    pub at_once: usize,
     pub writes: u64,
     pub fails_at: u64,
     pub trouble: Trouble,
@@ -47,17 +49,14 @@ impl Write for Narrow {
         self.writes = self.writes.saturating_add(1);
         if self.writes == self.fails_at {
             return match self.trouble {
+                Trouble::Broken => Err(io::Error::from(io::ErrorKind::BrokenPipe)),
                 Trouble::Interrupted => Err(io::Error::from(io::ErrorKind::Interrupted)),
                 Trouble::TakesNothing => Ok(0),
             };
         }
-        match buf.first() {
-            Some(byte) => {
-                self.bytes.push(*byte)?;
-                Ok(1)
-            }
-            None => Ok(0),
-        }
+        let count = self.at_once.min(buf.len());
+        self.bytes.extend_from_slice(&buf[..count])?;
+        Ok(count)
     }
 
     fn flush(&mut self) -> io::Result<()> {

@@ -1,0 +1,129 @@
+ghost use Rattle.std.specs.Prelude.{◌≤◌};
+
+use crate::meet::{Meet, Meeting, TURNS};
+use crate::running::{reported, settings};
+use file_replace::{Chunks, Replace, Replacements, Variant};
+use scenario_values::Text;
+use std::alloc::{AllocError, Global};
+use std::rt::Clock;
+use std::sync::atomic::{AtomicU64, Ordering};
+use std::test::Fail;
+use std::thread;
+use std::time::Duration;
+use target_trait::{Gate, Phase};
+
+/// Two that wait for each other, and how many of them waited in vain.
+#[derive(Drop)]
+struct Pair {
+    arrived: [AtomicU64; 2],
+    late: AtomicU64,
+}
+
+impl Pair {
+    fn new() -> Pair {
+        Pair {
+            arrived: [AtomicU64::new(0), AtomicU64::new(0)],
+            late: AtomicU64::new(0),
+        }
+    }
+
+    fn wait_for<R: Clock>(&self, rt: &R, other: &AtomicU64) {
+        for _ in 0..TURNS {
+            if other.load(Ordering::SeqCst) > 0 {
+                return;
+            }
+            let _slept = thread::sleep(rt, Duration::from_millis(1));
+        }
+        self.late.fetch_add(1, Ordering::SeqCst);
+    }
+
+    fn meet<R: Clock>(&self, rt: &R, is_first: bool) {
+        let [first, second] = &self.arrived;
+        let (own, other) = if is_first {
+            (first, second)
+        } else {
+            (second, first)
+        };
+        own.fetch_add(1, Ordering::SeqCst);
+        self.wait_for(rt, other);
+    }
+
+    /// Whether each came once, and neither waited in vain.
+    fn has_met(&self) -> bool {
+        let [first, second] = &self.arrived;
+        first.load(Ordering::SeqCst) == 1
+            && second.load(Ordering::SeqCst) == 1
+            && self.late.load(Ordering::SeqCst) == 0
+    }
+}
+
+/// Holds one number of a phase until the next one has arrived, and that one until the first has.
+#[derive(Drop)]
+struct PairGate<'a, R: Clock> {
+    rt: &'a R,
+    phase: Phase,
+    first: u32,
+    second: u32,
+    pair: Pair,
+}
+
+impl<'a, R: Clock + Sync> Gate for PairGate<'a, R> {
+    fn arrive(&self, phase: Phase, number: u32) {
+        if phase == self.phase && (number == self.first || number == self.second) {
+            self.pair.meet(self.rt, number == self.first);
+        }
+    }
+}
+
+/// The contents `old`, replaced by the chunks `ne` and `w`.
+fn small_work(alloc: Global) -> Result<Replacements, AllocError> {
+    let mut chunks = Vec::new(alloc);
+    chunks.push(Text::copy_of(alloc, "ne")?)?;
+    chunks.push(Text::copy_of(alloc, "w")?)?;
+    let mut replacements = Vec::new(alloc);
+    replacements.push(Chunks::new(chunks))?;
+    Ok(Replacements::new(Text::copy_of(alloc, "old")?, replacements))
+}
+
+#[test]
+fn two_plans_meet_at_the_gate(rt: HostRuntime) -> Result<(), Fail> {
+    let alloc = rt.alloc();
+    let gate = PairGate {
+        rt: &rt,
+        phase: Phase::Plans,
+        first: 1,
+        second: 2,
+        pair: Pair::new(),
+    };
+    let target = Replace::new(alloc, Variant::Sound);
+    let work = small_work(alloc)?;
+    let settings = settings(alloc, 2, false);
+    let Ok((_, first)) = reported(&rt, alloc, &gate, &target, &work, &settings) else {
+        return Err(Fail::from("no report"));
+    };
+    assert_eq!(rt; first, None);
+    assert!(rt; gate.pair.has_met());
+    Ok(())
+}
+
+/// The cards of a reduction of two faults: none of them, and the first one ahead of its answer.
+#[test]
+fn two_cards_meet_at_the_gate(rt: HostRuntime) -> Result<(), Fail> {
+    let alloc = rt.alloc();
+    let gate = PairGate {
+        rt: &rt,
+        phase: Phase::Cards,
+        first: 0,
+        second: 1,
+        pair: Pair::new(),
+    };
+    let target = Meet { rt: &rt };
+    let meeting = Meeting::new(false);
+    let settings = settings(alloc, 2, true);
+    let Ok((_, first)) = reported(&rt, alloc, &gate, &target, &meeting, &settings) else {
+        return Err(Fail::from("no report"));
+    };
+    assert_eq!(rt; first, Some(7));
+    assert!(rt; gate.pair.has_met());
+    Ok(())
+}

@@ -1,0 +1,43 @@
+//! Campaigns of the tests.
+ghost use Rattle.std.specs.Prelude.{◌≤◌};
+
+use campaign_core::{CampaignFault, campaign};
+use campaign_settings::Settings;
+use std::alloc::Global;
+use std::sync::Wait;
+use std::thread::Threads;
+use target_trait::{Gate, Out, Target};
+
+/// Seed 7, a limit of 1000 hits, and no storms.
+pub fn settings(alloc: Global, workers: u32, pairs: bool) -> Settings
+    requires some { 1 ≤ workers }
+    requires few { workers ≤ 64 }
+{
+    Settings {
+        choice: None,
+        seed: 7,
+        workers,
+        max_hits: 1000,
+        pairs,
+        storms: 0,
+        rate: 0,
+        scenarios: Vec::new(alloc),
+    }
+}
+
+/// The report of a campaign, and its first failure.
+pub fn reported<T: Target + Send, G: Gate, R: Threads + Wait + Sync>(
+    rt: &R,
+    alloc: Global,
+    gate: &G,
+    target: &T,
+    workload: &T::Workload,
+    settings: &Settings,
+) -> Result<(Vec<u8>, Option<u32>), CampaignFault>
+where
+    T::Workload: Sync,
+{
+    let mut sink = Out::new(Vec::new(alloc));
+    let ending = campaign(rt, alloc, target, workload, settings, gate, &mut sink)?;
+    Ok((sink.into_writer(), ending.first))
+}
