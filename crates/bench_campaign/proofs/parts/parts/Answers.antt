@@ -1,0 +1,22 @@
+use Rattle.std.proofs.Common.{◌≡◌, ℕ, List, length, ap, sym, ◌∙◌}
+use Rattle.std.proofs.lemmas.List.{length-map}
+use Rattle.std.proofs.lemmas.List.FromFn.{length-map-range_with_len}
+use Rattle.action_eval.specs.Answers.{Reply}
+use Rattle.target_trait.specs.Play.{Move}
+use Rattle.plan_gen.specs.Census.{census_of}
+use Rattle.bench_campaign.proofs.parts.parts.Goals as goal
+
+-- a census has a count for each point
+length_census : (asks : List Reply → Move) (names : List (List ℕ)) (seed limit : ℕ) → length (census_of asks names seed limit) ≡ length names
+length_census asks names seed limit = length-map-range_with_len _ 0 (length names)
+
+pub plans-requires-2-clause-counts : goal.plans-requires-2-clause-counts
+plans-requires-2-clause-counts g c =
+    let names = g.T.Target.names in
+    ap length c.in_ok-census.ensures.ok ∙ length_census (g.T.Target.asks c.in_ok-twin.twin c.args.workload.now) names _ _
+    ∙ ap length (sym c.catalogue.ensures) ∙ length-map c.catalogue.result.now (λ n. n.now)
+
+pub results-requires-clause-counts : goal.results-requires-clause-counts
+results-requires-clause-counts g c κs within =
+    ap length c.as_slice-3.ensures.value ∙ ap length c.in_ok-census.ensures.ok
+    ∙ length_census (g.T.Target.asks c.in_ok-twin.twin c.args.workload.now) g.T.Target.names _ _
