@@ -32,8 +32,12 @@ fmt:
 refuse: build
 	@tools/refuse.py crates/paklour/out/paklour examples/*.toml
 
+# Tries the further edits of edits/, which the gate leaves out for its time.
+edits:
+	@tools/further_edits
+
 # Proves and builds the benchmarks, and runs them: work counts, and times beside them.
 bench:
 	@bench/run
 
-.PHONY: run build examples test check fmt refuse bench
+.PHONY: run build examples test check fmt refuse edits bench
