@@ -12,6 +12,7 @@ pub mod Trials
 pub mod NamedCounts
 pub mod Renumbered
 pub mod Histories
+pub mod Rests
 pub mod Steps
 pub mod CallerLemmas
 pub mod RunLaws

@@ -1,5 +1,5 @@
 -- A session's fields keep the run with one more hit.
-use Rattle.std.proofs.Common.{◌≡◌, ℕ, zero, suc, ◌+◌, ◌≤◌, ◌<◌, ◌^◌, true, false, cond, List, [], ◌∷◌, ◌++◌, length, map, slice_index_or, Option, Some, None, refl, ap, sym, ◌∙◌, arith, length-append, nat_lt, add-zero, subst, get_or}
+use Rattle.std.proofs.Common.{◌≡◌, ℕ, zero, suc, ◌+◌, ◌≤◌, ◌<◌, ◌^◌, true, false, cond, List, [], ◌∷◌, ◌++◌, length, map, take, slice_index, slice_index_or, slice_set, Bool, Option, Some, None, refl, ap, sym, ◌∙◌, arith, length-append, nat_lt, add-zero, subst, get_or}
 use Rattle.std.specs.List.{AllByRecursion, slice_range}
 use Rattle.std.specs.Option.{IfSome}
 use Rattle.std.proofs.lemmas.Bool.Decides.{nat_tests}
@@ -14,8 +14,9 @@ use Rattle.action_eval.specs.declared.answer.Note.{Note}
 use Rattle.action_eval.specs.declared.found.Found.{Found}
 use Rattle.action_eval.specs.Words.{word, Drawn}
 use Rattle.action_eval.specs.Trial.{tried, is_spent, Trial}
-use Rattle.action_eval.specs.Answers.{Given, given_of, Run, Hit, Halt, next, hit, hit_by, history_of, name_of, trial, acted, is_used_up, words_of, notes_of, notes_of_task, total_millis, millis_of, stopped_by, stop_of, stopped, place_in, task_at, reply_to, reply_of}
-use Rattle.action_eval.specs.Session.{Keeps, left_counts, start_of, found_of, with_one_less, left_after, seen}
+use Rattle.action_eval.specs.Answers.{Given, given_of, Run, Hit, Halt, next, hit, hit_by, history_of, and_then, name_of, trial, acted, is_used_up, words_of, notes_of, notes_of_task, total_millis, millis_of, stopped_by, stop_of, stopped, place_in, task_at, reply_to, reply_of}
+use Rattle.action_eval.specs.Session.{Keeps, left_counts, start_of, found_of, with_one_less, left_after, seen, Rest, IsRest, AreRests, StartsUnspent}
+use Rattle.action_eval.proofs.Rests.{Stays, after_stays, whole_of, trial_of_rest, further, after_rest, within_rest, task_of_rest, length_of_rest, none_of_rest, rest_at, rests_with, rests_stay, rests_self, rests_length, rest_on, starts_in}
 use Rattle.action_eval.proofs.Trials.{few_words}
 use Rattle.action_eval.proofs.NamedCounts.{found, trial_by_counts, counts_spent, counts_stay, ends_within, stands, stands_nowhere}
 use Rattle.action_eval.proofs.Histories.{history-hit, words-more, millis-more, notes-more, stopped-more}
@@ -33,6 +34,7 @@ pub record Finds (r : Run) (p : ℕ) (left : List ℕ) (did : Task) (taken : ℕ
   pub taken_is : taken ≡ words_of (history_of r) + (next r.given (history_of r) p).words
   pub few : (next r.given (history_of r) p).words ≤ 256
   pub left_is : left ≡ left_counts (history_of r ++ next r.given (history_of r) p ∷ []) r.given.scenario
+  pub stays : Stays (left_counts (history_of r) r.given.scenario) left
 
 pub short_at : (s : Entries) (e : ℕ) → AllByRecursion (λ e. length e.1 ≤ 256) s → length (chain_at s e) ≤ 256
 short_at [] e h = omega arith
@@ -51,6 +53,7 @@ finds_nothing r p left did left_is at did_is =
       taken_is = omega (arith, none);
       few = omega (arith, none);
       left_is = left_is ∙ sym (counts_stay h (next r.given h p) r.given.scenario (ap (λ (y : Hit). y.term) x));
+      stays = λ j z. ap (λ (l : List ℕ). slice_index l j) left_is ∙ z;
     }
 
 left_case : (g : Given) (h : List Hit) (left : List ℕ) (p e start : ℕ) → left ≡ left_counts h g.scenario → DistinctNames g.scenario → entry_of g.scenario (name_of g p) ≡ Some e → start ≡ start_of g.scenario e
@@ -92,7 +95,24 @@ finds r p left is left_is chain start at place did taken place_is taken_is withi
       taken_is = omega (arith, next_same, taken_is, grows.0);
       few = omega (arith, next_same, taken_is, grows.0, grows.1, short);
       left_is = ap (left_after left start) place_same ∙ left_case g h left p e start left_is is.distinct_names s.entry s.start (trial g h name).place refl inside;
+      stays = subst (λ (l : List ℕ). Stays l (left_after left start place)) left_is (after_stays left start place);
     }
+
+-- the same by what is left of its chain
+finds_rest : (r : Run) (p : ℕ) (left : List ℕ) → IsScenario r.given.scenario → left ≡ left_counts (history_of r) r.given.scenario → (chain : List Term) (start : ℕ) → IsRest left (found_of r.given.scenario (name_of r.given p)) (Some (chain, start))
+    → (place : Option ℕ) (did : Task) (taken : ℕ)
+    → place ≡ (tried (word r.given.seed r.given.stream) (is_spent (slice_range left start (start + length chain))) 0 chain (words_of (history_of r))).place
+    → taken ≡ (tried (word r.given.seed r.given.stream) (is_spent (slice_range left start (start + length chain))) 0 chain (words_of (history_of r))).next
+    → IfSome place (λ i. i < length chain) → did ≡ task_at chain place
+    → Finds r p (left_after left start place) did taken
+finds_rest r p left is left_is chain start at place did taken place_is taken_is within did_is =
+    let w = whole_of left (found_of r.given.scenario (name_of r.given p)) (chain, start) at in
+    let k = length w.standing.before in
+    let same = trial_of_rest (word r.given.seed r.given.stream) left w.whole (chain, start) w.standing (words_of (history_of r)) in
+    subst (λ (l : List ℕ). Finds r p l did taken) (sym (after_rest left w.whole (chain, start) w.standing place))
+    (finds r p left is left_is w.whole.0 w.whole.1 w.is (further k place) did taken
+    (ap (further k) place_is ∙ sym (ap (λ (t : Trial). t.place) same)) (taken_is ∙ sym (ap (λ (t : Trial). t.next) same))
+    (within_rest left w.whole (chain, start) w.standing place within) (did_is ∙ sym (task_of_rest left w.whole (chain, start) w.standing place)))
 
 not_over : (limit n : ℕ) → n ≤ limit → nat_lt limit n ≡ false
 not_over limit n h = grind (arith, nat_tests)
@@ -115,8 +135,9 @@ reply_found r p left did taken f h = ap reply_of f.did_is ∙ sym (reply_is r p 
 pub keeps_hit : (r : Run) (p : ℕ) (found : List (Option (List Term × ℕ))) (left : List ℕ) (taken : ℕ) (notes : List Note) (millis : ℕ) (halt : Option Stop) → Keeps r found left taken notes millis halt
     → length r.hits < r.given.limit → stopped r ≡ None
     → (left' : List ℕ) (did : Task) (taken' : ℕ) → Finds r p left' did taken' → millis_of did < 2 ^ 32
-    → Keeps (hit r p) found left' taken' (notes ++ notes_of_task p did) (millis + millis_of did) (stop_of did)
-keeps_hit r p found left taken notes millis halt k room running left' did taken' f small =
+    → (found' : List (Option (List Term × ℕ))) → AreRests left (map (found_of r.given.scenario) r.given.catalogue) found'
+    → Keeps (hit r p) found' left' taken' (notes ++ notes_of_task p did) (millis + millis_of did) (stop_of did)
+keeps_hit r p found left taken notes millis halt k room running left' did taken' f small found' rests =
     let h = history_of r in
     let x = next r.given h p in
     let more : history_of (hit r p) ≡ h ++ x ∷ [] = history-hit r p room in
@@ -128,7 +149,7 @@ keeps_hit r p found left taken notes millis halt k room running left' did taken'
     let point : x.point ≡ p = refl in
     record {
       scenario = k.scenario;
-      found_is = k.found_is;
+      found_is = rests_stay left left' (map (found_of r.given.scenario) r.given.catalogue) found' (subst (λ (l : List ℕ). Stays l left') (sym k.left_is) f.stays) rests;
       left_is = f.left_is ∙ ap (λ l. left_counts l r.given.scenario) (sym more);
       taken_is = sym words_after;
       notes_are = ap (λ l. l ++ notes_of_task p did) k.notes_are ∙ ap (λ d. notes_of h ++ notes_of_task p d) f.did_is
@@ -155,7 +176,7 @@ keeps_same scenario catalogue limit found hits hits' left left' drawn drawn' not
     (subst (λ (x : ℕ). Keeps (record { given = given_of scenario catalogue drawn.seed drawn.stream limit; hits = hits }) found left drawn.taken notes x halt') e
     (subst (λ (x : Option Stop). Keeps (record { given = given_of scenario catalogue drawn.seed drawn.stream limit; hits = hits }) found left drawn.taken notes millis x) f k)))))
 
--- the chain that was found for a point
+-- what is left of the chain that was found for a point
 entry_at : (s : Entries) (names : List (List ℕ)) (p : ℕ) (d : Option (List Term × ℕ)) → p < length names → get_or (map (found_of s) names) p d ≡ found_of s (slice_index_or names p [])
 entry_at s [] p d h = absurd (omega arith)
 entry_at s (n ∷ ns) zero d h = refl
@@ -166,13 +187,63 @@ seen_at [] p d = refl
 seen_at (f ∷ fs) zero d = refl
 seen_at (f ∷ fs) (suc p) d = seen_at fs p d
 
+many : (s : Entries) (names : List (List ℕ)) (p : ℕ) → p < length names → p < length (map (found_of s) names)
+many s [] p h = absurd (omega arith)
+many s (n ∷ ns) zero h = omega arith
+many s (n ∷ ns) (suc p) h = omega (arith, many s ns p (omega arith))
+
 known_by : (r now : Run) (p : ℕ) → r ≡ now → p < length now.given.catalogue → p < length r.given.catalogue
 known_by r now p e h = subst (λ (x : Run). p < length x.given.catalogue) (sym e) h
 
-pub point_found : (r now : Run) (found : List (Option Found)) (left : List ℕ) (taken : ℕ) (notes : List Note) (millis : ℕ) (halt : Option Stop) → Keeps r (map seen found) left taken notes millis halt
-    → r ≡ now → (p : ℕ) → p < length now.given.catalogue → (d o : Option Found) → o ≡ get_or found p d → found_of r.given.scenario (name_of r.given p) ≡ seen o
+point_found : (r now : Run) (found : List (Option Found)) (left : List ℕ) (taken : ℕ) (notes : List Note) (millis : ℕ) (halt : Option Stop) → Keeps r (map seen found) left taken notes millis halt
+    → r ≡ now → (p : ℕ) → p < length now.given.catalogue → (d o : Option Found) → o ≡ get_or found p d → IsRest left (found_of r.given.scenario (name_of r.given p)) (seen o)
 point_found r now found left taken notes millis halt k same p h d o e =
-    sym (ap seen e ∙ sym (seen_at found p d) ∙ ap (λ l. get_or l p (seen d)) k.found_is ∙ entry_at r.given.scenario r.given.catalogue p (seen d) (known_by r now p same h))
+    let s = r.given.scenario in
+    let names = r.given.catalogue in
+    let known = known_by r now p same h in
+    let here = rest_at left (map (found_of s) names) (map seen found) p (seen d) (many s names p known) k.found_is in
+    subst (λ (f : Option (List Term × ℕ)). IsRest left (found_of s (name_of r.given p)) f) (seen_at found p d ∙ sym (ap seen e))
+    (subst (λ (f : Option (List Term × ℕ)). IsRest left f (get_or (map seen found) p (seen d))) (entry_at s names p (seen d) known) here)
+
+seen_length : (found : List (Option Found)) → length (map seen found) ≡ length found
+seen_length [] = refl
+seen_length (f ∷ fs) = ap suc (seen_length fs)
+
+pub known_found : (r now : Run) (found : List (Option Found)) (left : List ℕ) (taken : ℕ) (notes : List Note) (millis : ℕ) (halt : Option Stop) → Keeps r (map seen found) left taken notes millis halt
+    → r ≡ now → (p : ℕ) → p < length now.given.catalogue → p < length found
+known_found r now found left taken notes millis halt k same p h =
+    let s = r.given.scenario in
+    let names = r.given.catalogue in
+    let all = rests_length left (map (found_of s) names) (map seen found) k.found_is in
+    omega (arith, all, seen_length found, many s names p (known_by r now p same h))
+
+-- the same of what a look-up gave
+pub point_none : (r now : Run) (found : List (Option Found)) (left : List ℕ) (taken : ℕ) (notes : List Note) (millis : ℕ) (halt : Option Stop) → Keeps r (map seen found) left taken notes millis halt
+    → r ≡ now → (p : ℕ) → p < length now.given.catalogue → (d o : Option Found) → o ≡ get_or found p d → o ≡ None → IsRest left (found_of r.given.scenario (name_of r.given p)) None
+point_none r now found left taken notes millis halt k same p h d o e is =
+    subst (λ (x : Option Found). IsRest left (found_of r.given.scenario (name_of r.given p)) (seen x)) is (point_found r now found left taken notes millis halt k same p h d o e)
+
+pub point_some : (r now : Run) (found : List (Option Found)) (left : List ℕ) (taken : ℕ) (notes : List Note) (millis : ℕ) (halt : Option Stop) → Keeps r (map seen found) left taken notes millis halt
+    → r ≡ now → (p : ℕ) → p < length now.given.catalogue → (d o : Option Found) → o ≡ get_or found p d → (f : Found) → o ≡ Some f → IsRest left (found_of r.given.scenario (name_of r.given p)) (seen (Some f))
+point_some r now found left taken notes millis halt k same p h d o e f is =
+    subst (λ (x : Option Found). IsRest left (found_of r.given.scenario (name_of r.given p)) (seen x)) is (point_found r now found left taken notes millis halt k same p h d o e)
+
+-- and of what is left of that without its spent terms
+pub point_rest : (r now : Run) (found : List (Option Found)) (left : List ℕ) (taken : ℕ) (notes : List Note) (millis : ℕ) (halt : Option Stop) → Keeps r (map seen found) left taken notes millis halt
+    → r ≡ now → (p : ℕ) → p < length now.given.catalogue → (d o : Option Found) → o ≡ get_or found p d → (f : Found) → o ≡ Some f → (read : List ℕ) → read ≡ left → (g : Found) → Rest read (f.chain.now, f.start) (g.chain.now, g.start)
+    → IsRest left (found_of r.given.scenario (name_of r.given p)) (seen (Some g))
+point_rest r now found left taken notes millis halt k same p h d o e f is read read_is g rest =
+    rest_on left (found_of r.given.scenario (name_of r.given p)) (f.chain.now, f.start) (g.chain.now, g.start) (point_some r now found left taken notes millis halt k same p h d o e f is)
+    (subst (λ (l : List ℕ). Rest l (f.chain.now, f.start) (g.chain.now, g.start)) read_is rest)
+
+-- the rests, where that of a point is another one
+pub rests_after : (r now : Run) (found : List (Option Found)) (left : List ℕ) (taken : ℕ) (notes : List Note) (millis : ℕ) (halt : Option Stop) → Keeps r (map seen found) left taken notes millis halt
+    → r ≡ now → (p : ℕ) → p < length now.given.catalogue → (f : Option Found) → IsRest left (found_of r.given.scenario (name_of r.given p)) (seen f)
+    → AreRests left (map (found_of r.given.scenario) r.given.catalogue) (map seen (slice_set found p f))
+rests_after r now found left taken notes millis halt k same p h f at =
+    let s = r.given.scenario in
+    rests_with left (map (found_of s) r.given.catalogue) found p None f k.found_is
+    (subst (λ (o : Option (List Term × ℕ)). IsRest left o (seen f)) (sym (entry_at s r.given.catalogue p None (known_by r now p same h))) at)
 
 -- what is known of a session's value is known of the run that its fields keep
 pub room_of : (r now : Run) → r ≡ now → length now.hits < now.given.limit → length r.hits < r.given.limit
@@ -181,26 +252,37 @@ room_of r now same h = subst (λ (x : Run). length x.hits < x.given.limit) (sym 
 pub limit_of : (r now : Run) → r ≡ now → now.given.limit < 2 ^ 32 → r.given.limit < 2 ^ 32
 limit_of r now same h = subst (λ (x : Run). x.given.limit < 2 ^ 32) (sym same) h
 
-pub chain_of_point : (r now : Run) (p : ℕ) (o : Option (List Term × ℕ)) → r ≡ now → found_of now.given.scenario (name_of now.given p) ≡ o → found_of r.given.scenario (name_of r.given p) ≡ o
-chain_of_point r now p o same h = subst (λ (x : Run). found_of x.given.scenario (name_of x.given p) ≡ o) (sym same) h
+abbrev RestBy : Run → ℕ → Option (List Term × ℕ) → Type 0
+RestBy x p o = IsRest (left_counts (history_of x) x.given.scenario) (found_of x.given.scenario (name_of x.given p)) o
+
+pub rest_of_point : (r now : Run) (found : List (Option (List Term × ℕ))) (left : List ℕ) (taken : ℕ) (notes : List Note) (millis : ℕ) (halt : Option Stop) → Keeps r found left taken notes millis halt
+    → r ≡ now → (p : ℕ) (o : Option (List Term × ℕ)) → RestBy now p o → IsRest left (found_of r.given.scenario (name_of r.given p)) o
+rest_of_point r now found left taken notes millis halt k same p o h =
+    subst (λ (l : List ℕ). IsRest l (found_of r.given.scenario (name_of r.given p)) o) (sym k.left_is) (subst (λ (x : Run). RestBy x p o) (sym same) h)
+
+pub rest_by_point : (r now : Run) (found : List (Option (List Term × ℕ))) (left : List ℕ) (taken : ℕ) (notes : List Note) (millis : ℕ) (halt : Option Stop) → Keeps r found left taken notes millis halt
+    → r ≡ now → (p : ℕ) (o : Option (List Term × ℕ)) → IsRest left (found_of r.given.scenario (name_of r.given p)) o → RestBy now p o
+rest_by_point r now found left taken notes millis halt k same p o h =
+    subst (λ (x : Run). RestBy x p o) same (subst (λ (l : List ℕ). IsRest l (found_of r.given.scenario (name_of r.given p)) o) k.left_is h)
 
 -- a hit of a point without a chain
 pub finds_none : (r : Run) (p : ℕ) (found : List (Option (List Term × ℕ))) (left : List ℕ) (taken : ℕ) (notes : List Note) (millis : ℕ) (halt : Option Stop) → Keeps r found left taken notes millis halt
-    → found_of r.given.scenario (name_of r.given p) ≡ None → Finds r p left task.Off taken
-finds_none r p found left taken notes millis halt k at = subst (λ (n : ℕ). Finds r p left task.Off n) (sym k.taken_is) (finds_nothing r p left task.Off k.left_is at refl)
+    → IsRest left (found_of r.given.scenario (name_of r.given p)) None → Finds r p left task.Off taken
+finds_none r p found left taken notes millis halt k at =
+    subst (λ (n : ℕ). Finds r p left task.Off n) (sym k.taken_is) (finds_nothing r p left task.Off k.left_is (none_of_rest left (found_of r.given.scenario (name_of r.given p)) at) refl)
 
 pub keeps_idle : (r : Run) (p : ℕ) (found : List (Option (List Term × ℕ))) (left : List ℕ) (taken : ℕ) (notes : List Note) (millis : ℕ) (halt : Option Stop) → Keeps r found left taken notes millis halt
-    → length r.hits < r.given.limit → stopped r ≡ None → found_of r.given.scenario (name_of r.given p) ≡ None → (hits : List ℕ) → hits ≡ r.hits ++ p ∷ []
+    → length r.hits < r.given.limit → stopped r ≡ None → IsRest left (found_of r.given.scenario (name_of r.given p)) None → (hits : List ℕ) → hits ≡ r.hits ++ p ∷ []
     → Keeps (record { given = r.given; hits = hits }) found left taken notes millis halt
 keeps_idle r p found left taken notes millis halt k room running at hits more =
-    let kept = keeps_hit r p found left taken notes millis halt k room running left task.Off taken (finds_none r p found left taken notes millis halt k at) (omega arith) in
+    let kept = keeps_hit r p found left taken notes millis halt k room running left task.Off taken (finds_none r p found left taken notes millis halt k at) (omega arith) found k.found_is in
     keeps_same r.given.scenario r.given.catalogue r.given.limit found _ hits left left (record { seed = r.given.seed; stream = r.given.stream; taken = taken }) (record { seed = r.given.seed; stream = r.given.stream; taken = taken })
     _ notes _ millis None halt (sym more) refl refl (append-nil notes) (add-zero millis) (sym running ∙ sym k.stop_is) kept
 
 -- a hit of a point with one, where these counts were read
 pub finds_some : (r : Run) (p : ℕ) (found : List (Option (List Term × ℕ))) (left : List ℕ) (drawn : Drawn) (notes : List Note) (millis : ℕ) (halt : Option Stop) → Keeps r found left drawn.taken notes millis halt
     → drawn.seed ≡ r.given.seed → drawn.stream ≡ r.given.stream → (read : List ℕ) → read ≡ left
-    → (chain : List Term) (start : ℕ) → found_of r.given.scenario (name_of r.given p) ≡ Some (chain, start) → (place : Option ℕ) (did : Task) (drawn' : Drawn)
+    → (chain : List Term) (start : ℕ) → IsRest left (found_of r.given.scenario (name_of r.given p)) (Some (chain, start)) → (place : Option ℕ) (did : Task) (drawn' : Drawn)
     → place ≡ (tried (word drawn.seed drawn.stream) (is_spent (slice_range read start (start + length chain))) 0 chain drawn.taken).place
     → drawn' ≡ record drawn { taken = (tried (word drawn.seed drawn.stream) (is_spent (slice_range read start (start + length chain))) 0 chain drawn.taken).next }
     → IfSome place (λ i. i < length chain) → did ≡ task_at chain place
@@ -213,39 +295,72 @@ finds_some r p found left drawn notes millis halt k seed stream read read_is cha
     ∙ ap (λ (n : ℕ). tried (word r.given.seed r.given.stream) (is_spent (slice_range read start (start + length chain))) 0 chain n) k.taken_is
     ∙ ap (λ (l : List ℕ). tried (word r.given.seed r.given.stream) (is_spent (slice_range l start (start + length chain))) 0 chain (words_of (history_of r))) read_is
     in
-    finds r p left k.scenario k.left_is chain start at place did drawn'.taken (place_is ∙ ap (λ (t : Trial). t.place) same) (ap (λ (d : Drawn). d.taken) drawn_is ∙ ap (λ (t : Trial). t.next) same) within did_is
+    finds_rest r p left k.scenario k.left_is chain start at place did drawn'.taken (place_is ∙ ap (λ (t : Trial). t.place) same) (ap (λ (d : Drawn). d.taken) drawn_is ∙ ap (λ (t : Trial). t.next) same) within did_is
 
 -- a hit of a point with one that comes to nothing, where these counts were read
 pub finds_off : (r : Run) (p : ℕ) (found : List (Option (List Term × ℕ))) (left : List ℕ) (taken : ℕ) (notes : List Note) (millis : ℕ) (halt : Option Stop) → Keeps r found left taken notes millis halt
-    → (read : List ℕ) → read ≡ left → (chain : List Term) (start : ℕ) → found_of r.given.scenario (name_of r.given p) ≡ Some (chain, start) → (place : Option ℕ)
-    → ((word : ℕ → ℕ) (n : ℕ) → tried word (is_spent (slice_range read start (start + length chain))) 0 chain n ≡ record { place = place; next = n })
+    → (read : List ℕ) → read ≡ left → (chain : List Term) (start : ℕ) → IsRest left (found_of r.given.scenario (name_of r.given p)) (Some (chain, start)) → StartsUnspent (is_spent read) start chain → (place : Option ℕ)
+    → ((word : ℕ → ℕ) (spent : ℕ → Term → Bool) (n : ℕ) → StartsUnspent spent 0 chain → tried word spent 0 chain n ≡ record { place = place; next = n })
     → IfSome place (λ i. i < length chain) → task_at chain place ≡ task.Off
     → Finds r p (left_after left start place) task.Off taken
-finds_off r p found left taken notes millis halt k read read_is chain start at place idle within off =
+finds_off r p found left taken notes millis halt k read read_is chain start at head place idle within off =
     let w = word r.given.seed r.given.stream in
     let n = words_of (history_of r) in
     let same : tried w (is_spent (slice_range left start (start + length chain))) 0 chain n ≡ record { place = place; next = n } =
-    ap (λ (l : List ℕ). tried w (is_spent (slice_range l start (start + length chain))) 0 chain n) (sym read_is) ∙ idle w n
+    idle w (is_spent (slice_range left start (start + length chain))) n (starts_in left chain start (subst (λ (l : List ℕ). StartsUnspent (is_spent l) start chain) read_is head))
     in
     subst (λ (m : ℕ). Finds r p (left_after left start place) task.Off m) (sym k.taken_is)
-    (finds r p left k.scenario k.left_is chain start at place task.Off n (sym (ap (λ (t : Trial). t.place) same)) (sym (ap (λ (t : Trial). t.next) same)) within (sym off))
+    (finds_rest r p left k.scenario k.left_is chain start at place task.Off n (sym (ap (λ (t : Trial). t.place) same)) (sym (ap (λ (t : Trial). t.next) same)) within (sym off))
 
 pub keeps_off : (r : Run) (p : ℕ) (found : List (Option (List Term × ℕ))) (left : List ℕ) (taken : ℕ) (notes : List Note) (millis : ℕ) (halt : Option Stop) → Keeps r found left taken notes millis halt
     → length r.hits < r.given.limit → stopped r ≡ None → (left' : List ℕ) → Finds r p left' task.Off taken → (hits : List ℕ) → hits ≡ r.hits ++ p ∷ [] → (after : List ℕ) → after ≡ left'
-    → Keeps (record { given = r.given; hits = hits }) found after taken notes millis halt
-keeps_off r p found left taken notes millis halt k room running left' f hits more after same =
-    let kept = keeps_hit r p found left taken notes millis halt k room running left' task.Off taken f (omega arith) in
-    keeps_same r.given.scenario r.given.catalogue r.given.limit found _ hits left' after (record { seed = r.given.seed; stream = r.given.stream; taken = taken }) (record { seed = r.given.seed; stream = r.given.stream; taken = taken })
+    → (found' : List (Option (List Term × ℕ))) → AreRests left (map (found_of r.given.scenario) r.given.catalogue) found'
+    → Keeps (record { given = r.given; hits = hits }) found' after taken notes millis halt
+keeps_off r p found left taken notes millis halt k room running left' f hits more after same found' rests =
+    let kept = keeps_hit r p found left taken notes millis halt k room running left' task.Off taken f (omega arith) found' rests in
+    keeps_same r.given.scenario r.given.catalogue r.given.limit found' _ hits left' after (record { seed = r.given.seed; stream = r.given.stream; taken = taken }) (record { seed = r.given.seed; stream = r.given.stream; taken = taken })
     _ notes _ millis None halt (sym more) (sym same) refl (append-nil notes) (add-zero millis) (sym running ∙ sym k.stop_is) kept
 
 -- the counts of a found chain are among those of all
 pub found_within : (r : Run) (found : List (Option (List Term × ℕ))) (left : List ℕ) (taken : ℕ) (notes : List Note) (millis : ℕ) (halt : Option Stop) → Keeps r found left taken notes millis halt
-    → (name : List ℕ) (chain : List Term) (start : ℕ) → found_of r.given.scenario name ≡ Some (chain, start) → (start + length chain ≤ length left) × (length chain ≤ 256)
+    → (name : List ℕ) (chain : List Term) (start : ℕ) → IsRest left (found_of r.given.scenario name) (Some (chain, start)) → (start + length chain ≤ length left) × (length chain ≤ 256)
 found_within r points left taken notes millis halt k name chain start at =
-    let s = stands r.given.scenario name (chain, start) at in
+    let w = whole_of left (found_of r.given.scenario name) (chain, start) at in
+    let s = stands r.given.scenario name w.whole w.is in
     let f = found r.given.scenario name s.number s.entry in
     let ends = ends_within (history_of r) r.given.scenario s.number f.within in
     let many : length left ≡ length (left_counts (history_of r) r.given.scenario) = ap length k.left_is in
-    let size : length chain ≡ length (chain_at r.given.scenario s.number) = ap length s.chain in
-    let start_is : start ≡ start_of r.given.scenario s.number = s.start in
-    (omega arith, omega (arith, short_at r.given.scenario s.number k.scenario.short_chains))
+    let size : length w.whole.0 ≡ length (chain_at r.given.scenario s.number) = ap length s.chain in
+    let start_is : w.whole.1 ≡ start_of r.given.scenario s.number = s.start in
+    let parts = length_of_rest left w.whole (chain, start) w.standing in
+    let on : start ≡ w.whole.1 + length w.standing.before = w.standing.start_is in
+    (omega arith, omega (arith, parts, short_at r.given.scenario s.number k.scenario.short_chains))
+
+-- ---- a run with no hit yet
+
+none_of : (n : ℕ) (hits : List ℕ) → hits ≡ [] → take n hits ≡ []
+none_of zero hits e = grind (arith, e)
+none_of (suc n) hits e = ap (take (suc n)) e
+
+-- the fields keep a run with no hit
+pub keeps_start : (g : Given) (hits : List ℕ) (found : List (Option (List Term × ℕ))) (left : List ℕ) (taken : ℕ) (notes : List Note) → hits ≡ [] → IsScenario g.scenario → found ≡ map (found_of g.scenario) g.catalogue → left ≡ left_counts [] g.scenario → taken ≡ 0 → notes ≡ []
+    → Keeps (record { given = g; hits = hits }) found left taken notes 0 None
+keeps_start g hits found left taken notes empty is found_is left_is taken_is notes_are =
+    let r : Run = record { given = g; hits = hits } in
+    let none : history_of r ≡ [] = ap (λ (ps : List ℕ). and_then g [] ps) (none_of g.limit hits empty) in
+    let size : length hits ≡ 0 = ap length empty in
+    let words : words_of (history_of r) ≡ 0 = ap words_of none in
+    let millis : total_millis (history_of r) ≡ 0 = ap total_millis none in
+    let running : stopped r ≡ None = ap (λ b. cond b (Some stop.Limit) (stopped_by (history_of r))) (not_over g.limit (length hits) (omega arith)) ∙ ap stopped_by none in
+    record {
+      scenario = is;
+      found_is = rests_self left (map (found_of g.scenario) g.catalogue) found found_is;
+      left_is = left_is ∙ ap (λ (h : List Hit). left_counts h g.scenario) (sym none);
+      taken_is = taken_is ∙ sym words;
+      notes_are = notes_are ∙ ap notes_of (sym none);
+      millis_are = sym millis;
+      stop_is = sym running;
+      few_hits = omega (arith, size);
+      few_words = omega (arith, words);
+      few_millis = omega (arith, millis);
+    }

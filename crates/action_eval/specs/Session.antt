@@ -1,11 +1,12 @@
 -- How a session keeps its run: the chain of each point, what is left of the counts, and what the hits came to.
-use Rattle.std.specs.Prelude.{◌≡◌, ℕ, zero, suc, ◌+◌, ◌-◌, ◌*◌, ◌^◌, ◌≤◌, List, [], ◌∷◌, ◌++◌, length, map, Option, Some, None, option_map, slice_index, slice_set}
+use Rattle.std.specs.Prelude.{◌≡◌, ℕ, zero, suc, ◌+◌, ◌-◌, ◌*◌, ◌^◌, ◌≤◌, List, [], ◌∷◌, ◌++◌, length, map, Option, Some, None, option_map, slice_index, slice_set, Bool, true, false}
 use Rattle.std.specs.Option.{option_map_or}
 use Rattle.scenario_values.specs.declared.term.Term.{Term}
 use Rattle.scenario_values.specs.Scenario.{Entries, IsScenario, entry_of, chain_at}
 use Rattle.action_eval.specs.declared.answer.Stop.{Stop}
 use Rattle.action_eval.specs.declared.answer.Note.{Note}
 use Rattle.action_eval.specs.declared.found.Found.{Found}
+use Rattle.action_eval.specs.Trial.{is_spent}
 use Rattle.action_eval.specs.Answers.{Hit, Run, acted, words_of, history_of, notes_of, total_millis, stopped}
 
 -- ---- the chain of a point
@@ -48,11 +49,44 @@ abbrev pub left_after : List ℕ → ℕ → Option ℕ → List ℕ
 left_after left start None = left
 left_after left start (Some i) = with_one_less left (start + i)
 
+-- ---- terms at the head of a chain that are spent
+
+-- the terms are spent, the first of which is that of place i
+abbrev pub AllSpent : (ℕ → Term → Bool) → ℕ → List Term → Type 0
+AllSpent spent i [] = Unit {0}
+AllSpent spent i (t ∷ ts) = (spent i t ≡ true) × AllSpent spent (i + 1) ts
+
+-- the first term, if there is one, is that of place i, and isn't spent
+abbrev pub StartsUnspent : (ℕ → Term → Bool) → ℕ → List Term → Type 0
+StartsUnspent spent i [] = Unit {0}
+StartsUnspent spent i (t ∷ ts) = spent i t ≡ false
+
+-- a chain and its start, without terms at its head that are spent
+pub record Rest (left : List ℕ) (whole rest : List Term × ℕ) : Type 0 where
+  pub before : List Term
+  pub chain_is : whole.0 ≡ before ++ rest.0
+  pub start_is : rest.1 ≡ whole.1 + length before
+  pub spent : AllSpent (is_spent left) whole.1 before
+
+-- the same where a point has a chain
+abbrev pub IsRest : List ℕ → Option (List Term × ℕ) → Option (List Term × ℕ) → Type 0
+IsRest left None None = Unit {0}
+IsRest left None (Some rest) = ⊥
+IsRest left (Some whole) None = ⊥
+IsRest left (Some whole) (Some rest) = Rest left whole rest
+
+-- the same of the chains of points
+abbrev pub AreRests : List ℕ → List (Option (List Term × ℕ)) → List (Option (List Term × ℕ)) → Type 0
+AreRests left [] [] = Unit {0}
+AreRests left [] (r ∷ rs) = ⊥
+AreRests left (w ∷ ws) [] = ⊥
+AreRests left (w ∷ ws) (r ∷ rs) = IsRest left w r × AreRests left ws rs
+
 -- ---- the fields of a session keep a run
 
 pub record Keeps (r : Run) (found : List (Option (List Term × ℕ))) (left : List ℕ) (taken : ℕ) (notes : List Note) (millis : ℕ) (stop : Option Stop) : Type 0 where
   pub scenario : IsScenario r.given.scenario
-  pub found_is : found ≡ map (found_of r.given.scenario) r.given.catalogue
+  pub found_is : AreRests left (map (found_of r.given.scenario) r.given.catalogue) found
   pub left_is : left ≡ left_counts (history_of r) r.given.scenario
   pub taken_is : taken ≡ words_of (history_of r)
   pub notes_are : notes ≡ notes_of (history_of r)

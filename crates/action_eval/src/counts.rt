@@ -4,6 +4,7 @@ ghost use Rattle.std.specs.Option.{ForSome};
 ghost use Rattle.scenario_values.specs.Scenario.{IsScenario};
 ghost use Rattle.action_eval.specs.Session.{left_row, left_counts, left_after};
 
+use crate::found::start_of;
 use scenario_values::{Scenario, Term};
 use std::alloc::{AllocError, Global};
 
@@ -23,7 +24,7 @@ pub fn full_counts(alloc: Global, scenario: &Scenario) -> Result<Vec<u32>, Alloc
     ensures limits { IsScenario scenario.now }
 {
     let _ = scenario.entries();
-    let mut left = Vec::new(alloc);
+    let mut left = Vec::with_capacity(alloc, start_of(scenario, scenario.len()))?;
     for entry in 0..scenario.len() {
         push_counts(&mut left, scenario.chain(entry))?;
     }

@@ -1,22 +1,45 @@
 //! Where the chains of the points stand.
-ghost use Rattle.std.specs.Prelude.{◌≡◌, ◌<◌, length, map, IfOk};
+ghost use Rattle.std.specs.Prelude.{◌≡◌, ◌+◌, ◌<◌, ◌≤◌, length, map, IfOk};
 ghost use Rattle.scenario_values.specs.Scenario.{IsScenario};
 ghost use Rattle.action_eval.specs.Answers.{texts};
-ghost use Rattle.action_eval.specs.Session.{seen, found_of, start_of};
+ghost use Rattle.action_eval.specs.Session.{seen, found_of, start_of, Rest, StartsUnspent};
+ghost use Rattle.action_eval.specs.Trial.{is_spent};
 
 use scenario_values::{Scenario, Term};
 use std::alloc::{AllocError, Global};
 
-/// A chain, and where its counts begin among those of all chains.
+/// A chain, and where its counts begin among those of all chains. Terms at its head that are spent may be left out: a count never grows,
+/// so they stay spent.
 #[derive(Clone, Copy)]
 pub struct Found<'a> {
     pub chain: &'a [Term],
     pub start: usize,
 }
 
-/// How many terms stand in the entries before one.
-fn start_of(scenario: &Scenario, entry: usize) -> usize
-    requires { entry < length scenario.now }
+/// A chain without the terms at its head that are spent.
+#[inline(always)]
+pub fn without_spent<'a>(found: Found<'a>, left: &[u32]) -> Found<'a>
+    requires { found.start + length found.chain.now ≤ length left.now }
+    ensures rest { Rest left.now (found.entry.chain.now, found.entry.start) (result.chain.now, result.start) }
+    ensures head { StartsUnspent (is_spent left.now) result.start result.chain.now }
+{
+    for (place, term) in found.chain.iter().enumerate() {
+        if left[found.start + place] != 0 || term.count.is_none() {
+            return Found {
+                chain: &found.chain[place..],
+                start: found.start + place,
+            };
+        }
+    }
+    Found {
+        chain: &[],
+        start: found.start + found.chain.len(),
+    }
+}
+
+/// How many terms stand in the entries before one; before the end, in all.
+pub fn start_of(scenario: &Scenario, entry: usize) -> usize
+    requires { entry ≤ length scenario.now }
     ensures { result ≡ start_of scenario.now entry }
 {
     let _ = scenario.entries();

@@ -2,12 +2,12 @@
 ghost use Rattle.std.specs.Prelude.{◌≡◌, ◌+◌, ◌^◌, ◌<◌, ◌≤◌, [], length, IfOk, OnOk, OnErr, None, Some, ◌++◌, ◌∷◌};
 ghost use Rattle.std.specs.Option.{ForSome};
 ghost use Rattle.action_eval.specs.Answers.{did, task_at, replies, GoesOn, reply_to, reply_of_answer, hit, stopped, notes_of_task, asked, history_of, notes_of, total_millis, words_of, start, given_of, texts, name_of};
-ghost use Rattle.action_eval.specs.Session.{found_of, seen};
+ghost use Rattle.action_eval.specs.Session.{found_of, seen, left_counts, IsRest};
 
 use crate::answer::{Answer, Note, Stop, answer_of, millis_of, push_note, stop_of};
 use crate::counts::{full_counts, spend};
 use crate::draws::Draws;
-use crate::found::{Found, find_all};
+use crate::found::{Found, find_all, without_spent};
 use crate::terms::{idle_place, try_terms};
 use scenario_values::{Scenario, Task, Term};
 use std::alloc::{AllocError, Global};
@@ -151,21 +151,23 @@ impl<'a> Session<'a> {
             self.hits.push(point)?;
             return Ok(Answer::Go);
         };
-        let end = found.start + found.chain.len();
-        if let Some(idle) = idle_place(found.chain, &self.left[found.start..end]) {
-            self.hits.push(point)?;
-            spend(&mut self.left, found.start, idle);
-            return Ok(Answer::Go);
-        }
-        self.hit_chain(point, found)
+        let found = without_spent(found, &self.left);
+        let Some(idle) = idle_place(found.chain) else {
+            return self.hit_chain(point, found);
+        };
+        self.hits.push(point)?;
+        spend(&mut self.left, found.start, idle);
+        self.found[point as usize] = Some(found);
+        Ok(Answer::Go)
     }
 
-    /// Hits a point with a chain.
+    /// Hits a point with a chain, of which this is what is left.
     #[inline(never)]
     fn hit_chain(&mut self, point: u32, found: Found<'a>) -> Result<Answer<'a>, AllocError>
         requires room { length self.old.hits < self.old.given.limit }
         requires limit { self.old.given.limit < 2 ^ 32 }
-        requires chain { found_of self.old.given.scenario (name_of self.old.given point) ≡ seen (Some found) }
+        requires known { point < length self.old.given.catalogue }
+        requires chain { IsRest (left_counts (history_of self.old) self.old.given.scenario) (found_of self.old.given.scenario (name_of self.old.given point)) (seen (Some found)) }
         requires running { stopped self.old ≡ None }
         ensures answer { IfOk result (λ a. reply_of_answer a ≡ reply_to self.old point) }
         ensures ok { OnOk result (self.new ≡ hit self.old point) }
@@ -182,6 +184,7 @@ impl<'a> Session<'a> {
             return Err(refused);
         }
         spend(&mut self.left, found.start, place);
+        self.found[point as usize] = Some(found);
         self.millis += u64::from(millis_of(task));
         self.stopped = stop_of(task);
         Ok(answer_of(task))

@@ -1,9 +1,11 @@
 //! How the terms of a chain are tried.
-ghost use Rattle.std.specs.Prelude.{◌≡◌, ◌+◌, ◌<◌, ◌^◌, ℕ, length, IfSome};
+ghost use Rattle.std.specs.Prelude.{◌≡◌, ◌+◌, ◌<◌, ◌^◌, ℕ, Bool, length, IfSome};
 ghost use Rattle.action_eval.specs.Words.{word};
 ghost use Rattle.action_eval.specs.Trial.{tried, is_spent};
 ghost use Rattle.action_eval.specs.Answers.{task_at};
+ghost use Rattle.action_eval.specs.Session.{StartsUnspent};
 ghost use Rattle.scenario_values.specs.declared.term.Task.TheVariants.{Off};
+ghost use Rattle.scenario_values.specs.declared.term.Term.{Term};
 
 use crate::draws::Draws;
 use scenario_values::{Task, Term};
@@ -30,22 +32,19 @@ pub fn try_terms(terms: &[Term], left: &[u32], draws: &mut Draws) -> Option<usiz
     None
 }
 
-/// The place of the term that acts, if one does, where the hit comes to nothing: no word is drawn, and what acts is `off`.
-/// `None` where a term has to draw, or does something.
-pub fn idle_place(terms: &[Term], left: &[u32]) -> Option<Option<usize>>
-    requires rows { length left.now ≡ length terms.now }
+/// The place of the term that acts, if one does, where the hit comes to nothing and the first term isn't spent: no word is drawn, and what
+/// acts is `off`. `None` where that term has to draw, or does something.
+#[inline(always)]
+pub fn idle_place(terms: &[Term]) -> Option<Option<usize>>
     ensures within { IfSome result (λ place. IfSome place (λ i. i < length terms.now)) }
     ensures off { IfSome result (λ place. task_at terms.now place ≡ Off) }
-    ensures idle { (word : ℕ → ℕ) (next : ℕ) → IfSome result (λ place. tried word (is_spent left.now) 0 terms.now next ≡ record { place = place; next = next }) }
+    ensures idle { IfSome result (λ place. (word : ℕ → ℕ) (spent : ℕ → Term → Bool) (next : ℕ) → StartsUnspent spent 0 terms.now → tried word spent 0 terms.now next ≡ record { place = place; next = next }) }
 {
-    for (place, term) in terms.iter().enumerate() {
-        if left[place] == 0 && term.count.is_some() {
-            continue;
-        }
-        return match term.task {
-            Task::Off if term.share == FULL_SHARE => Some(Some(place)),
-            _ => None,
-        };
+    let Some(first) = terms.first() else {
+        return Some(None);
+    };
+    match first.task {
+        Task::Off if first.share == FULL_SHARE => Some(Some(0)),
+        _ => None,
     }
-    Some(None)
 }
