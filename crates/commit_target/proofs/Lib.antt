@@ -1,3 +1,2 @@
 pub mod Playing
 pub mod Counting
-pub mod Scenarios

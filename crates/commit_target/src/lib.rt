@@ -12,9 +12,8 @@ mod variant;
 mod work;
 
 pub use commit::Commit;
-pub use judge::{LOST, PHANTOM, SPLIT};
+pub use judge::{LOST, PHANTOM, SPLIT, judge as judge_logs};
+pub use logs::Logs;
+pub use records::{Kind, Party, Record, Write};
 pub use variant::Variant;
 pub use work::{Transactions, Vote, Votes};
-
-#[cfg(test)]
-mod tests;

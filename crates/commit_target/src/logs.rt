@@ -56,7 +56,9 @@ fn restart_each(logs: &mut [RecordLog<Record>])
 
 impl Logs {
     /// The log of a coordinator alone, empty. It takes no memory.
-    pub fn new(alloc: Global) -> Self {
+    pub fn new(alloc: Global) -> Self
+        ensures { LogsStandFor 0 result [] }
+    {
         Logs {
             alloc,
             coordinator: RecordLog::new(alloc),
@@ -109,7 +111,7 @@ impl Logs {
     }
 
     /// All parties restart, and each log keeps what lasts.
-    pub fn restart(&mut self)
+    pub(crate) fn restart(&mut self)
         ensures { AddsEvent self.old self.new AllRestart }
     {
         self.coordinator.restart();
@@ -117,14 +119,14 @@ impl Logs {
     }
 
     /// The records in the coordinator's log, the oldest first.
-    pub fn coordinator(&self) -> &[Record]
+    pub(crate) fn coordinator(&self) -> &[Record]
         ensures { (count : ℕ) (es : List Event) → LogsStandFor count self.now es → result.now ≡ records (on_coordinator es) Live }
     {
         self.coordinator.records()
     }
 
     /// The records in a participant's log, the oldest first. A participant without a log has none.
-    pub fn participant(&self, number: usize) -> &[Record]
+    pub(crate) fn participant(&self, number: usize) -> &[Record]
         ensures { (count : ℕ) (es : List Event) → LogsStandFor count self.now es → number < count → result.now ≡ records (on_participant es number) Live }
     {
         match self.participants.get(number) {

@@ -4,4 +4,3 @@ pub mod Counted
 pub mod Playing
 pub mod Never
 pub mod Readying
-pub mod Scenarios

@@ -15,9 +15,7 @@ mod work;
 
 pub use judge::{STALE, TORN};
 pub use laws::sound_never_fails;
+pub use play::play as play_on;
 pub use replace::Replace;
 pub use variant::Variant;
 pub use work::{Chunks, Replacements};
-
-#[cfg(test)]
-mod tests;

@@ -106,7 +106,7 @@ fn write_on(
     Ok(())
 }
 
-/// Plays a run.
+/// Plays a run on a device, which is cleared first. Its end is a power cut: what the device holds after it is what was judged.
 pub fn play(
     variant: Variant,
     workload: &Replacements,

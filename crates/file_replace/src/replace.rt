@@ -7,8 +7,6 @@ ghost use Rattle.file_replace.specs.declared.variant.Variant.TheVariants.{Sound}
 ghost use Rattle.file_replace.specs.Words.{label, code_text, point_names};
 ghost use Rattle.file_replace.specs.Steps.{asks_of, asks-within, asks-halts};
 
-#[cfg(test)]
-use crate::disk::target_contents;
 use crate::judge::TORN;
 use crate::play::play;
 use crate::variant::Variant;
@@ -50,14 +48,6 @@ impl Replace {
             variant,
             device: FileDevice::new(alloc),
         }
-    }
-}
-
-#[cfg(test)]
-impl Replace {
-    /// What `target` holds after a run.
-    pub fn contents(&self) -> Option<&[u8]> {
-        target_contents(&self.device)
     }
 }
 

@@ -1,4 +1,3 @@
 pub mod Playing
 pub mod Readying
-pub mod Scenarios
 pub mod Numbers

@@ -12,11 +12,8 @@ mod stage;
 mod steps;
 mod variant;
 
-pub use judge::{LOST, TORN};
+pub use judge::{LOST, TORN, judge as judge_mail};
 pub use maildir::Maildir;
 pub use messages::Messages;
 pub use name::names_are_apart;
 pub use variant::Variant;
-
-#[cfg(test)]
-mod tests;

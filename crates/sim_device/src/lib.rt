@@ -16,6 +16,3 @@ pub use laws::{
     rename_keeps_contents, synced_contents_stay, unforced_records_are_lost,
 };
 pub use log::RecordLog;
-
-#[cfg(test)]
-mod tests;

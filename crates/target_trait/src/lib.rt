@@ -15,6 +15,3 @@ pub use judgement::{Judgement, Verdict};
 pub use laws::{same_meaning_same_outcome, verdict_of_outcome};
 pub use output::{Out, Sink};
 pub use target::Target;
-
-#[cfg(test)]
-mod tests;
