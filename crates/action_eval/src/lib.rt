@@ -8,8 +8,6 @@ mod found;
 mod laws;
 mod session;
 mod terms;
-#[cfg(test)]
-mod tests;
 
 pub use answer::{Answer, Note, Stop};
 pub use laws::{

@@ -15,6 +15,3 @@ pub use fault::SettingsFault;
 pub use keys::{Key, Place, TargetName};
 pub use reading::LIMIT;
 pub use settings::Settings;
-
-#[cfg(test)]
-mod tests;

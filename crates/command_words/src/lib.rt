@@ -5,6 +5,3 @@ mod help;
 mod words;
 
 pub use words::{Line, Order, WordsFault, read_words};
-
-#[cfg(test)]
-mod tests;

@@ -10,6 +10,3 @@ pub use facts::{Finding, Report};
 pub use lines::{text, write_scenario};
 pub use verdicts::write_verdict;
 pub use writing::{WriteFault, write_report};
-
-#[cfg(test)]
-mod tests;

@@ -25,6 +25,3 @@ pub use printing::{parse_printed, print};
 pub use scenario_values::{
     Chain, Place, Scenario, Task, Term, Text, are_faults, build, faults, keep, tidy,
 };
-
-#[cfg(test)]
-mod tests;

@@ -27,6 +27,3 @@ pub use scenario::Scenario;
 pub use term::{Task, Term};
 pub use text::Text;
 pub use tidying::tidy;
-
-#[cfg(test)]
-mod tests;

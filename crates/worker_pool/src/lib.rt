@@ -19,6 +19,3 @@ pub use hand::Hand;
 pub use job::Job;
 pub use pool::{Gathered, PoolFault, run_all};
 pub use ticket::Ticket;
-
-#[cfg(test)]
-mod tests;

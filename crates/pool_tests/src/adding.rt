@@ -1,0 +1,120 @@
+//! Hands that add 7 to each number.
+ghost use Rattle.std.specs.Prelude.{◌≡◌, ◌+◌, ◌^◌};
+
+use std::alloc::{AllocError, Global};
+use std::process::Abort;
+use std::sync::Wait;
+use std::sync::atomic::{AtomicU64, Ordering};
+use std::test::Fail;
+use std::thread::Threads;
+use target_trait::Gate;
+use worker_pool::{Gathered, Hand, Job, PoolFault, run_all};
+
+/// Nothing: what is added is always 7.
+pub struct Setup;
+
+/// Adds 7, counts its calls, and refuses the first few.
+#[derive(Drop)]
+pub struct Adder<'a> {
+    calls: &'a AtomicU64,
+    refusals: u64,
+}
+
+impl<'a> Job for Adder<'a> {
+    type Answer = u64;
+
+    type Setup = Setup;
+
+    ghost setup = { λ _. record {} };
+
+    ghost limit = { λ _. 2 ^ 32 };
+
+    ghost answers = { λ _ n a. a ≡ n + 7 };
+
+    fn perform(&mut self, number: u32) -> Result<u64, AllocError> {
+        if self.refusals > 0 {
+            self.refusals -= 1;
+            return Err(AllocError);
+        }
+        self.calls.fetch_add(1, Ordering::SeqCst);
+        Ok(u64::from(number) + 7)
+    }
+}
+
+/// So many hands, each of which refuses so often at first.
+pub fn adders<'a>(
+    alloc: Global,
+    calls: &'a AtomicU64,
+    count: usize,
+    refusals: u64,
+) -> Result<Vec<Hand<Adder<'a>>>, AllocError> {
+    let mut hands = Vec::new(alloc);
+    for _ in 0..count {
+        hands.push(Hand::new(Adder { calls, refusals }))?;
+    }
+    Ok(hands)
+}
+
+/// One run of some hands.
+pub fn run<'a, R: Threads + Wait + Sync, G: Gate>(
+    rt: &R,
+    alloc: Global,
+    gate: &G,
+    hands: Vec<Hand<Adder<'a>>>,
+    count: u32,
+) -> Result<Gathered<Adder<'a>>, PoolFault<Adder<'a>>> {
+    if hands.is_empty() {
+        return Err(PoolFault { hands });
+    }
+    run_all(rt, alloc, gate, hands, count)
+}
+
+/// One run of some hands that isn't refused.
+pub fn finished<'a, R: Threads + Wait + Sync, G: Gate>(
+    rt: &R,
+    alloc: Global,
+    gate: &G,
+    hands: Vec<Hand<Adder<'a>>>,
+    count: u32,
+) -> Result<Gathered<Adder<'a>>, Fail> {
+    match run(rt, alloc, gate, hands, count) {
+        Ok(done) => Ok(done),
+        Err(_) => Err("a run is refused".into()),
+    }
+}
+
+/// How many tickets the hands performed over all their runs.
+pub fn performed<J: Job>(hands: &[Hand<J>]) -> u64 {
+    let mut all = 0u64;
+    for hand in hands.iter() {
+        all = all.saturating_add(hand.performed());
+    }
+    all
+}
+
+/// Over all their runs the hands performed so many tickets, and their jobs did.
+pub fn have_performed(rt: &impl Abort, hands: &[Hand<Adder<'_>>], calls: &AtomicU64, count: u64) {
+    assert_eq!(rt; performed(hands), count);
+    assert_eq!(rt; calls.load(Ordering::SeqCst), count);
+}
+
+/// Whether each number below `count` stands once, and with its answer.
+pub fn is_each_once(
+    alloc: Global,
+    lists: &[Vec<(u32, u64)>],
+    count: usize,
+) -> Result<bool, AllocError> {
+    let mut times = vec![in alloc; 0u32; count]?;
+    for list in lists.iter() {
+        for pair in list.iter() {
+            let Some(time) = times.get_mut(pair.0 as usize) else {
+                return Ok(false);
+            };
+            *time = time.saturating_add(1);
+            if pair.1 != u64::from(pair.0) + 7 {
+                return Ok(false);
+            }
+        }
+    }
+    Ok(times.iter().all(|&time| time == 1))
+}

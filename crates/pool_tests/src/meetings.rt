@@ -1,0 +1,136 @@
+//! Hands that wait for one another, at the gate and inside their jobs.
+ghost use Rattle.std.specs.Prelude.{◌≡◌, ◌+◌, ◌^◌};
+
+use crate::adding::{Setup, adders, finished, is_each_once, performed};
+use std::alloc::{AllocError, Global};
+use std::rt::Clock;
+use std::sync::Wait;
+use std::sync::atomic::{AtomicU64, Ordering};
+use std::test::Fail;
+use std::thread::{self, Threads};
+use std::time::Duration;
+use target_trait::{FreeGate, Gate, Phase};
+use worker_pool::{Gathered, Hand, Job, run_all};
+
+/// Raises its own flag and waits, at most 10000 turns, for the other. Counts the waits that reach that limit.
+fn meet<C: Clock>(clock: &C, mine: &AtomicU64, other: &AtomicU64, limits: &AtomicU64) {
+    mine.store(1, Ordering::SeqCst);
+    for _ in 0..10000u32 {
+        if other.load(Ordering::SeqCst) > 0 {
+            return;
+        }
+        thread::sleep(clock, Duration::from_millis(1));
+    }
+    limits.fetch_add(1, Ordering::SeqCst);
+}
+
+/// Holds ticket 1 until ticket 2 has arrived, and 2 until 1 has.
+#[derive(Drop)]
+struct Meeting<'a, C> {
+    clock: &'a C,
+    one: AtomicU64,
+    two: AtomicU64,
+    limits: AtomicU64,
+}
+
+impl<'a, C: Clock + Sync> Gate for Meeting<'a, C> {
+    fn arrive(&self, phase: Phase, number: u32) {
+        if phase != Phase::Plans {
+            self.limits.fetch_add(1, Ordering::SeqCst);
+        }
+        match number {
+            1 => meet(self.clock, &self.one, &self.two, &self.limits),
+            2 => meet(self.clock, &self.two, &self.one, &self.limits),
+            _ => {}
+        }
+    }
+}
+
+#[test]
+fn two_hands_meet_at_the_gate(rt: HostRuntime) -> Result<(), Fail> {
+    let calls = AtomicU64::new(0);
+    let gate = Meeting {
+        clock: &rt,
+        one: AtomicU64::new(0),
+        two: AtomicU64::new(0),
+        limits: AtomicU64::new(0),
+    };
+    let hands = adders(rt.alloc(), &calls, 2, 0)?;
+    let done = finished(&rt, rt.alloc(), &gate, hands, 19)?;
+    assert!(rt; is_each_once(rt.alloc(), &done.answers, 19)?);
+    assert_eq!(rt; gate.one.load(Ordering::SeqCst), 1);
+    assert_eq!(rt; gate.two.load(Ordering::SeqCst), 1);
+    assert_eq!(rt; gate.limits.load(Ordering::SeqCst), 0);
+    Ok(())
+}
+
+/// Adds 7, and meets the other job at its first ticket.
+#[derive(Drop)]
+struct Meeter<'a, C> {
+    clock: &'a C,
+    mine: &'a AtomicU64,
+    other: &'a AtomicU64,
+    limits: &'a AtomicU64,
+    met: bool,
+}
+
+impl<'a, C: Clock + Sync> Job for Meeter<'a, C> {
+    type Answer = u64;
+
+    type Setup = Setup;
+
+    ghost setup = { λ _. record {} };
+
+    ghost limit = { λ _. 2 ^ 32 };
+
+    ghost answers = { λ _ n a. a ≡ n + 7 };
+
+    fn perform(&mut self, number: u32) -> Result<u64, AllocError> {
+        if !self.met {
+            self.met = true;
+            meet(self.clock, self.mine, self.other, self.limits);
+        }
+        Ok(u64::from(number) + 7)
+    }
+}
+
+/// One run of two hands, each of which meets the other at its first ticket.
+fn run_meeters<'a, R: Threads + Wait + Clock + Sync>(
+    rt: &'a R,
+    alloc: Global,
+    left: &'a AtomicU64,
+    right: &'a AtomicU64,
+    limits: &'a AtomicU64,
+) -> Result<Gathered<Meeter<'a, R>>, AllocError> {
+    let mut hands = Vec::new(alloc);
+    for (mine, other) in [(left, right), (right, left)] {
+        hands.push(Hand::new(Meeter {
+            clock: rt,
+            mine,
+            other,
+            limits,
+            met: false,
+        }))?;
+    }
+    if hands.is_empty() {
+        return Err(AllocError);
+    }
+    match run_all(rt, alloc, &FreeGate, hands, 19) {
+        Ok(done) => Ok(done),
+        Err(_) => Err(AllocError),
+    }
+}
+
+#[test]
+fn two_jobs_meet_inside_perform(rt: HostRuntime) -> Result<(), Fail> {
+    let left = AtomicU64::new(0);
+    let right = AtomicU64::new(0);
+    let limits = AtomicU64::new(0);
+    let done = run_meeters(&rt, rt.alloc(), &left, &right, &limits)?;
+    assert!(rt; is_each_once(rt.alloc(), &done.answers, 19)?);
+    assert_eq!(rt; performed(&done.hands), 19);
+    assert_eq!(rt; left.load(Ordering::SeqCst), 1);
+    assert_eq!(rt; right.load(Ordering::SeqCst), 1);
+    assert_eq!(rt; limits.load(Ordering::SeqCst), 0);
+    Ok(())
+}

@@ -1,0 +1,17 @@
+//! Tests of settings and of the words of the command line: what is read, the line of each fault, and the texts of help.
+#![tactic(auto)]
+
+#[cfg(test)]
+mod checking;
+#[cfg(test)]
+mod given;
+#[cfg(test)]
+mod help;
+#[cfg(test)]
+mod keys;
+#[cfg(test)]
+mod sizes;
+#[cfg(test)]
+mod tables;
+#[cfg(test)]
+mod words;
