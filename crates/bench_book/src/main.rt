@@ -4,11 +4,10 @@
 ghost use Rattle.std.specs.Prelude.{◌≤◌, length, vec_len, IfOk};
 
 use file_replace::{Chunks, Replace, Replacements, Variant};
-use indexmap::IndexMap;
 use plan_gen::Plan;
 use report::{Report, text};
 use result_book::{Book, Course, Numbered};
-use scenario_values::{Scenario, Text};
+use scenario_values::Text;
 use std::alloc::{AllocError, Global};
 use std::io;
 use std::time::{Duration, Instant};
@@ -25,15 +24,12 @@ fn work(alloc: Global) -> Result<Replacements, AllocError> {
 }
 
 /// A plan without faults.
-#[tactic(auto, unfolding(scenario_values::specs::Printed::printed))]
-fn no_faults(alloc: Global) -> Plan {
-    Plan {
-        scenario: Scenario::from_entries(IndexMap::new(alloc)),
-    }
+fn no_faults(alloc: Global) -> Plan<'static> {
+    Plan::empty(alloc, Replace::catalogue())
 }
 
 /// So many plans without faults.
-fn plans(alloc: Global, count: u32) -> Result<Vec<Plan>, AllocError>
+fn plans(alloc: Global, count: u32) -> Result<Vec<Plan<'static>>, AllocError>
     ensures { IfOk result (λ plans. vec_len plans ≤ count) }
 {
     let mut plans = Vec::new(alloc);

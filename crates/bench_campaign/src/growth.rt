@@ -29,7 +29,7 @@ fn census(alloc: Global) -> Result<Census, AllocError>
 }
 
 /// A list of so many plans, all but 73 of which are storms that take a tenth of the sites.
-fn listed(alloc: Global, census: &Census, count: u32) -> Result<Vec<Plan>, PlanFault>
+fn listed(alloc: Global, census: &Census, count: u32) -> Result<Vec<Plan<'static>>, PlanFault>
     requires { length census.now.counts.items ≡ 7 }
 {
     let settings = PlanSettings {
@@ -61,7 +61,7 @@ fn told<R: Threads + Wait + Sync>(
     rt: &R,
     alloc: Global,
     workload: &Replacements,
-    plans: &[Plan],
+    plans: &[Plan<'_>],
 ) -> Result<usize, AllocError> {
     if plans.len() > 65536 {
         return Ok(0);

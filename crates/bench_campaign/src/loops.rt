@@ -3,6 +3,7 @@
 use crate::settings::{MAX_HITS, SEED};
 use crate::times::tell;
 use plan_gen::Plan;
+use scenario_values::Scenario;
 use std::alloc::{AllocError, Global};
 use std::io;
 use std::rt::Clock;
@@ -33,10 +34,10 @@ impl Tally {
     }
 }
 
-/// The case of a plan.
-fn case_of(plan: &Plan, number: usize) -> Case<'_> {
+/// The case of the plan of this number.
+fn case_of(scenario: &Scenario, number: usize) -> Case<'_> {
     Case {
-        scenario: &plan.scenario,
+        scenario,
         seed: SEED,
         stream: number as u64,
         max_hits: MAX_HITS,
@@ -48,12 +49,13 @@ fn by_cases<T: Target>(
     alloc: Global,
     target: &T,
     workload: &T::Workload,
-    plans: &[Plan],
+    plans: &[Plan<'_>],
 ) -> Result<Tally, AllocError> {
     let mut target = target.twin()?;
     let mut tally = Tally::NONE;
     for (number, plan) in plans.iter().enumerate() {
-        let told = run_case(alloc, &mut target, workload, &case_of(plan, number))?;
+        let scenario = plan.scenario(alloc)?;
+        let told = run_case(alloc, &mut target, workload, &case_of(&scenario, number))?;
         tally.hits = tally.hits.saturating_add(told.asked.len() as u64);
         tally.count(told.verdict);
     }
@@ -65,12 +67,13 @@ fn by_verdicts<T: Target>(
     alloc: Global,
     target: &T,
     workload: &T::Workload,
-    plans: &[Plan],
+    plans: &[Plan<'_>],
 ) -> Result<Tally, AllocError> {
     let mut target = target.twin()?;
     let mut tally = Tally::NONE;
     for (number, plan) in plans.iter().enumerate() {
-        let verdict = run_verdict(alloc, &mut target, workload, &case_of(plan, number))?;
+        let scenario = plan.scenario(alloc)?;
+        let verdict = run_verdict(alloc, &mut target, workload, &case_of(&scenario, number))?;
         tally.count(verdict);
     }
     Ok(tally)
@@ -81,7 +84,7 @@ pub fn loops<T: Target, R: Clock + Print + Eprint + AllocGlobal>(
     rt: &R,
     target: &T,
     workload: &T::Workload,
-    plans: &[Plan],
+    plans: &[Plan<'_>],
 ) -> io::Result<()> {
     let start = Instant::now(rt)?;
     let cases = by_cases(rt.alloc(), target, workload, plans)?;

@@ -76,7 +76,7 @@ fn census(alloc: Global, chunks: u32) -> Result<Census, AllocError>
     Ok(Census { counts })
 }
 
-fn made(alloc: Global, job: Job) -> Result<Vec<Plan>, PlanFault> {
+fn made(alloc: Global, job: Job) -> Result<Vec<Plan<'static>>, PlanFault> {
     let settings = PlanSettings {
         pairs: job.pairs,
         storms: job.storms,
@@ -90,17 +90,18 @@ fn made(alloc: Global, job: Job) -> Result<Vec<Plan>, PlanFault> {
     }
 }
 
-/// How many entries the plans have, and how many terms.
-fn contents(list: &[Plan]) -> (u64, u64) {
+/// How many entries the plans' scenarios have, and how many terms.
+fn contents(alloc: Global, list: &[Plan<'_>]) -> Result<(u64, u64), AllocError> {
     let mut entries = 0u64;
     let mut terms = 0u64;
     for plan in list {
-        entries = entries.wrapping_add(plan.scenario.len() as u64);
-        for (_, chain) in plan.scenario.entries() {
+        let scenario = plan.scenario(alloc)?;
+        entries = entries.wrapping_add(scenario.len() as u64);
+        for (_, chain) in scenario.entries() {
             terms = terms.wrapping_add(chain.terms().len() as u64);
         }
     }
-    (entries, terms)
+    Ok((entries, terms))
 }
 
 /// Makes a list, and tells what it holds and how long it took.
@@ -110,14 +111,18 @@ fn measure(rt: &(impl Print + Eprint + Clock), alloc: Global, job: Job) -> io::R
     let nanos = start.elapsed(rt)?.as_nanos();
     match list {
         Ok(list) => {
-            let (entries, terms) = contents(list.as_slice());
+            let start = Instant::now(rt)?;
+            let (entries, terms) = contents(alloc, list.as_slice())?;
+            let made = start.elapsed(rt)?.as_nanos();
             println!(rt;
                 "{}: {} plans, {entries} entries, {terms} terms",
                 job.name,
                 list.len()
             )?;
             let each = nanos / (list.len() as u128).max(1);
-            eprintln!(rt; "{}: {} us, {each} ns a plan", job.name, nanos / 1000)
+            eprintln!(rt; "{}: {} us, {each} ns a plan", job.name, nanos / 1000)?;
+            let each = made / (list.len() as u128).max(1);
+            eprintln!(rt; "{}, its scenarios: {each} ns a plan", job.name)
         }
         Err(PlanFault::TooManyPlans) => println!(rt; "{}: too many plans", job.name),
         Err(PlanFault::Memory) => println!(rt; "{}: no memory", job.name),

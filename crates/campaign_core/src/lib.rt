@@ -20,6 +20,3 @@ pub use runner::{Runner, Setup};
 pub use running::campaign;
 pub use trying::try_one;
 pub use workers::run_plans;
-
-#[cfg(test)]
-mod tests;

@@ -30,12 +30,12 @@ fn write_plan(
 }
 
 /// The lines of a list of plans. An error means that memory was refused.
-fn plans_text(alloc: Global, plans: &[Plan]) -> Result<String, AllocError>
+fn plans_text(alloc: Global, plans: &[Plan<'_>]) -> Result<String, AllocError>
     ensures { IfOk result (λ text. string_bytes text ≡ text_of (plan_lines 0 plans.now)) }
 {
     let mut text = String::new(alloc);
     for (number, plan) in plans.iter().enumerate() {
-        write_plan(alloc, &mut text, number, &plan.scenario)?;
+        write_plan(alloc, &mut text, number, &plan.scenario(alloc)?)?;
     }
     Ok(text)
 }

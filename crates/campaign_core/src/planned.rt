@@ -22,12 +22,12 @@ fn asked_of(settings: &Settings) -> PlanSettings<'_>
 }
 
 /// A campaign's census and its plans.
-pub fn planned<T: Target>(
+pub fn planned<'a, T: Target>(
     alloc: Global,
     target: &T,
     workload: &T::Workload,
-    settings: &Settings,
-) -> Result<(Census, Vec<Plan>), PlanFault>
+    settings: &'a Settings,
+) -> Result<(Census, Vec<Plan<'a>>), PlanFault>
     ensures census { IfOk result (λ r. r.0.counts.items ≡ census (campaign_of (T.asks target.now workload.now) T.names T.code_text (T.label_of target.now) settings.now)) }
     ensures counts { IfOk result (λ r. length r.0.counts.items ≡ length T.names) }
     ensures plans { IfOk result (λ r. r.1.items ≡ plans (campaign_of (T.asks target.now workload.now) T.names T.code_text (T.label_of target.now) settings.now)) }

@@ -13,7 +13,7 @@ use worker_pool::Job;
 pub struct Setup<T: Target> {
     pub target: T,
     pub workload: T::Workload,
-    pub plans: LinkedList<Plan>,
+    pub plans: LinkedList<Plan<'static>>,
     pub seed: u64,
     pub max_hits: u32,
 }

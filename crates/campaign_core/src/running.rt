@@ -25,15 +25,15 @@ use std::thread::Threads;
 use target_trait::{Gate, Sink, Target};
 
 /// What is told of the first failure of a course, with its scenario reduced. An error means that memory was refused.
-fn found<'a, T: Target + Send, G: Gate, R: Threads + Wait + Sync>(
+fn found<T: Target + Send, G: Gate, R: Threads + Wait + Sync>(
     rt: &R,
     alloc: Global,
     gate: &G,
     target: &T,
-    course: &Course<'a, T>,
+    course: &Course<'_, T>,
     first: Option<(u32, u32)>,
     workers: usize,
-) -> Result<Option<Finding<'a>>, AllocError>
+) -> Result<Option<Finding>, AllocError>
 where
     T::Workload: Sync,
     requires some { 0 < workers }
@@ -47,12 +47,12 @@ where
         return Ok(None);
     };
     let plan = &course.plans[number as usize];
-    let scenario = &plan.scenario;
+    let scenario = plan.scenario(alloc)?;
     let _ = scenario.entries();
-    let faults = fault_count(alloc, scenario)?;
+    let faults = fault_count(alloc, &scenario)?;
     let failure = Failure {
         workload: course.workload,
-        scenario,
+        scenario: &scenario,
         faults,
         seed: course.seed,
         stream: u64::from(number),

@@ -5,4 +5,3 @@ pub mod StormLemmas
 pub mod Limits
 pub mod Meeting
 pub mod CleanRuns
-pub mod Turns

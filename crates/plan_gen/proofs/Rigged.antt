@@ -345,3 +345,12 @@ entries_done p old names rs whole none h = ap (λ l. insert_all bytes_eq old (en
 pub entries_begin : (names : List (List ℕ)) (rs : List Rig) (old : Entries) → old ≡ [] → insert_all bytes_eq old (entries_from 0 names rs) ≡ entries_of (rigging names rs)
 unfolding rigging
 entries_begin names rs old none = ap (λ (s : Entries). insert_all bytes_eq s (entries_from 0 names rs)) none
+
+no_entries : (p : ℕ) (names : List (List ℕ)) → entries_from p names [] ≡ []
+no_entries p [] = refl
+no_entries p (name ∷ names) = no_entries (p + 1) names
+
+-- without rigged hits there is no entry
+pub rigging_nothing : (names : List (List ℕ)) (rs : List Rig) → rs ≡ [] → rigging names rs ≡ []
+unfolding rigging
+rigging_nothing names rs none = ap (rigging names) none ∙ no_entries 0 names

@@ -17,6 +17,3 @@ pub use census::{Census, by_census};
 pub use list::{PlanFault, plans};
 pub use looped::by_loop;
 pub use plan::{Plan, PlanSettings};
-
-#[cfg(test)]
-mod tests;

@@ -9,7 +9,6 @@ use crate::census::Census;
 use crate::count::plan_count;
 use crate::parts::{add_listed, add_pairs, add_sites, add_storms};
 use crate::plan::{Plan, PlanSettings};
-use crate::rigging::empty_scenario;
 use crate::sites::{sites_of, total_of};
 use std::alloc::{AllocError, Global};
 
@@ -24,13 +23,13 @@ pub enum PlanFault {
 
 /// The list of plans, with room for so many.
 #[tactic(auto, unfolding(crate::specs::PlanList::plan_list))]
-fn made_plans(
+fn made_plans<'a>(
     alloc: Global,
     counts: &[u32],
-    catalogue: &[&str],
-    settings: &PlanSettings<'_>,
+    catalogue: &'a [&'a str],
+    settings: &PlanSettings<'a>,
     room: usize,
-) -> Result<Vec<Plan>, AllocError>
+) -> Result<Vec<Plan<'a>>, AllocError>
     requires lawful { IsCatalogue (texts catalogue.now) }
     requires counts { length counts.now ≤ 64 }
     requires sites { total_of counts.now ≤ most_plans }
@@ -38,12 +37,10 @@ fn made_plans(
 {
     let sites = sites_of(alloc, counts)?;
     let mut plans = Vec::with_capacity(alloc, room)?;
-    plans.push(Plan {
-        scenario: empty_scenario(alloc),
-    })?;
-    add_sites(alloc, &mut plans, catalogue, sites.as_slice())?;
+    plans.push(Plan::empty(alloc, catalogue))?;
+    add_sites(&mut plans, catalogue, sites.as_slice())?;
     if settings.pairs {
-        add_pairs(alloc, &mut plans, catalogue, sites.as_slice())?;
+        add_pairs(&mut plans, catalogue, sites.as_slice())?;
     }
     add_storms(
         alloc,
@@ -54,7 +51,7 @@ fn made_plans(
         settings.storms,
         sites.as_slice(),
     )?;
-    add_listed(alloc, &mut plans, settings.listed)?;
+    add_listed(&mut plans, settings.listed)?;
     Ok(plans)
 }
 
@@ -65,12 +62,12 @@ fn made_plans(
 ///
 /// The plans are counted before any is made, and more than 65536 are refused. The condition is one count for each name of a lawful
 /// catalogue.
-pub fn plans(
+pub fn plans<'a>(
     alloc: Global,
     census: &Census,
-    catalogue: &[&str],
-    settings: &PlanSettings<'_>,
-) -> Result<Vec<Plan>, PlanFault>
+    catalogue: &'a [&'a str],
+    settings: &PlanSettings<'a>,
+) -> Result<Vec<Plan<'a>>, PlanFault>
     requires lawful { IsCatalogue (texts catalogue.now) }
     requires counts { length census.now.counts.items ≡ length catalogue.now }
     ensures ok { IfOk result (λ plans. plans.items ≡ plan_list (texts catalogue.now) census.now.counts.items settings.now) }

@@ -1,86 +1,77 @@
 //! The parts of the list of plans.
-ghost use Rattle.std.specs.Prelude.{◌≡◌, ◌++◌, ◌∷◌, ◌≤◌, ◌<◌, ◌^◌, [], length, flat_map, OnOk};
-ghost use Rattle.std.specs.List.{AllByRecursion};
+ghost use Rattle.std.specs.Prelude.{◌≡◌, ◌++◌, ◌∷◌, ◌≤◌, [], length, flat_map, OnOk};
 ghost use Rattle.action_eval.specs.Answers.{texts};
 ghost use Rattle.target_trait.specs.Catalogue.{IsCatalogue};
 ghost use Rattle.plan_gen.specs.Rigging.{rig, rigging};
-ghost use Rattle.plan_gen.specs.PlanList.{most_plans, most_sites, site_plans, pair_plans, pairs_of, storm_part};
+ghost use Rattle.plan_gen.specs.PlanForm.{rigs_of, CanBeRigged};
+ghost use Rattle.plan_gen.specs.PlanList.{most_plans, site_plans, pair_plans, pairs_of, storm_part};
 
-use crate::copies::copy_of;
-use crate::plan::Plan;
-use crate::rigging::scenario_of;
+use crate::plan::{Plan, Rigs};
 use crate::site::{Kind, Rig, Site};
 use crate::storms::storm;
 use scenario_values::Scenario;
 use std::alloc::{AllocError, Global};
 
 /// Adds a plan of rigged hits.
-fn add_plan(
-    alloc: Global,
-    plans: &mut Vec<Plan>,
-    catalogue: &[&str],
-    rigs: &[Rig],
+fn add_plan<'a>(
+    plans: &mut Vec<Plan<'a>>,
+    catalogue: &'a [&'a str],
+    rigs: Rigs,
 ) -> Result<(), AllocError>
     requires lawful { IsCatalogue (texts catalogue.now) }
-    requires few { length rigs.now ≤ most_sites }
-    requires small { AllByRecursion (λ r. r.site.hit < 2 ^ 32) rigs.now }
-    ensures { OnOk result (plans.new.items ≡ plans.old.items ++ rigging (texts catalogue.now) rigs.now ∷ []) }
+    requires small { CanBeRigged (rigs_of rigs) }
+    ensures { OnOk result (plans.new.items ≡ plans.old.items ++ rigging (texts catalogue.now) (rigs_of rigs) ∷ []) }
 {
-    let scenario = scenario_of(alloc, catalogue, rigs)?;
-    plans.push(Plan { scenario })?;
+    plans.push(Plan::rigged(catalogue, rigs))?;
     Ok(())
 }
 
 /// Adds the plan of one rigged hit.
-fn add_alone(
-    alloc: Global,
-    plans: &mut Vec<Plan>,
-    catalogue: &[&str],
+fn add_alone<'a>(
+    plans: &mut Vec<Plan<'a>>,
+    catalogue: &'a [&'a str],
     site: Site,
     kind: Kind,
 ) -> Result<(), AllocError>
     requires { IsCatalogue (texts catalogue.now) }
     ensures { OnOk result (plans.new.items ≡ plans.old.items ++ rigging (texts catalogue.now) (rig site kind ∷ []) ∷ []) }
 {
-    add_plan(alloc, plans, catalogue, &[Rig { site, kind }])
+    add_plan(plans, catalogue, Rigs::One(Rig { site, kind }))
 }
 
 /// Adds the plans of a site.
-fn add_site(
-    alloc: Global,
-    plans: &mut Vec<Plan>,
-    catalogue: &[&str],
+fn add_site<'a>(
+    plans: &mut Vec<Plan<'a>>,
+    catalogue: &'a [&'a str],
     site: Site,
 ) -> Result<(), AllocError>
     requires { IsCatalogue (texts catalogue.now) }
     ensures { OnOk result (plans.new.items ≡ plans.old.items ++ site_plans (texts catalogue.now) site) }
 {
-    add_alone(alloc, plans, catalogue, site, Kind::OnceReturn)?;
-    add_alone(alloc, plans, catalogue, site, Kind::OnwardReturn)?;
-    add_alone(alloc, plans, catalogue, site, Kind::OncePanic)
+    add_alone(plans, catalogue, site, Kind::OnceReturn)?;
+    add_alone(plans, catalogue, site, Kind::OnwardReturn)?;
+    add_alone(plans, catalogue, site, Kind::OncePanic)
 }
 
 /// Adds the plans of each site.
-pub fn add_sites(
-    alloc: Global,
-    plans: &mut Vec<Plan>,
-    catalogue: &[&str],
+pub fn add_sites<'a>(
+    plans: &mut Vec<Plan<'a>>,
+    catalogue: &'a [&'a str],
     sites: &[Site],
 ) -> Result<(), AllocError>
     requires { IsCatalogue (texts catalogue.now) }
     ensures { OnOk result (plans.new.items ≡ plans.old.items ++ flat_map (site_plans (texts catalogue.now)) sites.now) }
 {
     for site in sites {
-        add_site(alloc, plans, catalogue, *site)?;
+        add_site(plans, catalogue, *site)?;
     }
     Ok(())
 }
 
 /// Adds the plans of two sites.
-fn add_pair(
-    alloc: Global,
-    plans: &mut Vec<Plan>,
-    catalogue: &[&str],
+fn add_pair<'a>(
+    plans: &mut Vec<Plan<'a>>,
+    catalogue: &'a [&'a str],
     first: Site,
     second: Site,
 ) -> Result<(), AllocError>
@@ -95,14 +86,13 @@ fn add_pair(
         site: second,
         kind: Kind::OnceReturn,
     };
-    add_plan(alloc, plans, catalogue, &[first, second])
+    add_plan(plans, catalogue, Rigs::Two(first, second))
 }
 
 /// Adds the plans of a site with each of those after it.
-fn add_pairs_of(
-    alloc: Global,
-    plans: &mut Vec<Plan>,
-    catalogue: &[&str],
+fn add_pairs_of<'a>(
+    plans: &mut Vec<Plan<'a>>,
+    catalogue: &'a [&'a str],
     first: Site,
     rest: &[Site],
 ) -> Result<(), AllocError>
@@ -110,32 +100,31 @@ fn add_pairs_of(
     ensures { OnOk result (plans.new.items ≡ plans.old.items ++ flat_map (λ b. pair_plans (texts catalogue.now) (first, b)) rest.now) }
 {
     for second in rest {
-        add_pair(alloc, plans, catalogue, first, *second)?;
+        add_pair(plans, catalogue, first, *second)?;
     }
     Ok(())
 }
 
 /// Adds the plans of each two sites.
-pub fn add_pairs(
-    alloc: Global,
-    plans: &mut Vec<Plan>,
-    catalogue: &[&str],
+pub fn add_pairs<'a>(
+    plans: &mut Vec<Plan<'a>>,
+    catalogue: &'a [&'a str],
     sites: &[Site],
 ) -> Result<(), AllocError>
     requires { IsCatalogue (texts catalogue.now) }
     ensures { OnOk result (plans.new.items ≡ plans.old.items ++ flat_map (pair_plans (texts catalogue.now)) (pairs_of sites.now)) }
 {
     for (i, first) in sites.iter().enumerate() {
-        add_pairs_of(alloc, plans, catalogue, *first, &sites[i + 1..])?;
+        add_pairs_of(plans, catalogue, *first, &sites[i + 1..])?;
     }
     Ok(())
 }
 
 /// Adds the storms.
-pub fn add_storms(
+pub fn add_storms<'a>(
     alloc: Global,
-    plans: &mut Vec<Plan>,
-    catalogue: &[&str],
+    plans: &mut Vec<Plan<'a>>,
+    catalogue: &'a [&'a str],
     seed: u64,
     rate: u32,
     storms: u32,
@@ -147,23 +136,17 @@ pub fn add_storms(
 {
     for number in 0..storms {
         let rigs = storm(alloc, seed, rate, sites, number)?;
-        add_plan(alloc, plans, catalogue, rigs.as_slice())?;
+        add_plan(plans, catalogue, Rigs::Many(rigs))?;
     }
     Ok(())
 }
 
 /// Adds the listed scenarios.
-pub fn add_listed(
-    alloc: Global,
-    plans: &mut Vec<Plan>,
-    listed: &[Scenario],
-) -> Result<(), AllocError>
+pub fn add_listed<'a>(plans: &mut Vec<Plan<'a>>, listed: &'a [Scenario]) -> Result<(), AllocError>
     ensures { OnOk result (plans.new.items ≡ plans.old.items ++ listed.now) }
 {
     for scenario in listed {
-        plans.push(Plan {
-            scenario: copy_of(alloc, scenario)?,
-        })?;
+        plans.push(Plan::listed(scenario))?;
     }
     Ok(())
 }

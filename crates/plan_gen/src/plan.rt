@@ -1,19 +1,98 @@
 //! Plans, and what is asked of their list.
+ghost use Rattle.std.specs.Prelude.{◌≡◌, [], IfOk};
+ghost use Rattle.action_eval.specs.Answers.{texts};
+ghost use Rattle.target_trait.specs.Catalogue.{IsCatalogue};
+ghost use Rattle.plan_gen.specs.PlanForm.{rigs_of, CanBeRigged};
+ghost use Rattle.plan_gen.specs.Rigging.{rigging};
+
+use crate::copies::copy_of;
+use crate::rigging::scenario_of;
+use crate::site::Rig;
 use scenario_values::Scenario;
+use std::alloc::{AllocError, Global};
 use std::marker::Model;
 
-/// A plan: a scenario that a component is run under. Contracts see it as its scenario.
+/// The rigged hits of a plan, in catalogue order. Most plans have one or two: these take no memory of their own.
 #[derive(Debug, Drop)]
-pub struct Plan {
-    pub scenario: Scenario,
+pub enum Rigs {
+    One(Rig),
+    Two(Rig, Rig),
+    Many(Vec<Rig>),
 }
 
-impl Model for Plan {
+/// Where a plan's scenario comes from.
+#[derive(Debug, Drop)]
+pub enum Source<'a> {
+    /// Rigged hits of the points of a catalogue.
+    Rigged(&'a [&'a str], Rigs),
+    /// A scenario that the settings list.
+    Listed(&'a Scenario),
+}
+
+/// A plan: a scenario that a component is run under. Contracts see it as its scenario.
+///
+/// It keeps the hits at which something is done, and borrows the catalogue or the listed scenario. The scenario is made where the plan
+/// is run: so a list of 65536 plans takes little memory, and whoever runs a plan makes its scenario too.
+#[derive(Debug, Drop)]
+pub struct Plan<'a> {
+    source: Source<'a>,
+}
+
+impl<'a> Model for Plan<'a> {
     ghost use Rattle.scenario_values.specs.Scenario.{Entries};
+    ghost use Rattle.plan_gen.specs.PlanForm.{planned, IsPlanned};
 
     ghost Value = { Entries };
 
-    ghost view = { λ p. p.scenario };
+    ghost view = { λ p. planned p.source };
+
+    ghost invariant = { λ p. IsPlanned p.source };
+}
+
+impl<'a> Plan<'a> {
+    /// The plan of rigged hits.
+    pub fn rigged(catalogue: &'a [&'a str], rigs: Rigs) -> Self
+        requires lawful { IsCatalogue (texts catalogue.now) }
+        requires small { CanBeRigged (rigs_of rigs) }
+        ensures { result ≡ rigging (texts catalogue.now) (rigs_of rigs) }
+    {
+        Plan {
+            source: Source::Rigged(catalogue, rigs),
+        }
+    }
+
+    /// The plan without faults.
+    pub fn empty(alloc: Global, catalogue: &'a [&'a str]) -> Self
+        requires { IsCatalogue (texts catalogue.now) }
+        ensures { result ≡ [] }
+    {
+        Plan::rigged(catalogue, Rigs::Many(Vec::new(alloc)))
+    }
+
+    /// The plan of a listed scenario.
+    pub fn listed(scenario: &'a Scenario) -> Self
+        ensures { result ≡ scenario.now }
+    {
+        Plan {
+            source: Source::Listed(scenario),
+        }
+    }
+
+    /// Makes the plan's scenario. An error means that memory was refused.
+    pub fn scenario(&self, alloc: Global) -> Result<Scenario, AllocError>
+        ensures { IfOk result (λ scenario. scenario ≡ self.now) }
+    {
+        match &self.source {
+            Source::Rigged(catalogue, Rigs::One(rig)) => scenario_of(alloc, catalogue, &[*rig]),
+            Source::Rigged(catalogue, Rigs::Two(first, second)) => {
+                scenario_of(alloc, catalogue, &[*first, *second])
+            }
+            Source::Rigged(catalogue, Rigs::Many(rigs)) => {
+                scenario_of(alloc, catalogue, rigs.as_slice())
+            }
+            Source::Listed(scenario) => copy_of(alloc, scenario),
+        }
+    }
 }
 
 /// What is asked of the list of plans.

@@ -6,20 +6,20 @@ use target_trait::Verdict;
 
 /// The first failure, with what it was reduced to.
 #[derive(Drop)]
-pub struct Finding<'a> {
+pub struct Finding {
     /// The number of the plan, the least of those that fail.
     pub number: u32,
     /// The target's code for what was broken.
     pub code: u32,
     /// The plan's scenario.
-    pub scenario: &'a Scenario,
+    pub scenario: Scenario,
     /// The plan's scenario with the faults that were kept, tidied.
     pub reduced: Scenario,
     /// How many sets of faults were tested, up to the largest `u64`.
     pub tests: u64,
 }
 
-impl<'a> Model for Finding<'a> {
+impl Model for Finding {
     ghost use Rattle.report.specs.Reports.{FindingFacts};
 
     ghost Value = { FindingFacts };
@@ -27,7 +27,7 @@ impl<'a> Model for Finding<'a> {
     ghost view = { λ f. record {
       number = f.number;
       code = f.code;
-      scenario = f.scenario.now;
+      scenario = f.scenario;
       reduced = f.reduced;
       tests = f.tests;
     } };
@@ -47,7 +47,7 @@ pub struct Report<'a> {
     /// The verdict of each plan, in the order of the plans' numbers, from 0.
     pub verdicts: &'a [Verdict],
     /// The first failure; `None` where no plan fails.
-    pub first: Option<Finding<'a>>,
+    pub first: Option<Finding>,
 }
 
 impl<'a> Model for Report<'a> {

@@ -5,11 +5,15 @@ ghost use Rattle.report.specs.ReportText.{verdict_text, scenario_text, census_li
 
 use crate::facts::{Finding, Report};
 use crate::verdicts::write_verdict;
+use itoa::Buffer;
 use scenario_grammar::print;
 use scenario_values::Scenario;
 use std::alloc::{AllocError, Global};
 use std::fmt::Write;
 use target_trait::{Target, Verdict};
+
+/// Room for the line of a verdict that passes, the line of most plans.
+const LINE_ROOM: usize = 20;
 
 fn write_head<T: Target>(
     out: &mut String,
@@ -48,7 +52,13 @@ fn write_numbered<T: Target>(
 ) -> Result<(), AllocError>
     ensures { OnOk result (string_bytes out.new ≡ string_bytes out.old ++ ended (verdict_line T.code_text number verdict)) }
 {
-    write!(out, "verdict {number} ")?;
+    let mut digits = Buffer::new();
+    out.push_str("verdict ")?;
+    out.push_str(digits.format(number))?;
+    if verdict == Verdict::Pass {
+        return out.push_str(" pass\n");
+    }
+    out.push_str(" ")?;
     write_verdict::<T>(out, verdict)?;
     out.push_str("\n")
 }
@@ -82,14 +92,14 @@ pub fn write_scenario(
 fn write_finding<T: Target>(
     alloc: Global,
     out: &mut String,
-    finding: &Finding<'_>,
+    finding: &Finding,
 ) -> Result<(), AllocError>
     ensures { OnOk result (string_bytes out.new ≡ string_bytes out.old ++ text_of (finding_lines T.code_text finding.now)) }
 {
     let number = finding.number;
     let name = T::code_name(finding.code);
     write!(out, "first {number} {name}\nscenario ")?;
-    write_scenario(alloc, out, finding.scenario)?;
+    write_scenario(alloc, out, &finding.scenario)?;
     out.push_str("\nreduced ")?;
     write_scenario(alloc, out, &finding.reduced)?;
     let tests = finding.tests;
@@ -99,7 +109,7 @@ fn write_finding<T: Target>(
 fn write_first<T: Target>(
     alloc: Global,
     out: &mut String,
-    first: &Option<Finding<'_>>,
+    first: &Option<Finding>,
 ) -> Result<(), AllocError>
     ensures { OnOk result (string_bytes out.new ≡ string_bytes out.old ++ text_of (first_lines T.code_text first.now)) }
 {
@@ -123,7 +133,8 @@ pub fn text<T: Target>(alloc: Global, report: &Report<'_>) -> Result<Vec<u8>, Al
     requires { length report.now.census ≡ length T.names }
     ensures { IfOk result (λ text. text.items ≡ text_of (report_lines T.names T.code_text report.now)) }
 {
-    let mut out = String::new(alloc);
+    let room = report.verdicts.len().saturating_mul(LINE_ROOM);
+    let mut out = String::with_capacity(alloc, room)?;
     write_head::<T>(&mut out, report.label, report.seed, report.clean)?;
     write_census::<T>(&mut out, report.census)?;
     write_count(&mut out, report.verdicts.len())?;

@@ -13,11 +13,7 @@ pub fn scenario(alloc: Global, text: &str) -> Result<Scenario, Fail> {
 }
 
 /// The text of a report of these verdicts, over a census of the small workload.
-pub fn told(
-    alloc: Global,
-    verdicts: &[Verdict],
-    first: Option<Finding<'_>>,
-) -> Result<Vec<u8>, Fail> {
+pub fn told(alloc: Global, verdicts: &[Verdict], first: Option<Finding>) -> Result<Vec<u8>, Fail> {
     let report = Report {
         label: "replace late_sync",
         seed: 7,
@@ -43,7 +39,7 @@ pub fn found(alloc: Global) -> Result<Vec<u8>, Fail> {
     let finding = Finding {
         number: 10,
         code: 0,
-        scenario: &plan,
+        scenario: plan,
         reduced: scenario(alloc, "replace::sync=1*return")?,
         tests: 1,
     };

@@ -77,7 +77,7 @@ fn a_scenario_without_entries_reads_none(rt: HostRuntime) -> Result<(), Fail> {
     let finding = Finding {
         number: 0,
         code: 1,
-        scenario: &plan,
+        scenario: plan,
         reduced: scenario(rt.alloc(), "")?,
         tests: 18446744073709551615,
     };

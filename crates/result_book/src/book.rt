@@ -43,7 +43,7 @@ impl Book {
         requires { length course.now.plans.now ≤ 65536 }
         ensures { IfOk result (λ book. book ≡ replicate (length course.now.plans.now) None) }
     {
-        let mut slots = Vec::new(alloc);
+        let mut slots = Vec::with_capacity(alloc, course.plans.len())?;
         for _ in 0..course.plans.len() {
             slots.push(None)?;
         }
@@ -84,7 +84,7 @@ impl Book {
     pub fn verdicts(&self, alloc: Global) -> Result<Vec<Verdict>, AllocError>
         ensures { IfOk result (λ all. all.items ≡ present self.now) }
     {
-        let mut all = Vec::new(alloc);
+        let mut all = Vec::with_capacity(alloc, self.slots.len())?;
         for slot in self.slots.iter() {
             if let Some(verdict) = *slot {
                 all.push(verdict)?;

@@ -8,7 +8,7 @@ use target_trait::Target;
 pub struct Course<'a, T: Target> {
     pub workload: &'a T::Workload,
     /// The plans in order; a plan's place, from 0, is its number.
-    pub plans: &'a [Plan],
+    pub plans: &'a [Plan<'a>],
     /// The seed of the random words of each run.
     pub seed: u64,
     /// A run that hits more often than this is unresolved.

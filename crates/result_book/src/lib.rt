@@ -10,6 +10,3 @@ pub use book::{Book, PutFault, put_all};
 pub use course::Course;
 pub use laws::{first_failures_are_the_least, full_books_tell_their_verdicts};
 pub use numbered::Numbered;
-
-#[cfg(test)]
-mod tests;

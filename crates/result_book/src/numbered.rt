@@ -33,7 +33,7 @@ impl<'a, T: Target> Model for Numbered<'a, T> {
 }
 
 impl<'a, T: Target> Numbered<'a, T> {
-    /// Runs the plan of this number. The random words are those of the stream of the plan's number, whichever worker runs it.
+    /// Makes the scenario of the plan of this number, and runs it. The random words are those of the stream of the plan's number, whichever worker runs it.
     ///
     /// An error means that memory was refused. The target keeps its setup, after an error too.
     pub fn run(
@@ -51,8 +51,9 @@ impl<'a, T: Target> Numbered<'a, T> {
         ensures setup { target.new ≡ target.old }
     {
         let plan = &course.plans[number as usize];
+        let scenario = plan.scenario(alloc)?;
         let case = Case {
-            scenario: &plan.scenario,
+            scenario: &scenario,
             seed: course.seed,
             stream: u64::from(number),
             max_hits: course.max_hits,

@@ -20,8 +20,8 @@ reduced_scenario-requires-clause-fails g c κs within =
     let code = c.in-Some.code in
     let is = sym c.requires.inside ∙ c.in-Some.is in
     let plan = c.index-course-number in
-    let read : c.plan.inside.scenario ≡ get_or course.plans.now number [] = c.plan.view_is ∙ sym plan.is ∙ get_or_read course.plans.now number plan.result (first_inside say course.plans.now (number, code) is) plan.is [] in
-    ap (λ k. fails_with code (say k c.plan.inside.scenario)) c.from.ensures ∙ ap (λ s. fails_with code (say number s)) read ∙ first_fails say course.plans.now (number, code) is
+    let read : c.in_ok-scenario.scenario ≡ get_or course.plans.now number [] = c.in_ok-scenario.ensures ∙ sym plan.is ∙ get_or_read course.plans.now number plan.result (first_inside say course.plans.now (number, code) is) plan.is [] in
+    ap (λ k. fails_with code (say k c.in_ok-scenario.scenario)) c.from.ensures ∙ ap (λ s. fails_with code (say number s)) read ∙ first_fails say course.plans.now (number, code) is
 
 pub returns-clause-found : goal.returns-clause-found
 returns-clause-found g c =
@@ -31,8 +31,8 @@ returns-clause-found g c =
     let code = c.in-Some.code in
     let is = sym c.requires.inside ∙ c.in-Some.is in
     let plan = c.index-course-number in
-    let read : c.plan.inside.scenario ≡ get_or course.plans.now number [] = c.plan.view_is ∙ sym plan.is ∙ get_or_read course.plans.now number plan.result (first_inside say course.plans.now (number, code) is) plan.is [] in
-    found_is say course.plans.now c.args.first number code c.in_ok-reduced.tests c.from.result c.plan.inside.scenario c.in_ok-reduced.reduced
+    let read : c.in_ok-scenario.scenario ≡ get_or course.plans.now number [] = c.in_ok-scenario.ensures ∙ sym plan.is ∙ get_or_read course.plans.now number plan.result (first_inside say course.plans.now (number, code) is) plan.is [] in
+    found_is say course.plans.now c.args.first number code c.in_ok-reduced.tests c.from.result c.in_ok-scenario.scenario c.in_ok-reduced.reduced
     c.in-Some.is read c.from.ensures c.in_ok-reduced.ensures.scenario c.in_ok-reduced.ensures.tests
 
 pub returns-clause-minimal : goal.returns-clause-minimal
@@ -43,7 +43,7 @@ returns-clause-minimal g c = λ f found.
     let code = c.in-Some.code in
     let is = sym c.requires.inside ∙ c.in-Some.is in
     let plan = c.index-course-number in
-    let read : c.plan.inside.scenario ≡ get_or course.plans.now number [] = c.plan.view_is ∙ sym plan.is ∙ get_or_read course.plans.now number plan.result (first_inside say course.plans.now (number, code) is) plan.is [] in
+    let read : c.in_ok-scenario.scenario ≡ get_or course.plans.now number [] = c.in_ok-scenario.ensures ∙ sym plan.is ∙ get_or_read course.plans.now number plan.result (first_inside say course.plans.now (number, code) is) plan.is [] in
     let same : number ≡ f.0 = ap (λ (p : ℕ × ℕ). p.0) (ap both (sym c.in-Some.is ∙ found)) in
     let limits : IsScenario (get_or course.plans.now f.0 []) = subst (λ (s : Entries). IsScenario s) (read ∙ ap (λ n. get_or course.plans.now n []) same) c.entries.ensures.limits in
     first_minimal (g.T.Target.asks c.args.target.now course.workload.now) g.T.Target.names course.seed course.max_hits course.plans.now f limits (sym c.requires.inside ∙ found)

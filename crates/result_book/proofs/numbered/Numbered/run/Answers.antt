@@ -16,7 +16,7 @@ invariant_of-result g c =
     let plan = c.index-course-number in (
       a.target.now,
       of_plan (verdict_with (g.T.Target.asks a.target.now course.workload.now) g.T.Target.names course.seed course.max_hits) _ _ _ _ _
-          c.in_ok-verdict.ensures.ok c.from.ensures (c.plan.view_is ∙ sym plan.is ∙ get_or_read course.plans.now a.number plan.result c.requires plan.is []),
+          c.in_ok-verdict.ensures.ok c.from.ensures (c.in_ok-scenario.ensures ∙ sym plan.is ∙ get_or_read course.plans.now a.number plan.result c.requires plan.is []),
     )
 
 pub returns-clause-ok : goal.returns-clause-ok
@@ -26,4 +26,4 @@ returns-clause-ok g c =
     let plan = c.index-course-number in
     ap (λ v. record { number = a.number; verdict = v })
     (of_plan (verdict_with (g.T.Target.asks a.target.now course.workload.now) g.T.Target.names course.seed course.max_hits) _ _ _ _ _
-    c.in_ok-verdict.ensures.ok c.from.ensures (c.plan.view_is ∙ sym plan.is ∙ get_or_read course.plans.now a.number plan.result c.requires plan.is []))
+    c.in_ok-verdict.ensures.ok c.from.ensures (c.in_ok-scenario.ensures ∙ sym plan.is ∙ get_or_read course.plans.now a.number plan.result c.requires plan.is []))

@@ -1,7 +1,7 @@
 //! A target of one step, which breaks its promise where the step is refused.
 ghost use Rattle.std.specs.Prelude.{[], ◌∷◌, codes};
 ghost use Rattle.std.proofs.Common.{rules};
-ghost use Rattle.result_book.specs.OneStep.{step, step-within, step-halts};
+ghost use Rattle.plan_tests.specs.OneStep.{step, step-within, step-halts};
 
 use std::alloc::AllocError;
 use target_trait::{Answer, Judgement, Session, Target};

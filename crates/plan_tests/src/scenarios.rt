@@ -1,4 +1,4 @@
-//! Plans of tests.
+//! Scenarios of tests, and the plans of them.
 ghost use Rattle.std.specs.Prelude.{◌≡◌, [], ◌∷◌, codes, None};
 
 use plan_gen::Plan;
@@ -21,16 +21,25 @@ fn refusing(alloc: Global) -> Result<Scenario, AllocError> {
     build(alloc, &[("one::step", &[term])])
 }
 
-/// This many plans; those of the numbers listed refuse the step, and the others do nothing.
-pub fn plans(alloc: Global, count: u32, refused: &[u32]) -> Result<Vec<Plan>, AllocError> {
-    let mut plans = Vec::new(alloc);
+/// This many scenarios; those of the numbers listed refuse the step, and the others do nothing.
+pub fn scenarios(alloc: Global, count: u32, refused: &[u32]) -> Result<Vec<Scenario>, AllocError> {
+    let mut all = Vec::new(alloc);
     for number in 0..count {
         let scenario = if refused.contains(&number) {
             refusing(alloc)?
         } else {
             nothing(alloc)?
         };
-        plans.push(Plan { scenario })?;
+        all.push(scenario)?;
+    }
+    Ok(all)
+}
+
+/// A plan of each scenario.
+pub fn plans<'a>(alloc: Global, scenarios: &'a [Scenario]) -> Result<Vec<Plan<'a>>, AllocError> {
+    let mut plans = Vec::new(alloc);
+    for scenario in scenarios {
+        plans.push(Plan::listed(scenario))?;
     }
     Ok(plans)
 }

@@ -1,12 +1,8 @@
-mod counted;
-
+//! Tests of both censuses and of the list of plans.
 ghost use Rattle.std.specs.Prelude.{◌≡◌, length, IfOk};
 
-use crate::census::{Census, by_census};
-use crate::list::{PlanFault, plans};
-use crate::looped::by_loop;
-use crate::plan::{Plan, PlanSettings};
-use crate::tests::counted::Counted;
+use crate::counted::Counted;
+use plan_gen::{Census, Plan, PlanFault, PlanSettings, by_census, by_loop, plans};
 use scenario_values::{Scenario, Task, Term, faults};
 use std::alloc::{AllocError, Global};
 use std::test::Fail;
@@ -39,21 +35,30 @@ fn census(alloc: Global, chunks: u32) -> Result<Census, AllocError>
     Ok(Census { counts })
 }
 
-fn list(
+fn list<'a>(
     alloc: Global,
     chunks: u32,
-    settings: &PlanSettings<'_>,
-) -> Result<Result<Vec<Plan>, PlanFault>, AllocError> {
+    settings: &PlanSettings<'a>,
+) -> Result<Result<Vec<Plan<'a>>, PlanFault>, AllocError> {
     let census = census(alloc, chunks)?;
     Ok(plans(alloc, &census, &NAMES, settings))
 }
 
+/// The scenario of the plan of a number.
+fn scenario(alloc: Global, list: &[Plan<'_>], number: usize) -> Result<Scenario, Fail> {
+    let plan = list.get(number).ok_or("no such plan")?;
+    Ok(plan.scenario(alloc)?)
+}
+
 /// Whether a plan is one entry of this name and these terms.
-fn is_one(plan: Option<&Plan>, name: &str, terms: &[Term]) -> bool {
-    match plan {
-        Some(plan) => is_entry(&plan.scenario, name, terms),
-        None => false,
-    }
+fn is_one(
+    alloc: Global,
+    list: &[Plan<'_>],
+    number: usize,
+    name: &str,
+    terms: &[Term],
+) -> Result<bool, Fail> {
+    Ok(is_entry(&scenario(alloc, list, number)?, name, terms))
 }
 
 fn is_entry(scenario: &Scenario, name: &str, terms: &[Term]) -> bool {
@@ -65,11 +70,8 @@ fn is_entry(scenario: &Scenario, name: &str, terms: &[Term]) -> bool {
     }
 }
 
-fn is_empty(plan: Option<&Plan>) -> bool {
-    match plan {
-        Some(plan) => plan.scenario.len() == 0,
-        None => false,
-    }
+fn is_empty(alloc: Global, list: &[Plan<'_>], number: usize) -> Result<bool, Fail> {
+    Ok(scenario(alloc, list, number)?.len() == 0)
 }
 
 fn term(count: Option<u32>, task: Task) -> Term {
@@ -85,14 +87,14 @@ fn lists_each_site_of_a_small_census(rt: HostRuntime) -> Result<(), Fail> {
     let alloc = rt.alloc();
     let list = list(alloc, 2, &settings(false, 0, 0))?.map_err(|_| "fault")?;
     assert_eq!(rt; list.len(), 19);
-    assert!(rt; is_empty(list.first()));
+    assert!(rt; is_empty(alloc, &list, 0)?);
     let write = "replace::write";
     let once = [term(Some(1), Task::Off), term(Some(1), Task::Return(None))];
-    assert!(rt; is_one(list.get(7), write, &once));
+    assert!(rt; is_one(alloc, &list, 7, write, &once)?);
     let onward = [term(Some(1), Task::Off), term(None, Task::Return(None))];
-    assert!(rt; is_one(list.get(8), write, &onward));
+    assert!(rt; is_one(alloc, &list, 8, write, &onward)?);
     let panic = [term(Some(1), Task::Off), term(Some(1), Task::Panic(None))];
-    assert!(rt; is_one(list.get(9), write, &panic));
+    assert!(rt; is_one(alloc, &list, 9, write, &panic)?);
     Ok(())
 }
 
@@ -105,7 +107,7 @@ fn two_hits_of_a_point_share_a_chain(rt: HostRuntime) -> Result<(), Fail> {
         term(Some(1), Task::Return(None)),
         term(Some(1), Task::Return(None)),
     ];
-    assert!(rt; is_one(list.get(24), "replace::write", &both));
+    assert!(rt; is_one(alloc, &list, 24, "replace::write", &both)?);
     Ok(())
 }
 
@@ -114,29 +116,27 @@ fn storms_take_sites_by_their_rate(rt: HostRuntime) -> Result<(), Fail> {
     let alloc = rt.alloc();
     let calm = list(alloc, 2, &settings(false, 2, 0))?.map_err(|_| "fault")?;
     assert_eq!(rt; calm.len(), 21);
-    assert!(rt; is_empty(calm.get(19)));
-    assert!(rt; is_empty(calm.get(20)));
+    assert!(rt; is_empty(alloc, &calm, 19)?);
+    assert!(rt; is_empty(alloc, &calm, 20)?);
     let full = list(alloc, 2, &settings(false, 1, 1000))?.map_err(|_| "fault")?;
-    let storm = full.get(19).ok_or("no storm")?;
-    assert_eq!(rt; faults(alloc, &storm.scenario)?.len(), 6);
+    assert_eq!(rt; faults(alloc, &scenario(alloc, &full, 19)?)?.len(), 6);
     let wide = list(alloc, 100, &settings(false, 1, 1000))?.map_err(|_| "fault")?;
-    let storm = wide.last().ok_or("no storm")?;
-    assert_eq!(rt; faults(alloc, &storm.scenario)?.len(), 64);
+    let last = wide.len().saturating_sub(1);
+    assert_eq!(rt; faults(alloc, &scenario(alloc, &wide, last)?)?.len(), 64);
     Ok(())
 }
 
 #[test]
-fn copies_the_listed_scenarios(rt: HostRuntime) -> Result<(), Fail> {
+fn ends_with_the_listed_scenarios(rt: HostRuntime) -> Result<(), Fail> {
     let alloc = rt.alloc();
-    let mut made = list(alloc, 2, &settings(false, 0, 0))?.map_err(|_| "fault")?;
-    let last = made.pop().ok_or("no plan")?;
-    let listed = [last.scenario];
+    let made = list(alloc, 2, &settings(false, 0, 0))?.map_err(|_| "fault")?;
+    let listed = [scenario(alloc, &made, 18)?];
     let mut asked = settings(false, 0, 0);
     asked.listed = &listed;
     let list = list(alloc, 1, &asked)?.map_err(|_| "fault")?;
     assert_eq!(rt; list.len(), 17);
     let panic = [term(Some(1), Task::Panic(None))];
-    assert!(rt; is_one(list.last(), "replace::sync_dir", &panic));
+    assert!(rt; is_one(alloc, &list, 16, "replace::sync_dir", &panic)?);
     Ok(())
 }
 

@@ -1,8 +1,8 @@
 use Rattle.std.proofs.Common.{◌≡◌, ◌∙◌, ap, refl, rules, get_or, [], None}
 use Rattle.action_eval.specs.Answers.{Run, replies, stopped}
 use Rattle.plan_gen.proofs.Lists.{next_of}
-use Rattle.plan_gen.proofs.Turns.{turn_first, turn_goes, turn_ends, other_ends}
-use Rattle.plan_gen.proofs.tests.counted.ask_all.Goals as goal
+use Rattle.plan_tests.proofs.Turns.{turn_first, turn_goes, turn_ends, other_ends}
+use Rattle.plan_tests.proofs.counted.ask_all.Goals as goal
 
 pub loop-point-init : goal.loop-point-init
 loop-point-init c =

@@ -4,7 +4,7 @@ ghost use Rattle.std.proofs.Common.{rules};
 ghost use Rattle.action_eval.specs.Answers.{start};
 ghost use Rattle.target_trait.specs.Play.{IsPlay};
 ghost use Rattle.target_trait.specs.declared.judgement.Judgement.TheVariants.{Kept};
-ghost use Rattle.plan_gen.specs.CountedRuns.{point_names, asks_in_turn, asks-within, asks-halts};
+ghost use Rattle.plan_tests.specs.CountedRuns.{point_names, asks_in_turn, asks-within, asks-halts};
 
 use std::alloc::AllocError;
 use std::marker::Model;

@@ -2,7 +2,7 @@ use Rattle.std.proofs.Common.{[], ◌∷◌, None, codes, refl, arith}
 use Rattle.scenario_values.specs.declared.term.Task.TheVariants as task
 use Rattle.scenario_values.specs.Printed.{printed, chain_text, term_text, share_text}
 use Rattle.scenario_values.specs.Scenario.{IsScenario}
-use Rattle.result_book.proofs.tests.plans.refusing.Goals as goal
+use Rattle.plan_tests.proofs.scenarios.refusing.Goals as goal
 
 is_scenario : IsScenario ((codes "one::step", record { share = 1000000; count = None; task = task.Return None } ∷ []) ∷ [])
 unfolding printed chain_text term_text share_text

@@ -1,18 +1,15 @@
-mod one_step;
-mod plans;
+//! Tests of numbered results and of the book.
 
-use crate::book::{Book, PutFault, put_all};
-use crate::course::Course;
-use crate::numbered::Numbered;
-use crate::tests::one_step::OneStep;
-use crate::tests::plans::plans;
+use crate::one_step::OneStep;
+use crate::scenarios::{plans, scenarios};
 use plan_gen::Plan;
+use result_book::{Book, Course, Numbered, PutFault, put_all};
 use std::alloc::Global;
 use std::process::Abort;
 use std::test::Fail;
 use target_trait::Verdict;
 
-fn course(plans: &[Plan]) -> Course<'_, OneStep> {
+fn course<'a>(plans: &'a [Plan<'a>]) -> Course<'a, OneStep> {
     Course {
         workload: &(),
         plans,
@@ -66,8 +63,9 @@ fn book(rt: &impl Abort, alloc: Global, course: &Course<'_, OneStep>) -> Result<
 
 #[test]
 fn a_book_takes_each_result_of_its_course_once(rt: HostRuntime) -> Result<(), Fail> {
-    let all = plans(rt.alloc(), 19, &[])?;
-    let all = all.as_slice();
+    let scenarios = scenarios(rt.alloc(), 19, &[])?;
+    let plans = plans(rt.alloc(), &scenarios)?;
+    let all = plans.as_slice();
     assert_eq!(rt; all.len(), 19);
     let longer = course(all);
     let shorter = course(&all[..10]);
@@ -92,8 +90,9 @@ fn a_book_takes_each_result_of_its_course_once(rt: HostRuntime) -> Result<(), Fa
 
 #[test]
 fn the_first_failure_is_that_of_the_least_number(rt: HostRuntime) -> Result<(), Fail> {
-    let all = plans(rt.alloc(), 4, &[1, 3])?;
-    let course = course(&all);
+    let scenarios = scenarios(rt.alloc(), 4, &[1, 3])?;
+    let plans = plans(rt.alloc(), &scenarios)?;
+    let course = course(&plans);
     let mut book = book(&rt, rt.alloc(), &course)?;
     assert!(rt; book.put(result(&rt, rt.alloc(), &course, 3)?).is_ok());
     assert_eq!(rt; book.first_failure(), Some((3, 4)));

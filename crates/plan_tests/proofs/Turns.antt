@@ -8,7 +8,7 @@ use Rattle.action_eval.specs.Answers.{Run, Reply, hit, replies, stopped, GoesOn,
 use Rattle.target_trait.specs.declared.judgement.Judgement.TheVariants.{Kept}
 use Rattle.target_trait.specs.Play.{Done, Follows, IsPlay}
 use Rattle.target_trait.proofs.Plays.{follows_more}
-use Rattle.plan_gen.specs.CountedRuns.{asks_in_turn}
+use Rattle.plan_tests.specs.CountedRuns.{asks_in_turn}
 
 -- a run that goes on, in which the points before these were asked
 pub record Turn (whole ps : List ℕ) (r : Run) : Type 0 where

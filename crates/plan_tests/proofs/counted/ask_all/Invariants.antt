@@ -1,6 +1,6 @@
 use Rattle.std.proofs.Common.{◌≡◌, drop}
-use Rattle.plan_gen.proofs.Turns.{Turn}
-use Rattle.plan_gen.proofs.tests.counted.ask_all.Given as goal
+use Rattle.plan_tests.proofs.Turns.{Turn}
+use Rattle.plan_tests.proofs.counted.ask_all.Given as goal
 
 abbrev pub invariant-loop-point : goal.invariant-loop-point
 invariant-loop-point l = record {
