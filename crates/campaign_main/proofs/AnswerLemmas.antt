@@ -1,9 +1,9 @@
 -- Answers, by what a command did.
-use Rattle.std.proofs.Common.{◌≡◌, ◌≤◌, ◌<◌, ◌∙◌, ℕ, Bool, true, false, List, Option, Some, None, Result, Ok, Err, length, take, refl, sym, ap, is_err, is_some, option_map, subst, if◌then◌else◌}
+use Rattle.std.proofs.Common.{◌≡◌, ◌≤◌, ◌<◌, ◌∙◌, ℕ, Bool, false, List, Option, Some, None, Result, Ok, Err, length, refl, sym, ap, is_some, option_map, subst, if◌then◌else◌}
 use Rattle.std.proofs.lemmas.Bool.{le-ltb, lt-ltb}
 use Rattle.std.specs.Io.KnownBytes.{Appends}
 use Rattle.scenario_values.specs.Scenario.{Entries}
-use Rattle.scenario_grammar.specs.FirstFault.{Fault, reading}
+use Rattle.scenario_grammar.specs.FirstFault.{Fault}
 use Rattle.plan_gen.specs.PlanList.{most_plans}
 use Rattle.campaign_core.specs.Headline.{Campaign, say, plans, report_text, first_failure}
 use Rattle.campaign_core.specs.CommandTexts.{IsFault, LeavesOnly, plans_text, reduce_text, tried, try_text}
@@ -11,7 +11,7 @@ use Rattle.campaign_core.specs.declared.ending.CampaignFault.{CampaignFault}
 use Rattle.campaign_core.specs.declared.ending.CampaignFault.TheVariants as campaign
 use Rattle.campaign_main.specs.declared.fault.CommandFault.TheVariants as faults
 use Rattle.campaign_main.specs.Exit.{is_fail}
-use Rattle.campaign_main.specs.Commands.{Answer, Refusal, of_few_plans, plans_answer, reduce_answer, run_answer, spelled_answer, too_many_plans, try_answer}
+use Rattle.campaign_main.specs.Commands.{Answer, of_few_plans, plans_answer, reduce_answer, run_answer, spelled_answer, too_many_plans, try_answer}
 use Rattle.campaign_main.specs.Ends.{FallsShort, IsCutOff, IsWritten}
 
 module _ (c : Campaign) (a : List ℕ × Bool) where

@@ -1,5 +1,5 @@
 -- How a command ends, by its answer. A sink held `old` and holds `new`, where it tells its bytes, and says whether it failed.
-use Rattle.std.specs.Prelude.{◌≡◌, ◌⊎◌, ℕ, Bool, true, false, List, Option, Result, Ok, Err, IsErr, IsOkAnd, codes, take}
+use Rattle.std.specs.Prelude.{◌≡◌, ◌⊎◌, ℕ, Bool, true, false, List, Option, Result, Ok, Err, IsErrAnd, IsOkAnd, take}
 use Rattle.std.specs.Io.KnownBytes.{Appends}
 use Rattle.scenario_grammar.specs.declared.fault.ScenarioFault.TheVariants as scenario
 use Rattle.campaign_core.specs.declared.ending.CampaignFault.TheVariants as campaign
@@ -10,6 +10,7 @@ use Rattle.campaign_main.specs.declared.exit.Exit.TheVariants.{Kept, Found, Refu
 use Rattle.campaign_main.specs.declared.fault.CommandFault.{CommandFault}
 use Rattle.campaign_main.specs.declared.fault.CommandFault.TheVariants.{Scenario, Campaign}
 use Rattle.campaign_main.specs.Commands.{Answer, bad_scenario, too_many_plans}
+use Rattle.campaign_main.specs.FaultLines.{cut_off_line, memory_line, refusal_line, scenario_line, unreadable_line}
 
 -- the answer's whole text was written, and this is whether a verdict in it is fail
 abbrev pub IsWritten : Answer → Option (List ℕ) → Option (List ℕ) → Bool → Type 0
@@ -50,23 +51,36 @@ ComesTo answer old new failed (Err fault) = FallsShort answer old new failed fau
 abbrev pub IsTold : List ℕ → Option (List ℕ) → Option (List ℕ) → Bool → Type 0
 IsTold line old new failed = Appends old new line ⊎ (failed ≡ true)
 
--- a command is refused by its answer, or its settings couldn't be read
+-- the answer is a refusal, and its line is told
+abbrev pub TellsRefusal : Answer → Option (List ℕ) → Option (List ℕ) → Bool → Type 0
+TellsRefusal answer old new failed = IsErrAnd answer (λ refusal. IsTold (refusal_line refusal) old new failed)
+
+-- a command is refused by its answer, or its settings couldn't be read, and the line of it is told
 abbrev pub IsRefused : Answer → Option (List ℕ) → Option (List ℕ) → Bool → Type 0
-IsRefused answer old new failed = IsErr answer ⊎ IsTold (codes "settings: not readable\n") old new failed
+IsRefused answer old new failed = TellsRefusal answer old new failed ⊎ IsTold unreadable_line old new failed
 
--- what was read has a fault, or memory was refused
-abbrev pub IsRefusedOrMemory : Exit → Type 0
-IsRefusedOrMemory Refused = Unit {0}
-IsRefusedOrMemory Memory = Unit {0}
-IsRefusedOrMemory _ = ⊥
+-- what an end tells on the sink of faults: nothing where a whole text was written, and else why there is none
+abbrev pub Tells : Exit → Option (List ℕ) → Option (List ℕ) → Bool → Type 0
+Tells Kept old new failed = new ≡ old
+Tells Found old new failed = new ≡ old
+Tells Refused old new failed = (lines : List ℕ) × IsTold lines old new failed
+Tells Memory old new failed = IsTold memory_line old new failed
+Tells (Write written) old new failed = IsTold (cut_off_line written) old new failed
 
--- how a command ends that came to a fault; the line for a scenario takes memory
-abbrev pub IsEndOf : CommandFault → Exit → Type 0
-IsEndOf (Scenario scenario.Memory) end = end ≡ Memory
-IsEndOf (Scenario (scenario.Bad kind entry term)) end = IsRefusedOrMemory end
-IsEndOf (Campaign campaign.TooManyPlans) end = end ≡ Refused
-IsEndOf (Campaign campaign.Memory) end = end ≡ Memory
-IsEndOf (Campaign (campaign.Write written)) end = end ≡ Write written
+-- what was read has a fault, and this line is told, or memory was refused, and that is
+abbrev pub RefusesWith : List ℕ → Exit → Option (List ℕ) → Option (List ℕ) → Bool → Type 0
+RefusesWith line Refused old new failed = IsTold line old new failed
+RefusesWith line Memory old new failed = IsTold memory_line old new failed
+RefusesWith line _ old new failed = ⊥
+
+-- how a command ends that came to a fault, and what it tells; the line for a scenario takes memory
+abbrev pub IsEndOf : CommandFault → Exit → Option (List ℕ) → Option (List ℕ) → Bool → Type 0
+IsEndOf (Scenario scenario.Memory) end old new failed = (end ≡ Memory) × IsTold memory_line old new failed
+IsEndOf (Scenario (scenario.Bad kind entry term)) end old new failed =
+    RefusesWith (scenario_line (scenario.Bad kind entry term)) end old new failed
+IsEndOf (Campaign campaign.TooManyPlans) end old new failed = (end ≡ Refused) × IsTold (refusal_line too_many_plans) old new failed
+IsEndOf (Campaign campaign.Memory) end old new failed = (end ≡ Memory) × IsTold memory_line old new failed
+IsEndOf (Campaign (campaign.Write written)) end old new failed = (end ≡ Write written) × IsTold (cut_off_line written) old new failed
 
 -- ---- words
 

@@ -1,10 +1,19 @@
 -- The lines that say why a command failed.
 use Rattle.std.specs.Prelude.{List, ℕ, ◌++◌, codes}
+use Rattle.std.specs.Fmt.{decimal}
 use Rattle.report.specs.ReportText.{ended}
 use Rattle.scenario_grammar.specs.FaultText.{fault_text}
 use Rattle.scenario_grammar.specs.declared.fault.ScenarioFault.{ScenarioFault}
+use Rattle.scenario_grammar.specs.declared.fault.ScenarioFault.TheVariants.{Bad}
+use Rattle.campaign_settings.specs.Keys.{full_name}
 use Rattle.campaign_settings.specs.Lines.{line_of}
+use Rattle.campaign_settings.specs.Settings.{Cause, too_long, not_toml, unknown, wrong, listed}
 use Rattle.campaign_settings.specs.declared.fault.SettingsFault.{SettingsFault}
+use Rattle.campaign_settings.specs.declared.fault.SettingsFault.TheVariants as settings
+use Rattle.campaign_settings.specs.declared.keys.KeyFault.TheVariants as fault
+use Rattle.campaign_main.specs.declared.input.ReadFault.{ReadFault}
+use Rattle.campaign_main.specs.declared.input.ReadFault.TheVariants as read
+use Rattle.campaign_main.specs.Commands.{Refusal, not_text, bad_settings, bad_scenario, too_many_plans}
 
 -- what is wrong with the settings
 abbrev pub settings_line : SettingsFault → List ℕ
@@ -13,3 +22,41 @@ settings_line fault = ended (line_of fault)
 -- what is wrong with a scenario's text, and where
 abbrev pub scenario_line : ScenarioFault → List ℕ
 scenario_line fault = ended (codes "scenario: " ++ fault_text fault)
+
+-- that memory was refused
+abbrev pub memory_line : List ℕ
+memory_line = codes "no memory\n"
+
+-- that the settings couldn't be read
+abbrev pub unreadable_line : List ℕ
+unreadable_line = codes "settings: not readable\n"
+
+-- after how many bytes of the text a write failed
+abbrev pub cut_off_line : ℕ → List ℕ
+cut_off_line written = codes "write failed after " ++ (decimal written ++ codes " bytes\n")
+
+-- ---- by the definition of the answers
+
+-- the line of a fault that the settings have
+abbrev pub cause_line : Cause → List ℕ
+cause_line too_long = settings_line settings.TooLong
+cause_line not_toml = settings_line settings.NotToml
+cause_line (unknown place name) = ended (codes "settings: unknown key " ++ full_name place name)
+cause_line (wrong key fault.Missing) = settings_line (settings.Missing key)
+cause_line (wrong key fault.WrongType) = settings_line (settings.WrongType key)
+cause_line (wrong key fault.OutOfRange) = settings_line (settings.OutOfRange key)
+cause_line (listed number f) = settings_line (settings.Scenario number f.kind f.entry f.term)
+
+-- the line of a refusal
+abbrev pub refusal_line : Refusal → List ℕ
+refusal_line not_text = codes "settings: not UTF-8\n"
+refusal_line (bad_settings cause) = cause_line cause
+refusal_line (bad_scenario f) = scenario_line (Bad f.kind f.entry f.term)
+refusal_line too_many_plans = codes "too many plans\n"
+
+-- the line of a reader that gave no text
+abbrev pub read_fault_line : ReadFault → List ℕ
+read_fault_line read.TooLong = cause_line too_long
+read_fault_line read.NotUtf8 = refusal_line not_text
+read_fault_line read.NotReadable = unreadable_line
+read_fault_line read.Memory = memory_line

@@ -1,8 +1,9 @@
 //! The ends of a command that failed, and the line that says why. A line that can't be written changes no end.
-ghost use Rattle.std.specs.Prelude.{◌≡◌, false, IfOk, codes, string_bytes};
+ghost use Rattle.std.specs.Prelude.{◌≡◌, true, false, IfOk, OnErr, OnOk, string_bytes};
+ghost use Rattle.std.specs.Io.KnownBytes.{Appends};
 ghost use Rattle.campaign_settings.specs.declared.fault.SettingsFault.TheVariants as settings;
-ghost use Rattle.campaign_main.specs.Ends.{IsRefusedOrMemory, IsEndOf, IsTold};
-ghost use Rattle.campaign_main.specs.FaultLines.{scenario_line, settings_line};
+ghost use Rattle.campaign_main.specs.Ends.{IsEndOf, IsTold, RefusesWith};
+ghost use Rattle.campaign_main.specs.FaultLines.{cut_off_line, memory_line, scenario_line, settings_line, read_fault_line};
 
 use crate::exit::Exit;
 use crate::fault::CommandFault;
@@ -28,7 +29,8 @@ pub fn refused<E: Sink>(lines: &str, faults: &mut E) -> Exit
 /// Ends for want of memory.
 pub fn no_memory<E: Sink>(faults: &mut E) -> Exit
     requires { E.has_failed faults.old ≡ false }
-    ensures { result ≡ Exit.Memory }
+    ensures end { result ≡ Exit.Memory }
+    ensures told { IsTold memory_line (E.told faults.old) (E.told faults.new) (E.has_failed faults.new) }
 {
     let _ = write_report(b"no memory\n", faults);
     Exit::Memory
@@ -37,9 +39,8 @@ pub fn no_memory<E: Sink>(faults: &mut E) -> Exit
 /// Ends where the settings couldn't be read.
 pub fn unread<E: Sink>(fault: ReadFault, faults: &mut E) -> Exit
     requires { E.has_failed faults.old ≡ false }
-    ensures end { IsRefusedOrMemory result }
+    ensures end { RefusesWith (read_fault_line fault) result (E.told faults.old) (E.told faults.new) (E.has_failed faults.new) }
     ensures memory { fault ≡ ReadFault.Memory → result ≡ Exit.Memory }
-    ensures told { fault ≡ ReadFault.NotReadable → IsTold (codes "settings: not readable\n") (E.told faults.old) (E.told faults.new) (E.has_failed faults.new) }
 {
     match fault {
         ReadFault::TooLong => refused("settings: too long\n", faults),
@@ -59,7 +60,7 @@ fn settings_line(alloc: Global, fault: &SettingsFault) -> Result<String, AllocEr
 /// Ends where a text gives no settings.
 pub fn unset<E: Sink>(alloc: Global, fault: &SettingsFault, faults: &mut E) -> Exit
     requires { E.has_failed faults.old ≡ false }
-    ensures end { IsRefusedOrMemory result }
+    ensures end { RefusesWith (settings_line fault.now) result (E.told faults.old) (E.told faults.new) (E.has_failed faults.new) }
     ensures memory { fault.now ≡ settings.Memory → result ≡ Exit.Memory }
 {
     if let SettingsFault::Memory = fault {
@@ -81,7 +82,7 @@ fn scenario_line(alloc: Global, fault: &ScenarioFault) -> Result<String, AllocEr
 /// Ends where a text spells no scenario.
 fn unspelled<E: Sink>(alloc: Global, fault: &ScenarioFault, faults: &mut E) -> Exit
     requires { E.has_failed faults.old ≡ false }
-    ensures { IsEndOf (CommandFault.Scenario fault.now) result }
+    ensures { IsEndOf (CommandFault.Scenario fault.now) result (E.told faults.old) (E.told faults.new) (E.has_failed faults.new) }
 {
     if let ScenarioFault::Memory = fault {
         return no_memory(faults);
@@ -95,6 +96,8 @@ fn unspelled<E: Sink>(alloc: Global, fault: &ScenarioFault, faults: &mut E) -> E
 /// Writes the line for a write that failed after so many bytes. It takes no memory.
 fn write_cut_off<E: Sink>(written: u64, faults: &mut E) -> Result<(), WriteFault>
     requires { E.has_failed faults.old ≡ false }
+    ensures ok { OnOk result (Appends (E.told faults.old) (E.told faults.new) (cut_off_line written)) }
+    ensures fault { OnErr result (E.has_failed faults.new ≡ true) }
 {
     let mut digits = Buffer::new();
     write_report(b"write failed after ", faults)?;
@@ -105,7 +108,8 @@ fn write_cut_off<E: Sink>(written: u64, faults: &mut E) -> Result<(), WriteFault
 /// Ends where a write failed after so many bytes.
 pub fn cut_off<E: Sink>(written: u64, faults: &mut E) -> Exit
     requires { E.has_failed faults.old ≡ false }
-    ensures { result ≡ Exit.Write written }
+    ensures end { result ≡ Exit.Write written }
+    ensures told { IsTold (cut_off_line written) (E.told faults.old) (E.told faults.new) (E.has_failed faults.new) }
 {
     let _ = write_cut_off(written, faults);
     Exit::Write(written)
@@ -114,7 +118,7 @@ pub fn cut_off<E: Sink>(written: u64, faults: &mut E) -> Exit
 /// Ends where a command wrote no whole text.
 pub fn unanswered<E: Sink>(alloc: Global, fault: &CommandFault, faults: &mut E) -> Exit
     requires { E.has_failed faults.old ≡ false }
-    ensures { IsEndOf fault.now result }
+    ensures { IsEndOf fault.now result (E.told faults.old) (E.told faults.new) (E.has_failed faults.new) }
 {
     match fault {
         CommandFault::Scenario(cause) => unspelled(alloc, cause, faults),

@@ -1,8 +1,8 @@
 //! What the program does, over any reader and any sinks.
-ghost use Rattle.std.specs.Prelude.{◌≡◌, false, IfSome, IsErr};
+ghost use Rattle.std.specs.Prelude.{◌≡◌, false, IfSome};
 ghost use Rattle.campaign_settings.specs.Settings.{given_of};
 ghost use Rattle.campaign_main.specs.Commands.{answer_of, campaign_for, order_answer, text_answer};
-ghost use Rattle.campaign_main.specs.Ends.{EndsAs, IsRefused};
+ghost use Rattle.campaign_main.specs.Ends.{EndsAs, IsRefused, Tells, TellsRefusal};
 
 use crate::chosen::chosen_command;
 use crate::exit::{Exit, exit_of};
@@ -29,7 +29,8 @@ fn perform_chosen<W: Sink, E: Sink, H: Threads + Wait + Sync>(
     requires output { W.has_failed output.old ≡ false }
     requires faults { E.has_failed faults.old ≡ false }
     ensures end { EndsAs result (order_answer order.now (campaign_for (given_of settings.now) choice.now)) (W.told output.old) (W.told output.new) (W.has_failed output.new) }
-    ensures cause { result ≡ Exit.Refused → IsErr (order_answer order.now (campaign_for (given_of settings.now) choice.now)) }
+    ensures cause { result ≡ Exit.Refused → TellsRefusal (order_answer order.now (campaign_for (given_of settings.now) choice.now)) (E.told faults.old) (E.told faults.new) (E.has_failed faults.new) }
+    ensures told { Tells result (E.told faults.old) (E.told faults.new) (E.has_failed faults.new) }
 {
     match chosen_command(rt, alloc, order, choice, settings, output) {
         Ok(found) => exit_of(found),
@@ -49,7 +50,8 @@ fn perform_text<W: Sink, E: Sink, H: Threads + Wait + Sync>(
     requires output { W.has_failed output.old ≡ false }
     requires faults { E.has_failed faults.old ≡ false }
     ensures end { EndsAs result (text_answer order.now text.now) (W.told output.old) (W.told output.new) (W.has_failed output.new) }
-    ensures cause { result ≡ Exit.Refused → IsErr (text_answer order.now text.now) }
+    ensures cause { result ≡ Exit.Refused → TellsRefusal (text_answer order.now text.now) (E.told faults.old) (E.told faults.new) (E.has_failed faults.new) }
+    ensures told { Tells result (E.told faults.old) (E.told faults.new) (E.has_failed faults.new) }
 {
     let settings = match Settings::read(alloc, text) {
         Ok(settings) => settings,
@@ -66,7 +68,8 @@ fn perform_text<W: Sink, E: Sink, H: Threads + Wait + Sync>(
 /// It answers Kept, or Found where a verdict in the text is fail, where the whole text stands in the output. Else one line on the
 /// sink of faults says why there is none: Refused for settings that can't be read or have a fault, for a scenario with a fault and
 /// for more than 65536 plans, and Memory where memory was refused, both with the output unchanged; or Write, which tells how many
-/// bytes of the text went out before the output failed. Where that line can't be written the answer stays.
+/// bytes of the text went out before the output failed. Where that line can't be written the answer stays. The line of a refusal names
+/// the first fault in the order in which faults are looked for.
 pub fn perform<R: Read, W: Sink, E: Sink, H: Threads + Wait + Sync>(
     rt: &H,
     alloc: Global,
@@ -79,6 +82,7 @@ pub fn perform<R: Read, W: Sink, E: Sink, H: Threads + Wait + Sync>(
     requires faults { E.has_failed faults.old ≡ false }
     ensures end { IfSome (R.remaining reader.old) (λ bytes. EndsAs result (answer_of order.now bytes) (W.told output.old) (W.told output.new) (W.has_failed output.new)) }
     ensures cause { result ≡ Exit.Refused → IfSome (R.remaining reader.old) (λ bytes. IsRefused (answer_of order.now bytes) (E.told faults.old) (E.told faults.new) (E.has_failed faults.new)) }
+    ensures told { Tells result (E.told faults.old) (E.told faults.new) (E.has_failed faults.new) }
 {
     match read_all(alloc, reader) {
         Ok(text) => perform_text(rt, alloc, order, text.as_str(), output, faults),

@@ -1,28 +1,33 @@
 //! What the program answers where it has no settings to read.
-ghost use Rattle.std.specs.Prelude.{◌≡◌, false};
-ghost use Rattle.campaign_main.specs.Ends.{EndsWords, IsRefusedOrMemory};
+ghost use Rattle.std.specs.Prelude.{◌≡◌, ◌↔◌, false, codes};
+ghost use Rattle.std.specs.IoError.{error_kind};
+ghost use Rattle.campaign_main.specs.Ends.{EndsWords, RefusesWith, Tells};
+ghost use Rattle.campaign_main.specs.FaultLines.{unreadable_line};
 
 use crate::exit::Exit;
 use crate::lines::{cut_off, no_memory, refused};
 use command_words::WordsFault;
 use report::write_report;
 use std::alloc::Global;
-use std::io;
+use std::io::{self, ErrorKind};
 use target_trait::Sink;
 
-/// Ends where the file of the settings can't be opened: as refused, or for want of memory, where the error says so.
+/// Ends where the file of the settings can't be opened: as refused, or for want of memory, where the error says so. One line on the
+/// sink of faults says which.
 pub fn unreadable_settings<E: Sink>(error: &io::Error, faults: &mut E) -> Exit
     requires { E.has_failed faults.old ≡ false }
-    ensures { IsRefusedOrMemory result }
+    ensures end { RefusesWith unreadable_line result (E.told faults.old) (E.told faults.new) (E.has_failed faults.new) }
+    ensures memory { (result ≡ Exit.Memory) ↔ (error_kind error.now ≡ ErrorKind.OutOfMemory) }
 {
     unreadable(error, "settings: not readable\n", faults)
 }
 
 /// Ends where the program's words can't be had, as where one isn't UTF-8: as refused, or for want of memory, where the error says
-/// so.
+/// so. One line on the sink of faults says which.
 pub fn unreadable_words<E: Sink>(error: &io::Error, faults: &mut E) -> Exit
     requires { E.has_failed faults.old ≡ false }
-    ensures { IsRefusedOrMemory result }
+    ensures end { RefusesWith (codes "error: invalid UTF-8 was detected in one or more arguments\n") result (E.told faults.old) (E.told faults.new) (E.has_failed faults.new) }
+    ensures memory { (result ≡ Exit.Memory) ↔ (error_kind error.now ≡ ErrorKind.OutOfMemory) }
 {
     unreadable(
         error,
@@ -33,9 +38,10 @@ pub fn unreadable_words<E: Sink>(error: &io::Error, faults: &mut E) -> Exit
 
 fn unreadable<E: Sink>(error: &io::Error, line: &str, faults: &mut E) -> Exit
     requires { E.has_failed faults.old ≡ false }
-    ensures { IsRefusedOrMemory result }
+    ensures end { RefusesWith line.now result (E.told faults.old) (E.told faults.new) (E.has_failed faults.new) }
+    ensures memory { (result ≡ Exit.Memory) ↔ (error_kind error.now ≡ ErrorKind.OutOfMemory) }
 {
-    if error.kind() == io::ErrorKind::OutOfMemory {
+    if error.kind() == ErrorKind::OutOfMemory {
         no_memory(faults)
     } else {
         refused(line, faults)
@@ -45,7 +51,8 @@ fn unreadable<E: Sink>(error: &io::Error, line: &str, faults: &mut E) -> Exit
 /// Writes what the program answers to words that it doesn't take, and ends.
 ///
 /// Help that was asked for goes to the output, and the end is Kept, or Write where the output failed. Any other refusal goes to the
-/// sink of faults, with the output unchanged, and the end is Refused. Where memory was refused the end is Memory.
+/// sink of faults, with the output unchanged, and the end is Refused. Where memory was refused the end is Memory. On the sink of
+/// faults nothing is written for Kept, and for Memory and Write the line that says so.
 pub fn refuse_words<W: Sink, E: Sink>(
     alloc: Global,
     fault: &WordsFault,
@@ -54,7 +61,9 @@ pub fn refuse_words<W: Sink, E: Sink>(
 ) -> Exit
     requires output { W.has_failed output.old ≡ false }
     requires faults { E.has_failed faults.old ≡ false }
-    ensures { EndsWords result fault.now (W.told output.old) (W.told output.new) (W.has_failed output.new) }
+    ensures end { EndsWords result fault.now (W.told output.old) (W.told output.new) (W.has_failed output.new) }
+    ensures memory { fault.now ≡ WordsFault.Memory → result ≡ Exit.Memory }
+    ensures told { Tells result (E.told faults.old) (E.told faults.new) (E.has_failed faults.new) }
 {
     if let WordsFault::Memory = fault {
         return no_memory(faults);

@@ -1,4 +1,4 @@
-use Rattle.std.proofs.Common.{List, ℕ, Result, Err, ap, inl}
+use Rattle.std.proofs.Common.{Err, ap, inl}
 use Rattle.campaign_main.specs.Commands.{Answer}
 use Rattle.campaign_main.specs.Ends.{EndsAs, IsRefused}
 use Rattle.campaign_main.proofs.EndLemmas.{cause-unread, read-answer}
@@ -23,4 +23,4 @@ pub returns-in-Err-clause-cause : goal.returns-in-Err-clause-cause
 returns-in-Err-clause-cause g c =
     λ refused.
     cause-unread _ _ _ _ _ _ c.in-Err.fault (λ e. c.in-Err.ensures.too_long (ap (λ f. Err f) e)) (λ e. c.in-Err.ensures.not_text (ap (λ f. Err f) e))
-    c.unread.ensures.told c.unread.ensures.memory refused
+    c.unread.ensures.end c.unread.ensures.memory refused
