@@ -93,6 +93,10 @@ pub fn link_all(desks: &mut Vec<Desk>, count: u32) -> Result<(), AllocError>
     Ok(())
 }
 
+/// The bytes left free between the words of two deques, so that no two threads write to the same cache line. Processors fetch lines of 64
+/// bytes in pairs.
+const GAP: usize = 128;
+
 /// So many desks with empty deques, each with that much room.
 fn empty_desks(alloc: Global, n: usize, room: usize, count: u32) -> Result<Vec<Desk>, AllocError>
     ensures len { IfOk result (λ v. vec_len v ≡ n) }
@@ -101,8 +105,10 @@ fn empty_desks(alloc: Global, n: usize, room: usize, count: u32) -> Result<Vec<D
     ensures room { IfOk result (λ v. (k : ℕ) (d : Desk) → k < n → DealtRound n room 0 k (slice_index_or v.items k d)) }
 {
     let mut desks = Vec::new(alloc);
+    let mut gaps = Vec::new(alloc);
     for _made in 0..n {
         desks.push(Desk::new(alloc, room)?)?;
+        gaps.push(Vec::<u8>::with_capacity(alloc, GAP)?)?;
     }
     Ok(desks)
 }
