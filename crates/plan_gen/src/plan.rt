@@ -51,7 +51,7 @@ impl<'a> Model for Plan<'a> {
 
 impl<'a> Plan<'a> {
     /// The plan of rigged hits.
-    pub fn rigged(catalogue: &'a [&'a str], rigs: Rigs) -> Self
+    pub(crate) fn rigged(catalogue: &'a [&'a str], rigs: Rigs) -> Self
         requires lawful { IsCatalogue (texts catalogue.now) }
         requires small { CanBeRigged (rigs_of rigs) }
         ensures { result ≡ rigging (texts catalogue.now) (rigs_of rigs) }
