@@ -59,7 +59,8 @@ TellsRefusal answer old new failed = IsErrAnd answer (λ refusal. IsTold (refusa
 abbrev pub IsRefused : Answer → Option (List ℕ) → Option (List ℕ) → Bool → Type 0
 IsRefused answer old new failed = TellsRefusal answer old new failed ⊎ IsTold unreadable_line old new failed
 
--- what an end tells on the sink of faults: nothing where a whole text was written, and else why there is none
+-- What an end tells on the sink of faults: nothing where a whole text was written, and else why there is none. Which lines a refusal tells,
+-- its answer says; here they may be any.
 abbrev pub Tells : Exit → Option (List ℕ) → Option (List ℕ) → Bool → Type 0
 Tells Kept old new failed = new ≡ old
 Tells Found old new failed = new ≡ old
