@@ -15,7 +15,7 @@ use target_trait::{Case, Gate, Target, Verdict, run_verdict};
 /// How many faults a scenario has. An error means that memory was refused.
 pub fn fault_count(alloc: Global, scenario: &Scenario) -> Result<u32, AllocError>
     ensures count { IfOk result (λ n. n ≡ all_faults scenario.now) }
-    ensures few { IfOk result (λ n. n ≤ 1024) }
+    ensures few { IfOk result (λ n. n ≤ 4096) }
 {
     faults_are_counted();
     let _ = scenario.entries();

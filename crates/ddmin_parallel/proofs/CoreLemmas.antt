@@ -88,7 +88,7 @@ grows known s b none t d is = at (same_set s t) refl
 
 -- what a core keeps, of its parts
 pub record IsGood (faults : ℕ) (known : Known) (out : List (List ℕ)) (p : Position) : Type 0 where
-  pub few : faults ≤ 1024
+  pub few : faults ≤ 4096
   pub stands : p ≡ furthest (get known) (start faults)
   pub open_sets : AreOpen known out
 
@@ -122,7 +122,7 @@ empty_stays : (n : ℕ) → furthest (get nothing) (start n) ≡ start n
 empty_stays zero = furthest_stop (get nothing) (start zero) refl
 empty_stays (suc more) = furthest_stop (get nothing) (Empty (suc more)) (ap (option_then (after_empty (suc more))) (get-empty (slice_cmp nat_cmp) []))
 
-pub good_start : (faults : ℕ) (p : Position) → faults ≤ 1024 → p ≡ start faults → IsGood faults nothing [] p
+pub good_start : (faults : ℕ) (p : Position) → faults ≤ 4096 → p ≡ start faults → IsGood faults nothing [] p
 good_start faults p few is = record { few = few; stands = is ∙ sym (empty_stays faults); open_sets = tt }
 
 -- ---- the card rule

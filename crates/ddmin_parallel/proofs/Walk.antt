@@ -72,7 +72,7 @@ at_round_finish test c n tests fits = at (leb (length c) 1) refl
     at true is = sym (one_left test c n tests fits (leb-true (length c) 1 is))
     at false is = refl
 
-at_round_small : (c : List ℕ) (n tests : ℕ) → length c ≤ 1024 → IsSmall (at_round c n tests)
+at_round_small : (c : List ℕ) (n tests : ℕ) → length c ≤ 4096 → IsSmall (at_round c n tests)
 at_round_small c n tests le = at (leb (length c) 1)
   where
     at : (b : Bool) → IsSmall (elim b [ true ↦ End (kept_after c tests) | false ↦ Round c n tests ])
@@ -311,7 +311,7 @@ pub furthest_small : (known : Answers) (p : Position) → IsLawful p → IsSmall
 unfolding furthest
 furthest_small known p lawful small = walk_small known (position_rank p) p lawful small
 
-pub start_small : (faults : ℕ) → faults ≤ 1024 → IsSmall (start faults)
+pub start_small : (faults : ℕ) → faults ≤ 4096 → IsSmall (start faults)
 start_small zero le = tt
 start_small (suc more) le = le
 

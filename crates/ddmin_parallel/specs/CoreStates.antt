@@ -15,8 +15,8 @@ IsLawful (End r) = Unit {0}
 
 -- no more faults than a reduction takes
 abbrev pub IsSmall : Position → Type 0
-IsSmall (Empty faults) = faults ≤ 1024
-IsSmall (Round c n tests) = length c ≤ 1024
+IsSmall (Empty faults) = faults ≤ 4096
+IsSmall (Round c n tests) = length c ≤ 4096
 IsSmall (End r) = Unit {0}
 
 -- a state is stored as its fields

@@ -12,7 +12,7 @@ state_of c = record { faults = c.faults; known = c.known; out = map {A = Vec ℕ
 
 -- the stage is where the known answers lead, no set that is out is known, and the cursor is no further than they say
 pub record IsCore (c : Inside) : Type 0 where
-  pub few : c.faults ≤ 1024
+  pub few : c.faults ≤ 4096
   pub stands : position_of c.stage ≡ position (state_of c)
   pub open_sets : AreOpen c.known (map {A = Vec ℕ Global} {B = List ℕ} (λ s. s.items) c.out.items)
   pub reached : IsReached (get c.known) (is_among (map {A = Vec ℕ Global} {B = List ℕ} (λ s. s.items) c.out.items)) (position_of c.stage) c.cursor

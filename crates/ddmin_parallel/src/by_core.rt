@@ -23,7 +23,7 @@ pub(crate) fn finish<P: Probe>(
     probe: &mut P,
     faults: u32,
 ) -> Result<Reduction, AllocError>
-    requires few { faults ≤ 1024 }
+    requires few { faults ≤ 4096 }
     requires tells { Tells faults (P.answers probe.old) core }
     ensures reduced { IfOk result (λ r. r ≡ ddmin (P.answers probe.old) faults) }
     ensures setup { P.answers probe.new ≡ P.answers probe.old }
@@ -53,7 +53,7 @@ pub fn reduce_by_core<P: Probe>(
     probe: &mut P,
     faults: u32,
 ) -> Result<Reduction, AllocError>
-    requires { faults ≤ 1024 }
+    requires { faults ≤ 4096 }
     ensures reduced { IfOk result (λ r. r ≡ ddmin (P.answers probe.old) faults) }
     ensures setup { P.answers probe.new ≡ P.answers probe.old }
 {

@@ -179,7 +179,7 @@ fn gathered<P: Probe>(
     pairs: &[Told],
     faults: u32,
 ) -> Result<Reduction, AllocError>
-    requires few { faults ≤ 1024 }
+    requires few { faults ≤ 4096 }
     requires own { AllAnswers (P.answers probe.old) pairs.now }
     ensures { IfOk result (λ r. r ≡ ddmin (P.answers probe.old) faults) }
 {
@@ -208,7 +208,7 @@ pub fn reduce<R: Threads + Wait + Sync, P: Probe, G: Gate>(
     hands: Vec<P>,
     faults: u32,
 ) -> Result<Reduction, AllocError>
-    requires few { faults ≤ 1024 }
+    requires few { faults ≤ 4096 }
     requires some { 0 < length hands.items }
     requires one_setup { All (λ p. All (λ q. P.answers p ≡ P.answers q) hands.items) hands.items }
     ensures { IfOk result (λ r. All (λ p. r ≡ ddmin (P.answers p) faults) hands.items) }

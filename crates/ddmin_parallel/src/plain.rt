@@ -46,7 +46,7 @@ pub fn reduce_plain<P: Probe>(
     probe: &mut P,
     faults: u32,
 ) -> Result<Reduction, AllocError>
-    requires { faults ≤ 1024 }
+    requires { faults ≤ 4096 }
     ensures reduced { IfOk result (λ r. r ≡ ddmin (P.answers probe.old) faults) }
     ensures one_minimal { P.answers probe.old (range_with_len 0 faults) ≡ true → IfOk result (λ r. IsOneMinimal (P.answers probe.old) r.kept) }
     ensures setup { P.answers probe.new ≡ P.answers probe.old }

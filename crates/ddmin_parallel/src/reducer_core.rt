@@ -186,7 +186,7 @@ fn hand_out(
 impl Core {
     /// Begins the reduction of the faults `0 .. faults`. Up to 1,024 faults.
     pub fn start(alloc: Global, faults: u32) -> Core
-        requires { faults ≤ 1024 }
+        requires { faults ≤ 4096 }
         ensures { result ≡ begin faults }
     {
         let stage = if faults == 0 {

@@ -206,7 +206,7 @@ fn is_the_same<R: Threads + Wait + Sync, P: Twin>(
     probe: &mut P,
     faults: u32,
 ) -> Result<bool, AllocError>
-    requires { faults ≤ 1024 }
+    requires { faults ≤ 4096 }
 {
     let plain = reduce_plain(alloc, probe, faults)?;
     let by_core = reduce_by_core(alloc, probe, faults)?;

@@ -35,7 +35,7 @@ pub fn reduced_by<R: Threads + Wait + Sync, P: Twin, G: Gate>(
     faults: u32,
 ) -> Result<Reduction, AllocError>
     requires some { 0 < count }
-    requires few { faults ≤ 1024 }
+    requires few { faults ≤ 4096 }
     ensures { IfOk result (λ r. r ≡ ddmin (P.answers probe.now) faults) }
 {
     let hands = hands_of(alloc, probe, count)?;

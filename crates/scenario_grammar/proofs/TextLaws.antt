@@ -28,15 +28,15 @@ not_zero n lt = grind (arith, nat_tests)
 
 -- ---- a chain
 
-counted : (entry n faults : ℕ) (t : Term) (off : Bool) → faults + cond off 0 1 ≤ 1024 → cond {A = Result (Term × ℕ) Fault} off (Ok (t, faults)) (cond (leb 1024 faults) (bad TooMany entry n) (Ok (t, faults + 1))) ≡ Ok (t, faults + cond off 0 1)
+counted : (entry n faults : ℕ) (t : Term) (off : Bool) → faults + cond off 0 1 ≤ 4096 → cond {A = Result (Term × ℕ) Fault} off (Ok (t, faults)) (cond (leb 4096 faults) (bad TooMany entry n) (Ok (t, faults + 1))) ≡ Ok (t, faults + cond off 0 1)
 counted entry n faults t true few = ap (λ (k : ℕ). Ok (t, k)) (omega arith)
-counted entry n faults t false few = rw (not_at_most 1024 faults (omega arith)) refl
+counted entry n faults t false few = rw (not_at_most 4096 faults (omega arith)) refl
 
-pub term_in_is : (entry n faults : ℕ) (text : List ℕ) (t : Term) → n ≤ 256 → faults + fault_of t ≤ 1024 → SpellsTerm (trimmed text) t → term_in entry n faults text ≡ Ok (t, faults + fault_of t)
+pub term_in_is : (entry n faults : ℕ) (text : List ℕ) (t : Term) → n ≤ 256 → faults + fault_of t ≤ 4096 → SpellsTerm (trimmed text) t → term_in entry n faults text ≡ Ok (t, faults + fault_of t)
 unfolding term_in
 term_in_is entry n faults text t small few h = rw (not_below 256 n small, term_read (trimmed text) t h) (counted entry n faults t (is_off t.task) few)
 
-pub chain_is : (entry n faults : ℕ) (parts : List (List ℕ)) (ts : List Term) → SpellsParts parts ts → n + length ts ≤ 257 → faults + faults_in ts ≤ 1024 → chain_from entry n faults parts ≡ Ok (ts, faults + faults_in ts)
+pub chain_is : (entry n faults : ℕ) (parts : List (List ℕ)) (ts : List Term) → SpellsParts parts ts → n + length ts ≤ 257 → faults + faults_in ts ≤ 4096 → chain_from entry n faults parts ≡ Ok (ts, faults + faults_in ts)
 unfolding chain_from
 chain_is entry n faults [] [] h small few = ap (λ (k : ℕ). Ok ([], k)) (omega arith)
 chain_is entry n faults [] (t ∷ ts) h small few = absurd h
@@ -56,14 +56,14 @@ state es p f = Ok (record { entries = es; pieces = p; faults = f })
 pub same_progress : (es : Entries) (p q f g : ℕ) → p ≡ q → f ≡ g → state es p f ≡ state es q g
 same_progress es p q f g h k = ap (λ (n : ℕ). state es n f) h ∙ ap (λ (n : ℕ). state es q n) k
 
-one_action : (done : Progress) (entry : ℕ) (piece : List ℕ) (e : List ℕ × List Term) → SpellsAction piece e → length e.1 ≤ 256 → done.faults + faults_in e.1 ≤ 1024
+one_action : (done : Progress) (entry : ℕ) (piece : List ℕ) (e : List ℕ × List Term) → SpellsAction piece e → length e.1 ≤ 256 → done.faults + faults_in e.1 ≤ 4096
     → action done entry (cut 61 piece) ≡ Ok (add_entry done e.0 (e.1, done.faults + faults_in e.1))
 one_action done entry piece e h small few =
     let c : cut 61 piece ≡ Some (h.front, h.back) = ap (cut 61) h.parts ∙ cut_at 61 h.front h.back h.first in
     let named : eqb (length (trimmed h.front)) 0 ≡ false = rw (← h.name) (not_zero (length e.0) h.some_name) in
     rw (c, named, chain_is entry 1 done.faults (cut_at_arrows h.back) e.1 h.chain (omega arith) few, ← h.name) refl
 
-piece_is : (done : Progress) (entry : ℕ) (piece : List ℕ) (e : List ℕ × List Term) → 0 < length piece → SpellsAction piece e → done.pieces < 256 → length e.1 ≤ 256 → done.faults + faults_in e.1 ≤ 1024
+piece_is : (done : Progress) (entry : ℕ) (piece : List ℕ) (e : List ℕ × List Term) → 0 < length piece → SpellsAction piece e → done.pieces < 256 → length e.1 ≤ 256 → done.faults + faults_in e.1 ≤ 4096
     → piece_in done entry piece ≡ Ok (add_entry done e.0 (e.1, done.faults + faults_in e.1))
 unfolding piece_in
 piece_is done entry piece e some h few_pieces small few = rw (not_zero (length piece) some, not_at_most 256 done.pieces few_pieces) (one_action done entry piece e h small few)
@@ -72,7 +72,7 @@ blank_piece : (done : Progress) (entry : ℕ) (piece : List ℕ) → length piec
 unfolding piece_in
 blank_piece done entry piece e = rw e refl
 
-pub pieces_are : (done : Progress) (entry : ℕ) (pieces : List (List ℕ)) (actions : List (List ℕ × List Term)) → SpellsPieces pieces actions → done.pieces + length actions ≤ 256 → AllByRecursion (λ e. length e.1 ≤ 256) actions → done.faults + all_faults actions ≤ 1024
+pub pieces_are : (done : Progress) (entry : ℕ) (pieces : List (List ℕ)) (actions : List (List ℕ × List Term)) → SpellsPieces pieces actions → done.pieces + length actions ≤ 256 → AllByRecursion (λ e. length e.1 ≤ 256) actions → done.faults + all_faults actions ≤ 4096
     → pieces_from done entry pieces ≡ Ok (after done actions)
 unfolding pieces_from
 pieces_are done entry [] [] h few small faults = same_progress done.entries done.pieces (done.pieces + 0) done.faults (done.faults + 0) (omega arith) (omega arith)

@@ -45,19 +45,19 @@ some_length n h = grind (arith, nat_tests)
 no_length : (n : ℕ) → eqb n 0 ≡ true → n ≡ 0
 no_length n h = grind (arith, nat_tests)
 
-count_gives : (entry n faults : ℕ) (s t : Term) (g : ℕ) (off : Bool) → faults ≤ 1024 → cond {A = Result (Term × ℕ) Fault} off (Ok (s, faults)) (cond (leb 1024 faults) (bad TooMany entry n) (Ok (s, faults + 1))) ≡ Ok (t, g) → (s ≡ t) × (g ≡ faults + cond off 0 1) × (g ≤ 1024)
+count_gives : (entry n faults : ℕ) (s t : Term) (g : ℕ) (off : Bool) → faults ≤ 4096 → cond {A = Result (Term × ℕ) Fault} off (Ok (s, faults)) (cond (leb 4096 faults) (bad TooMany entry n) (Ok (s, faults + 1))) ≡ Ok (t, g) → (s ≡ t) × (g ≡ faults + cond off 0 1) × (g ≤ 4096)
 count_gives entry n faults s t g true few h =
     let e = yes_is (s, faults) (t, g) h in
     let same : faults ≡ g = ap (λ (p : Term × ℕ). p.1) e in
     (ap (λ (p : Term × ℕ). p.0) e, omega arith, omega arith)
 count_gives entry n faults s t g false few h =
-    let l = let_through (leb 1024 faults) (record { kind = TooMany; entry = entry; term = n }) (Ok (s, faults + 1)) (t, g) h in
+    let l = let_through (leb 4096 faults) (record { kind = TooMany; entry = entry; term = n }) (Ok (s, faults + 1)) (t, g) h in
     let e = yes_is (s, faults + 1) (t, g) l.1 in
     let same : faults + 1 ≡ g = ap (λ (p : Term × ℕ). p.1) e in
-    let small : faults < 1024 = less 1024 faults l.0 in
+    let small : faults < 4096 = less 4096 faults l.0 in
     (ap (λ (p : Term × ℕ). p.0) e, omega arith, omega arith)
 
-pub term_in_gives : (entry n faults : ℕ) (text : List ℕ) (t : Term) (g : ℕ) → faults ≤ 1024 → term_in entry n faults text ≡ Ok (t, g) → (n ≤ 256) × SpellsTerm (trimmed text) t × (g ≡ faults + fault_of t) × (g ≤ 1024)
+pub term_in_gives : (entry n faults : ℕ) (text : List ℕ) (t : Term) (g : ℕ) → faults ≤ 4096 → term_in entry n faults text ≡ Ok (t, g) → (n ≤ 256) × SpellsTerm (trimmed text) t × (g ≡ faults + fault_of t) × (g ≤ 4096)
 unfolding term_in
 term_in_gives entry n faults text t g few h =
     let l = let_through (ltb 256 n) (record { kind = TooMany; entry = entry; term = n }) (at entry n (term_of (trimmed text)) >>= count_fault entry n faults) (t, g) h in
@@ -67,13 +67,13 @@ term_in_gives entry n faults text t g few h =
     let Q : Term → Type 0 = λ u. g ≡ faults + fault_of u in
     (below 256 n l.0, subst P k.0 (term_sound (trimmed text) b.0 (at_ok entry n (term_of (trimmed text)) b.0 b.1)), subst Q k.0 k.1, k.2)
 
-pub chain_gives : (entry n faults : ℕ) (parts : List (List ℕ)) (ts : List Term) (g : ℕ) → n ≤ 257 → faults ≤ 1024 → chain_from entry n faults parts ≡ Ok (ts, g) → SpellsParts parts ts × (n + length ts ≤ 257) × (g ≡ faults + faults_in ts) × (g ≤ 1024)
+pub chain_gives : (entry n faults : ℕ) (parts : List (List ℕ)) (ts : List Term) (g : ℕ) → n ≤ 257 → faults ≤ 4096 → chain_from entry n faults parts ≡ Ok (ts, g) → SpellsParts parts ts × (n + length ts ≤ 257) × (g ≡ faults + faults_in ts) × (g ≤ 4096)
 unfolding chain_from
 chain_gives entry n faults [] ts g small few h =
     let e = yes_is ([], faults) (ts, g) h in
     let none : [] ≡ ts = ap (λ (p : List Term × ℕ). p.0) e in
     let same : faults ≡ g = ap (λ (p : List Term × ℕ). p.1) e in
-    let P : List Term → Type 0 = λ us. SpellsParts [] us × (n + length us ≤ 257) × (g ≡ faults + faults_in us) × (g ≤ 1024) in
+    let P : List Term → Type 0 = λ us. SpellsParts [] us × (n + length us ≤ 257) × (g ≡ faults + faults_in us) × (g ≤ 4096) in
     subst P none (tt, omega arith, omega arith, omega arith)
 chain_gives entry n faults (p ∷ ps) ts g small few h =
     let b = bind_ok (term_in entry n faults p) _ (ts, g) h in
@@ -83,7 +83,7 @@ chain_gives entry n faults (p ∷ ps) ts g small few h =
     let e = yes_is (b.0.0 ∷ r.0.0, r.0.1) (ts, g) r.2 in
     let whole : (b.0.0 ∷ r.0.0) ≡ ts = ap (λ (p : List Term × ℕ). p.0) e in
     let same : r.0.1 ≡ g = ap (λ (p : List Term × ℕ). p.1) e in
-    let P : List Term → Type 0 = λ us. SpellsParts (p ∷ ps) us × (n + length us ≤ 257) × (g ≡ faults + faults_in us) × (g ≤ 1024) in
+    let P : List Term → Type 0 = λ us. SpellsParts (p ∷ ps) us × (n + length us ≤ 257) × (g ≡ faults + faults_in us) × (g ≤ 4096) in
     let f1 = one.2 in let f2 = more.2 in let f3 = more.1 in let f4 = more.3 in
     subst P whole ((one.1, more.0), omega arith, omega arith, omega arith)
 
@@ -93,10 +93,10 @@ pub record Adds (done next : Progress) (piece : List ℕ) : Type 0 where
   pub action : SpellsAction piece e
   pub few_terms : length e.1 ≤ 256
   pub few_pieces : done.pieces < 256
-  pub few_faults : done.faults + faults_in e.1 ≤ 1024
+  pub few_faults : done.faults + faults_in e.1 ≤ 4096
   pub next_is : next ≡ add_entry done e.0 (e.1, done.faults + faults_in e.1)
 
-action_gives : (done next : Progress) (entry : ℕ) (piece : List ℕ) (o : Option (List ℕ × List ℕ)) → ((front back : List ℕ) → o ≡ Some (front, back) → (piece ≡ front ++ (61 ∷ back)) × (lacks 61 front ≡ true)) → done.pieces < 256 → done.faults ≤ 1024
+action_gives : (done next : Progress) (entry : ℕ) (piece : List ℕ) (o : Option (List ℕ × List ℕ)) → ((front back : List ℕ) → o ≡ Some (front, back) → (piece ≡ front ++ (61 ∷ back)) × (lacks 61 front ≡ true)) → done.pieces < 256 → done.faults ≤ 4096
     → action done entry o ≡ Ok next → Adds done next piece
 action_gives done next entry piece None parts few faults h = absurd cc
 action_gives done next entry piece (Some (front, back)) parts few faults h =
@@ -115,7 +115,7 @@ action_gives done next entry piece (Some (front, back)) parts few faults h =
       next_is = sym (yes_is (add_entry done (trimmed front) b.0) next b.2) ∙ ap (λ (n : ℕ). add_entry done (trimmed front) (b.0.0, n)) same;
     }
 
-piece_gives : (done next : Progress) (entry : ℕ) (piece : List ℕ) (blank : Bool) → eqb (length piece) 0 ≡ blank → done.faults ≤ 1024
+piece_gives : (done next : Progress) (entry : ℕ) (piece : List ℕ) (blank : Bool) → eqb (length piece) 0 ≡ blank → done.faults ≤ 4096
     → cond blank (yes done) (cond (leb 256 done.pieces) (bad TooMany entry 0) (action done entry (cut 61 piece))) ≡ Ok next → ((length piece ≡ 0) × (done ≡ next)) ⊎ ((0 < length piece) × Adds done next piece)
 piece_gives done next entry piece true is few h = inl (no_length (length piece) is, yes_is done next h)
 piece_gives done next entry piece false is few h =
@@ -128,14 +128,14 @@ pub record AddsAll (done next : Progress) (pieces : List (List ℕ)) : Type 0 wh
   pub spelled : SpellsPieces pieces actions
   pub few_terms : AllByRecursion (λ e. length e.1 ≤ 256) actions
   pub few_pieces : done.pieces + length actions ≤ 256
-  pub few_faults : done.faults + all_faults actions ≤ 1024
+  pub few_faults : done.faults + all_faults actions ≤ 4096
   pub next_is : next ≡ after done actions
 
 blank_more : (p : List ℕ) (ps : List (List ℕ)) (actions : List (List ℕ × List Term)) → length (trimmed p) ≡ 0 → SpellsPieces ps actions → SpellsPieces (p ∷ ps) actions
 blank_more p ps [] blank h = (blank, h)
 blank_more p ps (e ∷ es) blank h = inl (blank, h)
 
-pub pieces_give : (done next : Progress) (entry : ℕ) (pieces : List (List ℕ)) → done.pieces ≤ 256 → done.faults ≤ 1024 → pieces_from done entry pieces ≡ Ok next → AddsAll done next pieces
+pub pieces_give : (done next : Progress) (entry : ℕ) (pieces : List (List ℕ)) → done.pieces ≤ 256 → done.faults ≤ 4096 → pieces_from done entry pieces ≡ Ok next → AddsAll done next pieces
 unfolding pieces_from piece_in
 pieces_give done next entry [] few faults h =
     record {
@@ -151,7 +151,7 @@ pieces_give done next entry (p ∷ ps) few faults h =
     elim (piece_gives done b.0 entry (trimmed p) (eqb (length (trimmed p)) 0) refl faults b.1) [
       | inl same ↦
           let P : Progress → Type 0 = λ d. AddsAll d next ps in
-          let rest : AddsAll done next ps = subst P (sym same.1) (pieces_give b.0 next (entry + 1) ps (let Q : Progress → Type 0 = λ d. d.pieces ≤ 256 in subst Q same.1 few) (let Q : Progress → Type 0 = λ d. d.faults ≤ 1024 in subst Q same.1 faults) b.2) in
+          let rest : AddsAll done next ps = subst P (sym same.1) (pieces_give b.0 next (entry + 1) ps (let Q : Progress → Type 0 = λ d. d.pieces ≤ 256 in subst Q same.1 few) (let Q : Progress → Type 0 = λ d. d.faults ≤ 4096 in subst Q same.1 faults) b.2) in
           record { actions = rest.actions; spelled = blank_more p ps rest.actions same.0 rest.spelled; few_terms = rest.few_terms; few_pieces = rest.few_pieces; few_faults = rest.few_faults; next_is = rest.next_is }
       | inr one ↦
           let a = one.1 in

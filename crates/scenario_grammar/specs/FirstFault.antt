@@ -127,11 +127,11 @@ at entry term (Err kind) = Err (record { kind = kind; entry = entry; term = term
 abbrev pub bad : {A : Type 0} → Kind → ℕ → ℕ → Result A Fault
 bad kind entry term = Err (record { kind = kind; entry = entry; term = term })
 
--- the faults after one more term, of which at most 1024 are allowed
+-- the faults after one more term, of which at most 4096 are allowed
 abbrev pub count_fault : ℕ → ℕ → ℕ → Term → Result (Term × ℕ) Fault
 count_fault entry number faults t =
     if is_off t.task then Ok (t, faults)
-    else if nat_le 1024 faults then bad TooMany entry number
+    else if nat_le 4096 faults then bad TooMany entry number
     else Ok (t, faults + 1)
 
 -- a term of a chain, and how many faults there are with it

@@ -121,7 +121,7 @@ pub record Within (text : List ℕ) (actions : List (List ℕ × List Term)) : T
   pub bytes : length text ≤ 65536
   pub few_actions : length actions ≤ 256
   pub few_terms : AllByRecursion (λ e. length e.1 ≤ 256) actions
-  pub few_faults : all_faults actions ≤ 1024
+  pub few_faults : all_faults actions ≤ 4096
 
 -- the text spells something within the limits
 abbrev pub IsScenarioText : List ℕ → Type 0

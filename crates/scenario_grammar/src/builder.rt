@@ -15,7 +15,7 @@ pub struct Builder {
     pub pieces: u32,
     pub faults: u32,
     ghost few_pieces: { pieces ≤ 256 },
-    ghost few_faults: { faults ≤ 1024 },
+    ghost few_faults: { faults ≤ 4096 },
 }
 
 impl Builder {

@@ -27,7 +27,7 @@ pub enum Kind {
     BadMillis,
     /// A text of more than 65536 bytes.
     TooLong,
-    /// The 257th piece that isn't blank, the 257th term of a chain, or the 1025th fault.
+    /// The 257th piece that isn't blank, the 257th term of a chain, or the 4097th fault.
     TooMany,
 }
 

@@ -54,7 +54,7 @@ fn read(alloc: Global, text: &str) -> Result<Scenario, ScenarioFault>
 /// The scenario that a text spells: `name=term->term;name=..`, a term `[<percent>%][<count>*]<task>[(argument)]`, with blank
 /// characters allowed round names and terms. A name given again keeps its first place and takes its last chain. The grammar is
 /// that of the FAILPOINTS variable of fail-rs; the limits are 65536 bytes, 256 pieces that aren't blank, 256 terms in a chain and
-/// 1024 faults, overwritten entries counted.
+/// 4096 faults, overwritten entries counted.
 ///
 /// `Err` is the first fault of the text with its place, or want of memory.
 pub fn parse(alloc: Global, text: &str) -> Result<Scenario, ScenarioFault>

@@ -24,9 +24,9 @@ fn term_in(
     faults: u32,
     text: &str,
 ) -> Result<(Term, u32), ScenarioFault>
-    requires { faults ≤ 1024 }
+    requires { faults ≤ 4096 }
     ensures value { Reads (λ x. (x.0, x.1)) result (term_in entry number faults text.now) }
-    ensures small { IfOk result (λ x. x.1 ≤ 1024) }
+    ensures small { IfOk result (λ x. x.1 ≤ 4096) }
     ensures few { IfOk result (λ x. number ≤ 256) }
 {
     if number > 256 {
@@ -48,7 +48,7 @@ fn term_in(
     if is_off(&term.task) {
         return Ok((term, faults));
     }
-    if faults >= 1024 {
+    if faults >= 4096 {
         return Err(ScenarioFault::Bad {
             kind: Kind::TooMany,
             entry,
@@ -65,9 +65,9 @@ pub fn chain_of(
     faults: u32,
     parts: &[&str],
 ) -> Result<(Vec<Term>, u32), ScenarioFault>
-    requires { faults ≤ 1024 }
+    requires { faults ≤ 4096 }
     ensures value { Reads (λ x. (x.0.items, x.1)) result (chain_from entry 1 faults (map (λ t. t.now) parts.now)) }
-    ensures small { IfOk result (λ x. x.1 ≤ 1024) }
+    ensures small { IfOk result (λ x. x.1 ≤ 4096) }
 {
     let mut terms = Vec::new(alloc);
     let mut number = 0;

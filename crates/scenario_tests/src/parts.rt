@@ -21,7 +21,7 @@ fn one_panic(alloc: Global) -> Result<Scenario, AllocError> {
 fn kept(alloc: Global, scenario: &Scenario, set: &[u32]) -> Result<Scenario, Fail> {
     let count = faults(alloc, scenario)?.len();
     faults_are_counted();
-    if count > 1024 || !are_faults(count as u32, set) {
+    if count > 4096 || !are_faults(count as u32, set) {
         return Err("no set of faults".into());
     }
     Ok(keep(alloc, scenario, set)?)

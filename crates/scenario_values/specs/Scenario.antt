@@ -84,7 +84,7 @@ abbrev pub DistinctNames : Entries → Type 0
 DistinctNames [] = Unit {0}
 DistinctNames (e ∷ es) = New e.0 es × DistinctNames es
 
--- what each scenario keeps, by this project's own limits: at most 256 entries, 1 to 256 terms a chain, 1024 faults, and 65536 bytes of printed form
+-- what each scenario keeps, by this project's own limits: at most 256 entries, 1 to 256 terms a chain, 4096 faults, and 65536 bytes of printed form
 pub record IsScenario (s : Entries) : Type 0 where
   pub few_entries : length s ≤ 256
   pub no_empty_chain : AllByRecursion (λ e. 0 < length e.1) s
@@ -92,5 +92,5 @@ pub record IsScenario (s : Entries) : Type 0 where
   pub distinct_names : DistinctNames s
   pub lawful_names : AllByRecursion (λ e. is_name e.0 ≡ true) s
   pub lawful_terms : AllByRecursion (λ e. AllByRecursion (λ t. is_lawful_term t ≡ true) e.1) s
-  pub few_faults : all_faults s ≤ 1024
+  pub few_faults : all_faults s ≤ 4096
   pub short_text : length (printed s) ≤ 65536

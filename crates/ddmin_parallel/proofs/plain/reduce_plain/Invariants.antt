@@ -9,7 +9,7 @@ invariant-loop-alloc g l =
       setup : answers l.probe ≡ answers l.fn.probe;
       told : ddmin2 (answers l.fn.probe) l.kept.items l.parts l.tests ≡ ddmin (answers l.fn.probe) l.fn.faults;
       fits : Fits l.kept.items l.parts;
-      small : length l.kept.items ≤ 1024;
+      small : length l.kept.items ≤ 4096;
     }
 
 abbrev pub decreases-loop-alloc : goal.decreases-loop-alloc
