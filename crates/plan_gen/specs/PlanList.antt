@@ -32,7 +32,7 @@ site_plans names s = map (λ kind. rigging names (rig s kind ∷ [])) alone
 
 -- two sites, the first failing once, the second in each of these ways
 abbrev pub second : List Kind
-second = OnceReturn ∷ []
+second = OnceReturn ∷ OncePanic ∷ []
 
 abbrev pub pair_plans : List (List ℕ) → Site × Site → List Entries
 pair_plans names p = map (λ kind. rigging names (rig p.0 OnceReturn ∷ rig p.1 kind ∷ [])) second
