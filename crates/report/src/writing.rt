@@ -15,8 +15,9 @@ pub struct WriteFault {
 /// failed before.
 ///
 /// An error of a write, an interrupted one too, and a write that takes no byte are a fault: nothing more is written, and the sink has
-/// failed from then on. What the sink has taken is then the first `written` bytes of the text and nothing else. Of a sink that doesn't
-/// tell what it takes, such as standard output, the contract says nothing of the bytes, and still when it has failed and the count's bound.
+/// failed from then on. This call has then given the sink the first `written` bytes of the text and nothing else. Of a sink that doesn't
+/// tell what it takes, as one over standard output, the contract says nothing of bytes: only that it has failed just where there is a
+/// fault, and that `written` is below the text's length.
 pub fn write_report<W: Sink>(text: &[u8], sink: &mut W) -> Result<(), WriteFault>
     requires { W.has_failed sink.old ≡ false }
     ensures ok { OnOk result (Appends (W.told sink.old) (W.told sink.new) text.now) }
