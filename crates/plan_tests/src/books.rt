@@ -81,6 +81,7 @@ fn a_book_takes_each_result_of_its_course_once(rt: HostRuntime) -> Result<(), Fa
     }
     assert!(rt; !book.whole());
     assert_eq!(rt; book.first_failure(), None);
+    assert!(rt; book.first_failures(rt.alloc())?.is_empty());
     assert_eq!(rt;
         book.verdicts(rt.alloc())?.as_slice(),
         [Verdict::Pass].as_slice()
@@ -96,9 +97,17 @@ fn the_first_failure_is_that_of_the_least_number(rt: HostRuntime) -> Result<(), 
     let mut book = book(&rt, rt.alloc(), &course)?;
     assert!(rt; book.put(result(&rt, rt.alloc(), &course, 3)?).is_ok());
     assert_eq!(rt; book.first_failure(), Some((3, 4)));
+    assert_eq!(rt;
+        book.first_failures(rt.alloc())?.as_slice(),
+        [(3, 4)].as_slice()
+    );
     put_others(&rt, rt.alloc(), &course, &mut book)?;
     assert!(rt; book.whole());
     assert_eq!(rt; book.first_failure(), Some((1, 4)));
+    assert_eq!(rt;
+        book.first_failures(rt.alloc())?.as_slice(),
+        [(1, 4)].as_slice()
+    );
     let told = [
         Verdict::Pass,
         Verdict::Fail(4),
