@@ -7,7 +7,7 @@ use result_book::{Book, Course, Numbered, PutFault, put_all};
 use std::alloc::Global;
 use std::process::Abort;
 use std::test::Fail;
-use target_trait::Verdict;
+use target_trait::{Target, Verdict};
 
 fn course<'a>(plans: &'a [Plan<'a>]) -> Course<'a, OneStep> {
     Course {
@@ -18,14 +18,25 @@ fn course<'a>(plans: &'a [Plan<'a>]) -> Course<'a, OneStep> {
     }
 }
 
+/// The result of the plan of this number, which the course has to have.
+pub fn result_of<'a, T: Target>(
+    rt: &impl Abort,
+    alloc: Global,
+    target: &mut T,
+    course: &'a Course<'a, T>,
+    number: u32,
+) -> Result<Numbered<'a, T>, Fail> {
+    assert!(rt; (number as usize) < course.plans.len());
+    Ok(Numbered::run(alloc, target, course, number)?)
+}
+
 fn result<'a>(
     rt: &impl Abort,
     alloc: Global,
     course: &'a Course<'a, OneStep>,
     number: u32,
 ) -> Result<Numbered<'a, OneStep>, Fail> {
-    assert!(rt; (number as usize) < course.plans.len());
-    Ok(Numbered::run(alloc, &mut OneStep, course, number)?)
+    result_of(rt, alloc, &mut OneStep, course, number)
 }
 
 /// The results of these numbers, as one worker hands them back.
@@ -56,7 +67,11 @@ fn put_others<'a>(
     Ok(())
 }
 
-fn book(rt: &impl Abort, alloc: Global, course: &Course<'_, OneStep>) -> Result<Book, Fail> {
+pub fn book<T: Target>(
+    rt: &impl Abort,
+    alloc: Global,
+    course: &Course<'_, T>,
+) -> Result<Book, Fail> {
     assert!(rt; course.plans.len() <= 65536);
     Ok(Book::new(alloc, course)?)
 }

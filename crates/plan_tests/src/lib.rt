@@ -6,6 +6,8 @@ mod books;
 #[cfg(test)]
 mod counted;
 #[cfg(test)]
+mod courses;
+#[cfg(test)]
 mod one_step;
 #[cfg(test)]
 mod plan_lists;
