@@ -7,7 +7,7 @@ use result_book::{Book, Course, Numbered, PutFault, put_all};
 use std::alloc::Global;
 use std::process::Abort;
 use std::test::Fail;
-use target_trait::Verdict;
+use target_trait::{Target, Verdict};
 
 fn course<'a>(plans: &'a [Plan<'a>]) -> Course<'a, OneStep> {
     Course {
@@ -18,14 +18,25 @@ fn course<'a>(plans: &'a [Plan<'a>]) -> Course<'a, OneStep> {
     }
 }
 
+/// The result of the plan of this number, which the course has to have.
+pub fn result_of<'a, T: Target>(
+    rt: &impl Abort,
+    alloc: Global,
+    target: &mut T,
+    course: &'a Course<'a, T>,
+    number: u32,
+) -> Result<Numbered<'a, T>, Fail> {
+    assert!(rt; (number as usize) < course.plans.len());
+    Ok(Numbered::run(alloc, target, course, number)?)
+}
+
 fn result<'a>(
     rt: &impl Abort,
     alloc: Global,
     course: &'a Course<'a, OneStep>,
     number: u32,
 ) -> Result<Numbered<'a, OneStep>, Fail> {
-    assert!(rt; (number as usize) < course.plans.len());
-    Ok(Numbered::run(alloc, &mut OneStep, course, number)?)
+    result_of(rt, alloc, &mut OneStep, course, number)
 }
 
 /// The results of these numbers, as one worker hands them back.
@@ -56,7 +67,11 @@ fn put_others<'a>(
     Ok(())
 }
 
-fn book(rt: &impl Abort, alloc: Global, course: &Course<'_, OneStep>) -> Result<Book, Fail> {
+pub fn book<T: Target>(
+    rt: &impl Abort,
+    alloc: Global,
+    course: &Course<'_, T>,
+) -> Result<Book, Fail> {
     assert!(rt; course.plans.len() <= 65536);
     Ok(Book::new(alloc, course)?)
 }
@@ -81,6 +96,7 @@ fn a_book_takes_each_result_of_its_course_once(rt: HostRuntime) -> Result<(), Fa
     }
     assert!(rt; !book.whole());
     assert_eq!(rt; book.first_failure(), None);
+    assert!(rt; book.first_failures(rt.alloc())?.is_empty());
     assert_eq!(rt;
         book.verdicts(rt.alloc())?.as_slice(),
         [Verdict::Pass].as_slice()
@@ -96,9 +112,17 @@ fn the_first_failure_is_that_of_the_least_number(rt: HostRuntime) -> Result<(), 
     let mut book = book(&rt, rt.alloc(), &course)?;
     assert!(rt; book.put(result(&rt, rt.alloc(), &course, 3)?).is_ok());
     assert_eq!(rt; book.first_failure(), Some((3, 4)));
+    assert_eq!(rt;
+        book.first_failures(rt.alloc())?.as_slice(),
+        [(3, 4)].as_slice()
+    );
     put_others(&rt, rt.alloc(), &course, &mut book)?;
     assert!(rt; book.whole());
     assert_eq!(rt; book.first_failure(), Some((1, 4)));
+    assert_eq!(rt;
+        book.first_failures(rt.alloc())?.as_slice(),
+        [(1, 4)].as_slice()
+    );
     let told = [
         Verdict::Pass,
         Verdict::Fail(4),

@@ -8,6 +8,8 @@ mod counted;
 #[cfg(test)]
 mod counting;
 #[cfg(test)]
+mod courses;
+#[cfg(test)]
 mod one_step;
 #[cfg(test)]
 mod plan_lists;

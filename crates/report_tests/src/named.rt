@@ -1,4 +1,4 @@
-//! A target that asks nothing, with the names of an atomic file replacement.
+//! A target that asks nothing, with the names of an atomic file replacement, and one code more.
 ghost use Rattle.std.specs.Prelude.{[], ◌∷◌, ◌==◌, if◌then◌else◌, codes};
 ghost use Rattle.std.proofs.Common.{rules};
 ghost use Rattle.target_trait.specs.Play.{Done};
@@ -19,7 +19,7 @@ impl Target for Named {
 
     ghost label_of = { λ _. codes "replace late_sync" };
 
-    ghost code_text = { λ code. if code == 0 then codes "torn" else codes "stale" };
+    ghost code_text = { λ code. if code == 0 then codes "torn" else (if code == 1 then codes "stale" else codes "lost") };
 
     ghost asks = { λ _ _ _. Done Kept };
 
@@ -40,7 +40,11 @@ impl Target for Named {
     }
 
     fn code_name(code: u32) -> &'static str {
-        if code == 0 { "torn" } else { "stale" }
+        match code {
+            0 => "torn",
+            1 => "stale",
+            _ => "lost",
+        }
     }
 
     fn twin(&self) -> Result<Self, AllocError> {

@@ -12,15 +12,33 @@ pub fn scenario(alloc: Global, text: &str) -> Result<Scenario, Fail> {
     Ok(parse(alloc, text).map_err(|_| "a scenario")?)
 }
 
+/// A finding of this plan, its scenario and the reduced one given as texts.
+pub fn finding(
+    alloc: Global,
+    number: u32,
+    code: u32,
+    plan: &str,
+    reduced: &str,
+    tests: u64,
+) -> Result<Finding, Fail> {
+    Ok(Finding {
+        number,
+        code,
+        scenario: scenario(alloc, plan)?,
+        reduced: scenario(alloc, reduced)?,
+        tests,
+    })
+}
+
 /// The text of a report of these verdicts, over a census of the small workload.
-pub fn told(alloc: Global, verdicts: &[Verdict], first: Option<Finding>) -> Result<Vec<u8>, Fail> {
+pub fn told(alloc: Global, verdicts: &[Verdict], findings: Vec<Finding>) -> Result<Vec<u8>, Fail> {
     let report = Report {
         label: "replace late_sync",
         seed: 7,
         clean: Verdict::Pass,
         census: &[0, 1, 2, 1, 1, 1, 0],
         verdicts,
-        first,
+        findings,
     };
     Ok(text::<Named>(alloc, &report)?)
 }
@@ -35,13 +53,10 @@ pub fn found(alloc: Global) -> Result<Vec<u8>, Fail> {
             Verdict::Pass
         })?;
     }
-    let plan = scenario(alloc, "replace::sync=1*return")?;
-    let finding = Finding {
-        number: 10,
-        code: 0,
-        scenario: plan,
-        reduced: scenario(alloc, "replace::sync=1*return")?,
-        tests: 1,
-    };
-    told(alloc, &verdicts, Some(finding))
+    let plan = "replace::sync=1*return";
+    told(
+        alloc,
+        &verdicts,
+        vec![in alloc; finding(alloc, 10, 0, plan, plan, 1)?]?,
+    )
 }

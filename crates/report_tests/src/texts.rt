@@ -1,7 +1,6 @@
 //! What reports tell.
 
-use crate::telling::{found, scenario, told};
-use report::Finding;
+use crate::telling::{finding, found, told};
 use std::test::Fail;
 use target_trait::Verdict;
 
@@ -51,7 +50,7 @@ fn tells_a_failure_with_what_it_was_reduced_to(rt: HostRuntime) -> Result<(), Fa
 #[test]
 fn tells_nothing_after_first_none(rt: HostRuntime) -> Result<(), Fail> {
     let verdicts = [Verdict::Pass, Verdict::Unresolved];
-    let report = told(rt.alloc(), &verdicts, None)?;
+    let report = told(rt.alloc(), &verdicts, Vec::new(rt.alloc()))?;
     let want = "target replace late_sync
 seed 7
 clean pass
@@ -72,17 +71,62 @@ first none
 }
 
 #[test]
+fn tells_each_finding_in_order(rt: HostRuntime) -> Result<(), Fail> {
+    let alloc = rt.alloc();
+    let one = "replace::sync=1*return";
+    let two = "replace::write=1*off->1*return;replace::sync=panic";
+    let findings = vec![in alloc;
+        finding(alloc, 1, 1, one, one, 1)?,
+        finding(alloc, 2, 2, two, "replace::sync=panic", 4)?,
+        finding(alloc, 4, 0, "replace::rename=1*return", "", 0)?,
+    ]?;
+    let verdicts = [
+        Verdict::Pass,
+        Verdict::Fail(1),
+        Verdict::Fail(2),
+        Verdict::Fail(1),
+        Verdict::Fail(0),
+    ];
+    let report = told(alloc, &verdicts, findings)?;
+    let want = "target replace late_sync
+seed 7
+clean pass
+census replace::clear 0
+census replace::create 1
+census replace::write 2
+census replace::sync 1
+census replace::rename 1
+census replace::sync_dir 1
+census replace::unlink 0
+plans 5
+verdict 0 pass
+verdict 1 fail stale
+verdict 2 fail lost
+verdict 3 fail stale
+verdict 4 fail torn
+first 1 stale
+scenario replace::sync=1*return
+reduced replace::sync=1*return
+tests 1
+first 2 lost
+scenario replace::write=1*off->1*return;replace::sync=panic
+reduced replace::sync=panic
+tests 4
+first 4 torn
+scenario replace::rename=1*return
+reduced none
+tests 0
+";
+    assert_eq!(rt; report.as_slice(), want.as_bytes());
+    Ok(())
+}
+
+#[test]
 fn a_scenario_without_entries_reads_none(rt: HostRuntime) -> Result<(), Fail> {
-    let plan = scenario(rt.alloc(), "replace::sync=off->1*return")?;
-    let finding = Finding {
-        number: 0,
-        code: 1,
-        scenario: plan,
-        reduced: scenario(rt.alloc(), "")?,
-        tests: 18446744073709551615,
-    };
-    let verdicts = [Verdict::Fail(1)];
-    let report = told(rt.alloc(), &verdicts, Some(finding))?;
+    let alloc = rt.alloc();
+    let most = 18446744073709551615;
+    let findings = vec![in alloc; finding(alloc, 0, 1, "replace::sync=off->1*return", "", most)?]?;
+    let report = told(alloc, &[Verdict::Fail(1)], findings)?;
     let want = "first 0 stale
 scenario replace::sync=off->1*return
 reduced none
