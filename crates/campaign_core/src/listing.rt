@@ -9,7 +9,7 @@ ghost use Rattle.campaign_core.specs.CommandTexts.{plan_line, plan_lines, plans_
 use crate::ending::CampaignFault;
 use crate::planned::planned;
 use campaign_settings::Settings;
-use plan_gen::{Plan, PlanFault};
+use plan_gen::Plan;
 use report::{write_report, write_scenario};
 use scenario_values::Scenario;
 use std::alloc::{AllocError, Global};
@@ -55,16 +55,11 @@ pub fn plan_list<T: Target, W: Sink>(
     requires { W.has_failed sink.old ≡ false }
     ensures text { OnOk result (Appends (W.told sink.old) (W.told sink.new) (plans_text (campaign_of (T.asks target.now workload.now) T.names T.code_text (T.label_of target.now) settings.now))) }
     ensures few { OnOk result (length (plans (campaign_of (T.asks target.now workload.now) T.names T.code_text (T.label_of target.now) settings.now)) ≤ most_plans) }
+    ensures sound { OnOk result (W.has_failed sink.new ≡ false) }
     ensures fault { IfErr result (IsFault (campaign_of (T.asks target.now workload.now) T.names T.code_text (T.label_of target.now) settings.now) (plans_text (campaign_of (T.asks target.now workload.now) T.names T.code_text (T.label_of target.now) settings.now)) (W.told sink.old) (W.told sink.new) (W.has_failed sink.new)) }
 {
-    let (_, plans) = match planned(alloc, target, workload, settings) {
-        Ok(planned) => planned,
-        Err(PlanFault::TooManyPlans) => return Err(CampaignFault::TooManyPlans),
-        Err(PlanFault::Memory) => return Err(CampaignFault::Memory),
-    };
+    let (_, plans) = planned(alloc, target, workload, settings)?;
     let text = plans_text(alloc, plans.as_slice())?;
-    match write_report(text.as_bytes(), sink) {
-        Ok(()) => Ok(()),
-        Err(fault) => Err(CampaignFault::Write(fault.written)),
-    }
+    write_report(text.as_bytes(), sink)?;
+    Ok(())
 }

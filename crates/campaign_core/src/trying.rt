@@ -48,6 +48,7 @@ pub fn try_one<T: Target, W: Sink>(
     requires { W.has_failed sink.old ≡ false }
     ensures verdict { IfOk result (λ verdict. verdict ≡ (outcome (T.asks target.old workload.now) (given_of scenario.now T.names seed 0 max_hits)).verdict) }
     ensures text { OnOk result (Appends (W.told sink.old) (W.told sink.new) (try_text T.code_text (outcome (T.asks target.old workload.now) (given_of scenario.now T.names seed 0 max_hits)))) }
+    ensures sound { OnOk result (W.has_failed sink.new ≡ false) }
     ensures fault { IfErr result (LeavesOnly (W.told sink.old) (W.told sink.new) (W.has_failed sink.new) (try_text T.code_text (outcome (T.asks target.old workload.now) (given_of scenario.now T.names seed 0 max_hits)))) }
     ensures setup { target.new ≡ target.old }
 {
