@@ -44,7 +44,8 @@ fn plans_text(alloc: Global, plans: &[Plan<'_>]) -> Result<String, AllocError>
 /// point is asked, on a twin of the target; the caller's target isn't touched.
 ///
 /// Nothing is written before the whole text stands. The answer is `TooManyPlans` only where the list has more than 65536 plans, and then,
-/// and where memory was refused, the sink is as it was; `Write` tells how many bytes of the text went out before the sink failed.
+/// and where memory was refused, the sink is as it was and hasn't failed; `Write` tells how many bytes of the text, fewer than all, went
+/// out before the sink failed.
 pub fn plan_list<T: Target, W: Sink>(
     alloc: Global,
     target: &T,

@@ -132,8 +132,8 @@ where
 ///
 /// As many threads as the settings say test sets of faults, each on a twin of the target; the text is that of one thread, and the
 /// caller's target isn't touched. The scenario that is left fails with the same code, and no single fault can be left out of it. Nothing
-/// is written before the text stands whole: for want of memory the sink is unchanged. A failed write tells how many bytes of the text
-/// went out.
+/// is written before the text stands whole: for want of memory the sink is unchanged and hasn't failed. A failed write tells how many
+/// bytes of the text, fewer than all, went out.
 pub fn reduce_one<T: Target + Send, G: Gate, W: Sink, R: Threads + Wait + Sync>(
     rt: &R,
     alloc: Global,

@@ -34,8 +34,8 @@ fn try_text<T: Target>(alloc: Global, outcome: &Outcome) -> Result<String, Alloc
 /// points asked, the words taken, the simulated milliseconds and the number of notes.
 ///
 /// The seed is that of the run's words; after `max_hits` answered hits the run is stopped and unresolved. Nothing is
-/// written before the text stands whole: for want of memory the sink is unchanged. A failed write tells how many bytes
-/// of the text went out. The target keeps its setup in every case.
+/// written before the text stands whole: for want of memory the sink is unchanged and hasn't failed. A failed write tells
+/// how many bytes of the text, fewer than all, went out. The target keeps its setup in every case.
 pub fn try_one<T: Target, W: Sink>(
     alloc: Global,
     target: &mut T,
