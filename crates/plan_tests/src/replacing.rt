@@ -8,7 +8,7 @@ use std::alloc::Global;
 use std::test::Fail;
 
 /// The small workload.
-fn small_workload(alloc: Global) -> Result<Replacements, Fail> {
+pub fn small_workload(alloc: Global) -> Result<Replacements, Fail> {
     let mut chunks = Vec::new(alloc);
     chunks.push(Text::copy_of(alloc, "ne")?)?;
     chunks.push(Text::copy_of(alloc, "w")?)?;
