@@ -1,13 +1,13 @@
 -- Each step keeps the rule of a deque.
-use Rattle.std.proofs.Common.{◌≡◌, ◌≢◌, ℕ, zero, suc, ◌+◌, ◌<◌, ◌≤◌, Bool, List, [], ◌∷◌, ◌++◌, set, sym, refl, ap, ◌∙◌, subst, ⊎_elim, count_by, arith, cond}
+use Rattle.std.proofs.Common.{◌≡◌, ◌≢◌, ℕ, zero, suc, ◌+◌, ◌<◌, ◌≤◌, Bool, List, [], ◌∷◌, ◌++◌, set, sym, refl, ap, subst, ⊎_elim, count_by, arith, cond}
 use mathlib.Core.Option.{some, some-injective, some-ne-none}
 use lib.ListN.{get_elem?}
 use Rattle.std.specs.List.{sum_by}
 use Rattle.std.proofs.lemmas.List.Sums.{sum_by-cons, sum_by-append, sum_by_push}
-use Rattle.crossbeam_deque.specs.Tasks.{Pushes, Takes, Finds, FindsFew, Forks, Merges, Learns}
+use Rattle.crossbeam_deque.specs.Tasks.{Pushes, Takes, Finds, Forks, Merges, Learns}
 use Rattle.crossbeam_deque.proofs.Lists.{at_set, at_snoc}
 use Rattle.worker_pool.specs.declared.rule.Seat.{Seat}
-use Rattle.worker_pool.specs.Tickets.{Taker, owner, thief, Step, push, take, Part, popped_by, stolen_by, front_taken, stepped, after, seat, KnowsPushed, IdleIsEmpty, Dealt}
+use Rattle.worker_pool.specs.Parts.{Taker, owner, thief, Move, add, take, Part, taken, front_taken, moved, part_after, seat, Knows, Dealt, IsWhole}
 
 module _ {A : Type 0} (f : A → ℕ) where
   -- the total after a change at one place
@@ -36,152 +36,189 @@ module _ (F : ℕ → Seat → Type 0) where
   each_set views port w mine others j u e = ⊎_elim (λ (x : (j ≡ port) × (w ≡ u)). subst (λ (y : ℕ × Seat). F y.0 y.1) (λ i. (sym x.0 i, x.1 i)) mine)
       (λ (x : (j ≢ port) × (get_elem? views j ≡ some u)). others j u x.0 x.1) (at_set views port j w u e)
 
-abbrev taken_by : (ℕ → Bool) → Seat → ℕ
-taken_by test v = count_by test v.taken
+-- another place stays
+still : (views : List Seat) (port other : ℕ) (w u : Seat) → other ≢ port → get_elem? (set views port w) other ≡ some u → get_elem? views other ≡ some u
+still views port other w u ne e = ⊎_elim (λ (x : (other ≡ port) × (w ≡ u)). absurd (ne x.0)) (λ (x : (other ≢ port) × (get_elem? views other ≡ some u)). x.1) (at_set views port other w u e)
 
--- where one seat has every part, no other is in use
-alone : (views : List Seat) (port : ℕ) (v : Seat) → sum_by (λ (u : Seat). u.parts) views ≡ 2 → get_elem? views port ≡ some v → 2 ≤ v.parts → (j : ℕ) (u : Seat) → j ≢ port → get_elem? views j ≡ some u → u.parts ≡ 0
-alone views port v all at whole j u other e = omega (arith, total_two (λ (u : Seat). u.parts) views port j v u (λ x. other (sym x)) at e)
+abbrev pops : Seat → ℕ
+pops v = v.pop_right
 
--- .. and what all took is what it took
-idle_total : (f : Seat → ℕ) (views : List Seat) → ((j : ℕ) (u : Seat) → get_elem? views j ≡ some u → f u ≡ 0) → sum_by f views ≡ 0
-idle_total f [] none = refl
-idle_total f (x ∷ xs) none = omega (arith, sum_by-cons f x xs, none 0 x refl, idle_total f xs (λ j u e. none (suc j) u e))
+abbrev steals : Seat → ℕ
+steals v = v.steal_right
 
-only : (f : Seat → ℕ) (views : List Seat) (port : ℕ) (v : Seat) → get_elem? views port ≡ some v → ((j : ℕ) (u : Seat) → j ≢ port → get_elem? views j ≡ some u → f u ≡ 0) → sum_by f views ≡ f v
-only f [] port v at none = absurd (some-ne-none v (sym at))
-only f (x ∷ xs) zero v at none =
-    let e = some-injective x v at in
-    omega (arith, sum_by-cons f x xs, ap f e, idle_total f xs (λ j u e'. none (suc j) u (λ z. absurd (omega arith)) e'))
-only f (x ∷ xs) (suc port) v at none =
-    omega (arith, sum_by-cons f x xs, none 0 x (λ z. absurd (omega arith)) refl, only f xs port v at (λ j u n e'. none (suc j) u (λ z. n (omega arith)) e'))
+-- a right is one seat's alone
+alone : (right : Seat → ℕ) (views : List Seat) (port : ℕ) (v : Seat) → sum_by right views ≡ 1 → get_elem? views port ≡ some v → 0 < right v → (j : ℕ) (u : Seat) → j ≢ port → get_elem? views j ≡ some u → right u ≡ 0
+alone right views port v all at mine j u other e = omega (arith, total_two right views port j v u (λ x. other (sym x)) at e)
 
 -- whoever takes it, one number more was taken
-taken_more : (test : ℕ → Bool) (who : Taker) (x : ℕ) (popped stolen : List ℕ) → count_by test (popped_by who x popped) + count_by test (stolen_by who x stolen) ≡ count_by test popped + count_by test stolen + count_by test (x ∷ [])
-taken_more test owner x popped stolen = omega (arith, sum_by-append (λ y. cond (test y) 1 0) popped (x ∷ []))
-taken_more test thief x popped stolen = omega (arith, sum_by-append (λ y. cond (test y) 1 0) stolen (x ∷ []))
+taken_more : (test : ℕ → Bool) (who : Taker) (x : ℕ) (rest : List ℕ) (p : Part)
+    → count_by test (taken who x rest p).popped + count_by test (taken who x rest p).stolen ≡ count_by test p.popped + count_by test p.stolen + count_by test (x ∷ [])
+taken_more test owner x rest p = omega (arith, sum_by-append (λ y. cond (test y) 1 0) p.popped (x ∷ []))
+taken_more test thief x rest p = omega (arith, sum_by-append (λ y. cond (test y) 1 0) p.stolen (x ∷ []))
 
--- over every list of steps the numbers pushed are, each once, those in the deque and those taken
+taken_pushed : (who : Taker) (x : ℕ) (rest : List ℕ) (p : Part) → ((taken who x rest p).pushed ≡ p.pushed) × ((taken who x rest p).held ≡ rest)
+taken_pushed owner x rest p = (refl, refl)
+taken_pushed thief x rest p = (refl, refl)
+
+-- over every list of moves the numbers pushed are, each once, those in the deque and those taken
 abbrev Balanced : (ℕ → Bool) → Part → Type 0
 Balanced test p = count_by test p.pushed ≡ count_by test p.held + (count_by test p.popped + count_by test p.stolen)
 
 front_balanced : (test : ℕ → Bool) (who : Taker) (held : List ℕ) (p : Part) → p.held ≡ held → Balanced test p → Balanced test (front_taken who held p)
 front_balanced test who [] p is was = was
 front_balanced test who (x ∷ held) p is was =
-    omega (arith, was, ap (count_by test) is, sum_by-cons (λ y. cond (test y) 1 0) x held, sum_by-cons (λ y. cond (test y) 1 0) x [], taken_more test who x p.popped p.stolen)
+    let same = taken_pushed who x held p in
+    omega (arith, was, ap (count_by test) is, ap (count_by test) same.0, ap (count_by test) same.1, sum_by-cons (λ y. cond (test y) 1 0) x held, sum_by-cons (λ y. cond (test y) 1 0) x [], taken_more test who x held p)
 
-step_balanced : (test : ℕ → Bool) (s : Step) (p : Part) → Balanced test p → Balanced test (stepped s p)
-step_balanced test (push x) p was = omega (arith, was, sum_by-append (λ y. cond (test y) 1 0) p.pushed (x ∷ []), sum_by-append (λ y. cond (test y) 1 0) p.held (x ∷ []))
-step_balanced test (take who) p was = front_balanced test who p.held p refl was
+move_balanced : (test : ℕ → Bool) (m : Move) (p : Part) → Balanced test p → Balanced test (moved m p)
+move_balanced test (add x) p was = omega (arith, was, sum_by-append (λ y. cond (test y) 1 0) p.pushed (x ∷ []), sum_by-append (λ y. cond (test y) 1 0) p.held (x ∷ []))
+move_balanced test (take who) p was = front_balanced test who p.held p refl was
 
-pub balanced : (test : ℕ → Bool) (steps : List Step) → Balanced test (after steps)
+pub balanced : (test : ℕ → Bool) (moves : List Move) → Balanced test (part_after moves)
 balanced test [] = refl
-balanced test (s ∷ earlier) = step_balanced test s (after earlier) (balanced test earlier)
-
--- what was pushed is, each once, what the seats took and what the deque holds
-dealt_once : (items : List ℕ) (views : List Seat) (h : Dealt items views) (test : ℕ → Bool) → count_by test (after h.steps).pushed ≡ sum_by (λ (v : Seat). count_by test v.taken) views + count_by test items
-dealt_once items views h test = omega (arith, balanced test h.steps, h.taken test, ap (count_by test) h.held)
-
-whole_takes : (items : List ℕ) (views : List Seat) (port : ℕ) (v : Seat) → Dealt items views → get_elem? views port ≡ some v → 2 ≤ v.parts → (test : ℕ → Bool) → count_by test v.pushed ≡ count_by test v.taken + count_by test items
-whole_takes items views port v h at whole test =
-    let all = total_at (λ (u : Seat). u.parts) views port v at in
-    let mine = h.known port v at (omega arith) in
-    let lone = alone views port v h.parts at whole in
-    let t = only (taken_by test) views port v at (λ j u n e. ap (count_by test) (h.idle j u e (lone j u n e))) in
-    omega (arith, dealt_once items views h test, ap (count_by test) mine, t)
+balanced test (m ∷ earlier) = move_balanced test m (part_after earlier) (balanced test earlier)
 
 one_seat : (a u : Seat) (j : ℕ) → get_elem? (a ∷ []) j ≡ some u → u ≡ a
 one_seat a u zero e = sym (some-injective a u e)
 one_seat a u (suc j) e = absurd (some-ne-none u (sym e))
 
-pub begins : Dealt [] (seat 2 [] [] ∷ [])
+-- a seat with no right knows nothing
+idle : (p : Part) (u : Seat) → u.pop_right ≡ 0 → u.steal_right ≡ 0 → Knows p u
+idle p u none none' = record { pushed = λ lt. absurd (omega arith); popped = λ lt. absurd (omega arith); stolen = λ lt. absurd (omega arith) }
+
+first_knows : Knows (part_after []) (seat 1 1 [] [] [])
+first_knows = record { pushed = λ _. refl; popped = λ _. refl; stolen = λ _. refl }
+
+pub begins : Dealt [] (seat 1 1 [] [] [] ∷ [])
 begins = record {
-  steps = [];
+  moves = [];
   held = refl;
-  known = λ j u e _. ap (λ (w : Seat). w.pushed) (one_seat (seat 2 [] []) u j e);
-  taken = λ test. refl;
-  parts = refl;
-  idle = λ j u e _. ap (λ (w : Seat). w.taken) (one_seat (seat 2 [] []) u j e);
+  known = λ j u e. subst (Knows (part_after [])) (sym (one_seat (seat 1 1 [] [] []) u j e)) first_knows;
+  owner = refl;
+  thief = refl;
 }
 
-pub puts : (port : ℕ) (v : Seat) (x : ℕ) → 2 ≤ v.parts → Pushes Dealt port v (x ∷ []) (λ w. w ≡ seat v.parts (v.pushed ++ x ∷ []) v.taken)
-puts port v x whole items views h at =
-    let w : Seat = seat v.parts (v.pushed ++ x ∷ []) v.taken in
-    let lone = alone views port v h.parts at whole in
-    let mine = h.known port v at (omega arith) in
-    let pushed : v.pushed ++ x ∷ [] ≡ (after h.steps).pushed ++ x ∷ [] = ap (λ ys. ys ++ x ∷ []) mine in (
+-- the rights stay where the seat that changes keeps its own
+same_right : (right : Seat → ℕ) (views : List Seat) (port : ℕ) (v w : Seat) → get_elem? views port ≡ some v → right w ≡ right v → sum_by right views ≡ 1 → sum_by right (set views port w) ≡ 1
+same_right right views port v w at same all = let t = total_set right views port v w at in omega arith
+
+pub puts : (port : ℕ) (v : Seat) (x : ℕ) → 0 < v.pop_right → 0 < v.steal_right → Pushes Dealt port v (x ∷ []) (λ w. w ≡ seat v.pop_right v.steal_right (v.pushed ++ x ∷ []) v.popped v.stolen)
+puts port v x may_pop may_steal items views h at =
+    let w : Seat = seat v.pop_right v.steal_right (v.pushed ++ x ∷ []) v.popped v.stolen in
+    let mine = h.known port v at in
+    let q : Part = part_after (add x ∷ h.moves) in
+    let known : Knows q w = record { pushed = λ lt. ap (λ ys. ys ++ x ∷ []) (mine.pushed lt); popped = mine.popped; stolen = mine.stolen } in (
       w,
       record {
-        steps = push x ∷ h.steps;
+        moves = add x ∷ h.moves;
         held = ap (λ ys. ys ++ x ∷ []) h.held;
-        known = each_set (λ j u. 0 < u.parts → u.pushed ≡ (after h.steps).pushed ++ x ∷ []) views port w (λ _. pushed) (λ j u n e p. absurd (omega (arith, lone j u n e)));
-        taken = λ test. omega (arith, h.taken test, total_set (λ (u : Seat). count_by test u.taken) views port v w at);
-        parts = (let t = total_set (λ (u : Seat). u.parts) views port v w at in omega (arith, h.parts));
-        idle = each_set (λ j u. u.parts ≡ 0 → u.taken ≡ []) views port w (λ z. absurd (omega arith)) (λ j u n e. h.idle j u e);
+        known = each_set (λ j u. Knows q u) views port w known (λ j u n e. idle q u (alone pops views port v h.owner at may_pop j u n e) (alone steals views port v h.thief at may_steal j u n e));
+        owner = same_right pops views port v w at refl h.owner;
+        thief = same_right steals views port v w at refl h.thief;
       },
       refl,
     )
 
-pub takes : (who : Taker) (port : ℕ) (v : Seat) → 0 < v.parts → Takes Dealt port v 1 (λ xs w. (w ≡ seat v.parts v.pushed (v.taken ++ xs)) × ((test : ℕ → Bool) → count_by test v.pushed ≡ 0 → count_by test xs ≡ 0))
-takes who port v some_part [] items views some_x one h at = absurd (omega arith)
-takes who port v some_part (x ∷ y ∷ xs) items views some_x one h at = absurd (omega arith)
-takes who port v some_part (x ∷ []) items views some_x one h at =
-    let w : Seat = seat v.parts v.pushed (v.taken ++ x ∷ []) in
-    let mine = h.known port v at some_part in
-    let p = after h.steps in
-    let q : Part = record { pushed = p.pushed; held = items; popped = popped_by who x p.popped; stolen = stolen_by who x p.stolen } in
-    let now : front_taken who p.held p ≡ q = ap (λ held. front_taken who held p) h.held in
-    let pushed : (front_taken who p.held p).pushed ≡ p.pushed = ap (λ (r : Part). r.pushed) now in (
+-- what was pushed is among what the taker knows to be pushed
+among : (x : ℕ) (items : List ℕ) (views : List Seat) (v : Seat) (h : Dealt (x ∷ items) views) → v.pushed ≡ (part_after h.moves).pushed → (test : ℕ → Bool) → count_by test v.pushed ≡ 0 → count_by test (x ∷ []) ≡ 0
+among x items views v h mine test none =
+    omega (arith, balanced test h.moves, ap (count_by test) h.held, ap (count_by test) mine, sum_by-append (λ y. cond (test y) 1 0) (x ∷ []) items)
+
+pub pops_one : (port : ℕ) (v : Seat) → 0 < v.pop_right
+    → Takes Dealt port v 1 (λ xs w. (w ≡ seat v.pop_right v.steal_right v.pushed (v.popped ++ xs) v.stolen) × ((test : ℕ → Bool) → count_by test v.pushed ≡ 0 → count_by test xs ≡ 0))
+pops_one port v may [] items views some_x one h at = absurd (omega arith)
+pops_one port v may (x ∷ y ∷ xs) items views some_x one h at = absurd (omega arith)
+pops_one port v may (x ∷ []) items views some_x one h at =
+    let w : Seat = seat v.pop_right v.steal_right v.pushed (v.popped ++ x ∷ []) v.stolen in
+    let mine = h.known port v at in
+    let p = part_after h.moves in
+    let q : Part = taken owner x items p in
+    let now : front_taken owner p.held p ≡ q = ap (λ held. front_taken owner held p) h.held in
+    let known : Knows q w = record { pushed = mine.pushed; popped = λ lt. ap (λ ys. ys ++ x ∷ []) (mine.popped lt); stolen = mine.stolen } in
+    let others : (j : ℕ) (u : Seat) → j ≢ port → get_elem? views j ≡ some u → Knows q u = λ j u n e.
+    (let was = h.known j u e in let no = alone pops views port v h.owner at may j u n e in record { pushed = was.pushed; popped = λ lt. absurd (omega arith); stolen = was.stolen }) in (
       w,
       record {
-        steps = take who ∷ h.steps;
+        moves = take owner ∷ h.moves;
         held = ap (λ (r : Part). r.held) now;
-        known = each_set (λ j u. 0 < u.parts → u.pushed ≡ (front_taken who p.held p).pushed) views port w (λ _. mine ∙ sym pushed) (λ j u n e part. h.known j u e part ∙ sym pushed);
-        taken = λ test. omega (arith, h.taken test, taken_more test who x p.popped p.stolen, ap (λ (r : Part). count_by test r.popped + count_by test r.stolen) now, sum_by-append (λ y. cond (test y) 1 0) v.taken (x ∷ []), total_set (λ (u : Seat). count_by test u.taken) views port v w at);
-        parts = (let t = total_set (λ (u : Seat). u.parts) views port v w at in omega (arith, h.parts));
-        idle = each_set (λ j u. u.parts ≡ 0 → u.taken ≡ []) views port w (λ z. absurd (omega arith)) (λ j u n e. h.idle j u e);
+        known = λ j u e. subst (λ (r : Part). Knows r u) (sym now) (each_set (λ j u. Knows q u) views port w known others j u e);
+        owner = same_right pops views port v w at refl h.owner;
+        thief = same_right steals views port v w at refl h.thief;
       },
-      (refl, λ test none. omega (arith, dealt_once (x ∷ items) views h test, ap (count_by test) mine, sum_by-append (λ y. cond (test y) 1 0) (x ∷ []) items)),
+      (refl, among x items views v h (mine.pushed (omega arith))),
     )
 
-pub finds : (port : ℕ) (v : Seat) → Finds Dealt port v (2 ≤ v.parts → (test : ℕ → Bool) → count_by test v.pushed ≡ count_by test v.taken)
-finds port v views h at whole test = omega (arith, whole_takes [] views port v h at whole test)
+pub steals_one : (port : ℕ) (v : Seat) → 0 < v.steal_right
+    → Takes Dealt port v 1 (λ xs w. (w ≡ seat v.pop_right v.steal_right v.pushed v.popped (v.stolen ++ xs)) × ((test : ℕ → Bool) → count_by test v.pushed ≡ 0 → count_by test xs ≡ 0))
+steals_one port v may [] items views some_x one h at = absurd (omega arith)
+steals_one port v may (x ∷ y ∷ xs) items views some_x one h at = absurd (omega arith)
+steals_one port v may (x ∷ []) items views some_x one h at =
+    let w : Seat = seat v.pop_right v.steal_right v.pushed v.popped (v.stolen ++ x ∷ []) in
+    let mine = h.known port v at in
+    let p = part_after h.moves in
+    let q : Part = taken thief x items p in
+    let now : front_taken thief p.held p ≡ q = ap (λ held. front_taken thief held p) h.held in
+    let known : Knows q w = record { pushed = mine.pushed; popped = mine.popped; stolen = λ lt. ap (λ ys. ys ++ x ∷ []) (mine.stolen lt) } in
+    let others : (j : ℕ) (u : Seat) → j ≢ port → get_elem? views j ≡ some u → Knows q u = λ j u n e.
+    (let was = h.known j u e in let no = alone steals views port v h.thief at may j u n e in record { pushed = was.pushed; popped = was.popped; stolen = λ lt. absurd (omega arith) }) in (
+      w,
+      record {
+        moves = take thief ∷ h.moves;
+        held = ap (λ (r : Part). r.held) now;
+        known = λ j u e. subst (λ (r : Part). Knows r u) (sym now) (each_set (λ j u. Knows q u) views port w known others j u e);
+        owner = same_right pops views port v w at refl h.owner;
+        thief = same_right steals views port v w at refl h.thief;
+      },
+      (refl, among x items views v h (mine.pushed (omega arith))),
+    )
 
--- a thief's seat has one part
-pub finds_few : (port : ℕ) (v : Seat) (most : ℕ) → v.parts ≡ 1 → FindsFew Dealt most port v (2 ≤ v.parts → (test : ℕ → Bool) → count_by test v.pushed ≡ count_by test v.taken)
-finds_few port v most one items views _ h at whole = absurd (omega arith)
+pub finds : (port : ℕ) (v : Seat) → 0 < v.pop_right → Finds Dealt port v (0 < v.steal_right → (test : ℕ → Bool) → count_by test v.pushed ≡ count_by test v.popped + count_by test v.stolen)
+finds port v may views h at may' test =
+    let mine = h.known port v at in
+    omega (arith, balanced test h.moves, ap (count_by test) h.held, ap (count_by test) (mine.pushed (omega arith)), ap (count_by test) (mine.popped may), ap (count_by test) (mine.stolen may'))
 
-pub totals : (port : ℕ) (v : Seat) → 2 ≤ v.parts → Learns Dealt port v (λ items. (test : ℕ → Bool) → count_by test v.pushed ≡ count_by test v.taken + count_by test items)
-totals port v whole items views h at = whole_takes items views port v h at whole
+pub totals : (port : ℕ) (v : Seat) → 0 < v.pop_right → 0 < v.steal_right → Learns Dealt port v (λ items. IsWhole v items)
+totals port v may may' items views h at =
+    let mine = h.known port v at in
+    record { moves = h.moves; pushed = sym (mine.pushed (omega arith)); held = h.held; popped = sym (mine.popped may); stolen = sym (mine.stolen may') }
 
-pub forks : (port : ℕ) (v : Seat) → 2 ≤ v.parts → Forks Dealt port v (seat 1 v.pushed v.taken) (seat 1 v.pushed [])
-forks port v whole items views h at =
-    let all = total_at (λ (u : Seat). u.parts) views port v at in
-    let l : Seat = seat 1 v.pushed v.taken in
-    let r : Seat = seat 1 v.pushed [] in
-    let mine = h.known port v at (omega arith) in
-    let known : KnowsPushed (after h.steps).pushed (set views port l) = each_set (λ j u. 0 < u.parts → u.pushed ≡ (after h.steps).pushed) views port l (λ _. mine) (λ j u n e. h.known j u e) in
-    let idle : IdleIsEmpty (set views port l) = each_set (λ j u. u.parts ≡ 0 → u.taken ≡ []) views port l (λ z. absurd (omega arith)) (λ j u n e. h.idle j u e) in
+pub forks : (port : ℕ) (v : Seat) → 0 < v.pop_right → Forks Dealt port v (seat v.pop_right 0 v.pushed v.popped []) (seat 0 v.steal_right v.pushed [] v.stolen)
+forks port v may items views h at =
+    let l : Seat = seat v.pop_right 0 v.pushed v.popped [] in
+    let r : Seat = seat 0 v.steal_right v.pushed [] v.stolen in
+    let mine = h.known port v at in
+    let p = part_after h.moves in
+    let left : Knows p l = record { pushed = λ _. mine.pushed (omega arith); popped = mine.popped; stolen = λ lt. absurd (omega arith) } in
+    let right : Knows p r = record { pushed = λ _. mine.pushed (omega arith); popped = λ lt. absurd (omega arith); stolen = mine.stolen } in
+    let known : (j : ℕ) (u : Seat) → get_elem? (set views port l) j ≡ some u → Knows p u = each_set (λ j u. Knows p u) views port l left (λ j u n e. h.known j u e) in
     record {
-      parts = (let t = total_set (λ (u : Seat). u.parts) views port v l at in let s = sum_by_push (λ (u : Seat). u.parts) (set views port l) r in omega (arith, h.parts));
-      steps = h.steps;
+      moves = h.moves;
       held = h.held;
-      known = λ j u e p. ⊎_elim (λ x. known j u x p) (λ (x : r ≡ u). ap (λ (y : Seat). y.pushed) (sym x) ∙ mine) (at_snoc (set views port l) r u j e);
-      taken = λ test. (let t = total_set (λ (u : Seat). count_by test u.taken) views port v l at in let s = sum_by_push (λ (u : Seat). count_by test u.taken) (set views port l) r in omega (arith, h.taken test));
-      idle = λ j u e z. ⊎_elim (λ x. idle j u x z) (λ (x : r ≡ u). ap (λ (y : Seat). y.taken) (sym x)) (at_snoc (set views port l) r u j e);
+      known = λ j u e. ⊎_elim (λ x. known j u x) (λ (x : r ≡ u). subst (Knows p) x right) (at_snoc (set views port l) r u j e);
+      owner = (let t = total_set pops views port v l at in let s = sum_by_push pops (set views port l) r in omega (arith, h.owner));
+      thief = (let t = total_set steals views port v l at in let s = sum_by_push steals (set views port l) r in omega (arith, h.thief));
     }
 
-pub merges : (port : ℕ) (v : Seat) (other : ℕ) (w : Seat) → 0 < v.parts → Merges Dealt port v other w (seat (v.parts + w.parts) v.pushed (v.taken ++ w.taken)) (seat 0 [] [])
-merges port v other w some_part items views h at two at' =
-    let both : Seat = seat (v.parts + w.parts) v.pushed (v.taken ++ w.taken) in
-    let mine = h.known port v at some_part in
-    let known : KnowsPushed (after h.steps).pushed (set views port both) = each_set (λ j u. 0 < u.parts → u.pushed ≡ (after h.steps).pushed) views port both (λ _. mine) (λ j u n e. h.known j u e) in
-    let idle : IdleIsEmpty (set views port both) = each_set (λ j u. u.parts ≡ 0 → u.taken ≡ []) views port both (λ z. absurd (omega arith)) (λ j u n e. h.idle j u e) in
+pub merges : (port : ℕ) (v : Seat) (other : ℕ) (w : Seat) → 0 < v.pop_right → 0 < w.steal_right → Merges Dealt port v other w (seat v.pop_right w.steal_right v.pushed v.popped w.stolen) (seat 0 0 [] [] [])
+merges port v other w may may' items views h at two at' =
+    let both : Seat = seat v.pop_right w.steal_right v.pushed v.popped w.stolen in
+    let spent : Seat = seat 0 0 [] [] [] in
+    let p = part_after h.moves in
+    let mine = h.known port v at in
+    let there : get_elem? views other ≡ some w = still views port other both w two at' in
+    let theirs = h.known other w there in
+    let first = total_set pops views port v both at in
+    let second = total_set pops (set views port both) other w spent at' in
+    let first' = total_set steals views port v both at in
+    let second' = total_set steals (set views port both) other w spent at' in
+    let no : w.pop_right ≡ 0 = alone pops views port v h.owner at may other w two there in
+    let no' : v.steal_right ≡ 0 = alone steals views other w h.thief there may' port v (λ e. two (sym e)) at in
+    let joined : Knows p both = record { pushed = λ _. mine.pushed (omega arith); popped = mine.popped; stolen = theirs.stolen } in
+    let known : (j : ℕ) (u : Seat) → get_elem? (set views port both) j ≡ some u → Knows p u = each_set (λ j u. Knows p u) views port both joined (λ j u n e. h.known j u e) in
     record {
-      parts = (let t = total_set (λ (u : Seat). u.parts) views port v both at in let s = total_set (λ (u : Seat). u.parts) (set views port both) other w (seat 0 [] []) at' in omega (arith, h.parts));
-      steps = h.steps;
+      moves = h.moves;
       held = h.held;
-      known = each_set (λ j u. 0 < u.parts → u.pushed ≡ (after h.steps).pushed) (set views port both) other (seat 0 [] []) (λ p. absurd (omega arith)) (λ j u n e. known j u e);
-      taken = λ test. (let t = total_set (λ (u : Seat). count_by test u.taken) views port v both at in let s = total_set (λ (u : Seat). count_by test u.taken) (set views port both) other w (seat 0 [] []) at' in omega (arith, h.taken test, sum_by-append (λ x. cond (test x) 1 0) v.taken w.taken));
-      idle = each_set (λ j u. u.parts ≡ 0 → u.taken ≡ []) (set views port both) other (seat 0 [] []) (λ _. refl) (λ j u n e. idle j u e);
+      known = each_set (λ j u. Knows p u) (set views port both) other spent (idle p spent refl refl) (λ j u n e. known j u e);
+      owner = omega (arith, h.owner);
+      thief = omega (arith, h.thief);
     }

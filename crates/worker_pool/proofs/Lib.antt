@@ -8,3 +8,7 @@ pub mod Rounds
 pub mod Dealing
 pub mod Balance
 pub mod Leaving
+pub mod Law
+pub mod Sharing
+pub mod Turns
+pub mod Joined

@@ -1,5 +1,5 @@
 -- A desk that is at the same deques.
-use Rattle.std.proofs.Common.{◌≡◌, ℕ, ◌+◌, ◌<◌, ◌≤◌, ◌^◌, Bool, count_by, Option, Some, None, sym, subst, refl, ◌∙◌, arith, option_to_list}
+use Rattle.std.proofs.Common.{◌≡◌, ℕ, ◌<◌, Bool, count_by, Option, Some, None, sym, subst, refl, ◌∙◌, option_to_list}
 use Rattle.std.proofs.lemmas.List.Elements.{All-same}
 use Rattle.worker_pool.specs.declared.desk.Next.{Next}
 use Rattle.worker_pool.specs.declared.desk.Desk.{Desk}
@@ -14,6 +14,13 @@ NextBelow-same count (Some n) (Some m) same below = All-same (λ x. x < count) (
 pub Below-same : (count : ℕ) (d e : Desk) → SameDesk d e → Below count d → Below count e
 Below-same count d e same below = (All-same (λ x. x < count) (worker_view e.own).pushed (worker_view d.own).pushed same.pushed below.0, NextBelow-same count d.next e.next same.next below.1)
 
+SameNext-refl : (n : Option Next) → SameNext n n
+SameNext-refl None = refl
+SameNext-refl (Some n) = (refl, refl)
+
+pub SameDesk-refl : (d : Desk) → SameDesk d d
+SameDesk-refl d = record { deque = refl; right = refl; pushed = refl; stolen = refl; next = SameNext-refl d.next }
+
 SameNext-trans : (n m o : Option Next) → SameNext n m → SameNext m o → SameNext n o
 SameNext-trans None m o same then = subst (λ x. SameNext x o) same then
 SameNext-trans (Some n) None o same then = absurd same
@@ -23,16 +30,11 @@ SameNext-trans (Some n) (Some m) (Some o) same then = (then.0 ∙ same.0, then.1
 pub SameDesk-trans : (d e f : Desk) → SameDesk d e → SameDesk e f → SameDesk d f
 SameDesk-trans d e f same then = record {
   deque = then.deque ∙ same.deque;
-  parts = then.parts ∙ same.parts;
+  right = then.right ∙ same.right;
   pushed = then.pushed ∙ same.pushed;
+  stolen = then.stolen ∙ same.stolen;
   next = SameNext-trans d.next e.next f.next same.next then.next;
 }
 
 pub none_kept : (test : ℕ → Bool) (kept : Option ℕ) → kept ≡ None → count_by test (option_to_list kept) ≡ 0
 none_kept test kept is = rw is refl
-
-pub counted_on : (first old new count count' : ℕ) → old ≤ new → (first + old < 2 ^ 64 → count ≡ first + old) → (count + new < 2 ^ 64 + old → count' + old ≡ count + new) → first + new < 2 ^ 64 → count' ≡ first + new
-counted_on first old new count count' grows was step fits =
-    let e : count ≡ first + old = was (omega arith) in
-    let e' : count' + old ≡ count + new = step (omega arith) in
-    omega arith

@@ -5,29 +5,31 @@ use Rattle.crossbeam_deque.specs.Handles.{view, worker_view}
 use Rattle.worker_pool.specs.declared.rule.Seat.{Seat}
 use Rattle.worker_pool.specs.declared.desk.Next.{Next}
 use Rattle.worker_pool.specs.declared.desk.Desk.{Desk}
-use Rattle.worker_pool.specs.Tickets.{seat}
+use Rattle.worker_pool.specs.Parts.{seat}
 use Rattle.worker_pool.specs.Desks.{taken_next, NextBelow}
 use Rattle.worker_pool.specs.Ring.{Fresh}
 
-pub fresh_shared : (count : ℕ) (old mid : Desk) → worker_view mid.own ≡ seat 1 (worker_view old.own).pushed (worker_view old.own).taken → mid.next ≡ old.next → mid.kept ≡ old.kept → Fresh count old → Fresh count mid
+pub fresh_shared : (count : ℕ) (old mid : Desk) → worker_view mid.own ≡ seat (worker_view old.own).pop_right 0 (worker_view old.own).pushed (worker_view old.own).popped [] → mid.next ≡ old.next → mid.kept ≡ old.kept → Fresh count old → Fresh count mid
 fresh_shared count old mid own next kept was = record {
   below = (
     All-same (λ x. x < count) (worker_view mid.own).pushed (worker_view old.own).pushed (ap (λ (v : Seat). v.pushed) own) was.below.0,
     subst (NextBelow count) (sym next) was.below.1,
   );
   kept = kept ∙ was.kept;
-  took_none = λ test. omega (arith, ap (λ (v : Seat). count_by test v.taken) own, ap (taken_next test) next, was.took_none test);
+  took_none = λ test. omega (arith, ap (λ (v : Seat). count_by test v.popped) own, ap (taken_next test) next, was.took_none test);
+  stolen = ap (λ (v : Seat). v.stolen) own;
 }
 
-pub fresh_seated : (count : ℕ) (there new : Desk) (n : Next) (pushed : List ℕ) → worker_view new.own ≡ worker_view there.own → new.next ≡ Some n → new.kept ≡ there.kept
-    → view n.seat ≡ seat 1 pushed [] → All (λ x. x < count) pushed → Fresh count there → Fresh count new
-fresh_seated count there new n pushed own next kept seated below was = record {
+pub fresh_seated : (count : ℕ) (there new : Desk) (n : Next) (pushed stolen : List ℕ) → worker_view new.own ≡ worker_view there.own → new.next ≡ Some n → new.kept ≡ there.kept
+    → (right : ℕ) → view n.seat ≡ seat 0 right pushed [] stolen → stolen ≡ [] → All (λ x. x < count) pushed → Fresh count there → Fresh count new
+fresh_seated count there new n pushed stolen own next kept right seated none below was = record {
   below = (
     All-same (λ x. x < count) (worker_view new.own).pushed (worker_view there.own).pushed (ap (λ (v : Seat). v.pushed) own) was.below.0,
     subst (NextBelow count) (sym next) (All-same (λ x. x < count) (view n.seat).pushed pushed (ap (λ (v : Seat). v.pushed) seated) below),
   );
   kept = kept ∙ was.kept;
-  took_none = λ test. omega (arith, ap (λ (v : Seat). count_by test v.taken) own, ap (taken_next test) next, ap (λ (v : Seat). count_by test v.taken) seated, was.took_none test);
+  took_none = λ test. omega (arith, ap (λ (v : Seat). count_by test v.popped) own, ap (taken_next test) next, ap (λ (v : Seat). count_by test v.stolen) seated, ap (count_by test) none, was.took_none test);
+  stolen = ap (λ (v : Seat). v.stolen) own ∙ was.stolen;
 }
 
 NextBelow-weaker : (count limit : ℕ) (n : Option Next) → count ≤ limit → NextBelow count n → NextBelow limit n
@@ -39,4 +41,5 @@ Fresh-weaker count limit d le was = record {
   below = (All-weaker (λ x. x < count) (λ x. x < limit) (λ x lt. omega arith) (worker_view d.own).pushed was.below.0, NextBelow-weaker count limit d.next le was.below.1);
   kept = was.kept;
   took_none = was.took_none;
+  stolen = was.stolen;
 }

@@ -6,11 +6,15 @@ use Rattle.worker_pool.specs.declared.desk.Desk.{Desk}
 
 abbrev pub taken_next : (ℕ → Bool) → Option Next → ℕ
 taken_next test None = 0
-taken_next test (Some n) = count_by test (view n.seat).taken
+taken_next test (Some n) = count_by test (view n.seat).stolen
 
--- what the two seats of a desk took
+-- what a desk's hand took: by pops from its own deque, and by steals from the next
 abbrev pub took : (ℕ → Bool) → Desk → ℕ
-took test d = count_by test (worker_view d.own).taken + taken_next test d.next
+took test d = count_by test (worker_view d.own).popped + taken_next test d.next
+
+-- the ticket that was kept
+abbrev pub kept_by : (ℕ → Bool) → Desk → ℕ
+kept_by test d = count_by test (option_to_list d.kept)
 
 -- all that was pushed where the desk takes is below the count
 abbrev pub NextBelow : ℕ → Option Next → Type 0
@@ -20,41 +24,27 @@ NextBelow count (Some n) = All (λ x. x < count) (view n.seat).pushed
 abbrev pub Below : ℕ → Desk → Type 0
 Below count d = All (λ x. x < count) (worker_view d.own).pushed × NextBelow count d.next
 
+-- .. and so is the ticket that was kept
+abbrev pub KeptBelow : ℕ → Desk → Type 0
+KeptBelow count d = IfSome d.kept (λ x. x < count)
+
+-- a desk at which the work may begin
+abbrev pub IsReady : ℕ → Desk → Type 0
+IsReady count d = Below count d × (d.kept ≡ None)
+
 abbrev pub SameNext : Option Next → Option Next → Type 0
 SameNext None m = m ≡ None
 SameNext (Some n) None = ⊥
 SameNext (Some n) (Some m) = (stealer_deque m.from ≡ stealer_deque n.from) × ((view m.seat).pushed ≡ (view n.seat).pushed)
 
--- the desk is at the same deques, and what was pushed there is the same
+-- but for its own seat the desk is what it was
+abbrev pub SameButOwn : Desk → Desk → Type 0
+SameButOwn old new = (new.next ≡ old.next) × (new.kept ≡ old.kept) × (worker_deque new.own ≡ worker_deque old.own)
+
+-- the desk is at the same deques, with the same rights; what was pushed there is the same, and what it knows to be stolen
 pub record SameDesk (old new : Desk) : Type 0 where
   pub deque : worker_deque new.own ≡ worker_deque old.own
-  pub parts : (worker_view new.own).parts ≡ (worker_view old.own).parts
+  pub right : (worker_view new.own).steal_right ≡ (worker_view old.own).steal_right
   pub pushed : (worker_view new.own).pushed ≡ (worker_view old.own).pushed
+  pub stolen : (worker_view new.own).stolen ≡ (worker_view old.own).stolen
   pub next : SameNext old.next new.next
-
--- of a station's desk, if it has one
-abbrev pub took_at : (ℕ → Bool) → Option Desk → ℕ
-took_at test None = 0
-took_at test (Some d) = took test d
-
-abbrev pub kept_at : (ℕ → Bool) → Option Desk → ℕ
-kept_at test None = 0
-kept_at test (Some d) = count_by test (option_to_list d.kept)
-
-abbrev pub BelowAt : ℕ → Option Desk → Type 0
-BelowAt count None = Unit {0}
-BelowAt count (Some d) = Below count d
-
-abbrev pub SameAt : Option Desk → Option Desk → Type 0
-SameAt None e = e ≡ None
-SameAt (Some d) None = ⊥
-SameAt (Some d) (Some e) = SameDesk d e
-
-abbrev pub KeepsNone : Option Desk → Type 0
-KeepsNone None = Unit {0}
-KeepsNone (Some d) = d.kept ≡ None
-
--- the ticket that was kept is below the count
-abbrev pub KeptBelow : ℕ → Option Desk → Type 0
-KeptBelow count None = Unit {0}
-KeptBelow count (Some d) = IfSome d.kept (λ x. x < count)

@@ -1,9 +1,9 @@
 -- What a caller sees of hands, and of what they performed in a run.
-use Rattle.std.specs.Prelude.{◌≡◌, ℕ, ◌+◌, ◌<◌, ◌≤◌, ◌^◌, Bool, List, Vec, length, map, All, count_by, slice_index_or}
+use Rattle.std.specs.Prelude.{◌≡◌, ℕ, ◌+◌, ◌<◌, ◌≤◌, ◌^◌, Bool, List, [], Vec, length, map, All, count_by, slice_index_or}
 use Rattle.std.specs.List.{sum_by}
 use Rattle.std.specs.declared.alloc.Global.{Global}
 use Rattle.worker_pool.specs.declared.hand.Hand.{Hand}
-use Rattle.worker_pool.specs.Tickets.{count_below}
+use Rattle.worker_pool.specs.Tickets.{Step, IsStepOf, IsDealtRound, after, of_hand, pushed, count_below}
 
 -- its job
 abbrev pub hand_job : {J A S : Type 0} → Hand J A S → J
@@ -26,6 +26,29 @@ answered test lists = sum_by (λ l. count_by (λ p. test p.0) l.items) lists
 abbrev pub EachOnce : {A : Type 0} → List (Vec (ℕ × A) Global) → ℕ → Type 0
 EachOnce lists count = (test : ℕ → Bool) → answered test lists ≡ count_below test count
 
+-- how many answers of hand k are of a number that passes the test
+abbrev pub answered_at : {A : Type 0} → (ℕ → Bool) → List (List (ℕ × A)) → ℕ → ℕ
+answered_at test lists k = count_by (λ p. test p.0) (slice_index_or lists k [])
+
+-- A whole run: some steps of n hands deal the tickets below the count round, leave each deque empty, and leave each hand
+-- with just the numbers that it answered, each once.
+pub record SharesAll {A : Type 0} (n count : ℕ) (lists : List (List (ℕ × A))) : Type 0 where
+  pub steps : List Step
+  pub of_hands : All (IsStepOf n) steps
+  pub round : All (IsDealtRound n) steps
+  pub dealt : (test : ℕ → Bool) → count_by test (pushed steps) ≡ count_below test count
+  pub empty : All (λ deque. deque ≡ []) (after n steps).deques
+  pub taken : (test : ℕ → Bool) (k : ℕ) → k < n → count_by test (of_hand k (after n steps).taken) ≡ answered_at test lists k
+
+-- A run that was cut short: some steps of n hands deal tickets below the count round, each at most once, and leave each
+-- hand with numbers among which are those that it answered. The others it kept where memory was refused.
+pub record SharesPart {A : Type 0} (n count : ℕ) (lists : List (List (ℕ × A))) : Type 0 where
+  pub steps : List Step
+  pub of_hands : All (IsStepOf n) steps
+  pub round : All (IsDealtRound n) steps
+  pub dealt : (test : ℕ → Bool) → count_by test (pushed steps) ≤ count_below test count
+  pub taken : (test : ℕ → Bool) (k : ℕ) → k < n → answered_at test lists k ≤ count_by test (of_hand k (after n steps).taken)
+
 -- A run that performed a part of the tickets: what the hands were, and what they are.
 pub record PerformsPart {J A S T : Type 0} (setup : J → T) (answers : T → ℕ → A → Type 0) (before after : List (Hand J A S)) (count : ℕ) : Type 0 where
   -- for each hand the numbers that it performed, with the answers of its job
@@ -33,8 +56,13 @@ pub record PerformsPart {J A S T : Type 0} (setup : J → T) (answers : T → �
   pub many : length lists ≡ length before
   pub right : (k : ℕ) (h : Hand J A S) (l : List (ℕ × A)) → k < length before
       → All (λ p. answers (setup (hand_job (slice_index_or before k h))) p.0 p.1) (slice_index_or lists k l)
+  pub shared : SharesPart (length before) count lists
   -- over all lists each number below the count stands at most once, and no other
   pub once : (test : ℕ → Bool) → sum_by (λ l. count_by (λ p. test p.0) l) lists ≤ count_below test count
   pub most : sum_by (λ l. length l) lists ≤ count
+  -- each hand has counted what it performed
+  pub counted : (k : ℕ) (h : Hand J A S) (l : List (ℕ × A)) → k < length before
+      → hand_performed (slice_index_or before k h) + length (slice_index_or lists k l) < 2 ^ 64
+      → hand_performed (slice_index_or after k h) ≡ hand_performed (slice_index_or before k h) + length (slice_index_or lists k l)
   pub performed : sum_by hand_performed before + count < 2 ^ 64
       → sum_by hand_performed after ≡ sum_by hand_performed before + sum_by (λ l. length l) lists

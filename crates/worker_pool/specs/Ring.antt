@@ -1,8 +1,11 @@
 -- The desks in a ring: each has its thief's seat at the deque of the next, or the next knows the whole of its deque itself.
-use Rattle.std.specs.Prelude.{◌≡◌, ℕ, ◌+◌, ◌*◌, ◌%◌, ◌<◌, ◌≤◌, Bool, cond, All, List, count_by, Option, Some, None, length, slice_index_or, option_to_list, ◌==◌}
-use Rattle.crossbeam_deque.specs.Handles.{stealer_deque, worker_deque, worker_view, worker_index, worker_capacity}
+use Rattle.std.specs.Prelude.{◌≡◌, ℕ, ◌+◌, ◌*◌, ◌%◌, ◌<◌, ◌≤◌, Bool, cond, All, List, [], count_by, Option, Some, None, length, slice_index_or, ◌==◌}
+use Rattle.std.specs.List.{sum_by}
+use Rattle.crossbeam_deque.specs.Handles.{view, stealer_deque, worker_deque, worker_view, worker_index, worker_capacity}
 use Rattle.worker_pool.specs.declared.desk.Next.{Next}
 use Rattle.worker_pool.specs.declared.desk.Desk.{Desk}
+use Rattle.worker_pool.specs.Parts.{IsWhole}
+use Rattle.worker_pool.specs.Tickets.{count_below}
 use Rattle.worker_pool.specs.Desks.{took, Below}
 
 abbrev pub next_of : ℕ → ℕ → ℕ
@@ -10,7 +13,7 @@ next_of n k = cond (k + 1 == n) 0 (k + 1)
 
 -- the seat is at the deque of that desk, or there is none and the desk knows the whole
 abbrev pub Link : Option Next → Desk → Type 0
-Link None e = 2 ≤ (worker_view e.own).parts
+Link None e = 0 < (worker_view e.own).steal_right
 Link (Some n) e = stealer_deque n.from ≡ worker_deque e.own
 
 abbrev pub IsRing : List Desk → Type 0
@@ -19,25 +22,54 @@ IsRing ds = (k : ℕ) (d : Desk) → k < length ds → Link (slice_index_or ds k
 abbrev pub pushed_by : (ℕ → Bool) → Desk → ℕ
 pushed_by test d = count_by test (worker_view d.own).pushed
 
-abbrev pub kept_by : (ℕ → Bool) → Desk → ℕ
-kept_by test d = count_by test (option_to_list d.kept)
+abbrev pub stolen_by : (ℕ → Bool) → Desk → ℕ
+stolen_by test d = count_by test (worker_view d.own).stolen
+
+-- what its own seat knows to have been taken from a desk's deque
+abbrev pub gone_by : (ℕ → Bool) → Desk → ℕ
+gone_by test d = count_by test (worker_view d.own).popped + stolen_by test d
+
+-- what was stolen from a desk's deque, by the seat at it, or as the desk itself knows
+abbrev pub stolen_from : (ℕ → Bool) → Option Next → Desk → ℕ
+stolen_from test None e = stolen_by test e
+stolen_from test (Some n) e = count_by test (view n.seat).stolen
+
+-- the same was pushed at the desk and popped there, and it keeps the same
+pub record SameOwn (old new : Desk) : Type 0 where
+  pub pushed : (worker_view new.own).pushed ≡ (worker_view old.own).pushed
+  pub popped : (worker_view new.own).popped ≡ (worker_view old.own).popped
+  pub kept : new.kept ≡ old.kept
+
+-- tickets were dealt round: desk k of n has those that leave k
+abbrev pub AreDealtRound : ℕ → List Desk → Type 0
+AreDealtRound n ds = (k : ℕ) (d : Desk) → k < n → All (λ x. x % n ≡ k) (worker_view (slice_index_or ds k d).own).pushed
+
+-- over all deques each number below the count was pushed once, and no other
+abbrev pub PushedOnce : ℕ → List Desk → Type 0
+PushedOnce count ds = (test : ℕ → Bool) → sum_by (pushed_by test) ds ≡ count_below test count
+
+-- what the deque holds: some moves lead to it, and to all that the desk knows
+pub record IsSettled (d : Desk) : Type 0 where
+  pub held : List ℕ
+  pub whole : IsWhole (worker_view d.own) held
 
 -- a desk before the run
 pub record Fresh (count : ℕ) (d : Desk) : Type 0 where
   pub below : Below count d
   pub kept : d.kept ≡ None
   pub took_none : (test : ℕ → Bool) → took test d ≡ 0
+  pub stolen : (worker_view d.own).stolen ≡ []
 
 -- .. with no thief's seat made yet
 pub record Whole (count : ℕ) (d : Desk) : Type 0 where
   pub fresh : Fresh count d
   pub next : d.next ≡ None
-  pub parts : 2 ≤ (worker_view d.own).parts
+  pub right : 0 < (worker_view d.own).steal_right
 
 -- after the joins: the desk has taken its thief's seat in
 pub record TakenIn (d : Desk) : Type 0 where
   pub next : d.next ≡ None
-  pub parts : 2 ≤ (worker_view d.own).parts
+  pub right : 0 < (worker_view d.own).steal_right
 
 -- desk j of n, once the tickets below the number were dealt round: it has those of its round, and finds room for the next
 pub record DealtRound (n most number j : ℕ) (d : Desk) : Type 0 where
@@ -47,5 +79,5 @@ pub record DealtRound (n most number j : ℕ) (d : Desk) : Type 0 where
 
 -- .. and all that it can give is given
 pub record IsDone (d : Desk) : Type 0 where
-  pub all : (test : ℕ → Bool) → pushed_by test d ≡ took test d
+  pub all : (test : ℕ → Bool) → pushed_by test d ≡ gone_by test d
   pub kept : d.kept ≡ None

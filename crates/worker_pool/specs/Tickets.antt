@@ -1,74 +1,65 @@
--- Tickets on one deque. Its owner pushes numbers at the back before the work begins, and takes from the front;
--- its one thief takes from the front too.
-use Rattle.std.specs.Prelude.{◌≡◌, ℕ, zero, suc, ◌+◌, ◌<◌, Bool, cond, List, [], ◌∷◌, ◌++◌, count_by}
-use Rattle.std.specs.List.{sum_by}
-use mathlib.Core.Option.{some}
-use lib.ListN.{get_elem?}
-use Rattle.worker_pool.specs.declared.rule.Seat.{Seat}
+-- Tickets on the deques of any number of hands. A ticket is a number. Hand h pushes at the back of deque h before the work
+-- begins, pops from its front, and steals from the front of the next hand's deque.
+use Rattle.std.specs.Prelude.{◌≡◌, ℕ, zero, suc, ◌+◌, ◌%◌, ◌<◌, Bool, cond, List, [], ◌∷◌, ◌++◌, replicate, slice_set, slice_index_or}
 
--- who takes: the owner by a pop, the thief by a steal
-pub data Taker : Type 0 where
-  owner : Taker
-  thief : Taker
-
+-- a step, by the hand that makes it
 pub data Step : Type 0 where
-  push : ℕ → Step
-  take : Taker → Step
+  push : ℕ → ℕ → Step
+  pop : ℕ → Step
+  steal : ℕ → Step
 
--- what was pushed, what stands in the deque, its front first, and what each of the two took
-pub record Part : Type 0 where
-  pub pushed : List ℕ
-  pub held : List ℕ
-  pub popped : List ℕ
-  pub stolen : List ℕ
+-- what stands in each hand's deque, its front first, and what each hand took
+pub record State : Type 0 where
+  pub deques : List (List ℕ)
+  pub taken : List (List ℕ)
 
-abbrev pub beginning : Part
-beginning = record { pushed = []; held = []; popped = []; stolen = [] }
+-- what stands at a hand's place
+abbrev pub of_hand : ℕ → List (List ℕ) → List ℕ
+of_hand h lists = slice_index_or lists h []
 
-abbrev pub popped_by : Taker → ℕ → List ℕ → List ℕ
-popped_by owner x xs = xs ++ x ∷ []
-popped_by thief x xs = xs
+-- .. with a number more at its back
+abbrev pub added : ℕ → ℕ → List (List ℕ) → List (List ℕ)
+added h x lists = slice_set lists h (of_hand h lists ++ x ∷ [])
 
-abbrev pub stolen_by : Taker → ℕ → List ℕ → List ℕ
-stolen_by owner x xs = xs
-stolen_by thief x xs = xs ++ x ∷ []
+-- the front of deque d goes to hand h; at an empty deque nothing happens
+abbrev pub front_taken : ℕ → ℕ → List ℕ → State → State
+front_taken h d [] s = s
+front_taken h d (x ∷ rest) s = record { deques = slice_set s.deques d rest; taken = added h x s.taken }
 
--- the front leaves; at an empty deque nothing happens
-abbrev pub front_taken : Taker → List ℕ → Part → Part
-front_taken who [] p = p
-front_taken who (x ∷ held) p = record { pushed = p.pushed; held = held; popped = popped_by who x p.popped; stolen = stolen_by who x p.stolen }
+abbrev pub taken_from : ℕ → ℕ → State → State
+taken_from h d s = front_taken h d (of_hand d s.deques) s
 
-abbrev pub stepped : Step → Part → Part
-stepped (push x) p = record { pushed = p.pushed ++ x ∷ []; held = p.held ++ x ∷ []; popped = p.popped; stolen = p.stolen }
-stepped (take who) p = front_taken who p.held p
+abbrev pub stepped : ℕ → Step → State → State
+stepped n (push h x) s = record { deques = added h x s.deques; taken = s.taken }
+stepped n (pop h) s = taken_from h h s
+stepped n (steal h) s = taken_from h ((h + 1) % n) s
 
--- after a list of steps, of which the latest stands first
-abbrev pub after : List Step → Part
-after [] = beginning
-after (step ∷ earlier) = stepped step (after earlier)
+-- n hands after a list of steps, of which the latest stands first
+abbrev pub after : ℕ → List Step → State
+after n [] = record { deques = replicate n []; taken = replicate n [] }
+after n (step ∷ earlier) = stepped n step (after n earlier)
 
--- what a seat at a deque knows
-abbrev pub seat : ℕ → List ℕ → List ℕ → Seat
-seat parts pushed taken = record { parts = parts; pushed = pushed; taken = taken }
+-- a step of one of n hands; where there is one deque, there is none to steal from
+abbrev pub IsStepOf : ℕ → Step → Type 0
+IsStepOf n (push h x) = h < n
+IsStepOf n (pop h) = h < n
+IsStepOf n (steal h) = (h < n) × (1 < n)
 
--- each seat in use knows what was pushed
-abbrev pub KnowsPushed : List ℕ → List Seat → Type 0
-KnowsPushed pushed views = (port : ℕ) (v : Seat) → get_elem? views port ≡ some v → 0 < v.parts → v.pushed ≡ pushed
+abbrev pub number_of : Step → List ℕ
+number_of (push h x) = x ∷ []
+number_of (pop h) = []
+number_of (steal h) = []
 
--- a seat that is not in use has taken nothing
-abbrev pub IdleIsEmpty : List Seat → Type 0
-IdleIsEmpty views = (port : ℕ) (v : Seat) → get_elem? views port ≡ some v → v.parts ≡ 0 → v.taken ≡ []
+-- the numbers pushed
+abbrev pub pushed : List Step → List ℕ
+pushed [] = []
+pushed (step ∷ earlier) = number_of step ++ pushed earlier
 
--- The rule of one deque: some list of steps leads to what it holds. Each seat in use knows what was pushed, and over all
--- seats what they took is, each once, what was popped and stolen. The seats in use share two parts, so that one that has
--- both knows the whole.
-pub record Dealt (items : List ℕ) (views : List Seat) : Type 0 where
-  pub steps : List Step
-  pub held : (after steps).held ≡ items
-  pub known : KnowsPushed (after steps).pushed views
-  pub taken : (test : ℕ → Bool) → sum_by (λ (v : Seat). count_by test v.taken) views ≡ count_by test (after steps).popped + count_by test (after steps).stolen
-  pub parts : sum_by (λ (v : Seat). v.parts) views ≡ 2
-  pub idle : IdleIsEmpty views
+-- tickets are dealt round: number x is pushed by hand `x mod n`
+abbrev pub IsDealtRound : ℕ → Step → Type 0
+IsDealtRound n (push h x) = x % n ≡ h
+IsDealtRound n (pop h) = Unit {0}
+IsDealtRound n (steal h) = Unit {0}
 
 -- how many numbers below n pass the test: where each number below n stands once in a list, so many of the list do
 abbrev pub count_below : (ℕ → Bool) → ℕ → ℕ

@@ -11,7 +11,7 @@ pub struct Next {
     pub from: Thief,
     pub seat: SeatPass,
     pub ghost table: { IsPassOf (stealer_deque from) seat },
-    pub ghost part: { (view seat).parts ≡ 1 },
+    pub ghost right: { 0 < (view seat).steal_right },
 }
 
 /// A station's own deque, the thief's seat at the next station's, if there is one, and the ticket that it kept where memory
@@ -22,5 +22,5 @@ pub struct Desk {
     pub next: Option<Next>,
     pub kept: Option<Ticket>,
     pub ghost fifo: { worker_flavor own ≡ 0 },
-    pub ghost part: { 0 < (worker_view own).parts },
+    pub ghost right: { 0 < (worker_view own).pop_right },
 }

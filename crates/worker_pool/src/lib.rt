@@ -5,6 +5,7 @@ mod desk;
 mod finish;
 mod hand;
 mod job;
+mod laws;
 mod pool;
 mod ring;
 mod room;
@@ -17,5 +18,6 @@ mod work;
 
 pub use hand::Hand;
 pub use job::Job;
+pub use laws::tickets_are_kept;
 pub use pool::{Gathered, PoolFault, run_all};
 pub use ticket::Ticket;

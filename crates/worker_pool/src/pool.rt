@@ -1,10 +1,9 @@
 //! Every ticket once, by any number of hands.
-ghost use Rattle.std.specs.Prelude.{◌≡◌, ℕ, ◌+◌, ◌<◌, ◌≤◌, ◌^◌, Bool, [], All, IfOk, IfErr, OnOk, MatchResult, count_by, vec_len, vec_capacity, slice_index_or};
+ghost use Rattle.std.specs.Prelude.{◌≡◌, ℕ, ◌+◌, ◌<◌, ◌≤◌, ◌^◌, [], All, IfOk, IfErr, OnOk, MatchResult, map, vec_len, vec_capacity, slice_index_or};
 ghost use Rattle.std.specs.List.{sum_by};
-ghost use Rattle.worker_pool.specs.declared.desk.Desk.{Desk};
-ghost use Rattle.worker_pool.specs.Hands.{hand_job, hand_performed, setups_of, EachOnce, PerformsPart};
-ghost use Rattle.worker_pool.specs.Tickets.{count_below};
-ghost use Rattle.worker_pool.specs.Ring.{IsRing, Fresh, pushed_by};
+ghost use Rattle.worker_pool.specs.Hands.{hand_job, hand_performed, setups_of, EachOnce, PerformsPart, SharesAll, SharesPart};
+ghost use Rattle.worker_pool.specs.Ring.{AreDealtRound, Fresh, IsRing, PushedOnce};
+ghost use Rattle.worker_pool.specs.Stations.{GoesOn, answers_of};
 
 use crate::desk::Desk;
 use crate::finish::finish_all;
@@ -33,6 +32,7 @@ pub struct PoolFault<J: Job> {
 }
 
 /// Has the tickets at the desks performed: by each station in a thread of its own, and what they leave by the caller's thread.
+/// All deques and hands together are then in a state that steps of the hands lead to.
 fn work_all<J: Job, G: Gate, R: Threads + Wait + Sync>(
     rt: &R,
     gate: &G,
@@ -42,16 +42,17 @@ fn work_all<J: Job, G: Gate, R: Threads + Wait + Sync>(
 ) -> Result<(), AllocError>
     requires some { 0 < vec_len stations.old }
     requires len { vec_len desks ≡ vec_len stations.old }
-    requires rest { (k : ℕ) (h : _) → k < vec_len stations.old → (slice_index_or stations.old.items k h).answers.items ≡ [] }
+    requires rest { All (λ s. s.answers.items ≡ []) stations.old.items }
     requires spare { (spare.items ≡ []) × (vec_len stations.old ≤ vec_capacity spare) }
-    requires fresh { (k : ℕ) (h : _) (d : Desk) → k < vec_len stations.old → Fresh (J.limit (J.setup (slice_index_or stations.old.items k h).hand.job)) (slice_index_or desks.items k d) }
+    requires fresh { (k : ℕ) (s : _) (d : _) → k < vec_len stations.old
+        → Fresh (J.limit (J.setup (slice_index_or stations.old.items k s).hand.job)) (slice_index_or desks.items k d) }
     requires ring { IsRing desks.items }
+    requires round { AreDealtRound (vec_len stations.old) desks.items }
     ensures len { vec_len stations.new ≡ vec_len stations.old }
-    ensures setup { (k : ℕ) (h : _) → k < vec_len stations.old → J.setup (slice_index_or stations.new.items k h).hand.job ≡ J.setup (slice_index_or stations.old.items k h).hand.job }
-    ensures right { (k : ℕ) (h : _) → k < vec_len stations.old → All (λ p. J.answers (J.setup (slice_index_or stations.old.items k h).hand.job) p.0 p.1) (slice_index_or stations.new.items k h).answers.items }
-    ensures counted { (k : ℕ) (h : _) → k < vec_len stations.old → (slice_index_or stations.old.items k h).hand.performed + vec_len (slice_index_or stations.new.items k h).answers < 2 ^ 64 → (slice_index_or stations.new.items k h).hand.performed ≡ (slice_index_or stations.old.items k h).hand.performed + vec_len (slice_index_or stations.new.items k h).answers }
-    ensures once { OnOk result ((test : ℕ → Bool) → sum_by (λ h. count_by (λ p. test p.0) h.answers.items) stations.new.items ≡ sum_by (pushed_by test) desks.items) }
-    ensures most { (test : ℕ → Bool) → sum_by (λ h. count_by (λ p. test p.0) h.answers.items) stations.new.items ≤ sum_by (pushed_by test) desks.items }
+    ensures on { (k : ℕ) (s : _) → k < vec_len stations.old
+        → GoesOn J.setup J.answers (slice_index_or stations.old.items k s) (slice_index_or stations.new.items k s) }
+    ensures all { OnOk result ((count : ℕ) → PushedOnce count desks.items → SharesAll (vec_len stations.old) count (answers_of stations.new.items)) }
+    ensures part { (count : ℕ) → PushedOnce count desks.items → SharesPart (vec_len stations.old) count (answers_of stations.new.items) }
 {
     let mut back = round(rt, gate, stations, desks, spare);
     absorb_all(&mut back);
@@ -74,18 +75,27 @@ fn run_in<J: Job, G: Gate, R: Threads + Wait + Sync>(
     requires len { vec_len room.desks ≡ vec_len hands }
     requires ring { IsRing room.desks.items }
     requires fresh { All (Fresh count) room.desks.items }
-    requires pushed { (test : ℕ → Bool) → sum_by (pushed_by test) room.desks.items ≡ count_below test count }
+    requires round { AreDealtRound (vec_len hands) room.desks.items }
+    requires pushed { PushedOnce count room.desks.items }
     requires spare { (room.spare.items ≡ []) × (vec_len hands ≤ vec_capacity room.spare) }
     requires stations { (room.stations.items ≡ []) × (vec_len hands ≤ vec_capacity room.stations) }
     requires hands { (room.hands.items ≡ []) × (vec_len hands ≤ vec_capacity room.hands) }
     requires answers { (room.answers.items ≡ []) × (vec_len hands ≤ vec_capacity room.answers) }
     ensures hands { MatchResult result (λ g. vec_len g.hands ≡ vec_len hands) (λ e. vec_len e.hands ≡ vec_len hands) }
-    ensures setups { MatchResult result (λ g. setups_of J.setup g.hands.items ≡ setups_of J.setup hands.items) (λ e. setups_of J.setup e.hands.items ≡ setups_of J.setup hands.items) }
+    ensures setups { MatchResult result
+        (λ g. setups_of J.setup g.hands.items ≡ setups_of J.setup hands.items)
+        (λ e. setups_of J.setup e.hands.items ≡ setups_of J.setup hands.items) }
     ensures many { IfOk result (λ g. vec_len g.answers ≡ vec_len hands) }
-    ensures right { IfOk result (λ g. (k : ℕ) (h : _) (l : _) → k < vec_len hands → All (λ p. J.answers (J.setup (hand_job (slice_index_or hands.items k h))) p.0 p.1) (slice_index_or g.answers.items k l).items) }
+    ensures right { IfOk result (λ g. (k : ℕ) (h : _) (l : _) → k < vec_len hands
+        → All (λ p. J.answers (J.setup (hand_job (slice_index_or hands.items k h))) p.0 p.1) (slice_index_or g.answers.items k l).items) }
+    ensures shared { IfOk result (λ g. SharesAll (vec_len hands) count (map (λ l. l.items) g.answers.items)) }
     ensures once { IfOk result (λ g. EachOnce g.answers.items count) }
-    ensures counted { IfOk result (λ g. (k : ℕ) (h : _) (l : _) → k < vec_len hands → hand_performed (slice_index_or hands.items k h) + vec_len (slice_index_or g.answers.items k l) < 2 ^ 64 → hand_performed (slice_index_or g.hands.items k h) ≡ hand_performed (slice_index_or hands.items k h) + vec_len (slice_index_or g.answers.items k l)) }
-    ensures performed { IfOk result (λ g. sum_by hand_performed hands.items + count < 2 ^ 64 → sum_by hand_performed g.hands.items ≡ sum_by hand_performed hands.items + count) }
+    ensures counted { IfOk result (λ g. (k : ℕ) (h : _) (l : _) → k < vec_len hands
+        → hand_performed (slice_index_or hands.items k h) + vec_len (slice_index_or g.answers.items k l) < 2 ^ 64
+        → hand_performed (slice_index_or g.hands.items k h)
+        ≡ hand_performed (slice_index_or hands.items k h) + vec_len (slice_index_or g.answers.items k l)) }
+    ensures performed { IfOk result (λ g. sum_by hand_performed hands.items + count < 2 ^ 64
+        → sum_by hand_performed g.hands.items ≡ sum_by hand_performed hands.items + count) }
     ensures refused { IfErr result (λ e. PerformsPart J.setup J.answers hands.items e.hands.items count) }
 {
     let Room {
@@ -142,6 +152,10 @@ pub fn run_all<J: Job, G: Gate, R: Threads + Wait + Sync>(
         (slice_index_or g.answers.items k l).items) }
     ensures once { IfOk result (λ g. EachOnce g.answers.items count) }
 
+    // After the joins all deques and hands together are where steps of the hands lead: ticket i was pushed by hand `i mod n`,
+    // all deques are empty, and each hand took just what it answered, by pops from its own deque and steals from the next.
+    ensures shared { IfOk result (λ g. SharesAll (vec_len hands) count (map (λ l. l.items) g.answers.items)) }
+
     // What the hands count, where the counter does not saturate.
     ensures counted { IfOk result (λ g. (k : ℕ) (h : _) (l : _) → k < vec_len hands
         → hand_performed (slice_index_or hands.items k h) + vec_len (slice_index_or g.answers.items k l) < 2 ^ 64
@@ -150,7 +164,7 @@ pub fn run_all<J: Job, G: Gate, R: Threads + Wait + Sync>(
     ensures performed { IfOk result (λ g. sum_by hand_performed hands.items + count < 2 ^ 64
         → sum_by hand_performed g.hands.items ≡ sum_by hand_performed hands.items + count) }
 
-    // A refused run has performed a part of the tickets, each at most once, and counted just these.
+    // A refused run has performed a part of the tickets, each at most once, and each hand counted just those that it performed.
     ensures refused { IfErr result (λ e. PerformsPart J.setup J.answers hands.items e.hands.items count) }
 {
     match Room::new(alloc, hands.len(), count) {

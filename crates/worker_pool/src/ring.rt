@@ -1,15 +1,22 @@
 //! The desks of all stations, in a ring.
-ghost use Rattle.std.specs.Prelude.{◌≡◌, ℕ, ◌+◌, ◌/◌, ◌%◌, ◌<◌, ◌≤◌, ◌==◌, Bool, All, None, ◌≢◌, IfOk, OnOk, IsSome, count_by, cond, vec_len, slice_index_or, length};
-ghost use Rattle.worker_pool.specs.declared.desk.Desk.{Desk};
+ghost use Rattle.std.specs.Prelude.{◌≡◌, ℕ, ◌+◌, ◌/◌, ◌%◌, ◌<◌, ◌≤◌, Bool, All, None, ◌≢◌, IfOk, OnOk, IsSome, cond, vec_len, slice_index_or};
 ghost use Rattle.std.specs.List.{sum_by};
 ghost use Rattle.crossbeam_deque.specs.Handles.{worker_view};
-ghost use Rattle.worker_pool.specs.Desks.{took};
-ghost use Rattle.worker_pool.specs.Tickets.{count_below};
-ghost use Rattle.worker_pool.specs.Ring.{next_of, IsRing, Fresh, DealtRound, Whole, TakenIn, pushed_by};
+ghost use Rattle.worker_pool.specs.declared.desk.Desk.{Desk};
+ghost use Rattle.worker_pool.specs.Ring.{next_of, IsRing, Fresh, Whole, TakenIn, IsSettled, SameOwn, pushed_by, stolen_by, stolen_from};
+ghost use Rattle.worker_pool.specs.Ring.{AreDealtRound, DealtRound, PushedOnce};
 
 use crate::desk::Desk;
 use crate::ticket::Ticket;
 use std::alloc::{AllocError, Global};
+
+/// The place after k of n in the ring.
+fn place_after(n: usize, k: usize) -> usize
+    requires { k < n }
+    ensures { result ≡ next_of n k }
+{
+    if k + 1 == n { 0 } else { k + 1 }
+}
 
 /// Takes the seat of desk k in at the next desk.
 fn absorb_one(desks: &mut Vec<Desk>, k: usize, next: usize)
@@ -19,9 +26,12 @@ fn absorb_one(desks: &mut Vec<Desk>, k: usize, next: usize)
     ensures len { vec_len desks.new ≡ vec_len desks.old }
     ensures ring { IsRing desks.new.items }
     ensures none { (d : Desk) → (slice_index_or desks.new.items k d).next ≡ None }
-    ensures others { (j : ℕ) (d : Desk) → (slice_index_or desks.old.items j d).next ≡ None → (slice_index_or desks.new.items j d).next ≡ None }
-    ensures took { (test : ℕ → Bool) → sum_by (took test) desks.new.items ≡ sum_by (took test) desks.old.items }
-    ensures each { (j : ℕ) (d : Desk) → ((worker_view (slice_index_or desks.new.items j d).own).pushed ≡ (worker_view (slice_index_or desks.old.items j d).own).pushed) × ((slice_index_or desks.new.items j d).kept ≡ (slice_index_or desks.old.items j d).kept) }
+    ensures others { (j : ℕ) (d : Desk) → j ≢ k → (slice_index_or desks.new.items j d).next ≡ (slice_index_or desks.old.items j d).next }
+    ensures stolen { (test : ℕ → Bool) (d : Desk) → stolen_by test (slice_index_or desks.new.items next d)
+        ≡ stolen_from test (slice_index_or desks.old.items k d).next (slice_index_or desks.old.items next d) }
+    ensures still { (j : ℕ) (d : Desk) → j ≢ next
+        → (worker_view (slice_index_or desks.new.items j d).own).stolen ≡ (worker_view (slice_index_or desks.old.items j d).own).stolen }
+    ensures each { (j : ℕ) (d : Desk) → SameOwn (slice_index_or desks.old.items j d) (slice_index_or desks.new.items j d) }
 {
     let seat = desks[k].next.take();
     if let Some(seat) = seat {
@@ -34,20 +44,21 @@ pub fn absorb_all(desks: &mut Vec<Desk>)
     requires ring { IsRing desks.old.items }
     ensures len { vec_len desks.new ≡ vec_len desks.old }
     ensures whole { All TakenIn desks.new.items }
-    ensures took { (test : ℕ → Bool) → sum_by (took test) desks.new.items ≡ sum_by (took test) desks.old.items }
-    ensures each { (j : ℕ) (d : Desk) → ((worker_view (slice_index_or desks.new.items j d).own).pushed ≡ (worker_view (slice_index_or desks.old.items j d).own).pushed) × ((slice_index_or desks.new.items j d).kept ≡ (slice_index_or desks.old.items j d).kept) }
+    ensures stolen { (test : ℕ → Bool) (k : ℕ) (d : Desk) → k < vec_len desks.old
+        → stolen_by test (slice_index_or desks.new.items (next_of (vec_len desks.old) k) d)
+        ≡ stolen_from test (slice_index_or desks.old.items k d).next (slice_index_or desks.old.items (next_of (vec_len desks.old) k) d) }
+    ensures each { (j : ℕ) (d : Desk) → SameOwn (slice_index_or desks.old.items j d) (slice_index_or desks.new.items j d) }
 {
     let n = desks.len();
     for k in 0..n {
-        let next = if k + 1 == n { 0 } else { k + 1 };
-        absorb_one(desks, k, next);
+        absorb_one(desks, k, place_after(n, k));
     }
 }
 
-/// Learns of all deques that no more was taken than was pushed.
+/// Learns of all deques what they hold.
 pub fn settle_all(desks: Vec<Desk>)
     requires { All TakenIn desks.items }
-    ensures { (test : ℕ → Bool) → sum_by (took test) desks.items ≤ sum_by (pushed_by test) desks.items }
+    ensures { All IsSettled desks.items }
 {
     for mut desk in desks {
         desk.settle();
@@ -66,7 +77,8 @@ fn link_one(desks: &mut Vec<Desk>, k: usize, next: usize) -> Result<(), AllocErr
     ensures here { OnOk result ((d : Desk) → IsSome (slice_index_or desks.new.items k d).next) }
     ensures others { OnOk result ((j : ℕ) (d : Desk) → j ≢ k → (slice_index_or desks.new.items j d).next ≡ (slice_index_or desks.old.items j d).next) }
     ensures fresh { OnOk result ((count : ℕ) → All (Fresh count) desks.old.items → All (Fresh count) desks.new.items) }
-    ensures pushed { OnOk result ((test : ℕ → Bool) → sum_by (pushed_by test) desks.new.items ≡ sum_by (pushed_by test) desks.old.items) }
+    ensures pushed { OnOk result ((j : ℕ) (d : Desk)
+        → (worker_view (slice_index_or desks.new.items j d).own).pushed ≡ (worker_view (slice_index_or desks.old.items j d).own).pushed) }
 {
     let seat = desks[next].share()?;
     desks[k].next = Some(seat);
@@ -80,15 +92,15 @@ pub fn link_all(desks: &mut Vec<Desk>, count: u32) -> Result<(), AllocError>
     ensures ring { OnOk result (IsRing desks.new.items) }
     ensures linked { OnOk result (2 ≤ vec_len desks.old → (j : ℕ) (d : Desk) → j < vec_len desks.old → IsSome (slice_index_or desks.new.items j d).next) }
     ensures fresh { OnOk result (All (Fresh count) desks.new.items) }
-    ensures pushed { OnOk result ((test : ℕ → Bool) → sum_by (pushed_by test) desks.new.items ≡ sum_by (pushed_by test) desks.old.items) }
+    ensures pushed { OnOk result ((j : ℕ) (d : Desk)
+        → (worker_view (slice_index_or desks.new.items j d).own).pushed ≡ (worker_view (slice_index_or desks.old.items j d).own).pushed) }
 {
     let n = desks.len();
     if n < 2 {
         return Ok(());
     }
     for k in 0..n {
-        let next = if k + 1 == n { 0 } else { k + 1 };
-        link_one(desks, k, next)?;
+        link_one(desks, k, place_after(n, k))?;
     }
     Ok(())
 }
@@ -119,11 +131,13 @@ fn deal_one(desks: &mut Vec<Desk>, k: usize, ticket: Ticket, count: u32)
     requires round { k ≡ ticket % vec_len desks.old }
     requires below { ticket < count }
     requires whole { All (Whole count) desks.old.items }
-    requires room { (j : ℕ) (d : Desk) → j < vec_len desks.old → DealtRound (vec_len desks.old) (count / vec_len desks.old + 1) ticket j (slice_index_or desks.old.items j d) }
+    requires room { (j : ℕ) (d : Desk) → j < vec_len desks.old
+        → DealtRound (vec_len desks.old) (count / vec_len desks.old + 1) ticket j (slice_index_or desks.old.items j d) }
     ensures len { vec_len desks.new ≡ vec_len desks.old }
     ensures whole { All (Whole count) desks.new.items }
     ensures pushed { (test : ℕ → Bool) → sum_by (pushed_by test) desks.new.items ≡ sum_by (pushed_by test) desks.old.items + cond (test ticket) 1 0 }
-    ensures room { (j : ℕ) (d : Desk) → j < vec_len desks.old → DealtRound (vec_len desks.old) (count / vec_len desks.old + 1) (ticket + 1) j (slice_index_or desks.new.items j d) }
+    ensures room { (j : ℕ) (d : Desk) → j < vec_len desks.old
+        → DealtRound (vec_len desks.old) (count / vec_len desks.old + 1) (ticket + 1) j (slice_index_or desks.new.items j d) }
 {
     desks[k].deal(ticket);
 }
@@ -133,8 +147,8 @@ pub fn dealt_desks(alloc: Global, n: usize, count: u32) -> Result<Vec<Desk>, All
     requires { 0 < n }
     ensures len { IfOk result (λ v. vec_len v ≡ n) }
     ensures whole { IfOk result (λ v. All (Whole count) v.items) }
-    ensures dealt { IfOk result (λ v. (k : ℕ) (d : Desk) → k < n → All (λ x. x % n ≡ k) (worker_view (slice_index_or v.items k d).own).pushed) }
-    ensures pushed { IfOk result (λ v. (test : ℕ → Bool) → sum_by (pushed_by test) v.items ≡ count_below test count) }
+    ensures dealt { IfOk result (λ v. AreDealtRound n v.items) }
+    ensures pushed { IfOk result (λ v. PushedOnce count v.items) }
 {
     let mut desks = empty_desks(alloc, n, count as usize / n + 1, count)?;
     for number in 0..count {

@@ -1,8 +1,6 @@
 //! What a run takes of memory before its first ticket is performed, and how hands come and go.
-ghost use Rattle.std.specs.Prelude.{◌≡◌, ℕ, ◌<◌, ◌≤◌, Bool, [], None, All, IfOk, map, vec_len, vec_capacity};
-ghost use Rattle.std.specs.List.{sum_by};
-ghost use Rattle.worker_pool.specs.Tickets.{count_below};
-ghost use Rattle.worker_pool.specs.Ring.{IsRing, Fresh, pushed_by};
+ghost use Rattle.std.specs.Prelude.{◌≡◌, ◌<◌, ◌≤◌, [], All, IfOk, map, vec_len, vec_capacity};
+ghost use Rattle.worker_pool.specs.Ring.{AreDealtRound, Fresh, IsRing, PushedOnce};
 
 use crate::desk::Desk;
 use crate::hand::Hand;
@@ -27,7 +25,8 @@ impl<J: Job> Room<J> {
         ensures len { IfOk result (λ room. vec_len room.desks ≡ n) }
         ensures ring { IfOk result (λ room. IsRing room.desks.items) }
         ensures fresh { IfOk result (λ room. All (Fresh count) room.desks.items) }
-        ensures pushed { IfOk result (λ room. (test : ℕ → Bool) → sum_by (pushed_by test) room.desks.items ≡ count_below test count) }
+        ensures pushed { IfOk result (λ room. PushedOnce count room.desks.items) }
+        ensures round { IfOk result (λ room. AreDealtRound n room.desks.items) }
         ensures spare { IfOk result (λ room. (room.spare.items ≡ []) × (n ≤ vec_capacity room.spare)) }
         ensures stations { IfOk result (λ room. (room.stations.items ≡ []) × (n ≤ vec_capacity room.stations)) }
         ensures hands { IfOk result (λ room. (room.hands.items ≡ []) × (n ≤ vec_capacity room.hands)) }

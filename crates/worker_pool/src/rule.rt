@@ -1,7 +1,7 @@
-//! The rule of one deque, and the kinds of step that keep it: what was pushed is, each once, what its two seats took and
-//! what it holds.
-ghost use Rattle.std.specs.Prelude.{◌≡◌, ℕ, ◌+◌, ◌≤◌, Bool, [], ◌++◌, count_by};
-ghost use Rattle.worker_pool.specs.Tickets.{seat, Dealt};
+//! The rule of one deque, and the kinds of step that keep it: what was pushed is, each once, what its owner popped, what its
+//! thief stole and what it holds.
+ghost use Rattle.std.specs.Prelude.{◌≡◌, ◌<◌};
+ghost use Rattle.worker_pool.specs.Parts.{more_pushed, more_popped, more_stolen, AllTaken, IsAmong, IsWhole};
 
 use crate::ticket::Ticket;
 use crossbeam_deque::protocol::{Join, Lesson, Outcome, Protocol, Split};
@@ -9,41 +9,51 @@ use crossbeam_deque::{Pass, Stealer, Worker};
 use std::alloc::Global;
 use std::collections::LinkedList;
 
-/// What a seat knows: its parts of the right to know the whole, what was pushed, and what it took. No value of it is made.
+/// What a seat knows: its rights to pop and to steal, of which each deque has one, what was pushed, and what was popped and
+/// stolen by these rights. No value of it is made.
 pub struct Seat {
-    pub parts: u64,
+    pub pop_right: u64,
+    pub steal_right: u64,
     pub pushed: LinkedList<Ticket>,
-    pub taken: LinkedList<Ticket>,
+    pub popped: LinkedList<Ticket>,
+    pub stolen: LinkedList<Ticket>,
 }
 
-/// The rule. The owner's seat begins with both parts.
+/// The rule. The owner's seat begins with both rights.
 pub struct Fair;
 
 impl Protocol<Ticket, Seat> for Fair {
     ghost use Rattle.std.specs.Prelude.{[]};
-    ghost use Rattle.worker_pool.specs.Tickets.{seat, Dealt};
+    ghost use Rattle.worker_pool.specs.Parts.{seat, Dealt};
 
     ghost holds = { Dealt };
 
-    ghost first = { seat 2 [] [] };
+    ghost first = { seat 1 1 [] [] [] };
 
-    ghost guest = { seat 0 [] [] };
+    ghost guest = { seat 0 0 [] [] [] };
 }
 
 /// A push, before the other seat is made.
 pub struct Puts;
 
 impl Outcome<Ticket, Seat> for Puts {
-    ghost then = { λ v xs w. w ≡ seat v.parts (v.pushed ++ xs) v.taken };
+    ghost then = { λ v xs w. w ≡ more_pushed xs v };
 }
 
-/// A pop or a steal takes what was pushed. The seat with both parts finds nothing only where all that was pushed was taken.
-pub struct Takes;
+/// The owner takes what was pushed. Where it has both rights, it finds nothing only where all that was pushed was taken.
+pub struct Pops;
 
-impl Outcome<Ticket, Seat> for Takes {
-    ghost then = { λ v xs w. (w ≡ seat v.parts v.pushed (v.taken ++ xs)) × ((test : ℕ → Bool) → count_by test v.pushed ≡ 0 → count_by test xs ≡ 0) };
+impl Outcome<Ticket, Seat> for Pops {
+    ghost then = { λ v xs w. (w ≡ more_popped xs v) × IsAmong xs v };
 
-    ghost empty = { λ v. 2 ≤ v.parts → (test : ℕ → Bool) → count_by test v.pushed ≡ count_by test v.taken };
+    ghost empty = { λ v. 0 < v.steal_right → AllTaken v };
+}
+
+/// The thief takes what was pushed.
+pub struct Steals;
+
+impl Outcome<Ticket, Seat> for Steals {
+    ghost then = { λ v xs w. (w ≡ more_stolen xs v) × IsAmong xs v };
 }
 
 /// The owner makes the thief's seat, and takes it in. The thief knows from the start what was pushed, and so that what it
@@ -51,28 +61,27 @@ impl Outcome<Ticket, Seat> for Takes {
 pub struct Shared;
 
 impl Split<Seat> for Shared {
-    ghost use Rattle.std.specs.Prelude.{[]};
-    ghost use Rattle.worker_pool.specs.Tickets.{seat};
+    ghost use Rattle.worker_pool.specs.Parts.{owner_of, thief_of};
 
-    ghost left = { λ v. seat 1 v.pushed v.taken };
+    ghost left = { owner_of };
 
-    ghost right = { λ v. seat 1 v.pushed [] };
+    ghost right = { thief_of };
 }
 
 impl Join<Seat> for Shared {
-    ghost use Rattle.std.specs.Prelude.{◌+◌, ◌++◌, []};
-    ghost use Rattle.worker_pool.specs.Tickets.{seat};
+    ghost use Rattle.std.specs.Prelude.{[]};
+    ghost use Rattle.worker_pool.specs.Parts.{seat, joined};
 
-    ghost both = { λ v w. seat (v.parts + w.parts) v.pushed (v.taken ++ w.taken) };
+    ghost both = { joined };
 
-    ghost spent = { seat 0 [] [] };
+    ghost spent = { seat 0 0 [] [] [] };
 }
 
-/// What the seat with both parts learns.
+/// What the seat with both rights learns: some moves lead to all that it knows, and to what the deque holds.
 pub struct Total;
 
 impl Lesson<Ticket, Seat> for Total {
-    ghost fact = { λ v items. (test : ℕ → Bool) → count_by test v.pushed ≡ count_by test v.taken + count_by test items };
+    ghost fact = { λ v items. IsWhole v items };
 }
 
 /// The owner's end of a deque.

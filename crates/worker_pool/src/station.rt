@@ -1,12 +1,13 @@
 //! A hand at work.
-ghost use Rattle.std.specs.Prelude.{◌≡◌, ℕ, ◌+◌, ◌<◌, ◌^◌, Bool, [], ◌∷◌, ◌++◌, None, IfErr, OnOk, vec_len, vec_capacity};
-ghost use Rattle.worker_pool.specs.Hands.{hand_job, hand_performed};
+ghost use Rattle.std.specs.Prelude.{◌≡◌, ℕ, ◌+◌, ◌<◌, Bool, [], ◌∷◌, None, IfErr, OnOk, count_by, vec_len, vec_capacity};
+ghost use Rattle.worker_pool.specs.Hands.{hand_job};
+ghost use Rattle.worker_pool.specs.Stations.{answered_by, GoesOn, SameWork};
 
 use crate::desk::Desk;
 use crate::hand::Hand;
 use crate::job::Job;
 use crate::ticket::Ticket;
-use std::alloc::Global;
+use std::alloc::{AllocError, Global};
 
 /// A hand, the desk that it works at, and the answers that it gave in this run.
 #[derive(Drop)]
@@ -28,15 +29,22 @@ impl<J: Job> Station<J> {
         }
     }
 
+    /// Makes room for one answer.
+    pub fn make_room(&mut self) -> Result<(), AllocError>
+        ensures same { SameWork self.old self.new × (self.new.desk ≡ self.old.desk) }
+        ensures room { OnOk result (vec_len self.new.answers < vec_capacity self.new.answers) }
+    {
+        self.answers.reserve(1)
+    }
+
     /// Performs a ticket and keeps its answer. Where the job refuses, the ticket comes back, and nothing changed but the job, whose setup stays.
     pub fn perform(&mut self, ticket: Ticket) -> Result<(), Ticket>
         requires limit { ticket < J.limit (J.setup (hand_job self.old.hand)) }
         requires room { vec_len self.old.answers < vec_capacity self.old.answers }
-        ensures setup { J.setup (hand_job self.new.hand) ≡ J.setup (hand_job self.old.hand) }
+        ensures on { GoesOn J.setup J.answers self.old self.new }
         ensures desk { self.new.desk ≡ self.old.desk }
-        ensures done { OnOk result ((answer : J.Answer) × J.answers (J.setup (hand_job self.old.hand)) ticket answer × (self.new.answers.items ≡ self.old.answers.items ++ (ticket, answer) ∷ [])) }
-        ensures counted { OnOk result (hand_performed self.old.hand + 1 < 2 ^ 64 → hand_performed self.new.hand ≡ hand_performed self.old.hand + 1) }
-        ensures refused { IfErr result (λ back. (back ≡ ticket) × (self.new.answers.items ≡ self.old.answers.items) × (hand_performed self.new.hand ≡ hand_performed self.old.hand)) }
+        ensures done { OnOk result ((test : ℕ → Bool) → answered_by test self.new ≡ answered_by test self.old + count_by test (ticket ∷ [])) }
+        ensures refused { IfErr result (λ back. (back ≡ ticket) × (self.new.answers.items ≡ self.old.answers.items)) }
     {
         let number = ticket.number();
         match self.hand.perform(ticket) {

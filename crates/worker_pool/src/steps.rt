@@ -1,12 +1,12 @@
 //! The steps at a desk.
-ghost use Rattle.std.specs.Prelude.{◌≡◌, ℕ, ◌+◌, ◌<◌, ◌≤◌, Bool, List, [], ◌∷◌, ◌++◌, count_by, All, IfOk, IfSome, IfNone, MatchOption};
+ghost use Rattle.std.specs.Prelude.{◌≡◌, ℕ, ◌+◌, ◌<◌, ◌≤◌, Bool, [], ◌∷◌, count_by, IfOk, OnOk, IfSome, IfNone};
 ghost use Rattle.crossbeam_deque.specs.Handles.{view, IsPassOf, stealer_deque, worker_deque, worker_view, worker_index, worker_capacity};
-ghost use Rattle.worker_pool.specs.Desks.{took, taken_next, Below, SameDesk};
-ghost use Rattle.worker_pool.specs.Ring.{TakenIn};
-ghost use Rattle.worker_pool.specs.Tickets.{seat as seat_of};
+ghost use Rattle.worker_pool.specs.Desks.{took, Below, SameButOwn, SameDesk};
+ghost use Rattle.worker_pool.specs.Parts.{seat as seat_of, owner_of, thief_of, joined, more_pushed, more_popped, more_stolen, AllTaken, IsAmong};
+ghost use Rattle.worker_pool.specs.Ring.{IsSettled, TakenIn};
 
 use crate::desk::{Desk, Next};
-use crate::rule::{Owner, Puts, SeatPass, Shared, Takes, Thief, Total};
+use crate::rule::{Owner, Pops, Puts, SeatPass, Shared, Steals, Thief, Total};
 use crate::ticket::Ticket;
 use crossbeam_deque::Steal;
 use std::alloc::{AllocError, Global};
@@ -16,7 +16,7 @@ use std::thread;
 impl Desk {
     /// A desk with an empty deque, which has room for so many tickets.
     pub fn new(alloc: Global, room: usize) -> Result<Desk, AllocError>
-        ensures view { IfOk result (λ d. worker_view d.own ≡ seat_of 2 [] []) }
+        ensures view { IfOk result (λ d. worker_view d.own ≡ seat_of 1 1 [] [] []) }
         ensures next { IfOk result (λ d. d.next ≡ None) }
         ensures kept { IfOk result (λ d. d.kept ≡ None) }
         ensures room { IfOk result (λ d. (room ≤ worker_capacity d.own) × (worker_index d.own ≡ 0)) }
@@ -31,10 +31,10 @@ impl Desk {
 
     /// Puts a ticket at the back, in room that was reserved.
     pub fn deal(&mut self, ticket: Ticket)
-        requires alone { 2 ≤ (worker_view self.old.own).parts }
+        requires alone { 0 < (worker_view self.old.own).steal_right }
         requires room { worker_index self.old.own < worker_capacity self.old.own }
-        ensures same { (self.new.next ≡ self.old.next) × (self.new.kept ≡ self.old.kept) × (worker_deque self.new.own ≡ worker_deque self.old.own) }
-        ensures view { worker_view self.new.own ≡ seat_of (worker_view self.old.own).parts ((worker_view self.old.own).pushed ++ ticket ∷ []) (worker_view self.old.own).taken }
+        ensures same { SameButOwn self.old self.new }
+        ensures view { worker_view self.new.own ≡ more_pushed (ticket ∷ []) (worker_view self.old.own) }
         ensures room { (worker_index self.new.own ≡ worker_index self.old.own + 1) × (worker_capacity self.old.own ≤ worker_capacity self.new.own) }
     {
         let Ok(()) = self.own.push_as::<Puts>(ticket) else {
@@ -44,10 +44,11 @@ impl Desk {
 
     /// Makes the thief's seat at this desk's deque.
     pub fn share(&mut self) -> Result<Next, AllocError>
-        requires { 2 ≤ (worker_view self.old.own).parts }
-        ensures same { (self.new.next ≡ self.old.next) × (self.new.kept ≡ self.old.kept) × (worker_deque self.new.own ≡ worker_deque self.old.own) }
-        ensures own { IfOk result (λ n. worker_view self.new.own ≡ seat_of 1 (worker_view self.old.own).pushed (worker_view self.old.own).taken) }
-        ensures next { IfOk result (λ n. (view n.seat ≡ seat_of 1 (worker_view self.old.own).pushed []) × (stealer_deque n.from ≡ worker_deque self.old.own)) }
+        requires { 0 < (worker_view self.old.own).steal_right }
+        ensures same { SameButOwn self.old self.new }
+        ensures own { OnOk result (worker_view self.new.own ≡ owner_of (worker_view self.old.own)) }
+        ensures next { IfOk result (λ n. view n.seat ≡ thief_of (worker_view self.old.own)) }
+        ensures from { IfOk result (λ n. stealer_deque n.from ≡ worker_deque self.old.own) }
     {
         let from = self.own.stealer()?;
         let seat = self.own.another::<Shared>();
@@ -57,18 +58,18 @@ impl Desk {
     /// Takes the thief's seat in.
     pub fn take_in(&mut self, next: Next)
         requires { stealer_deque next.from ≡ worker_deque self.old.own }
-        ensures same { (self.new.next ≡ self.old.next) × (self.new.kept ≡ self.old.kept) × (worker_deque self.new.own ≡ worker_deque self.old.own) }
-        ensures view { worker_view self.new.own ≡ seat_of ((worker_view self.old.own).parts + 1) (worker_view self.old.own).pushed ((worker_view self.old.own).taken ++ (view next.seat).taken) }
+        ensures same { SameButOwn self.old self.new }
+        ensures view { worker_view self.new.own ≡ joined (worker_view self.old.own) (view next.seat) }
     {
         let Next { from, seat } = next;
         self.own.absorb::<Shared>(seat);
         drop(from);
     }
 
-    /// Learns that no more was taken than was pushed.
+    /// Learns what the deque holds: some moves lead to it, and to all that the desk knows.
     pub fn settle(&mut self)
         requires { TakenIn self.old }
-        ensures { (test : ℕ → Bool) → took test self.old ≤ count_by test (worker_view self.old.own).pushed }
+        ensures { IsSettled self.old }
     {
         let _held = self.own.len_as::<Total>();
     }
@@ -76,11 +77,12 @@ impl Desk {
     /// Takes the front of the desk's own deque.
     pub fn pop(&mut self) -> Option<Ticket>
         ensures same { SameDesk self.old self.new × (self.new.next ≡ self.old.next) × (self.new.kept ≡ self.old.kept) }
-        ensures some { IfSome result (λ x. worker_view self.new.own ≡ seat_of (worker_view self.old.own).parts (worker_view self.old.own).pushed ((worker_view self.old.own).taken ++ x ∷ [])) }
-        ensures among { IfSome result (λ x. (test : ℕ → Bool) → count_by test (worker_view self.old.own).pushed ≡ 0 → count_by test (x ∷ []) ≡ 0) }
-        ensures none { IfNone result ((worker_view self.new.own ≡ worker_view self.old.own) × (2 ≤ (worker_view self.old.own).parts → (test : ℕ → Bool) → count_by test (worker_view self.old.own).pushed ≡ count_by test (worker_view self.old.own).taken)) }
+        ensures some { IfSome result (λ x. worker_view self.new.own ≡ more_popped (x ∷ []) (worker_view self.old.own)) }
+        ensures among { IfSome result (λ x. IsAmong (x ∷ []) (worker_view self.old.own)) }
+        ensures same_view { IfNone result (worker_view self.new.own ≡ worker_view self.old.own) }
+        ensures none { IfNone result (0 < (worker_view self.old.own).steal_right → AllTaken (worker_view self.old.own)) }
     {
-        self.own.pop_as::<Takes>()
+        self.own.pop_as::<Pops>()
     }
 
     /// Takes a ticket from the desk's own deque, or else from the next one.
@@ -107,14 +109,14 @@ impl Desk {
 /// Takes the front of the deque, and tries again where another was first.
 fn steal<R: Wait>(rt: &R, from: &Thief, seat: &mut SeatPass) -> Option<Ticket>
     requires table { IsPassOf (stealer_deque from.now) seat.old }
-    requires part { (view seat.old).parts ≡ 1 }
+    requires right { 0 < (view seat.old).steal_right }
     ensures table { IsPassOf (stealer_deque from.now) seat.new }
-    ensures some { IfSome result (λ x. view seat.new ≡ seat_of 1 (view seat.old).pushed ((view seat.old).taken ++ x ∷ [])) }
-    ensures among { IfSome result (λ x. (test : ℕ → Bool) → count_by test (view seat.old).pushed ≡ 0 → count_by test (x ∷ []) ≡ 0) }
+    ensures some { IfSome result (λ x. view seat.new ≡ more_stolen (x ∷ []) (view seat.old)) }
+    ensures among { IfSome result (λ x. IsAmong (x ∷ []) (view seat.old)) }
     ensures none { IfNone result (view seat.new ≡ view seat.old) }
 {
     for _ in rt.forever() {
-        match from.steal_as::<Takes>(seat) {
+        match from.steal_as::<Steals>(seat) {
             Steal::Success(x) => return Some(x),
             Steal::Empty => return None,
             Steal::Retry => thread::yield_now(),

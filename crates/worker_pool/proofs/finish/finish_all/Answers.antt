@@ -1,37 +1,41 @@
-use Rattle.std.proofs.Common.{◌≡◌, ◌≢◌, ◌∙◌, ℕ, ◌+◌, ◌<◌, ◌≤◌, ◌^◌, List, All, slice_index_or, sym, subst, arith}
+use Rattle.std.proofs.Common.{◌≡◌, ◌≢◌, ◌∙◌, ℕ, ◌+◌, ◌<◌, List, vec_len, slice_index_or, sym, subst, arith}
 use mathlib.Core.Logic.{dite}
 use native.Mathlib.Decide.{ℕ_discrete}
 use Rattle.worker_pool.specs.declared.desk.Desk.{Desk}
+use Rattle.worker_pool.specs.declared.station.Station.{Station}
 use Rattle.worker_pool.specs.Ring.{IsDone}
+use Rattle.worker_pool.specs.Stations.{IsLeft}
+use Rattle.worker_pool.proofs.Turns.{finished_next, finished_all}
 use Rattle.worker_pool.proofs.finish.finish_all.Goals as goal
-
--- o, m and n: a count before, on the way and after, with the lengths a, b and d
-counted_on : (o m n a b d : ℕ) → a ≤ b → b ≤ d → (o + b < 2 ^ 64 + a → m + a ≡ o + b) → (m + d < 2 ^ 64 + b → n + b ≡ m + d) → o + d < 2 ^ 64 + a → n + a ≡ o + d
-counted_on o m n a b d le le' was now fits =
-    let e : m + a ≡ o + b = was (omega arith) in
-    let e' : n + b ≡ m + d = now (omega arith) in
-    omega arith
 
 done_next : (ds es : List Desk) (k : ℕ) → ((j : ℕ) (d : Desk) → j < k → IsDone (slice_index_or ds j d)) → ((j : ℕ) (d : Desk) → j ≢ k → slice_index_or es j d ≡ slice_index_or ds j d) → ((d : Desk) → IsDone (slice_index_or es k d)) → (j : ℕ) (d : Desk) → j < k + 1 → IsDone (slice_index_or es j d)
 done_next ds es k was still here j d lt = dite (ℕ_discrete j k) (λ (e : j ≡ k). subst (λ (i : ℕ). IsDone (slice_index_or es i d)) (sym e) (here d))
     (λ (ne : j ≢ k). subst IsDone (sym (still j d ne)) (was j d (omega arith)))
 
+pub finish_at-requires-clause-left : goal.finish_at-requires-clause-left
+finish_at-requires-clause-left g c κs within = λ s d.
+    let was = c.loop-k.invariant in
+    let in_k : c.loop-k.k < vec_len c.args.stations.now = omega arith in
+    subst (λ (x : Station g.row.J.Denot g.row.J-Answer.Denot g.row.J-Setup.Denot). IsLeft (g.J.Job.limit (g.J.Job.setup x.hand.job)) (slice_index_or c.loop-k.desks.items c.loop-k.k d)) (sym (was.others c.loop-k.k s (omega arith)))
+    (subst (λ (x : Desk). IsLeft (g.J.Job.limit (g.J.Job.setup (slice_index_or c.args.stations.now.items c.loop-k.k s).hand.job)) x) (sym (was.still c.loop-k.k d (omega arith))) (c.requires.left c.loop-k.k s d in_k))
+
+pub returns-in_err-finish_at-clause-finishes : goal.returns-in_err-finish_at-clause-finishes
+returns-in_err-finish_at-clause-finishes g c = λ k s d lt.
+    let was = c.loop-k.invariant in
+    let now = c.in_err-finish_at.ensures in
+    finished_all g.J.Job.setup g.J.Job.limit g.J.Job.answers c.args.stations.now.items c.loop-k.stations.items c.finish_at.new.stations.items c.args.desks.now.items c.loop-k.desks.items c.finish_at.new.desks.items c.loop-k.k
+    was.others was.still now.others now.still now.here was.finishes (vec_len c.args.stations.now) (λ j e low. (c.requires.left j s e low).taken_in) k s d lt
+
 pub loop-k-preserved : goal.loop-k-preserved
 loop-k-preserved g c =
     let was = c.loop-k.invariant in
     let now = c.in_ok-finish_at.ensures in
-    let Right = λ (s : g.row.J-Setup.Denot). λ (xs : List (ℕ × g.row.J-Answer.Denot)). All (λ (p : ℕ × g.row.J-Answer.Denot). g.J.Job.answers s p.0 p.1) xs in
     record {
       len = now.len.0 ∙ was.len;
       many = now.len.1 ∙ was.many;
-      setup = λ j h. now.setup j h ∙ was.setup j h;
-      taken_in = now.taken_in;
-      pushed = λ j d. now.pushed j d ∙ was.pushed j d;
-      still = λ j d le. now.still j d (λ e. absurd (omega arith)) ∙ was.still j d (omega arith);
+      finishes = finished_next g.J.Job.setup g.J.Job.limit g.J.Job.answers c.args.stations.now.items c.loop-k.stations.items c.finish_at.new.stations.items c.args.desks.now.items c.loop-k.desks.items c.finish_at.new.desks.items c.loop-k.k
+          was.others was.still now.others now.still now.here was.finishes;
+      others = λ j s le. (let ne : j ≢ c.loop-k.k = omega arith in now.others j s ne) ∙ was.others j s (omega arith);
+      still = λ j d le. (let ne : j ≢ c.loop-k.k = omega arith in now.still j d ne) ∙ was.still j d (omega arith);
       done = done_next _ _ _ was.done now.still now.done;
-      once = λ test. (let a = was.once test in let b = now.once test in omega arith);
-      right = λ j h all. subst (λ (s : g.row.J-Setup.Denot). Right s (slice_index_or c.finish_at.new.stations.items j h).answers.items) (was.setup j h)
-          (now.right j h (subst (λ (s : g.row.J-Setup.Denot). Right s (slice_index_or c.loop-k.stations.items j h).answers.items) (sym (was.setup j h)) (was.right j h all)));
-      counted = λ j h. counted_on _ _ _ _ _ _ (was.grows j h) (now.grows j h) (was.counted j h) (now.counted j h);
-      grows = λ j h. (let a = was.grows j h in let b = now.grows j h in omega arith);
     }

@@ -3,4 +3,4 @@ use Rattle.worker_pool.proofs.Below.{below_found}
 use Rattle.worker_pool.proofs.finish.finish_turn.Goals as goal
 
 pub perform_one-requires-clause-limit : goal.perform_one-requires-clause-limit
-perform_one-requires-clause-limit g c κs within = below_found (Some c.in-Some.ticket) _ _ c.requires.below c.in-Some.ensures.among
+perform_one-requires-clause-limit g c κs within = below_found (Some c.in-Some.ticket) _ _ c.requires.left.below c.in-Some.ensures.among

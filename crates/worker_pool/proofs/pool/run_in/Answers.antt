@@ -1,13 +1,14 @@
-use Rattle.std.proofs.Common.{◌≡◌, ◌∙◌, ℕ, ◌+◌, ◌<◌, ◌≤◌, ◌^◌, true, List, Vec, Global, count_by, length, vec_len, slice_index_or, sym, subst, ap, refl, arith}
+use Rattle.std.proofs.Common.{◌≡◌, ◌∙◌, ℕ, ◌+◌, ◌<◌, ◌≤◌, ◌^◌, true, List, Vec, Global, length, vec_len, slice_index_or, sym, subst, ap, refl, arith}
 use Rattle.std.specs.List.{sum_by}
 use Rattle.std.proofs.lemmas.List.{length-map}
 use Rattle.worker_pool.specs.declared.hand.Hand.{Hand}
 use Rattle.worker_pool.specs.declared.station.Station.{Station}
-use Rattle.worker_pool.specs.Hands.{hand_performed}
+use Rattle.worker_pool.specs.Hands.{hand_performed, SharesAll, SharesPart}
+use Rattle.worker_pool.specs.Stations.{answers_of}
 use Rattle.worker_pool.proofs.Places.{map_at, performed_sum, count_below_all, sum_len}
 use Rattle.worker_pool.proofs.Rounds.{pick}
 use Rattle.worker_pool.proofs.Seated.{Fresh-weaker}
-use Rattle.worker_pool.proofs.Leaving.{setups_back, right_back, counted_back, sum_left, performs_part}
+use Rattle.worker_pool.proofs.Leaving.{stayed, all_right, all_counted, lists_back, once_back, setups_back, right_back, counted_back, performs_part}
 use Rattle.worker_pool.proofs.pool.run_in.Goals as goal
 
 pub work_all-finished-requires-clause-fresh : goal.work_all-finished-requires-clause-fresh
@@ -29,7 +30,7 @@ returns-in-Ok-clause-setups g c =
     let ss : List (Station g.row.J.Denot g.row.J-Answer.Denot g.row.J-Setup.Denot) = c.seat_all-stations.result.items in
     let es : List (Station g.row.J.Denot g.row.J-Answer.Denot g.row.J-Setup.Denot) = c.work_all-finished.new.stations.items in
     let len : length es ≡ length ss = omega arith in
-    setups_back g.J.Job.setup hs ss es c.leave_all-hands.result.0.items c.seat_all-stations.ensures.hands c.leave_all-hands.ensures.hands len (λ k s lt. c.work_all-finished.ensures.setup k s (let low : k < vec_len c.seat_all-stations.result = omega arith in low))
+    setups_back g.J.Job.setup hs ss es c.leave_all-hands.result.0.items c.seat_all-stations.ensures.hands c.leave_all-hands.ensures.hands len (stayed g.J.Job.setup g.J.Job.answers ss es c.seat_all-stations.ensures.rest (λ k s lt. c.work_all-finished.ensures.on k s (let low : k < vec_len c.seat_all-stations.result = omega arith in low)))
 
 pub returns-in-Err-clause-setups : goal.returns-in-Err-clause-setups
 returns-in-Err-clause-setups g c =
@@ -37,7 +38,7 @@ returns-in-Err-clause-setups g c =
     let ss : List (Station g.row.J.Denot g.row.J-Answer.Denot g.row.J-Setup.Denot) = c.seat_all-stations.result.items in
     let es : List (Station g.row.J.Denot g.row.J-Answer.Denot g.row.J-Setup.Denot) = c.work_all-finished.new.stations.items in
     let len : length es ≡ length ss = omega arith in
-    setups_back g.J.Job.setup hs ss es c.leave_all-hands.result.0.items c.seat_all-stations.ensures.hands c.leave_all-hands.ensures.hands len (λ k s lt. c.work_all-finished.ensures.setup k s (let low : k < vec_len c.seat_all-stations.result = omega arith in low))
+    setups_back g.J.Job.setup hs ss es c.leave_all-hands.result.0.items c.seat_all-stations.ensures.hands c.leave_all-hands.ensures.hands len (stayed g.J.Job.setup g.J.Job.answers ss es c.seat_all-stations.ensures.rest (λ k s lt. c.work_all-finished.ensures.on k s (let low : k < vec_len c.seat_all-stations.result = omega arith in low)))
 
 pub returns-in-Ok-clause-right : goal.returns-in-Ok-clause-right
 returns-in-Ok-clause-right g c = λ k h l lt.
@@ -48,7 +49,7 @@ returns-in-Ok-clause-right g c = λ k h l lt.
     let len : length es ≡ length ss = omega arith in
     let in_h : k < length hs = omega arith in
     right_back g.J.Job.setup hs ss es (λ (v : Vec (ℕ × g.row.J-Answer.Denot) Global). v.items) (λ (v : Vec (ℕ × g.row.J-Answer.Denot) Global). vec_len v) (λ (x : Station g.row.J.Denot g.row.J-Answer.Denot g.row.J-Setup.Denot). x.answers) ls g.J.Job.answers c.seat_all-stations.ensures.hands c.leave_all-hands.ensures.answers len (λ s. refl)
-    (λ i s low. c.work_all-finished.ensures.right i s (let low' : i < vec_len c.seat_all-stations.result = omega arith in low')) k h l in_h
+    (all_right g.J.Job.setup g.J.Job.answers ss es c.seat_all-stations.ensures.rest (λ i s low. c.work_all-finished.ensures.on i s (let low' : i < vec_len c.seat_all-stations.result = omega arith in low'))) k h l in_h
 
 pub returns-in-Ok-clause-counted : goal.returns-in-Ok-clause-counted
 returns-in-Ok-clause-counted g c = λ k h l lt.
@@ -59,14 +60,20 @@ returns-in-Ok-clause-counted g c = λ k h l lt.
     let len : length es ≡ length ss = omega arith in
     let in_h : k < length hs = omega arith in
     counted_back g.J.Job.setup hs ss es (λ (v : Vec (ℕ × g.row.J-Answer.Denot) Global). v.items) (λ (v : Vec (ℕ × g.row.J-Answer.Denot) Global). vec_len v) (λ (x : Station g.row.J.Denot g.row.J-Answer.Denot g.row.J-Setup.Denot). x.answers) ls c.leave_all-hands.result.0.items c.seat_all-stations.ensures.hands c.leave_all-hands.ensures.hands c.leave_all-hands.ensures.answers len (λ s. refl)
-    (λ i s low. c.work_all-finished.ensures.counted i s (let low' : i < vec_len c.seat_all-stations.result = omega arith in low')) k h l in_h
+    (all_counted g.J.Job.setup g.J.Job.answers ss es c.seat_all-stations.ensures.rest (λ i s low. c.work_all-finished.ensures.on i s (let low' : i < vec_len c.seat_all-stations.result = omega arith in low'))) k h l in_h
+
+pub returns-in-Ok-clause-shared : goal.returns-in-Ok-clause-shared
+returns-in-Ok-clause-shared g c =
+    let es : List (Station g.row.J.Denot g.row.J-Answer.Denot g.row.J-Setup.Denot) = c.work_all-finished.new.stations.items in
+    let ls : List (Vec (ℕ × g.row.J-Answer.Denot) Global) = c.leave_all-hands.result.1.items in
+    lists_back (vec_len c.args.hands) c.args.count es ls c.leave_all-hands.ensures.answers (subst (λ (n : ℕ). SharesAll n c.args.count (answers_of es)) (let e : vec_len c.seat_all-stations.result ≡ vec_len c.args.hands = omega (arith, sym (length-map c.seat_all-stations.result.items (λ (x : Station g.row.J.Denot g.row.J-Answer.Denot g.row.J-Setup.Denot). x.hand)) ∙ ap length c.seat_all-stations.ensures.hands) in e) (c.in-Ok.ensures.all c.args.count c.requires.pushed))
 
 pub returns-in-Ok-clause-once : goal.returns-in-Ok-clause-once
 returns-in-Ok-clause-once g c = λ test.
     let es : List (Station g.row.J.Denot g.row.J-Answer.Denot g.row.J-Setup.Denot) = c.work_all-finished.new.stations.items in
     let ls : List (Vec (ℕ × g.row.J-Answer.Denot) Global) = c.leave_all-hands.result.1.items in
-    sum_left (λ (v : Vec (ℕ × g.row.J-Answer.Denot) Global). count_by (λ p. test p.0) v.items) (λ (x : Station g.row.J.Denot g.row.J-Answer.Denot g.row.J-Setup.Denot). count_by (λ p. test p.0) x.answers.items) (λ (x : Station g.row.J.Denot g.row.J-Answer.Denot g.row.J-Setup.Denot). x.answers) es ls c.leave_all-hands.ensures.answers (λ s. refl)
-    ∙ c.in-Ok.ensures.once test ∙ c.requires.pushed test
+    let len : length es ≡ vec_len c.seat_all-stations.result = omega arith in
+    once_back (vec_len c.seat_all-stations.result) c.args.count es ls c.leave_all-hands.ensures.answers len (c.in-Ok.ensures.all c.args.count c.requires.pushed) test
 
 pub returns-in-Ok-clause-performed : goal.returns-in-Ok-clause-performed
 returns-in-Ok-clause-performed g c = λ fits.
@@ -80,11 +87,10 @@ returns-in-Ok-clause-performed g c = λ fits.
     let len_b : length bs ≡ length es = ap length c.leave_all-hands.ensures.hands ∙ length-map es (λ (x : Station g.row.J.Denot g.row.J-Answer.Denot g.row.J-Setup.Denot). x.hand) in
     let len_l : length ls ≡ length es = ap length c.leave_all-hands.ensures.answers ∙ length-map es (λ (x : Station g.row.J.Denot g.row.J-Answer.Denot g.row.J-Setup.Denot). x.answers) in
     let all : sum_by (λ (v : Vec (ℕ × g.row.J-Answer.Denot) Global). vec_len v) ls ≡ c.args.count = sym (sum_len ls)
-    ∙ sum_left (λ (v : Vec (ℕ × g.row.J-Answer.Denot) Global). sum_by (λ p. 1) v.items) (λ (x : Station g.row.J.Denot g.row.J-Answer.Denot g.row.J-Setup.Denot). count_by (λ p. true) x.answers.items) (λ (x : Station g.row.J.Denot g.row.J-Answer.Denot g.row.J-Setup.Denot). x.answers) es ls c.leave_all-hands.ensures.answers (λ s. refl)
-    ∙ c.in-Ok.ensures.once (λ n. true) ∙ c.requires.pushed (λ n. true) ∙ count_below_all c.args.count in
+    ∙ once_back (vec_len c.seat_all-stations.result) c.args.count es ls c.leave_all-hands.ensures.answers (omega arith) (c.in-Ok.ensures.all c.args.count c.requires.pushed) (λ n. true) ∙ count_below_all c.args.count in
     let sums : sum_by hand_performed bs ≡ sum_by hand_performed hs + sum_by (λ (v : Vec (ℕ × g.row.J-Answer.Denot) Global). vec_len v) ls = performed_sum hand_performed (λ (v : Vec (ℕ × g.row.J-Answer.Denot) Global). vec_len v) (2 ^ 64) hs bs ls (omega arith) (omega arith)
     (counted_back g.J.Job.setup hs ss es (λ (v : Vec (ℕ × g.row.J-Answer.Denot) Global). v.items) (λ (v : Vec (ℕ × g.row.J-Answer.Denot) Global). vec_len v) (λ (x : Station g.row.J.Denot g.row.J-Answer.Denot g.row.J-Setup.Denot). x.answers) ls bs c.seat_all-stations.ensures.hands c.leave_all-hands.ensures.hands c.leave_all-hands.ensures.answers len (λ s. refl)
-    (λ i s low. c.work_all-finished.ensures.counted i s (let low' : i < vec_len c.seat_all-stations.result = omega arith in low'))) (omega arith) in
+    (all_counted g.J.Job.setup g.J.Job.answers ss es c.seat_all-stations.ensures.rest (λ i s low. c.work_all-finished.ensures.on i s (let low' : i < vec_len c.seat_all-stations.result = omega arith in low')))) (omega arith) in
     omega arith
 
 pub returns-in-Err-clause-refused : goal.returns-in-Err-clause-refused
@@ -95,6 +101,6 @@ returns-in-Err-clause-refused g c =
     let bs : List (Hand g.row.J.Denot g.row.J-Answer.Denot g.row.J-Setup.Denot) = c.leave_all-hands.result.0.items in
     let len : length es ≡ length ss = omega arith in
     performs_part g.J.Job.setup hs ss es g.J.Job.answers bs c.args.count c.seat_all-stations.ensures.hands c.leave_all-hands.ensures.hands len
-    (λ i s low. c.work_all-finished.ensures.right i s (let low' : i < vec_len c.seat_all-stations.result = omega arith in low'))
-    (λ i s low. c.work_all-finished.ensures.counted i s (let low' : i < vec_len c.seat_all-stations.result = omega arith in low'))
-    (λ test. (let m = c.work_all-finished.ensures.most test in let e = c.requires.pushed test in omega arith))
+    (all_right g.J.Job.setup g.J.Job.answers ss es c.seat_all-stations.ensures.rest (λ i s low. c.work_all-finished.ensures.on i s (let low' : i < vec_len c.seat_all-stations.result = omega arith in low')))
+    (all_counted g.J.Job.setup g.J.Job.answers ss es c.seat_all-stations.ensures.rest (λ i s low. c.work_all-finished.ensures.on i s (let low' : i < vec_len c.seat_all-stations.result = omega arith in low')))
+    (subst (λ (n : ℕ). SharesPart n c.args.count (answers_of es)) (let e : vec_len c.seat_all-stations.result ≡ length hs = omega (arith, sym (length-map ss (λ (x : Station g.row.J.Denot g.row.J-Answer.Denot g.row.J-Setup.Denot). x.hand)) ∙ ap length c.seat_all-stations.ensures.hands) in e) (c.work_all-finished.ensures.part c.args.count c.requires.pushed))

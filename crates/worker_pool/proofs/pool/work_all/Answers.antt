@@ -1,57 +1,76 @@
-use Rattle.std.proofs.Common.{◌≡◌, ◌∙◌, ℕ, ◌<◌, All, Bool, Result, Ok, Err, OnOk, Option, IfSome, count_by, option_to_list, length, vec_len, slice_index_or, sym, subst, ap, arith}
-use Rattle.std.specs.List.{sum_by}
+use Rattle.std.proofs.Common.{◌≡◌, ◌∙◌, ℕ, ◌<◌, All, Bool, Result, Ok, Err, OnOk, Option, List, IfSome, length, vec_len, slice_index_or, sym, subst, arith}
 use Rattle.std.proofs.lemmas.List.Elements.{All-same}
 use Rattle.crossbeam_deque.specs.Handles.{worker_view}
 use Rattle.worker_pool.specs.declared.desk.Desk.{Desk}
 use Rattle.worker_pool.specs.declared.station.Station.{Station}
-use Rattle.worker_pool.specs.Ring.{IsDone, pushed_by}
-use Rattle.worker_pool.proofs.Balance.{ended, done_sums, once_of, most_of}
+use Rattle.worker_pool.specs.Desks.{KeptBelow}
+use Rattle.worker_pool.specs.Ring.{next_of, IsDone, stolen_by, stolen_from}
+use Rattle.worker_pool.proofs.Rounds.{pick}
+use Rattle.worker_pool.proofs.Turns.{GoesOn-trans}
+use Rattle.worker_pool.proofs.Joined.{part_shared, all_shared}
 use Rattle.worker_pool.proofs.pool.work_all.Goals as goal
 
-pub finish_all-finished-requires-clause-below : goal.finish_all-finished-requires-clause-below
-finish_all-finished-requires-clause-below g c κs within = λ k h d lt.
-    let in_k : k < vec_len c.args.stations.now = omega arith in
-    let fresh = (c.requires.fresh k h d in_k).below.0 in
-    let same = (c.absorb_all.ensures.each k d).0 ∙ (c.round-back.ensures.same k d in_k).pushed in
-    subst (λ (s : g.row.J-Setup.Denot). All (λ x. x < g.J.Job.limit s) (worker_view (slice_index_or c.absorb_all.new.desks.items k d).own).pushed) (sym (c.round-back.ensures.setup k h in_k))
-    (All-same (λ x. x < g.J.Job.limit (g.J.Job.setup (slice_index_or c.args.stations.now.items k h).hand.job)) _ _ same fresh)
+pub round-back-requires-clause-ready : goal.round-back-requires-clause-ready
+round-back-requires-clause-ready g c κs within = λ k s d lt. (let fresh = c.requires.fresh k s d lt in (fresh.below, fresh.kept))
 
-pub finish_all-finished-requires-clause-kept : goal.finish_all-finished-requires-clause-kept
-finish_all-finished-requires-clause-kept g c κs within = λ k h d lt.
+pub finish_all-finished-requires-clause-left : goal.finish_all-finished-requires-clause-left
+finish_all-finished-requires-clause-left g c κs within = λ k s d lt.
     let in_k : k < vec_len c.args.stations.now = omega arith in
-    subst (λ (o : Option ℕ). IfSome o (λ x. x < g.J.Job.limit (g.J.Job.setup (slice_index_or c.round-back.new.stations.items k h).hand.job))) (sym (c.absorb_all.ensures.each k d).1)
-    (subst (λ (s : g.row.J-Setup.Denot). IfSome (slice_index_or c.round-back.result.items k d).kept (λ x. x < g.J.Job.limit s)) (sym (c.round-back.ensures.setup k h in_k)) (c.round-back.ensures.kept k h d in_k))
+    let in_a : k < length c.absorb_all.new.desks.items = omega arith in
+    let fresh = (c.requires.fresh k s d in_k).below.0 in
+    let worked = c.round-back.ensures.worked k s d in_k in
+    let own = c.absorb_all.ensures.each k d in
+    let now = sym worked.on.stays in
+    record {
+      taken_in = c.absorb_all.ensures.whole k d in_a;
+      below = subst (λ (t : g.row.J-Setup.Denot). All (λ x. x < g.J.Job.limit t) (worker_view (slice_index_or c.absorb_all.new.desks.items k d).own).pushed) now
+          (All-same (λ x. x < g.J.Job.limit (g.J.Job.setup (slice_index_or c.args.stations.now.items k s).hand.job)) _ _ (own.pushed ∙ worked.same.pushed) fresh);
+      kept = subst (λ (o : Option ℕ). IfSome o (λ x. x < g.J.Job.limit (g.J.Job.setup (slice_index_or c.round-back.new.stations.items k s).hand.job))) (sym own.kept)
+          (subst (λ (t : g.row.J-Setup.Denot). KeptBelow (g.J.Job.limit t) (slice_index_or c.round-back.result.items k d)) now worked.kept);
+    }
+
+pub settle_all-requires : goal.settle_all-requires
+settle_all-requires g c = λ k d lt.
+    let in_s : k < length c.args.stations.now.items = omega arith in
+    let in_w : k < vec_len c.round-back.new.stations = omega arith in
+    let s : Station g.row.J.Denot g.row.J-Answer.Denot g.row.J-Setup.Denot = pick c.args.stations.now.items k in_s in
+    (c.finish_all-finished.ensures.finishes k s d in_w).taken_in
+
+pub returns-clause-on : goal.returns-clause-on
+returns-clause-on g c = λ k s lt.
+    let in_d : k < length c.args.desks.items = omega arith in
+    let in_w : k < vec_len c.round-back.new.stations = omega arith in
+    let d : Desk = pick c.args.desks.items k in_d in
+    GoesOn-trans g.J.Job.setup g.J.Job.limit g.J.Job.answers _ _ _ (c.round-back.ensures.worked k s d lt).on (c.finish_all-finished.ensures.finishes k s d in_w).on
 
 on_ok : {X Y : Type 0} (r : Result X Y) (P Q : Type 0) → (P → Q) → OnOk r P → OnOk r Q
 on_ok (Ok x) P Q f p = f p
 on_ok (Err e) P Q f p = tt
 
-pub returns-clause-most : goal.returns-clause-most
-returns-clause-most g c = λ test.
-    let l_d : length c.args.desks.items ≡ vec_len c.args.stations.now = omega arith in
-    let l_b : length c.round-back.result.items ≡ vec_len c.args.stations.now = omega arith in
-    let l_a : length c.absorb_all.new.desks.items ≡ vec_len c.args.stations.now = omega arith in
-    let l_e : length c.finish_all-finished.new.desks.items ≡ vec_len c.args.stations.now = omega arith in
-    let l_w : length c.round-back.new.stations.items ≡ vec_len c.args.stations.now = omega arith in
-    let taken = ended test (λ (x : Station g.row.J.Denot g.row.J-Answer.Denot g.row.J-Setup.Denot). count_by (λ p. test p.0) x.answers.items) c.args.desks.items c.round-back.result.items c.absorb_all.new.desks.items c.finish_all-finished.new.desks.items c.round-back.new.stations.items c.finish_all-finished.new.stations.items (vec_len c.args.stations.now) l_d l_b l_a l_e l_w
-    (λ k d h lt. c.round-back.ensures.once k h d test lt) (c.absorb_all.ensures.took test) (λ k d. ap (λ o. count_by test (option_to_list o)) (c.absorb_all.ensures.each k d).1)
-    (λ k d lt. ap (count_by test) (c.finish_all-finished.ensures.pushed k d ∙ (c.absorb_all.ensures.each k d).0 ∙ (c.round-back.ensures.same k d lt).pushed))
-    (c.finish_all-finished.ensures.once test) in
-    most_of _ _ _ _ _ taken (c.settle_all.ensures test)
+-- the same at another name of the length
+stolen_len : (back absorbed : List Desk) (m n : ℕ) → m ≡ n
+    → ((test : ℕ → Bool) (k : ℕ) (d : Desk) → k < m → stolen_by test (slice_index_or absorbed (next_of m k) d) ≡ stolen_from test (slice_index_or back k d).next (slice_index_or back (next_of m k) d))
+    → (test : ℕ → Bool) (k : ℕ) (d : Desk) → k < n → stolen_by test (slice_index_or absorbed (next_of n k) d) ≡ stolen_from test (slice_index_or back k d).next (slice_index_or back (next_of n k) d)
+stolen_len back absorbed m n same all =
+    subst (λ (i : ℕ). (test : ℕ → Bool) (k : ℕ) (d : Desk) → k < i → stolen_by test (slice_index_or absorbed (next_of i k) d) ≡ stolen_from test (slice_index_or back k d).next (slice_index_or back (next_of i k) d)) same all
 
-pub returns-clause-once : goal.returns-clause-once
-returns-clause-once g c =
-    on_ok c.finish_all-finished.result ((k : ℕ) (d : Desk) → k < vec_len c.absorb_all.new.desks → IsDone (slice_index_or c.finish_all-finished.new.desks.items k d))
-    ((test : ℕ → Bool) → sum_by (λ (x : Station g.row.J.Denot g.row.J-Answer.Denot g.row.J-Setup.Denot). count_by (λ p. test p.0) x.answers.items) c.finish_all-finished.new.stations.items ≡ sum_by (pushed_by test) c.args.desks.items)
-    (λ done test.
-    let l_d : length c.args.desks.items ≡ vec_len c.args.stations.now = omega arith in
-    let l_b : length c.round-back.result.items ≡ vec_len c.args.stations.now = omega arith in
-    let l_a : length c.absorb_all.new.desks.items ≡ vec_len c.args.stations.now = omega arith in
-    let l_e : length c.finish_all-finished.new.desks.items ≡ vec_len c.args.stations.now = omega arith in
-    let l_w : length c.round-back.new.stations.items ≡ vec_len c.args.stations.now = omega arith in
-    let taken = ended test (λ (x : Station g.row.J.Denot g.row.J-Answer.Denot g.row.J-Setup.Denot). count_by (λ p. test p.0) x.answers.items) c.args.desks.items c.round-back.result.items c.absorb_all.new.desks.items c.finish_all-finished.new.desks.items c.round-back.new.stations.items c.finish_all-finished.new.stations.items (vec_len c.args.stations.now) l_d l_b l_a l_e l_w
-    (λ k d h lt. c.round-back.ensures.once k h d test lt) (c.absorb_all.ensures.took test) (λ k d. ap (λ o. count_by test (option_to_list o)) (c.absorb_all.ensures.each k d).1)
-    (λ k d lt. ap (count_by test) (c.finish_all-finished.ensures.pushed k d ∙ (c.absorb_all.ensures.each k d).0 ∙ (c.round-back.ensures.same k d lt).pushed))
-    (c.finish_all-finished.ensures.once test) in
-    once_of _ _ _ _ _ taken (done_sums test c.finish_all-finished.new.desks.items (λ k d lt. done k d (omega arith))))
+pub returns-clause-part : goal.returns-clause-part
+returns-clause-part g c =
+    part_shared g.J.Job.setup g.J.Job.limit g.J.Job.answers (vec_len c.args.stations.now) c.requires.some
+    c.args.stations.now.items c.round-back.new.stations.items c.finish_all-finished.new.stations.items c.args.desks.items c.round-back.result.items c.absorb_all.new.desks.items c.finish_all-finished.new.desks.items
+    (omega arith) (omega arith) (omega arith) (omega arith) (omega arith)
+    c.requires.fresh c.requires.rest c.requires.round c.round-back.ensures.worked c.absorb_all.ensures.whole
+    (stolen_len c.round-back.result.items c.absorb_all.new.desks.items _ _ (omega arith) c.absorb_all.ensures.stolen) c.absorb_all.ensures.each
+    (λ k s d lt. c.finish_all-finished.ensures.finishes k s d (let low : k < vec_len c.round-back.new.stations = omega arith in low)) c.settle_all.ensures
+
+pub returns-clause-all : goal.returns-clause-all
+returns-clause-all g c =
+    on_ok c.finish_all-finished.result ((k : ℕ) (d : Desk) → k < vec_len c.absorb_all.new.desks → IsDone (slice_index_or c.finish_all-finished.new.desks.items k d)) _
+    (λ done. all_shared g.J.Job.setup g.J.Job.limit g.J.Job.answers (vec_len c.args.stations.now) c.requires.some
+    c.args.stations.now.items c.round-back.new.stations.items c.finish_all-finished.new.stations.items c.args.desks.items c.round-back.result.items c.absorb_all.new.desks.items c.finish_all-finished.new.desks.items
+    (omega arith) (omega arith) (omega arith) (omega arith) (omega arith)
+    c.requires.fresh c.requires.rest c.requires.round c.round-back.ensures.worked c.absorb_all.ensures.whole
+    (stolen_len c.round-back.result.items c.absorb_all.new.desks.items _ _ (omega arith) c.absorb_all.ensures.stolen) c.absorb_all.ensures.each
+    (λ k s d lt. c.finish_all-finished.ensures.finishes k s d (let low : k < vec_len c.round-back.new.stations = omega arith in low)) c.settle_all.ensures
+    (λ k d lt. done k d (omega arith)))
     c.finish_all-finished.ensures.done

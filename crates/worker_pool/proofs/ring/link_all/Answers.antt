@@ -19,5 +19,5 @@ loop-k-preserved c =
       none = λ j d ge lt. (let ne : j ≢ c.loop-k.k = omega arith in now.others j d ne) ∙ was.none j d (omega arith) lt;
       linked = linked_next _ _ _ was.linked now.others now.here;
       fresh = now.fresh c.args.count was.fresh;
-      pushed = λ test. now.pushed test ∙ was.pushed test;
+      pushed = λ j d. now.pushed j d ∙ was.pushed j d;
     }

@@ -1,10 +1,11 @@
-use Rattle.std.proofs.Common.{◌<◌, List, sym, subst, refl, set, length, vec_len, arith}
+use Rattle.std.proofs.Common.{◌<◌, List, sym, subst, ap, refl, set, length, vec_len, arith}
 use Rattle.std.proofs.Math.ListN.{length-set}
 use Rattle.std.proofs.lemmas.List.Elements.{All-set}
 use Rattle.crossbeam_deque.specs.Handles.{worker_view}
 use Rattle.worker_pool.specs.declared.desk.Desk.{Desk}
 use Rattle.worker_pool.specs.Ring.{Fresh}
-use Rattle.worker_pool.proofs.Rings.{next_of-within}
+use Rattle.worker_pool.specs.declared.rule.Seat.{Seat}
+use Rattle.worker_pool.proofs.Rings.{next_of-within, same_at}
 use Rattle.worker_pool.proofs.Seated.{fresh_shared, fresh_seated}
 use Rattle.worker_pool.proofs.ring.link_one.Goals as goal
 
@@ -20,4 +21,9 @@ returns-clause-fresh c = λ count all.
     let fresh_mid : Fresh count mid = fresh_shared count old mid c.in_ok-seat.ensures.own c.in_ok-seat.ensures.same.0 c.in_ok-seat.ensures.same.1 was in
     let all' = All-set (Fresh count) ds c.args.next mid fresh_mid all in
     let fresh_there : Fresh count there = subst (Fresh count) (sym c.index_mut-2.ensures.value) (all' c.args.k there (omega (arith, length-set ds c.args.next mid))) in
-    All-set (Fresh count) (set ds c.args.next mid) c.args.k _ (fresh_seated count there _ c.in_ok-seat.seat (worker_view old.own).pushed refl refl refl c.in_ok-seat.ensures.next.0 was.below.0 fresh_there) all'
+    All-set (Fresh count) (set ds c.args.next mid) c.args.k _ (fresh_seated count there _ c.in_ok-seat.seat (worker_view old.own).pushed (worker_view old.own).stolen refl refl refl _ c.in_ok-seat.ensures.next was.stolen was.below.0 fresh_there) all'
+
+pub returns-clause-pushed : goal.returns-clause-pushed
+returns-clause-pushed c =
+    same_at (λ (x : Desk). (worker_view x.own).pushed) c.args.desks.now.items c.args.next c.args.k c.index_mut.result.now c.share.new.self c.index_mut-2.result.now _
+    c.index_mut.ensures.value (ap (λ (s : Seat). s.pushed) c.in_ok-seat.ensures.own) c.index_mut-2.ensures.value refl

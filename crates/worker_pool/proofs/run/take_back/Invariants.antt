@@ -1,5 +1,6 @@
 use Rattle.std.proofs.Common.{◌≡◌, ℕ, ◌<◌, ◌≤◌, Some, vec_len, vec_capacity, slice_index_or}
 use Rattle.worker_pool.specs.declared.desk.Desk.{Desk}
+use Rattle.worker_pool.specs.Stations.{SameWork}
 use Rattle.worker_pool.proofs.run.take_back.Given as goal
 
 abbrev pub invariant-loop-k : goal.invariant-loop-k
@@ -9,5 +10,5 @@ invariant-loop-k g l = record {
   room : vec_len l.initial.stations ≤ vec_capacity l.desks;
   back : (k : ℕ) (h : _) (d : Desk) → k < l.k → (slice_index_or l.initial.stations.items k h).desk ≡ Some (slice_index_or l.desks.items k d);
   still : (k : ℕ) (h : _) → l.k ≤ k → (slice_index_or l.stations.items k h).desk ≡ (slice_index_or l.initial.stations.items k h).desk;
-  same : (k : ℕ) (h : _) → ((slice_index_or l.stations.items k h).hand.job ≡ (slice_index_or l.initial.stations.items k h).hand.job) × ((slice_index_or l.stations.items k h).hand.performed ≡ (slice_index_or l.initial.stations.items k h).hand.performed) × ((slice_index_or l.stations.items k h).answers.items ≡ (slice_index_or l.initial.stations.items k h).answers.items);
+  same : (k : ℕ) (s : _) → SameWork (slice_index_or l.initial.stations.items k s) (slice_index_or l.stations.items k s);
 }

@@ -2,4 +2,4 @@ use Rattle.worker_pool.proofs.Keeps.{puts}
 use Rattle.worker_pool.proofs.desk.Desk.deal.Goals as goal
 
 pub push_as-requires-clause-pushes : goal.push_as-requires-clause-pushes
-push_as-requires-clause-pushes c = puts _ _ _ c.requires.alone
+push_as-requires-clause-pushes c = puts _ _ _ c.args.self.now.right c.requires.alone

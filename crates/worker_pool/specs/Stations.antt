@@ -1,0 +1,68 @@
+-- A station at work: what one turn, or many, do to it and to its desk.
+use Rattle.std.specs.Prelude.{◌≡◌, ℕ, ◌+◌, ◌<◌, ◌≤◌, ◌^◌, Bool, List, All, Option, Some, None, count_by, length, map}
+use Rattle.crossbeam_deque.specs.Handles.{worker_view}
+use Rattle.worker_pool.specs.declared.desk.Desk.{Desk}
+use Rattle.worker_pool.specs.declared.station.Station.{Station}
+use Rattle.worker_pool.specs.Desks.{took, kept_by, SameDesk, IsReady, KeptBelow}
+use Rattle.worker_pool.specs.Ring.{TakenIn}
+
+-- how many answers are of a number that passes the test
+abbrev pub answered_by : {J A S : Type 0} → (ℕ → Bool) → Station J A S → ℕ
+answered_by test s = count_by (λ p. test p.0) s.answers.items
+
+-- each answer of the station is one that the setup gives
+abbrev pub IsRight : {J A S T : Type 0} → (T → ℕ → A → Type 0) → T → Station J A S → Type 0
+IsRight answers setup s = All (λ p. answers setup p.0 p.1) s.answers.items
+
+-- the answers of the stations, in their order
+abbrev pub answers_of : {J A S : Type 0} → List (Station J A S) → List (List (ℕ × A))
+answers_of stations = map (λ s. s.answers.items) stations
+
+-- the same hand and answers
+abbrev pub SameWork : {J A S : Type 0} → Station J A S → Station J A S → Type 0
+SameWork old new = (new.hand ≡ old.hand) × (new.answers.items ≡ old.answers.items)
+
+-- The station has gone on: its setup stays, answers that were right are still right, with those that it gave more, and it
+-- counted one for each of these.
+pub record GoesOn {J A S T : Type 0} (setup : J → T) (answers : T → ℕ → A → Type 0) (old new : Station J A S) : Type 0 where
+  pub stays : setup new.hand.job ≡ setup old.hand.job
+  pub right : IsRight answers (setup old.hand.job) old → IsRight answers (setup old.hand.job) new
+  pub grows : length old.answers.items ≤ length new.answers.items
+  pub counted : old.hand.performed + length new.answers.items < 2 ^ 64 + length old.answers.items
+      → new.hand.performed + length old.answers.items ≡ old.hand.performed + length new.answers.items
+
+-- what the desk's hand took more, or the desk had kept, was answered, each once, or the desk keeps it
+abbrev pub IsBalanced : {J A S : Type 0} → Station J A S → Station J A S → Desk → Desk → Type 0
+IsBalanced old new desk desk' =
+    (test : ℕ → Bool) → took test desk + answered_by test new + kept_by test desk' ≡ took test desk' + answered_by test old + kept_by test desk
+
+-- the station has worked at its desk, while others stole
+pub record Worked {J A S T : Type 0} (setup : J → T) (limit : T → ℕ) (answers : T → ℕ → A → Type 0) (old new : Station J A S) (desk desk' : Desk) : Type 0 where
+  pub on : GoesOn setup answers old new
+  pub once : IsBalanced old new desk desk'
+  pub same : SameDesk desk desk'
+  pub kept : KeptBelow (limit (setup old.hand.job)) desk'
+
+-- of the desks that two stations have, if they have one
+abbrev pub IsReadyAt : ℕ → Option Desk → Type 0
+IsReadyAt count None = Unit {0}
+IsReadyAt count (Some d) = IsReady count d
+
+abbrev pub WorkedAt : {J A S T : Type 0} → (J → T) → (T → ℕ) → (T → ℕ → A → Type 0) → Station J A S → Station J A S → Option Desk → Option Desk → Type 0
+WorkedAt setup limit answers old new None e = e ≡ None
+WorkedAt setup limit answers old new (Some d) None = ⊥
+WorkedAt setup limit answers old new (Some d) (Some e) = Worked setup limit answers old new d e
+
+-- what the caller's thread finds at a desk after the joins
+pub record IsLeft (count : ℕ) (d : Desk) : Type 0 where
+  pub taken_in : TakenIn d
+  pub below : All (λ x. x < count) (worker_view d.own).pushed
+  pub kept : KeptBelow count d
+
+-- the station has worked at a desk that the workers left
+pub record Finishes {J A S T : Type 0} (setup : J → T) (answers : T → ℕ → A → Type 0) (old new : Station J A S) (desk desk' : Desk) : Type 0 where
+  pub on : GoesOn setup answers old new
+  pub once : IsBalanced old new desk desk'
+  pub taken_in : TakenIn desk'
+  pub pushed : (worker_view desk'.own).pushed ≡ (worker_view desk.own).pushed
+  pub stolen : (worker_view desk'.own).stolen ≡ (worker_view desk.own).stolen
