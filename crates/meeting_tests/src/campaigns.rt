@@ -62,7 +62,7 @@ fn meets<R: Threads + Wait + Clock + Sync + Abort>(
     requires few { workers ≤ 64 }
 {
     let meeting = Meeting::new(waits);
-    let settings = settings(alloc, workers, pairs);
+    let settings = settings(workers, pairs, Vec::new(alloc));
     let target = Meet { rt };
     let Ok((text, _)) = reported(rt, alloc, &FreeGate, &target, &meeting, &settings) else {
         return Err(Fail::from("no report"));
@@ -72,6 +72,7 @@ fn meets<R: Threads + Wait + Clock + Sync + Abort>(
     Ok(meeting.came.load(Ordering::SeqCst))
 }
 
+// Refuses the wrong body all_work_on_one_thread: the first run that waits would wait in vain.
 #[test]
 fn runs_meet_and_all_pass(rt: HostRuntime) -> Result<(), Fail> {
     let came = meets(&rt, rt.alloc(), true, 2, false, ALL_PASS)?;
@@ -79,6 +80,8 @@ fn runs_meet_and_all_pass(rt: HostRuntime) -> Result<(), Fail> {
     Ok(())
 }
 
+// Refuses, in the reduction, the wrong bodies all_work_on_one_thread, every_hand_leaves_at_once and probe_asked_under_the_lock: two tests
+// of one fault meet inside their runs.
 #[test]
 fn runs_meet_and_the_pair_fails(rt: HostRuntime) -> Result<(), Fail> {
     let came = meets(&rt, rt.alloc(), true, 2, true, PAIR_FAILS)?;
