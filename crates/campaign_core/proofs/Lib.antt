@@ -1,3 +1,4 @@
 pub mod Minimal
 pub mod Firsts
+pub mod PlanNames
 pub mod Gathered

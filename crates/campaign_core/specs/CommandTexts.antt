@@ -1,5 +1,5 @@
 -- What the commands write: the list of plans, one scenario tried, one scenario reduced.
-use Rattle.std.specs.Prelude.{◌≡◌, ◌≤◌, ◌<◌, ℕ, ◌+◌, Bool, true, List, [], ◌∷◌, ◌++◌, Option, length, codes, take}
+use Rattle.std.specs.Prelude.{◌≡◌, ◌≤◌, ◌<◌, ℕ, ◌+◌, Bool, true, false, List, [], ◌∷◌, ◌++◌, Option, length, codes, take}
 use Rattle.std.specs.Fmt.{decimal}
 use Rattle.std.specs.Io.KnownBytes.{Appends}
 use Rattle.scenario_values.specs.Scenario.{Entries}
@@ -8,8 +8,10 @@ use Rattle.target_trait.specs.declared.judgement.Verdict.{Verdict}
 use Rattle.target_trait.specs.declared.judgement.Verdict.TheVariants as verdict
 use Rattle.target_trait.specs.Outcomes.{Told, outcome}
 use Rattle.plan_gen.specs.PlanList.{most_plans}
+use Rattle.plan_gen.specs.declared.list.PlanFault.{PlanFault}
+use Rattle.plan_gen.specs.declared.list.PlanFault.TheVariants as plan_faults
 use Rattle.report.specs.ReportText.{scenario_text, verdict_text, text_of}
-use Rattle.campaign_core.specs.Findings.{reduced, reduction}
+use Rattle.campaign_core.specs.Findings.{reduced, reduction, IsMinimal}
 use Rattle.campaign_core.specs.Headline.{Campaign, say, plans}
 use Rattle.campaign_core.specs.declared.ending.CampaignFault.{CampaignFault}
 use Rattle.campaign_core.specs.declared.ending.CampaignFault.TheVariants as fault
@@ -67,18 +69,29 @@ reduce_lines c scenario = (codes "verdict " ++ verdict_text c.codes (say c 0 sce
 abbrev pub reduce_text : Campaign → Entries → List ℕ
 reduce_text c scenario = text_of (reduce_lines c scenario)
 
+-- where the scenario fails, what it is reduced to fails with the same code, under the same seed, stream number and limit, and no single
+-- fault can be left out of it
+abbrev pub IsReducedToMinimal : Campaign → Entries → Type 0
+IsReducedToMinimal c scenario = (code : ℕ) → say c 0 scenario ≡ verdict.Fail code → IsMinimal (say c 0) code (reduced (say c) 0 code scenario)
+
 -- ---- faults
 
--- What a fault means of a text that wasn't written whole, and what was written by then: for want of memory nothing; a failed write left
--- the first bytes, and the sink says so. A sink held `old` and holds `new`, where it tells its bytes.
+-- what comes of a list of plans that isn't made
+abbrev pub plan_fault : PlanFault → CampaignFault
+plan_fault plan_faults.TooManyPlans = fault.TooManyPlans
+plan_fault plan_faults.Memory = fault.Memory
+
+-- What a fault means of a text that wasn't written whole, and what was written by then: for want of memory nothing, and the sink is as
+-- good as before; a failed write left some of the first bytes, never all, and the sink says so. A sink held `old` and holds `new`, where
+-- it tells its bytes.
 abbrev pub LeavesOnly : Option (List ℕ) → Option (List ℕ) → Bool → List ℕ → CampaignFault → Type 0
 LeavesOnly old new failed text fault.TooManyPlans = ⊥
-LeavesOnly old new failed text fault.Memory = new ≡ old
-LeavesOnly old new failed text (fault.Write n) = Appends old new (take n text) × (n ≤ length text) × (failed ≡ true)
+LeavesOnly old new failed text fault.Memory = (new ≡ old) × (failed ≡ false)
+LeavesOnly old new failed text (fault.Write n) = Appends old new (take n text) × (n < length text) × (failed ≡ true)
 
 -- The same of a text over the list of plans: it is refused where the list is too long, and then nothing is written.
 abbrev pub IsFault : Campaign → List ℕ → Option (List ℕ) → Option (List ℕ) → Bool → CampaignFault → Type 0
-IsFault c text old new failed fault.TooManyPlans = (new ≡ old) × (most_plans < length (plans c))
-IsFault c text old new failed fault.Memory = new ≡ old
+IsFault c text old new failed fault.TooManyPlans = (new ≡ old) × (failed ≡ false) × (most_plans < length (plans c))
+IsFault c text old new failed fault.Memory = (new ≡ old) × (failed ≡ false)
 IsFault c text old new failed (fault.Write n) =
-    Appends old new (take n text) × (n ≤ length text) × (failed ≡ true) × (length (plans c) ≤ most_plans)
+    Appends old new (take n text) × (n < length text) × (failed ≡ true) × (length (plans c) ≤ most_plans)

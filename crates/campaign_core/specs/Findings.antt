@@ -1,14 +1,14 @@
 -- What a report tells of a list of plans: a map and recursions on lists. Which verdict a stream number and a scenario have, the first
 -- argument says.
-use Rattle.std.specs.Prelude.{◌≡◌, ℕ, true, List, [], option_map, slice_index_or}
+use Rattle.std.specs.Prelude.{◌≡◌, ◌<◌, ℕ, true, List, [], length, map, slice_index_or}
 use Rattle.std.specs.List.{range_with_len}
 use Rattle.scenario_values.specs.Scenario.{Entries, all_faults}
 use Rattle.scenario_values.specs.Keep.{kept}
 use Rattle.scenario_values.specs.Tidied.{tidied}
 use Rattle.target_trait.specs.declared.judgement.Verdict.{Verdict}
 use Rattle.target_trait.specs.declared.judgement.Verdict.TheVariants as verdict
-use Rattle.result_book.specs.Verdicts.{verdicts_from}
-use Rattle.result_book.specs.FirstFailure.{first_from}
+use Rattle.result_book.specs.Verdicts.{verdicts_from, numbered}
+use Rattle.result_book.specs.FirstFailures.{first_failures}
 use Rattle.ddmin_parallel.specs.Ddmin.{Reduced, ddmin}
 use Rattle.ddmin_parallel.specs.OneMinimal.{IsOneMinimal}
 use Rattle.report.specs.Reports.{FindingFacts, ReportFacts}
@@ -26,8 +26,9 @@ reduced say stream code s = tidied (kept (reduction say stream code s).kept s)
 abbrev pub plan_at : List Entries → ℕ → Entries
 plan_at plans number = slice_index_or plans number []
 
--- what is told of the first failure, by its number and code
-abbrev pub finding : (ℕ → Entries → Verdict) → List Entries → (ℕ × ℕ) → FindingFacts
+-- what is told of a first failure, by its number and code: its own plan is reduced, with its own number as the stream number, as a
+-- failure with its own code
+abbrev pub finding : (ℕ → Entries → Verdict) → List Entries → ℕ × ℕ → FindingFacts
 finding say plans first = record {
   number = first.0;
   code = first.1;
@@ -36,15 +37,15 @@ finding say plans first = record {
   tests = (reduction say first.0 first.1 (plan_at plans first.0)).tests;
 }
 
--- what a report tells, of a label, a seed, a census and plans
-abbrev pub findings : (ℕ → Entries → Verdict) → List ℕ → ℕ → List ℕ → List Entries → ReportFacts
-findings say label seed census plans = record {
+-- what a report tells, of a label, a seed, a census and plans; of each code with which a plan fails, the first failure is told
+abbrev pub report_of : (ℕ → Entries → Verdict) → List ℕ → ℕ → List ℕ → List Entries → ReportFacts
+report_of say label seed census plans = record {
   label = label;
   seed = seed;
   clean = slice_index_or (verdicts_from say 0 plans) 0 verdict.Unresolved;
   census = census;
   verdicts = verdicts_from say 0 plans;
-  first = option_map (finding say plans) (first_from 0 (verdicts_from say 0 plans));
+  findings = map (finding say plans) (first_failures (numbered (verdicts_from say 0 plans)));
 }
 
 -- a scenario fails with this code, and no single fault can be left out of it: it fails with all its faults, and without any one of
@@ -53,3 +54,12 @@ abbrev pub IsMinimal : (Entries → Verdict) → ℕ → Entries → Type 0
 IsMinimal say code s =
     (fails_with code (say s) ≡ true)
     × IsOneMinimal (fault_test say code s) (range_with_len 0 (all_faults s))
+
+-- the same of what is told of a failure: its reduced scenario fails with its code under its number as the stream number, and no single
+-- fault can be left out of it
+abbrev pub ReducesToMinimal : (ℕ → Entries → Verdict) → FindingFacts → Type 0
+ReducesToMinimal say found = IsMinimal (say found.number) found.code found.reduced
+
+-- a plan that fails with this code, with its number as the stream number
+abbrev pub IsFailure : (ℕ → Entries → Verdict) → List Entries → ℕ × ℕ → Type 0
+IsFailure say plans failure = (failure.0 < length plans) × (say failure.0 (plan_at plans failure.0) ≡ verdict.Fail failure.1)

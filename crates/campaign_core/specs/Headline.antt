@@ -1,5 +1,5 @@
 -- What a campaign comes to, by what its target asks and by its settings.
-use Rattle.std.specs.Prelude.{◌≡◌, ℕ, List, Option, Some}
+use Rattle.std.specs.Prelude.{ℕ, List, Option, All, slice_get}
 use Rattle.scenario_values.specs.Scenario.{Entries}
 use Rattle.action_eval.specs.Answers.{Reply}
 use Rattle.target_trait.specs.declared.judgement.Verdict.{Verdict}
@@ -7,11 +7,11 @@ use Rattle.target_trait.specs.Outcomes.{verdict_with}
 use Rattle.target_trait.specs.Play.{Move}
 use Rattle.plan_gen.specs.Census.{census_of}
 use Rattle.plan_gen.specs.PlanList.{Asked, plan_list}
-use Rattle.result_book.specs.Verdicts.{verdicts_from}
-use Rattle.result_book.specs.FirstFailure.{first_from}
+use Rattle.result_book.specs.Verdicts.{verdicts_from, numbered}
+use Rattle.result_book.specs.FirstFailures.{first_failures as first_of_each}
 use Rattle.report.specs.ReportText.{report_lines, text_of}
 use Rattle.report.specs.Reports.{ReportFacts}
-use Rattle.campaign_core.specs.Findings.{findings, reduced, plan_at, IsMinimal}
+use Rattle.campaign_core.specs.Findings.{report_of, ReducesToMinimal}
 use Rattle.campaign_settings.specs.declared.settings.Settings.{Settings}
 
 -- what a campaign is given: what its target asks on the workload, the names of the points and of the codes, the target's label, the limit
@@ -51,18 +51,21 @@ plans c = plan_list c.points (census c) c.plans
 
 -- what the report tells
 abbrev pub report : Campaign → ReportFacts
-report c = findings (say c) c.label c.plans.seed (census c) (plans c)
+report c = report_of (say c) c.label c.plans.seed (census c) (plans c)
 
 -- the report's text
 abbrev pub report_text : Campaign → List ℕ
 report_text c = text_of (report_lines c.points c.codes (report c))
 
--- the least number of a plan that fails, with its code
-abbrev pub first_failure : Campaign → Option (ℕ × ℕ)
-first_failure c = first_from 0 (verdicts_from (say c) 0 (plans c))
+-- for each code with which a plan fails, the least number of a plan that fails with it, and the code; in the order of the numbers
+abbrev pub first_failures : Campaign → List (ℕ × ℕ)
+first_failures c = first_of_each (numbered (verdicts_from (say c) 0 (plans c)))
 
--- of the first failure: the reduced scenario fails with the same code, under the same seed, stream number and limit, and no single fault
--- can be left out of it
-abbrev pub FirstIsMinimal : Campaign → Type 0
-FirstIsMinimal c = (first : ℕ × ℕ) → first_failure c ≡ Some first
-    → IsMinimal (say c first.0) first.1 (reduced (say c) first.0 first.1 (plan_at (plans c) first.0))
+-- the first of them: the least number of a plan that fails, with its code
+abbrev pub first_failure : Campaign → Option (ℕ × ℕ)
+first_failure c = slice_get (first_failures c) 0
+
+-- of each first failure that the report tells of: the reduced scenario fails with its own code, under the same seed and limit and its own
+-- number as the stream number, and no single fault can be left out of it
+abbrev pub EachIsMinimal : Campaign → Type 0
+EachIsMinimal c = All (ReducesToMinimal (say c)) (report c).findings

@@ -1,7 +1,9 @@
 //! How a campaign ends, and why a command over a target writes no whole text.
 ghost use Rattle.std.specs.Prelude.{◌≡◌};
 ghost use Rattle.campaign_core.specs.declared.ending.CampaignFault.TheVariants.{Memory, Write};
+ghost use Rattle.campaign_core.specs.CommandTexts.{plan_fault};
 
+use plan_gen::PlanFault;
 use report::WriteFault;
 use std::alloc::AllocError;
 
@@ -28,6 +30,17 @@ impl From<AllocError> for CampaignFault {
 
     fn from(_: AllocError) -> CampaignFault {
         CampaignFault::Memory
+    }
+}
+
+impl From<PlanFault> for CampaignFault {
+    ghost from_gives = { λ cause fault. fault ≡ plan_fault cause };
+
+    fn from(cause: PlanFault) -> CampaignFault {
+        match cause {
+            PlanFault::TooManyPlans => CampaignFault::TooManyPlans,
+            PlanFault::Memory => CampaignFault::Memory,
+        }
     }
 }
 

@@ -1,8 +1,9 @@
-//! What is done with a target: a campaign, which runs its plans and reduces the first failure; its list of plans; one scenario tried; and
-//! one scenario reduced. Each writes one text over a sink.
+//! What is done with a target: a campaign, which runs its plans and reduces the first failure of each code; its list of plans; one
+//! scenario tried; and one scenario reduced. Each writes one text over a sink.
 #![tactic(auto)]
 
 mod ending;
+mod laws;
 mod listing;
 mod planned;
 mod probe;
@@ -13,10 +14,8 @@ mod trying;
 mod workers;
 
 pub use ending::{CampaignFault, Ending};
+pub use laws::reduced_scenarios_are_minimal;
 pub use listing::plan_list;
-pub use probe::{CaseProbe, Failure, fault_count, reduced, reduced_plain};
 pub use reducing::reduce_one;
-pub use runner::{Runner, Setup};
 pub use running::campaign;
 pub use trying::try_one;
-pub use workers::run_plans;

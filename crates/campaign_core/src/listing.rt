@@ -9,7 +9,7 @@ ghost use Rattle.campaign_core.specs.CommandTexts.{plan_line, plan_lines, plans_
 use crate::ending::CampaignFault;
 use crate::planned::planned;
 use campaign_settings::Settings;
-use plan_gen::{Plan, PlanFault};
+use plan_gen::Plan;
 use report::{write_report, write_scenario};
 use scenario_values::Scenario;
 use std::alloc::{AllocError, Global};
@@ -44,7 +44,8 @@ fn plans_text(alloc: Global, plans: &[Plan<'_>]) -> Result<String, AllocError>
 /// point is asked, on a twin of the target; the caller's target isn't touched.
 ///
 /// Nothing is written before the whole text stands. The answer is `TooManyPlans` only where the list has more than 65536 plans, and then,
-/// and where memory was refused, the sink is as it was; `Write` tells how many bytes of the text went out before the sink failed.
+/// and where memory was refused, the sink is as it was and hasn't failed; `Write` tells how many bytes of the text, fewer than all, went
+/// out before the sink failed.
 pub fn plan_list<T: Target, W: Sink>(
     alloc: Global,
     target: &T,
@@ -55,16 +56,11 @@ pub fn plan_list<T: Target, W: Sink>(
     requires { W.has_failed sink.old ≡ false }
     ensures text { OnOk result (Appends (W.told sink.old) (W.told sink.new) (plans_text (campaign_of (T.asks target.now workload.now) T.names T.code_text (T.label_of target.now) settings.now))) }
     ensures few { OnOk result (length (plans (campaign_of (T.asks target.now workload.now) T.names T.code_text (T.label_of target.now) settings.now)) ≤ most_plans) }
+    ensures sound { OnOk result (W.has_failed sink.new ≡ false) }
     ensures fault { IfErr result (IsFault (campaign_of (T.asks target.now workload.now) T.names T.code_text (T.label_of target.now) settings.now) (plans_text (campaign_of (T.asks target.now workload.now) T.names T.code_text (T.label_of target.now) settings.now)) (W.told sink.old) (W.told sink.new) (W.has_failed sink.new)) }
 {
-    let (_, plans) = match planned(alloc, target, workload, settings) {
-        Ok(planned) => planned,
-        Err(PlanFault::TooManyPlans) => return Err(CampaignFault::TooManyPlans),
-        Err(PlanFault::Memory) => return Err(CampaignFault::Memory),
-    };
+    let (_, plans) = planned(alloc, target, workload, settings)?;
     let text = plans_text(alloc, plans.as_slice())?;
-    match write_report(text.as_bytes(), sink) {
-        Ok(()) => Ok(()),
-        Err(fault) => Err(CampaignFault::Write(fault.written)),
-    }
+    write_report(text.as_bytes(), sink)?;
+    Ok(())
 }

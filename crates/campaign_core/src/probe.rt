@@ -5,7 +5,7 @@ ghost use Rattle.target_trait.specs.Outcomes.{verdict_with};
 ghost use Rattle.campaign_core.specs.FaultTest.{fails_with, fault_test};
 ghost use Rattle.campaign_core.specs.Findings.{reduction};
 
-use ddmin_parallel::{Probe, Reduction, reduce, reduce_plain};
+use ddmin_parallel::{Probe, Reduction, reduce};
 use scenario_values::{Scenario, are_faults, faults, faults_are_counted, keep};
 use std::alloc::{AllocError, Global};
 use std::sync::Wait;
@@ -85,28 +85,6 @@ where
         let verdict = run_verdict(self.alloc, &mut self.target, failure.workload, &case)?;
         Ok(fails_with(failure.code, verdict))
     }
-}
-
-/// Reduces a failure on the caller's thread, with a twin of the target. An error means that memory was refused.
-pub fn reduced_plain<T: Target + Send>(
-    alloc: Global,
-    target: &T,
-    failure: &Failure<'_, T>,
-) -> Result<Reduction, AllocError>
-where
-    T::Workload: Sync,
-    ensures { IfOk result (λ r. r ≡ reduction
-        (verdict_with (T.asks target.now failure.now.workload.now) T.names failure.now.seed failure.now.max_hits)
-        failure.now.stream failure.now.code failure.now.scenario.now) }
-{
-    let target = target.twin()?;
-    let mut probe: CaseProbe<'_, T> = CaseProbe {
-        target,
-        failure: &*failure,
-        alloc,
-    };
-    let _ = failure.scenario.entries();
-    reduce_plain(alloc, &mut probe, failure.faults)
 }
 
 /// A probe for each worker, with a twin of the target.

@@ -1,14 +1,13 @@
 //! A failing scenario, reduced to what it takes to fail.
-ghost use Rattle.std.specs.Prelude.{◌≡◌, ◌++◌, ◌<◌, ℕ, true, false, string_bytes, IfOk, IfErr, OnOk};
+ghost use Rattle.std.specs.Prelude.{◌≡◌, ◌++◌, ◌<◌, true, false, string_bytes, IfOk, IfErr, OnOk};
 ghost use Rattle.std.specs.Fmt.{decimal};
 ghost use Rattle.std.specs.Io.KnownBytes.{Appends};
-ghost use Rattle.target_trait.specs.declared.judgement.Verdict.TheVariants.{Fail};
 ghost use Rattle.target_trait.specs.Outcomes.{verdict_with};
 ghost use Rattle.report.specs.ReportText.{text_of};
 ghost use Rattle.campaign_core.specs.FaultTest.{fails_with};
 ghost use Rattle.campaign_core.specs.Findings.{reduction, reduced, IsMinimal};
 ghost use Rattle.campaign_core.specs.Headline.{campaign_of, say};
-ghost use Rattle.campaign_core.specs.CommandTexts.{found_lines, reduce_text, LeavesOnly};
+ghost use Rattle.campaign_core.specs.CommandTexts.{found_lines, reduce_text, IsReducedToMinimal, LeavesOnly};
 
 use crate::ending::CampaignFault;
 use crate::probe::{Failure, fault_count, reduced};
@@ -106,9 +105,7 @@ where
     T::Workload: Sync,
     requires { verdict ≡ verdict_with (T.asks target.now workload.now) T.names settings.now.seed settings.now.max_hits 0 scenario.now }
     ensures text { IfOk result (λ text. string_bytes text ≡ reduce_text (campaign_of (T.asks target.now workload.now) T.names T.code_text (T.label_of target.now) settings.now) scenario.now) }
-    ensures minimal { OnOk result ((code : ℕ) → say (campaign_of (T.asks target.now workload.now) T.names T.code_text (T.label_of target.now) settings.now) 0 scenario.now ≡ Fail code
-        → IsMinimal (say (campaign_of (T.asks target.now workload.now) T.names T.code_text (T.label_of target.now) settings.now) 0) code
-        (reduced (say (campaign_of (T.asks target.now workload.now) T.names T.code_text (T.label_of target.now) settings.now)) 0 code scenario.now)) }
+    ensures minimal { OnOk result (IsReducedToMinimal (campaign_of (T.asks target.now workload.now) T.names T.code_text (T.label_of target.now) settings.now) scenario.now) }
 {
     let mut text = String::new(alloc);
     text.push_str("verdict ")?;
@@ -135,8 +132,8 @@ where
 ///
 /// As many threads as the settings say test sets of faults, each on a twin of the target; the text is that of one thread, and the
 /// caller's target isn't touched. The scenario that is left fails with the same code, and no single fault can be left out of it. Nothing
-/// is written before the text stands whole: for want of memory the sink is unchanged. A failed write tells how many bytes of the text
-/// went out.
+/// is written before the text stands whole: for want of memory the sink is unchanged and hasn't failed. A failed write tells how many
+/// bytes of the text, fewer than all, went out.
 pub fn reduce_one<T: Target + Send, G: Gate, W: Sink, R: Threads + Wait + Sync>(
     rt: &R,
     alloc: Global,
@@ -152,9 +149,8 @@ where
     requires { W.has_failed sink.old ≡ false }
     ensures verdict { IfOk result (λ verdict. verdict ≡ say (campaign_of (T.asks target.now workload.now) T.names T.code_text (T.label_of target.now) settings.now) 0 scenario.now) }
     ensures text { OnOk result (Appends (W.told sink.old) (W.told sink.new) (reduce_text (campaign_of (T.asks target.now workload.now) T.names T.code_text (T.label_of target.now) settings.now) scenario.now)) }
-    ensures minimal { OnOk result ((code : ℕ) → say (campaign_of (T.asks target.now workload.now) T.names T.code_text (T.label_of target.now) settings.now) 0 scenario.now ≡ Fail code
-        → IsMinimal (say (campaign_of (T.asks target.now workload.now) T.names T.code_text (T.label_of target.now) settings.now) 0) code
-        (reduced (say (campaign_of (T.asks target.now workload.now) T.names T.code_text (T.label_of target.now) settings.now)) 0 code scenario.now)) }
+    ensures minimal { OnOk result (IsReducedToMinimal (campaign_of (T.asks target.now workload.now) T.names T.code_text (T.label_of target.now) settings.now) scenario.now) }
+    ensures sound { OnOk result (W.has_failed sink.new ≡ false) }
     ensures fault { IfErr result (LeavesOnly (W.told sink.old) (W.told sink.new) (W.has_failed sink.new) (reduce_text (campaign_of (T.asks target.now workload.now) T.names T.code_text (T.label_of target.now) settings.now) scenario.now)) }
 {
     let verdict = verdict_of(alloc, target, workload, settings, scenario)?;

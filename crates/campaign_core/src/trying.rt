@@ -34,8 +34,8 @@ fn try_text<T: Target>(alloc: Global, outcome: &Outcome) -> Result<String, Alloc
 /// points asked, the words taken, the simulated milliseconds and the number of notes.
 ///
 /// The seed is that of the run's words; after `max_hits` answered hits the run is stopped and unresolved. Nothing is
-/// written before the text stands whole: for want of memory the sink is unchanged. A failed write tells how many bytes
-/// of the text went out. The target keeps its setup in every case.
+/// written before the text stands whole: for want of memory the sink is unchanged and hasn't failed. A failed write tells
+/// how many bytes of the text, fewer than all, went out. The target keeps its setup in every case.
 pub fn try_one<T: Target, W: Sink>(
     alloc: Global,
     target: &mut T,
@@ -48,6 +48,7 @@ pub fn try_one<T: Target, W: Sink>(
     requires { W.has_failed sink.old ≡ false }
     ensures verdict { IfOk result (λ verdict. verdict ≡ (outcome (T.asks target.old workload.now) (given_of scenario.now T.names seed 0 max_hits)).verdict) }
     ensures text { OnOk result (Appends (W.told sink.old) (W.told sink.new) (try_text T.code_text (outcome (T.asks target.old workload.now) (given_of scenario.now T.names seed 0 max_hits)))) }
+    ensures sound { OnOk result (W.has_failed sink.new ≡ false) }
     ensures fault { IfErr result (LeavesOnly (W.told sink.old) (W.told sink.new) (W.has_failed sink.new) (try_text T.code_text (outcome (T.asks target.old workload.now) (given_of scenario.now T.names seed 0 max_hits)))) }
     ensures setup { target.new ≡ target.old }
 {

@@ -25,7 +25,7 @@ use Rattle.plan_gen.proofs.Meeting.{IsCleanBefore}
 
 -- ---- names of a catalogue
 
-differ : (a b : List ℕ) (r : Bool) → bytes_eq b a ≡ r → bytes_eq a b ≡ false → bytes_eq b a ≡ false
+pub differ : (a b : List ℕ) (r : Bool) → bytes_eq b a ≡ r → bytes_eq a b ≡ false → bytes_eq b a ≡ false
 differ a b true e n = absurd (true≢false (sym ((bytes_eq-Decides a b).1 (sym ((bytes_eq-Decides b a).0 e))) ∙ n))
 differ a b false e n = e
 
@@ -33,13 +33,13 @@ nameless : (n : List ℕ) → is_name n ≡ true → bytes_eq [] n ≡ false
 nameless [] l = absurd cc
 nameless (b ∷ bs) l = refl
 
-other : (n : List ℕ) (ns : List (List ℕ)) (q : ℕ) → AllByRecursion (λ o. bytes_eq o n ≡ false) ns → is_name n ≡ true → bytes_eq (slice_index_or ns q []) n ≡ false
+pub other : (n : List ℕ) (ns : List (List ℕ)) (q : ℕ) → AllByRecursion (λ o. bytes_eq o n ≡ false) ns → is_name n ≡ true → bytes_eq (slice_index_or ns q []) n ≡ false
 other n [] q a l = nameless n l
 other n (m ∷ ns) zero a l = a.0
 other n (m ∷ ns) (suc q) a l = other n ns q a.1 l
 
 -- the names of other points, and of no point, differ from a point's name
-apart : (names : List (List ℕ)) (p q : ℕ) → HasDistinct names → AllByRecursion (λ n. is_name n ≡ true) names → p < length names → (q == p) ≡ false → bytes_eq (slice_index_or names q []) (slice_index_or names p []) ≡ false
+pub apart : (names : List (List ℕ)) (p q : ℕ) → HasDistinct names → AllByRecursion (λ n. is_name n ≡ true) names → p < length names → (q == p) ≡ false → bytes_eq (slice_index_or names q []) (slice_index_or names p []) ≡ false
 apart [] p q d l h e = absurd (omega (arith, h))
 apart (n ∷ ns) zero zero d l h e = absurd cc
 apart (n ∷ ns) zero (suc q) d l h e = other n ns q d.0 l.0

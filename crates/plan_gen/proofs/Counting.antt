@@ -51,8 +51,8 @@ pairs_length (a ∷ rest) = length-append (map (λ b. (a, b)) rest) (pairs_of re
     sums : {a b c d : ℕ} → a ≡ c → b ≡ d → a + b ≡ c + d
     sums e f = omega arith
 
-pair_part_length : (names : List (List ℕ)) (wanted : Bool) (sites : List Site) → length (pair_part names wanted sites) ≡ cond wanted (1 * pairs_count (length sites)) 0
-pair_part_length names true sites = flat_length (pair_plans names) 1 (λ p. refl) (pairs_of sites) ∙ ap (λ n. 1 * n) (pairs_length sites)
+pair_part_length : (names : List (List ℕ)) (wanted : Bool) (sites : List Site) → length (pair_part names wanted sites) ≡ cond wanted (2 * pairs_count (length sites)) 0
+pair_part_length names true sites = flat_length (pair_plans names) 2 (λ p. refl) (pairs_of sites) ∙ ap (λ n. 2 * n) (pairs_length sites)
 pair_part_length names false sites = refl
 
 storm_part_length : (names : List (List ℕ)) (seed rate storms : ℕ) (sites : List Site) → length (storm_part names seed rate storms sites) ≡ storms
@@ -84,10 +84,10 @@ pairs_next names old new a sites rest part whole split same added h =
     ∙ ap (λ l. old ++ flat_map (pair_plans names) (pairs_of l)) (sym split) ∙ h) (added ∙ ap (λ l. old ++ flat_map (λ b. pair_plans names (a, b)) l) same)
 
 -- what is counted is how many plans there are
-pub judged : (names : List (List ℕ)) (counts : List ℕ) (asked : Asked) (sites : ℕ) (wanted : Bool) (storms listed : ℕ) → sites ≡ total_of counts → wanted ≡ asked.pairs → storms ≡ asked.storms → listed ≡ length asked.listed → 1 + 3 * sites + cond wanted (1 * pairs_count sites) 0 + storms + listed ≡ length (plan_list names counts asked)
+pub judged : (names : List (List ℕ)) (counts : List ℕ) (asked : Asked) (sites : ℕ) (wanted : Bool) (storms listed : ℕ) → sites ≡ total_of counts → wanted ≡ asked.pairs → storms ≡ asked.storms → listed ≡ length asked.listed → 1 + 3 * sites + cond wanted (2 * pairs_count sites) 0 + storms + listed ≡ length (plan_list names counts asked)
 judged names counts asked sites wanted storms listed a b c d =
-    ap (λ n. 1 + 3 * n + cond wanted (1 * pairs_count n) 0 + storms + listed) a
-    ∙ ap (λ w. 1 + 3 * total_of counts + cond w (1 * pairs_count (total_of counts)) 0 + storms + listed) b
-    ∙ ap (λ n. 1 + 3 * total_of counts + cond asked.pairs (1 * pairs_count (total_of counts)) 0 + n + listed) c
-    ∙ ap (λ n. 1 + 3 * total_of counts + cond asked.pairs (1 * pairs_count (total_of counts)) 0 + asked.storms + n) d
+    ap (λ n. 1 + 3 * n + cond wanted (2 * pairs_count n) 0 + storms + listed) a
+    ∙ ap (λ w. 1 + 3 * total_of counts + cond w (2 * pairs_count (total_of counts)) 0 + storms + listed) b
+    ∙ ap (λ n. 1 + 3 * total_of counts + cond asked.pairs (2 * pairs_count (total_of counts)) 0 + n + listed) c
+    ∙ ap (λ n. 1 + 3 * total_of counts + cond asked.pairs (2 * pairs_count (total_of counts)) 0 + asked.storms + n) d
     ∙ sym (plans_length names counts asked)

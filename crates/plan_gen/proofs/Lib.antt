@@ -5,3 +5,5 @@ pub mod StormLemmas
 pub mod Limits
 pub mod Meeting
 pub mod CleanRuns
+pub mod RiggedChains
+pub mod RiggedRuns

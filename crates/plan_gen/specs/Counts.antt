@@ -13,4 +13,4 @@ pairs_count (suc n) = n + pairs_count n
 
 -- how many plans, by the number of sites
 abbrev pub plan_count : ℕ → Asked → ℕ
-plan_count n asked = 1 + 3 * n + (if asked.pairs then 1 * pairs_count n else 0) + asked.storms + length asked.listed
+plan_count n asked = 1 + 3 * n + (if asked.pairs then 2 * pairs_count n else 0) + asked.storms + length asked.listed

@@ -4,3 +4,4 @@ pub mod PlanList
 pub mod PlanForm
 pub mod Counts
 pub mod LoopRuns
+pub mod RiggedAnswers

@@ -1,5 +1,5 @@
 -- What a plan keeps: the hits at which something is done, over a catalogue, or a listed scenario.
-use Rattle.std.specs.Prelude.{ℕ, ◌<◌, ◌≤◌, ◌^◌, List, [], ◌∷◌, length}
+use Rattle.std.specs.Prelude.{◌<◌, ◌≤◌, ◌^◌, List, [], ◌∷◌, length}
 use Rattle.std.specs.List.{AllByRecursion}
 use Rattle.action_eval.specs.Answers.{texts}
 use Rattle.target_trait.specs.Catalogue.{IsCatalogue}

@@ -1,6 +1,6 @@
 -- The list of plans: the empty plan; each site alone; each two sites; storms; listed scenarios. The parts, their order and the limits are
 -- this project's own.
-use Rattle.std.specs.Prelude.{ℕ, ◌+◌, ◌/◌, ◌%◌, ◌==◌, ◌&&◌, nat_lt, if◌then◌else◌, Bool, List, [], ◌∷◌, ◌++◌, map, flat_map, length}
+use Rattle.std.specs.Prelude.{ℕ, ◌+◌, ◌/◌, ◌%◌, ◌==◌, nat_lt, if◌then◌else◌, Bool, List, [], ◌∷◌, ◌++◌, map, filter, zip, take, flat_map, length}
 use Rattle.std.specs.List.{range_with_len}
 use Rattle.scenario_values.specs.Scenario.{Entries}
 use Rattle.action_eval.specs.Words.{word}
@@ -32,7 +32,7 @@ site_plans names s = map (λ kind. rigging names (rig s kind ∷ [])) alone
 
 -- two sites, the first failing once, the second in each of these ways
 abbrev pub second : List Kind
-second = OnceReturn ∷ []
+second = OnceReturn ∷ OncePanic ∷ []
 
 abbrev pub pair_plans : List (List ℕ) → Site × Site → List Entries
 pair_plans names p = map (λ kind. rigging names (rig p.0 OnceReturn ∷ rig p.1 kind ∷ [])) second
@@ -42,22 +42,25 @@ abbrev pub pairs_of : List Site → List (Site × Site)
 pairs_of [] = []
 pairs_of (a ∷ rest) = map (λ b. (a, b)) rest ++ pairs_of rest
 
--- what a site's word does there, if it takes the site
+-- each site with its random word: one word a site, in order
+abbrev pub with_words : (ℕ → ℕ) → List Site → List (Site × ℕ)
+with_words word sites = zip sites (map word (range_with_len 0 (length sites)))
+
+-- a word takes its site where it is below the rate, modulo 1000
+abbrev pub is_taken : ℕ → Site × ℕ → Bool
+is_taken rate s = nat_lt (s.1 % 1000) rate
+
+-- what a word does at a site that it takes
 abbrev pub storm_kind : ℕ → Kind
 storm_kind w = if w / 1000 % 8 == 0 then OncePanic else OnceReturn
 
--- a site is taken where its word modulo 1000 is below the rate, and fewer than the most are taken so far
-abbrev pub drawn : ℕ → ℕ → ℕ → Site → List Rig
-drawn rate w taken s = if nat_lt (w % 1000) rate && nat_lt taken most_sites then rig s (storm_kind w) ∷ [] else []
+-- the rigged hits of a storm, by its words: of the sites that are taken, the first so many
+abbrev pub storm_by : (ℕ → ℕ) → ℕ → List Site → List Rig
+storm_by word rate sites = map (λ s. rig s.0 (storm_kind s.1)) (take most_sites (filter (is_taken rate) (with_words word sites)))
 
--- the rigged hits of a storm, by the words from number i on, one a site, after `taken` sites were taken
-abbrev pub storm_from : (ℕ → ℕ) → ℕ → ℕ → ℕ → List Site → List Rig
-storm_from word rate i taken [] = []
-storm_from word rate i taken (s ∷ ss) = drawn rate (word i) taken s ++ storm_from word rate (i + 1) (taken + length (drawn rate (word i) taken s)) ss
-
--- storm number j
+-- storm number j, by the words of a stream of its own
 unfoldable pub storm : ℕ → ℕ → List Site → ℕ → List Rig
-storm seed rate sites j = storm_from (word seed (first_stream + j)) rate 0 0 sites
+storm seed rate sites j = storm_by (word seed (first_stream + j)) rate sites
 
 -- what is asked of the list of plans
 pub record Asked : Type 0 where

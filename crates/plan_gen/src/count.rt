@@ -20,16 +20,16 @@ fn pair_count(sites: u64) -> u64
 
 /// How many plans there are, where they aren't too many. Nothing wraps: past the limit no more is counted.
 pub fn plan_count(sites: u64, pairs: bool, storms: u32, listed: usize) -> Option<u64>
-    ensures few { IfSome result (λ count. count ≡ 1 + 3 * sites + (if pairs then 1 * pairs_count sites else 0) + storms + listed) }
+    ensures few { IfSome result (λ count. count ≡ 1 + 3 * sites + (if pairs then 2 * pairs_count sites else 0) + storms + listed) }
     ensures small { IfSome result (λ count. count ≤ most_plans) }
-    ensures many { IfNone result (most_plans < 1 + 3 * sites + (if pairs then 1 * pairs_count sites else 0) + storms + listed) }
+    ensures many { IfNone result (most_plans < 1 + 3 * sites + (if pairs then 2 * pairs_count sites else 0) + storms + listed) }
 {
     if sites > MOST_PLANS {
         return None;
     }
     let mut made = 1 + 3 * sites + u64::from(storms);
     if pairs {
-        made += pair_count(sites);
+        made += 2 * pair_count(sites);
     }
     if made > MOST_PLANS || listed as u64 > MOST_PLANS - made {
         return None;

@@ -4,6 +4,7 @@
 mod census;
 mod copies;
 mod count;
+mod laws;
 mod list;
 mod looped;
 mod parts;
@@ -14,6 +15,7 @@ mod sites;
 mod storms;
 
 pub use census::{Census, by_census};
+pub use laws::hits_are_answered_as_rigged;
 pub use list::{PlanFault, plans};
 pub use looped::by_loop;
 pub use plan::{Plan, PlanSettings};

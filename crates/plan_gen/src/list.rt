@@ -57,8 +57,8 @@ fn made_plans<'a>(
 
 /// The list of plans, of a census over a catalogue: a plan's number is its place in it, from 0. In order: the empty plan; for each site
 /// of the census, which is a point and one of its hits, that hit failing once, failing from then on, and panicking; if pairs are wanted,
-/// for each two sites both failing once; the storms; the listed scenarios. A storm takes one random word a site, from a stream of its
-/// own, and with it at most 64 sites.
+/// for each two sites both failing once, and then the first failing once and the second panicking; the storms; the listed scenarios. A
+/// storm takes one random word a site, from a stream of its own, and with it at most 64 sites.
 ///
 /// The plans are counted before any is made, and more than 65536 are refused. The condition is one count for each name of a lawful
 /// catalogue.

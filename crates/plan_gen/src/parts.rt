@@ -2,6 +2,7 @@
 ghost use Rattle.std.specs.Prelude.{◌≡◌, ◌++◌, ◌∷◌, ◌≤◌, [], length, flat_map, OnOk};
 ghost use Rattle.action_eval.specs.Answers.{texts};
 ghost use Rattle.target_trait.specs.Catalogue.{IsCatalogue};
+ghost use Rattle.plan_gen.specs.declared.site.Kind.TheVariants.{OnceReturn};
 ghost use Rattle.plan_gen.specs.Rigging.{rig, rigging};
 ghost use Rattle.plan_gen.specs.PlanForm.{rigs_of, CanBeRigged};
 ghost use Rattle.plan_gen.specs.PlanList.{most_plans, site_plans, pair_plans, pairs_of, storm_part};
@@ -68,6 +69,25 @@ pub fn add_sites<'a>(
     Ok(())
 }
 
+/// Adds the plan of two sites, where the first fails once and this is done at the second.
+fn add_two<'a>(
+    plans: &mut Vec<Plan<'a>>,
+    catalogue: &'a [&'a str],
+    first: Site,
+    second: Site,
+    kind: Kind,
+) -> Result<(), AllocError>
+    requires { IsCatalogue (texts catalogue.now) }
+    ensures { OnOk result (plans.new.items ≡ plans.old.items ++ rigging (texts catalogue.now) (rig first OnceReturn ∷ rig second kind ∷ []) ∷ []) }
+{
+    let first = Rig {
+        site: first,
+        kind: Kind::OnceReturn,
+    };
+    let second = Rig { site: second, kind };
+    add_plan(plans, catalogue, Rigs::Two(first, second))
+}
+
 /// Adds the plans of two sites.
 fn add_pair<'a>(
     plans: &mut Vec<Plan<'a>>,
@@ -78,15 +98,8 @@ fn add_pair<'a>(
     requires { IsCatalogue (texts catalogue.now) }
     ensures { OnOk result (plans.new.items ≡ plans.old.items ++ pair_plans (texts catalogue.now) (first, second)) }
 {
-    let first = Rig {
-        site: first,
-        kind: Kind::OnceReturn,
-    };
-    let second = Rig {
-        site: second,
-        kind: Kind::OnceReturn,
-    };
-    add_plan(plans, catalogue, Rigs::Two(first, second))
+    add_two(plans, catalogue, first, second, Kind::OnceReturn)?;
+    add_two(plans, catalogue, first, second, Kind::OncePanic)
 }
 
 /// Adds the plans of a site with each of those after it.

@@ -98,7 +98,7 @@ impl<'a> Plan<'a> {
 /// What is asked of the list of plans.
 #[derive(Debug, Drop)]
 pub struct PlanSettings<'a> {
-    /// Whether each two sites make a plan.
+    /// Whether each two sites make two plans: both fail once; the first fails once, and at the second the component stops.
     pub pairs: bool,
     /// How many storms there are.
     pub storms: u32,

@@ -1,8 +1,9 @@
 //! Storms: rigged hits drawn by random words.
-ghost use Rattle.std.specs.Prelude.{◌≡◌, ◌++◌, ◌≤◌, ◌<◌, ◌^◌, length, IfOk, OnOk};
+ghost use Rattle.std.specs.Prelude.{◌≡◌, ◌++◌, ◌∷◌, [], ◌%◌, ◌&&◌, ◌≤◌, ◌<◌, ◌^◌, nat_lt, length, if◌then◌else◌, IfOk, OnOk};
 ghost use Rattle.std.specs.List.{AllByRecursion};
 ghost use Rattle.action_eval.specs.Words.{seed_bytes, at_word};
-ghost use Rattle.plan_gen.specs.PlanList.{most_plans, most_sites, storm_kind, drawn, storm};
+ghost use Rattle.plan_gen.specs.PlanList.{most_plans, most_sites, storm_kind, storm};
+ghost use Rattle.plan_gen.specs.Rigging.{rig};
 
 use crate::site::{Kind, Rig, Site};
 use rand_chacha::ChaCha8Rng;
@@ -47,9 +48,9 @@ fn storm_kind(word: u32) -> Kind
     }
 }
 
-/// Adds a site that its word takes.
+/// Adds a site that its word takes, while fewer than the most are taken.
 fn draw(rigs: &mut Vec<Rig>, rate: u32, word: u32, site: Site) -> Result<(), AllocError>
-    ensures drawn { OnOk result (rigs.new.items ≡ rigs.old.items ++ drawn rate word (length rigs.old.items) site) }
+    ensures drawn { OnOk result (rigs.new.items ≡ rigs.old.items ++ (if nat_lt (word % 1000) rate && nat_lt (length rigs.old.items) most_sites then rig site (storm_kind word) ∷ [] else [])) }
     ensures few { OnOk result (length rigs.old.items ≤ most_sites → length rigs.new.items ≤ most_sites) }
     ensures small { OnOk result (AllByRecursion (λ r. r.site.hit < 2 ^ 32) rigs.old.items → AllByRecursion (λ r. r.site.hit < 2 ^ 32) rigs.new.items) }
 {

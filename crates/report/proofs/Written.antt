@@ -1,6 +1,9 @@
 -- Lines that a loop writes.
 use Rattle.std.proofs.Common.{◌≡◌, ℕ, suc, ◌+◌, ◌<◌, List, [], ◌∷◌, ◌++◌, map, drop, length, get_or, refl, ap, sym, ◌∙◌, append_assoc, add-one, drop-cons}
-use Rattle.report.specs.ReportText.{census_line, census_lines, ended, text_of}
+use Rattle.std.specs.List.{flat_map}
+use Rattle.std.proofs.lemmas.List.Concat.{flat_map-append}
+use Rattle.report.specs.Reports.{FindingFacts}
+use Rattle.report.specs.ReportText.{census_line, census_lines, finding_lines, ended, text_of}
 
 goes_on : {A : Type 0} (old new here rest whole : List A) → old ++ (here ++ rest) ≡ whole → new ≡ old ++ here → new ++ rest ≡ whole
 goes_on old new here rest whole h e = ap (λ r. r ++ rest) e ∙ append_assoc old here rest ∙ h
@@ -16,3 +19,10 @@ pub census_next : (old new : List ℕ) (name : List ℕ) (n : ℕ) (names rest :
 census_next old new name n names rest counts left whole a b added h =
     goes_on old new (ended (census_line name n)) (text_of (census_lines rest left)) whole
     (ap (λ (l : List ℕ). old ++ text_of (census_lines (name ∷ rest) l)) (sym b) ∙ ap (λ (l : List (List ℕ)). old ++ text_of (census_lines l counts)) (sym a) ∙ h) added
+
+pub finding_next : (code_name : ℕ → List ℕ) (old new whole : List ℕ) (i : ℕ) (fs : List FindingFacts) (f : FindingFacts) → i < length fs → f ≡ get_or fs i f → new ≡ old ++ text_of (finding_lines code_name f)
+    → old ++ text_of (flat_map (finding_lines code_name) (drop i fs)) ≡ whole → new ++ text_of (flat_map (finding_lines code_name) (drop (i + 1) fs)) ≡ whole
+finding_next code_name old new whole i fs f lt is added h =
+    goes_on old new (text_of (finding_lines code_name f)) (text_of (flat_map (finding_lines code_name) (drop (i + 1) fs))) whole
+    (ap (λ (t : List ℕ). old ++ t) (sym (ap (λ (l : List FindingFacts). text_of (flat_map (finding_lines code_name) l)) (next_of fs i f lt ∙ ap (λ (g : FindingFacts). g ∷ drop (i + 1) fs) (sym is))
+    ∙ flat_map-append ended (finding_lines code_name f) (flat_map (finding_lines code_name) (drop (i + 1) fs)))) ∙ h) added

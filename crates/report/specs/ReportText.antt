@@ -1,5 +1,5 @@
 -- The words and lines of a report. A target gives the names of its points and codes.
-use Rattle.std.specs.Prelude.{ℕ, ◌+◌, List, [], ◌∷◌, ◌++◌, Option, Some, None, length, codes, flat_map}
+use Rattle.std.specs.Prelude.{ℕ, ◌+◌, List, [], ◌∷◌, ◌++◌, length, codes, flat_map}
 use Rattle.std.specs.Fmt.{decimal}
 use Rattle.scenario_values.specs.Scenario.{Entries}
 use Rattle.scenario_values.specs.Printed.{printed}
@@ -55,10 +55,10 @@ finding_lines code_name finding =
     ∷ (codes "tests " ++ decimal finding.tests)
     ∷ []
 
--- `first none` and nothing more, or the lines of the first failure
-abbrev pub first_lines : (ℕ → List ℕ) → Option FindingFacts → List (List ℕ)
-first_lines code_name None = codes "first none" ∷ []
-first_lines code_name (Some finding) = finding_lines code_name finding
+-- `first none` and nothing more where nothing was found, and otherwise the lines of each finding, in order
+abbrev pub findings_lines : (ℕ → List ℕ) → List FindingFacts → List (List ℕ)
+findings_lines code_name [] = codes "first none" ∷ []
+findings_lines code_name (finding ∷ findings) = flat_map (finding_lines code_name) (finding ∷ findings)
 
 -- all lines, by the names of the points and codes
 abbrev pub report_lines : List (List ℕ) → (ℕ → List ℕ) → ReportFacts → List (List ℕ)
@@ -67,7 +67,7 @@ report_lines names code_name report =
     ++ census_lines names report.census
     ++ count_line report.verdicts ∷ []
     ++ verdict_lines code_name 0 report.verdicts
-    ++ first_lines code_name report.first
+    ++ findings_lines code_name report.findings
 
 -- a line with its line feed
 abbrev pub ended : List ℕ → List ℕ

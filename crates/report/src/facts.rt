@@ -4,10 +4,10 @@ use scenario_values::Scenario;
 use std::marker::Model;
 use target_trait::Verdict;
 
-/// The first failure, with what it was reduced to.
+/// The first failure of its code, with what it was reduced to.
 #[derive(Drop)]
 pub struct Finding {
-    /// The number of the plan, the least of those that fail.
+    /// The number of the plan, the least of those that fail with this code.
     pub number: u32,
     /// The target's code for what was broken.
     pub code: u32,
@@ -46,8 +46,8 @@ pub struct Report<'a> {
     pub census: &'a [u32],
     /// The verdict of each plan, in the order of the plans' numbers, from 0.
     pub verdicts: &'a [Verdict],
-    /// The first failure; `None` where no plan fails.
-    pub first: Option<Finding>,
+    /// The first failure of each code that a plan fails with, in the order of the plans' numbers; empty where no plan fails.
+    pub findings: Vec<Finding>,
 }
 
 impl<'a> Model for Report<'a> {
@@ -61,6 +61,6 @@ impl<'a> Model for Report<'a> {
       clean = r.clean;
       census = r.census.now;
       verdicts = r.verdicts.now;
-      first = r.first;
+      findings = r.findings.items;
     } };
 }

@@ -1,7 +1,7 @@
 //! The lines of a report.
 ghost use Rattle.std.specs.Prelude.{◌≡◌, ◌++◌, ◌∷◌, [], length, string_bytes, codes, IfOk, OnOk};
 ghost use Rattle.std.specs.Fmt.{decimal};
-ghost use Rattle.report.specs.ReportText.{verdict_text, scenario_text, census_line, census_lines, count_line, verdict_line, verdict_lines, finding_lines, first_lines, report_lines, ended, text_of};
+ghost use Rattle.report.specs.ReportText.{verdict_text, scenario_text, census_line, census_lines, count_line, verdict_line, verdict_lines, finding_lines, findings_lines, report_lines, ended, text_of};
 
 use crate::facts::{Finding, Report};
 use crate::verdicts::write_verdict;
@@ -103,17 +103,20 @@ fn write_finding<T: Target>(
     writeln!(out, "\ntests {tests}")
 }
 
-fn write_first<T: Target>(
+fn write_findings<T: Target>(
     alloc: Global,
     out: &mut String,
-    first: &Option<Finding>,
+    findings: &[Finding],
 ) -> Result<(), AllocError>
-    ensures { OnOk result (string_bytes out.new ≡ string_bytes out.old ++ text_of (first_lines T.code_text first.now)) }
+    ensures { OnOk result (string_bytes out.new ≡ string_bytes out.old ++ text_of (findings_lines T.code_text findings.now)) }
 {
-    match first {
-        None => out.push_str("first none\n"),
-        Some(finding) => write_finding::<T>(alloc, out, finding),
+    if findings.is_empty() {
+        return out.push_str("first none\n");
     }
+    for finding in findings {
+        write_finding::<T>(alloc, out, finding)?;
+    }
+    Ok(())
 }
 
 fn write_count(out: &mut String, plans: usize) -> Result<(), AllocError>
@@ -136,6 +139,6 @@ pub fn text<T: Target>(alloc: Global, report: &Report<'_>) -> Result<Vec<u8>, Al
     write_census::<T>(&mut out, report.census)?;
     write_count(&mut out, report.verdicts.len())?;
     write_verdicts::<T>(&mut out, report.verdicts)?;
-    write_first::<T>(alloc, &mut out, &report.first)?;
+    write_findings::<T>(alloc, &mut out, &report.findings)?;
     Ok(out.into_bytes())
 }

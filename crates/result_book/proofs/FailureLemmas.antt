@@ -3,42 +3,45 @@ use Rattle.std.proofs.Common.{◌≡◌, ℕ, zero, suc, ◌+◌, ◌<◌, Bool,
 use Rattle.std.proofs.lemmas.Bool.{false≢true}
 use Rattle.target_trait.specs.declared.judgement.Verdict.{Verdict}
 use Rattle.target_trait.specs.declared.judgement.Verdict.TheVariants as verdict
-use Rattle.result_book.specs.FirstFailure.{first_from, FailsAt, IsFirstFailure}
+use Rattle.result_book.specs.FirstFailure.{IsFirstFailure}
+use Rattle.result_book.specs.Slots.{first_in, FailsIn}
 
-abbrev failed : Verdict → Bool
-failed verdict.Pass = false
-failed (verdict.Fail code) = true
-failed verdict.Unresolved = false
+abbrev failed : Option Verdict → Bool
+failed None = false
+failed (Some verdict.Pass) = false
+failed (Some (verdict.Fail code)) = true
+failed (Some verdict.Unresolved) = false
 
--- the same of verdicts numbered from n on
-abbrev IsFrom : ℕ → List Verdict → Option (ℕ × ℕ) → Type 0
-IsFrom n vs None = (i code : ℕ) → FailsAt vs i code → ⊥
-IsFrom n vs (Some first) = (k : ℕ) × ((first.0 ≡ n + k) × FailsAt vs k first.1 × ((i code : ℕ) → i < k → FailsAt vs i code → ⊥))
+-- the same of places numbered from n on
+abbrev IsFrom : ℕ → List (Option Verdict) → Option (ℕ × ℕ) → Type 0
+IsFrom n slots None = (i code : ℕ) → FailsIn slots i code → ⊥
+IsFrom n slots (Some first) = (k : ℕ) × ((first.0 ≡ n + k) × FailsIn slots k first.1 × ((i code : ℕ) → i < k → FailsIn slots i code → ⊥))
 
-before : (v : Verdict) (vs : List Verdict) (k : ℕ) → ((code : ℕ) → v ≡ verdict.Fail code → ⊥) → ((i code : ℕ) → i < k → FailsAt vs i code → ⊥) → (i code : ℕ) → i < suc k → FailsAt (v ∷ vs) i code → ⊥
-before v vs k sound rest zero code lt fails = sound code fails
-before v vs k sound rest (suc i) code lt fails = rest i code (omega arith) fails
+before : (s : Option Verdict) (slots : List (Option Verdict)) (k : ℕ) → ((code : ℕ) → s ≡ Some (verdict.Fail code) → ⊥) → ((i code : ℕ) → i < k → FailsIn slots i code → ⊥) → (i code : ℕ) → i < suc k → FailsIn (s ∷ slots) i code → ⊥
+before s slots k sound rest zero code lt fails = sound code fails
+before s slots k sound rest (suc i) code lt fails = rest i code (omega arith) fails
 
-none_of : (v : Verdict) (vs : List Verdict) → ((code : ℕ) → v ≡ verdict.Fail code → ⊥) → ((i code : ℕ) → FailsAt vs i code → ⊥) → (i code : ℕ) → FailsAt (v ∷ vs) i code → ⊥
-none_of v vs sound rest zero code fails = sound code fails
-none_of v vs sound rest (suc i) code fails = rest i code fails
+none_of : (s : Option Verdict) (slots : List (Option Verdict)) → ((code : ℕ) → s ≡ Some (verdict.Fail code) → ⊥) → ((i code : ℕ) → FailsIn slots i code → ⊥) → (i code : ℕ) → FailsIn (s ∷ slots) i code → ⊥
+none_of s slots sound rest zero code fails = sound code fails
+none_of s slots sound rest (suc i) code fails = rest i code fails
 
--- a verdict that is no failure goes before
-later : (n : ℕ) (v : Verdict) (vs : List Verdict) → ((code : ℕ) → v ≡ verdict.Fail code → ⊥) → (first : Option (ℕ × ℕ)) → IsFrom (n + 1) vs first → IsFrom n (v ∷ vs) first
-later n v vs sound None none = none_of v vs sound none
-later n v vs sound (Some first) is = (suc is.0, (let at = is.1.0 in omega (arith, at), is.1.1, before v vs is.0 sound is.1.2))
+-- a place without a failure goes before
+later : (n : ℕ) (s : Option Verdict) (slots : List (Option Verdict)) → ((code : ℕ) → s ≡ Some (verdict.Fail code) → ⊥) → (first : Option (ℕ × ℕ)) → IsFrom (n + 1) slots first → IsFrom n (s ∷ slots) first
+later n s slots sound None none = none_of s slots sound none
+later n s slots sound (Some first) is = (suc is.0, (let at = is.1.0 in omega (arith, at), is.1.1, before s slots is.0 sound is.1.2))
 
-from : (n : ℕ) (vs : List Verdict) → IsFrom n vs (first_from n vs)
+from : (n : ℕ) (slots : List (Option Verdict)) → IsFrom n slots (first_in n slots)
 from n [] = λ i code fails. false≢true (ap failed fails)
-from n (verdict.Pass ∷ vs) = later n verdict.Pass vs (λ code fails. false≢true (ap failed fails)) (first_from (n + 1) vs) (from (n + 1) vs)
-from n (verdict.Fail code ∷ vs) = (0, (omega arith, refl, λ i other lt fails. absurd (omega arith)))
-from n (verdict.Unresolved ∷ vs) = later n verdict.Unresolved vs (λ code fails. false≢true (ap failed fails)) (first_from (n + 1) vs) (from (n + 1) vs)
+from n (None ∷ slots) = later n None slots (λ code fails. false≢true (ap failed fails)) (first_in (n + 1) slots) (from (n + 1) slots)
+from n (Some verdict.Pass ∷ slots) = later n (Some verdict.Pass) slots (λ code fails. false≢true (ap failed fails)) (first_in (n + 1) slots) (from (n + 1) slots)
+from n (Some (verdict.Fail code) ∷ slots) = (0, (omega arith, refl, λ i other lt fails. absurd (omega arith)))
+from n (Some verdict.Unresolved ∷ slots) = later n (Some verdict.Unresolved) slots (λ code fails. false≢true (ap failed fails)) (first_in (n + 1) slots) (from (n + 1) slots)
 
-to_first : (vs : List Verdict) (first : Option (ℕ × ℕ)) → IsFrom 0 vs first → IsFirstFailure vs first
-to_first vs None is = is
-to_first vs (Some first) is =
+to_first : (slots : List (Option Verdict)) (first : Option (ℕ × ℕ)) → IsFrom 0 slots first → IsFirstFailure (FailsIn slots) first
+to_first slots None is = is
+to_first slots (Some first) is =
     let at : first.0 ≡ is.0 = (let sum = is.1.0 in omega (arith, sum)) in
-    (subst (λ k. FailsAt vs k first.1) (sym at) is.1.1, λ i code lt fails. is.1.2 i code (omega (arith, at, lt)) fails)
+    (subst (λ k. FailsIn slots k first.1) (sym at) is.1.1, λ i code lt fails. is.1.2 i code (omega (arith, at, lt)) fails)
 
-pub first_is_least : (vs : List Verdict) → IsFirstFailure vs (first_from 0 vs)
-first_is_least vs = to_first vs (first_from 0 vs) (from 0 vs)
+pub least_slot : (slots : List (Option Verdict)) → IsFirstFailure (FailsIn slots) (first_in 0 slots)
+least_slot slots = to_first slots (first_in 0 slots) (from 0 slots)

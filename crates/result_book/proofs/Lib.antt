@@ -1,2 +1,3 @@
 pub mod SlotLemmas
 pub mod FailureLemmas
+pub mod EachCodeLemmas

@@ -18,7 +18,8 @@ first_from n (v ∷ vs) = failing n v (first_from (n + 1) vs)
 abbrev pub FailsAt : List Verdict → ℕ → ℕ → Type 0
 FailsAt vs i code = slice_index_or vs i verdict.Pass ≡ verdict.Fail code
 
--- what the first failure is: it fails with that code, and no verdict before it fails; there is none where no verdict fails
-abbrev pub IsFirstFailure : List Verdict → Option (ℕ × ℕ) → Type 0
-IsFirstFailure vs None = (i code : ℕ) → FailsAt vs i code → ⊥
-IsFirstFailure vs (Some first) = FailsAt vs first.0 first.1 × ((i code : ℕ) → i < first.0 → FailsAt vs i code → ⊥)
+-- what the first failure is, by which number fails with which code: it fails with that code, and no lower number fails; there is none
+-- where no number fails
+abbrev pub IsFirstFailure : (ℕ → ℕ → Type 0) → Option (ℕ × ℕ) → Type 0
+IsFirstFailure Fails None = (n code : ℕ) → Fails n code → ⊥
+IsFirstFailure Fails (Some first) = Fails first.0 first.1 × ((n code : ℕ) → n < first.0 → Fails n code → ⊥)

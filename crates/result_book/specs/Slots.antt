@@ -1,7 +1,9 @@
 -- A book: for each number its verdict, where it was put.
-use Rattle.std.specs.Prelude.{ℕ, zero, suc, ◌+◌, Vec, Bool, true, false, List, [], ◌∷◌, Option, Some, None, slice_index_or}
+use Rattle.std.specs.Prelude.{◌≡◌, ℕ, zero, suc, ◌+◌, Vec, Bool, true, false, List, [], ◌∷◌, Option, Some, None, option_map, slice_index_or}
+use Rattle.std.specs.List.{enumerate_from, filter_map}
 use Rattle.std.specs.Global.{Global}
 use Rattle.target_trait.specs.declared.judgement.Verdict.{Verdict}
+use Rattle.target_trait.specs.declared.judgement.Verdict.TheVariants as verdict
 use Rattle.result_book.specs.FirstFailure.{failing}
 
 -- a number and its verdict
@@ -49,3 +51,15 @@ abbrev pub present : List (Option Verdict) → List Verdict
 present [] = []
 present (None ∷ slots) = present slots
 present (Some v ∷ slots) = v ∷ present slots
+
+-- a number with its verdict, where it has one
+abbrev pub with_number : ℕ × Option Verdict → Option (ℕ × Verdict)
+with_number slot = option_map (λ v. (slot.0, v)) slot.1
+
+-- the pairs in the book: each number that has its verdict, with it, in the order of the numbers
+abbrev pub in_book : List (Option Verdict) → List (ℕ × Verdict)
+in_book slots = filter_map with_number (enumerate_from 0 slots)
+
+-- the book has a failure with this code in the place of this number
+abbrev pub FailsIn : List (Option Verdict) → ℕ → ℕ → Type 0
+FailsIn slots n code = slice_index_or slots n None ≡ Some (verdict.Fail code)

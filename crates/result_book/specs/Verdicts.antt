@@ -1,5 +1,6 @@
 -- The verdicts of a list of plans: a map with the plans' numbers.
 use Rattle.std.specs.Prelude.{ℕ, ◌+◌, List, [], ◌∷◌}
+use Rattle.std.specs.List.{enumerate_from}
 use Rattle.scenario_values.specs.Scenario.{Entries}
 use Rattle.target_trait.specs.declared.judgement.Verdict.{Verdict}
 
@@ -8,3 +9,7 @@ use Rattle.target_trait.specs.declared.judgement.Verdict.{Verdict}
 abbrev pub verdicts_from : (ℕ → Entries → Verdict) → ℕ → List Entries → List Verdict
 verdicts_from say n [] = []
 verdicts_from say n (plan ∷ plans) = say n plan ∷ verdicts_from say (n + 1) plans
+
+-- verdicts with their numbers, from 0
+abbrev pub numbered : List Verdict → List (ℕ × Verdict)
+numbered verdicts = enumerate_from 0 verdicts

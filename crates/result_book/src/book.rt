@@ -1,8 +1,9 @@
 //! Which plans of a course have their verdict.
-ghost use Rattle.std.specs.Prelude.{◌≡◌, ℕ, ◌+◌, ◌<◌, ◌≤◌, List, [], length, Option, None, Some, false, IfOk, IfErr, OnOk, OnErr, replicate, slice_set};
-ghost use Rattle.std.specs.List.{list_all};
+ghost use Rattle.std.specs.Prelude.{◌≡◌, ℕ, ◌+◌, ◌<◌, ◌≤◌, ◌==◌, List, [], length, Option, None, Some, false, IfOk, IfErr, OnOk, OnErr, replicate, slice_set};
+ghost use Rattle.std.specs.List.{list_all, list_any};
 ghost use Rattle.result_book.specs.Refused.{IsRefused};
-ghost use Rattle.result_book.specs.Slots.{first_in, is_full, has, enter, enter_all, enter_lists, present};
+ghost use Rattle.result_book.specs.FirstFailures.{first_failures};
+ghost use Rattle.result_book.specs.Slots.{first_in, in_book, is_full, has, enter, enter_all, enter_lists, present};
 
 use crate::course::Course;
 use crate::numbered::Numbered;
@@ -80,6 +81,23 @@ impl Book {
         None
     }
 
+    /// For each code that a failure in the book has, the least number with it, in the order of the numbers; each is told as the number and
+    /// the code. The first of them is the first failure. An error means that memory was refused; the book stays as it is.
+    pub fn first_failures(&self, alloc: Global) -> Result<Vec<(u32, u32)>, AllocError>
+        ensures { IfOk result (λ firsts. firsts.items ≡ first_failures (in_book self.now)) }
+    {
+        let mut firsts = Vec::new(alloc);
+        for (number, slot) in self.slots.iter().enumerate() {
+            let Some(Verdict::Fail(code)) = *slot else {
+                continue;
+            };
+            if !has_code(&firsts, code) {
+                firsts.push((number as u32, code))?;
+            }
+        }
+        Ok(firsts)
+    }
+
     /// The verdicts that are there, in the order of their numbers. An error means that memory was refused.
     pub fn verdicts(&self, alloc: Global) -> Result<Vec<Verdict>, AllocError>
         ensures { IfOk result (λ all. all.items ≡ present self.now) }
@@ -99,6 +117,13 @@ impl Book {
     {
         self.slots.iter().all(|slot| slot.is_some())
     }
+}
+
+/// Whether one of these failures has this code. A target has few codes, so there are few failures to look at.
+fn has_code(failures: &[(u32, u32)], code: u32) -> bool
+    ensures { result ≡ list_any (λ f. f.1 == code) failures.now }
+{
+    failures.iter().any(|failure| failure.1 == code)
 }
 
 /// Puts each pair of a list, from its end. One whose number has its verdict already, or has no place, changes nothing.

@@ -8,5 +8,7 @@ mod numbered;
 
 pub use book::{Book, PutFault, put_all};
 pub use course::Course;
-pub use laws::{first_failures_are_the_least, full_books_tell_their_verdicts};
+pub use laws::{
+    books_tell_the_least_failures, first_failures_are_the_least, full_books_tell_their_verdicts,
+};
 pub use numbered::Numbered;

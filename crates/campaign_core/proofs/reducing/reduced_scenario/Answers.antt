@@ -7,7 +7,7 @@ use Rattle.ddmin_parallel.specs.Ddmin.{Reduced}
 use Rattle.ddmin_parallel.proofs.Minimal.{minimal}
 use Rattle.campaign_core.specs.FaultTest.{fault_test}
 use Rattle.campaign_core.specs.Findings.{reduction}
-use Rattle.campaign_core.proofs.Minimal.{all_fail, minimal_tidied, own_faults}
+use Rattle.campaign_core.proofs.Minimal.{all_fail, own_faults, reduced_minimal}
 use Rattle.campaign_core.proofs.reducing.reduced_scenario.Goals as goal
 
 pub keep-requires : goal.keep-requires
@@ -22,8 +22,4 @@ keep-requires g c =
 pub returns-clause-minimal : goal.returns-clause-minimal
 returns-clause-minimal g c =
     let f = c.args.failure.now in
-    let asks = g.T.Target.asks c.args.target.now f.workload.now in
-    let say : ℕ → Entries → Verdict = verdict_with asks g.T.Target.names f.seed f.max_hits in
-    let s : Entries = f.scenario.now in
-    minimal_tidied asks g.T.Target.names f.seed f.max_hits f.stream f.code s (reduction say f.stream f.code s).kept c.entries.ensures.limits
-    (minimal (fault_test (say f.stream) f.code s) (all_faults s) (all_fail (say f.stream) f.code s c.requires.fails))
+    reduced_minimal (g.T.Target.asks c.args.target.now f.workload.now) g.T.Target.names f.seed f.max_hits f.stream f.code f.scenario.now c.entries.ensures.limits.distinct_names c.requires.fails

@@ -1,7 +1,7 @@
-use Rattle.std.proofs.Common.{◌≡◌, ◌++◌, ◌≤◌, ◌<◌, ◌^◌, drop, length}
+use Rattle.std.proofs.Common.{◌≡◌, ◌≤◌, ◌<◌, ◌^◌, take, length}
 use Rattle.std.specs.List.{AllByRecursion}
 use Rattle.rand_chacha.specs.ChaCha.{word_at}
-use Rattle.plan_gen.specs.PlanList.{storm_from}
+use Rattle.plan_gen.specs.PlanList.{storm_by}
 use Rattle.plan_gen.proofs.storms.storm.Given as goal
 
 abbrev pub invariant-loop-site : goal.invariant-loop-site
@@ -11,5 +11,5 @@ invariant-loop-site l = record {
   place : l.rng.word_pos ≡ l.site-index;
   small : AllByRecursion (λ r. r.site.hit < 2 ^ 32) l.rigs.items;
   few : length l.rigs.items ≤ 64;
-  built : l.rigs.items ++ storm_from (word_at 4 l.initial.rng.key l.initial.rng.stream) l.rate l.site-index (length l.rigs.items) (drop l.site-index l.sites) ≡ storm_from (word_at 4 l.initial.rng.key l.initial.rng.stream) l.rate 0 0 l.sites;
+  built : l.rigs.items ≡ storm_by (word_at 4 l.initial.rng.key l.initial.rng.stream) l.rate (take l.site-index l.sites);
 }

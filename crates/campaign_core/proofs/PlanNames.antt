@@ -1,0 +1,73 @@
+-- The names in each plan's scenario are distinct.
+use Rattle.std.proofs.Common.{◌≡◌, ℕ, ◌+◌, ◌<◌, Bool, true, false, List, [], ◌∷◌, ◌++◌, cond, map, length}
+use Rattle.std.specs.List.{AllByRecursion, All, flat_map, range_with_len}
+use Rattle.std.specs.Str.{bytes_eq}
+use Rattle.std.proofs.lemmas.List.Elements.{All-from_recursion, recursion_from_All}
+use Rattle.scenario_values.specs.declared.term.Term.{Term}
+use Rattle.scenario_values.specs.Scenario.{Entries, New, DistinctNames}
+use Rattle.target_trait.specs.Catalogue.{HasDistinct}
+use Rattle.plan_gen.specs.declared.site.Rig.{Rig}
+use Rattle.plan_gen.specs.declared.site.Site.{Site}
+use Rattle.plan_gen.specs.declared.site.Kind.TheVariants.{OnceReturn}
+use Rattle.plan_gen.specs.Rigging.{chain_from, entry, entries_from, rig, rigging}
+use Rattle.plan_gen.specs.Census.{sites_of}
+use Rattle.plan_gen.specs.PlanList.{Asked, plan_list, site_plans, pair_plans, pairs_of, pair_part, storm, storm_part, alone, second}
+
+-- ---- lists
+
+all_both : {X : Type 0} (P : X → Type 0) (a b : List X) → AllByRecursion P a → AllByRecursion P b → AllByRecursion P (a ++ b)
+all_both P [] b h k = k
+all_both P (x ∷ xs) b h k = (h.0, all_both P xs b h.1 k)
+
+all_map : {X Y : Type 0} (P : Y → Type 0) (f : X → Y) → ((x : X) → P (f x)) → (xs : List X) → AllByRecursion P (map f xs)
+all_map P f h [] = tt
+all_map P f h (x ∷ xs) = (h x, all_map P f h xs)
+
+all_flat : {X Y : Type 0} (P : Y → Type 0) (f : X → List Y) → ((x : X) → AllByRecursion P (f x)) → (xs : List X) → AllByRecursion P (flat_map f xs)
+all_flat P f h [] = tt
+all_flat P f h (x ∷ xs) = all_both P (f x) (flat_map f xs) (h x) (all_flat P f h xs)
+
+-- ---- rigged hits
+
+entry_new : (name other : List ℕ) (ts : List Term) → bytes_eq other name ≡ false → New name (entry other ts)
+entry_new name other [] h = tt
+entry_new name other (t ∷ ts) h = (h, tt)
+
+entries_new : (name : List ℕ) (p : ℕ) (names : List (List ℕ)) (rs : List Rig) → AllByRecursion (λ other. bytes_eq other name ≡ false) names → New name (entries_from p names rs)
+entries_new name p [] rs h = tt
+entries_new name p (other ∷ names) rs h =
+    all_both (λ f. bytes_eq f.0 name ≡ false) (entry other (chain_from p 0 rs)) (entries_from (p + 1) names rs) (entry_new name other (chain_from p 0 rs) h.0) (entries_new name (p + 1) names rs h.1)
+
+entry_distinct : (name : List ℕ) (ts : List Term) (s : Entries) → New name s → DistinctNames s → DistinctNames (entry name ts ++ s)
+entry_distinct name [] s h d = d
+entry_distinct name (t ∷ ts) s h d = (h, d)
+
+entries_distinct : (p : ℕ) (names : List (List ℕ)) (rs : List Rig) → HasDistinct names → DistinctNames (entries_from p names rs)
+entries_distinct p [] rs d = tt
+entries_distinct p (name ∷ names) rs d =
+    entry_distinct name (chain_from p 0 rs) (entries_from (p + 1) names rs) (entries_new name (p + 1) names rs d.0) (entries_distinct (p + 1) names rs d.1)
+
+rigging_distinct : (names : List (List ℕ)) (rs : List Rig) → HasDistinct names → DistinctNames (rigging names rs)
+unfolding rigging
+rigging_distinct names rs d = entries_distinct 0 names rs d
+
+-- ---- the list of plans
+
+pair_part_distinct : (names : List (List ℕ)) (wanted : Bool) (sites : List Site) → HasDistinct names → AllByRecursion (λ s. DistinctNames s) (pair_part names wanted sites)
+pair_part_distinct names true sites d =
+    all_flat (λ s. DistinctNames s) (pair_plans names) (λ p. all_map (λ s. DistinctNames s) _ (λ kind. rigging_distinct names (rig p.0 OnceReturn ∷ rig p.1 kind ∷ []) d) second) (pairs_of sites)
+pair_part_distinct names false sites d = tt
+
+listed_distinct : (names : List (List ℕ)) (counts : List ℕ) (asked : Asked) → HasDistinct names → AllByRecursion (λ s. DistinctNames s) asked.listed → AllByRecursion (λ s. DistinctNames s) (plan_list names counts asked)
+unfolding plan_list
+listed_distinct names counts asked d listed =
+    let P : Entries → Type 0 = λ s. DistinctNames s in
+    let sites : List Site = sites_of counts in
+    let one : AllByRecursion P (flat_map (site_plans names) sites) = all_flat P (site_plans names) (λ s. all_map P _ (λ kind. rigging_distinct names (rig s kind ∷ []) d) alone) sites in
+    let storms : AllByRecursion P (storm_part names asked.seed asked.rate asked.storms sites) = all_map P _ (λ j. rigging_distinct names (storm asked.seed asked.rate sites j) d) (range_with_len 0 asked.storms) in
+    all_both P _ asked.listed (all_both P _ _ (all_both P _ _ (all_both P ([] ∷ []) _ (tt, tt) one) (pair_part_distinct names asked.pairs sites d)) storms) listed
+
+-- each plan's scenario has distinct names, where the names of the points are distinct and those in each listed scenario
+pub plans_distinct : (names : List (List ℕ)) (counts : List ℕ) (asked : Asked) → HasDistinct names → All (λ s. DistinctNames s) asked.listed → All (λ s. DistinctNames s) (plan_list names counts asked)
+plans_distinct names counts asked d listed =
+    All-from_recursion (λ s. DistinctNames s) (plan_list names counts asked) (listed_distinct names counts asked d (recursion_from_All (λ s. DistinctNames s) asked.listed listed))

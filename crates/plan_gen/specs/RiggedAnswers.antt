@@ -1,0 +1,46 @@
+-- What a rigging means: how each hit is answered under the scenario of rigged hits.
+use Rattle.std.specs.Prelude.{◌≡◌, ℕ, ◌+◌, ◌<◌, ◌==◌, ◌&&◌, ◌⊎◌, nat_le, if◌then◌else◌, Bool, true, false, List, [], ◌∷◌, None, find, length}
+use Rattle.std.specs.Option.{option_map_or}
+use Rattle.std.specs.List.{AllByRecursion}
+use Rattle.action_eval.specs.Answers.{Reply, Go, Return, Halt, run_of, reply_to}
+use Rattle.plan_gen.specs.declared.site.Site.{Site}
+use Rattle.plan_gen.specs.declared.site.Rig.{Rig}
+use Rattle.plan_gen.specs.declared.site.Kind.{Kind}
+use Rattle.plan_gen.specs.declared.site.Kind.TheVariants.{OnceReturn, OnwardReturn, OncePanic}
+use Rattle.plan_gen.specs.LoopRuns.{times}
+use Rattle.plan_gen.specs.Rigging.{rigging}
+
+-- a site stands before another: at an earlier point, or at the same one as an earlier hit
+abbrev pub IsBefore : Site → Site → Type 0
+IsBefore a b = (a.point < b.point) ⊎ ((a.point ≡ b.point) × (a.hit < b.hit))
+
+-- sites in order, none twice; hits are counted from 1
+abbrev pub AreInOrder : List Site → Type 0
+AreInOrder [] = Unit {0}
+AreInOrder (s ∷ ss) = (0 < s.hit) × AllByRecursion (λ t. IsBefore s t) ss × AreInOrder ss
+
+abbrev pub is_onward : Kind → Bool
+is_onward OnceReturn = false
+is_onward OnwardReturn = true
+is_onward OncePanic = false
+
+-- a rigged hit acts at hit k of point p where it is that hit; one that fails onward acts at each later hit of its point, too
+abbrev pub acts_at : ℕ → ℕ → Rig → Bool
+acts_at p k r = (r.site.point == p) && (if is_onward r.kind then nat_le r.site.hit k else r.site.hit == k)
+
+-- the answer where a rigged hit acts
+abbrev pub reply_by : Kind → Reply
+reply_by OnceReturn = Return None
+reply_by OnwardReturn = Return None
+reply_by OncePanic = Halt
+
+-- the answer of hit k of point p: that of the first rigged hit that acts there; where none does, the run goes on
+abbrev pub rigged_reply : List Rig → ℕ → ℕ → Reply
+rigged_reply rigs p k = option_map_or (λ r. reply_by r.kind) (find (acts_at p k) rigs) Go
+
+-- Under the scenario of rigged hits, whatever was hit before, the next hit of a point is answered as rigged: it is the hit of the point
+-- after those that were hit before. Seed and stream number make no difference.
+abbrev pub AnswersAsRigged : List (List ℕ) → List Rig → Type 0
+AnswersAsRigged names rigs =
+    (seed stream limit : ℕ) (hits : List ℕ) (p : ℕ) → p < length names → length hits < limit
+    → reply_to (run_of (rigging names rigs) names seed stream limit hits) p ≡ rigged_reply rigs p (times p hits + 1)
