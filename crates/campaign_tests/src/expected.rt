@@ -12,7 +12,17 @@ use std::thread::Threads;
 /// What ends a report without a failure.
 pub const NONE: &str = "first none\n";
 
-/// The report of the small workload for seed 7, where the sync comes after the rename.
+/// Settings of the small workload for seed 7, where the sync comes after the rename.
+pub const LATE_SYNC: &str = "target = \"replace\"
+variant = \"late_sync\"
+seed = 7
+workers = 2
+[replace]
+old = \"old\"
+replacements = [[\"ne\", \"w\"]]
+";
+
+/// The report over these settings.
 pub const LATE_SYNC_REPORT: &str = "target replace late_sync
 seed 7
 clean pass

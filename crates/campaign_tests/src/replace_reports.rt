@@ -1,7 +1,7 @@
 //! Campaigns on the small workload.
 
 use crate::answers::{SMALL, writes};
-use crate::expected::{Expected, LATE_SYNC_REPORT, NONE, reports};
+use crate::expected::{Expected, LATE_SYNC, LATE_SYNC_REPORT, NONE, reports};
 use campaign_main::{Exit, Order};
 use std::test::Fail;
 
@@ -65,15 +65,6 @@ fn sound_replacements_never_fail(rt: HostRuntime) -> Result<(), Fail> {
     };
     reports(&rt, rt.alloc(), keys, table, &expected)
 }
-
-const LATE_SYNC: &str = "target = \"replace\"
-variant = \"late_sync\"
-seed = 7
-workers = 2
-[replace]
-old = \"old\"
-replacements = [[\"ne\", \"w\"]]
-";
 
 // Refuses the wrong body always_want_of_memory, where there is something to reduce.
 #[test]

@@ -1,7 +1,7 @@
 //! Writers that fail.
 
 use crate::answers::SMALL;
-use crate::expected::LATE_SYNC_REPORT;
+use crate::expected::{LATE_SYNC, LATE_SYNC_REPORT};
 use crate::streams::{Narrow, Trouble};
 use campaign_main::{Exit, Order, perform, status};
 use std::alloc::Global;
@@ -62,14 +62,12 @@ fn fails_at_each_write<H: Threads + Wait + Sync + Abort>(
     trouble: Trouble,
 ) -> Result<(), Fail> {
     let text = LATE_SYNC_REPORT.as_bytes();
-    let keys = "target = \"replace\"\nvariant = \"late_sync\"\nseed = 7\nworkers = 2\n";
-    let settings = format!(in alloc; "{keys}{SMALL}")?;
     for fails_at in 1..=text.len() {
         let left = cut_off(
             rt,
             alloc,
             &Order::Run,
-            settings.as_str(),
+            LATE_SYNC,
             1,
             fails_at as u64,
             trouble,
@@ -104,10 +102,8 @@ fn tells_what_was_written_before_nothing_was_taken(rt: HostRuntime) -> Result<()
 #[test]
 fn narrow_writer_gets_the_whole_report(rt: HostRuntime) -> Result<(), Fail> {
     let alloc = rt.alloc();
-    let keys = "target = \"replace\"\nvariant = \"late_sync\"\nseed = 7\nworkers = 2\n";
-    let settings = format!(in alloc; "{keys}{SMALL}")?;
     let order = Order::Run;
-    let left = cut_off(&rt, alloc, &order, settings.as_str(), 1, 0, Trouble::Broken);
+    let left = cut_off(&rt, alloc, &order, LATE_SYNC, 1, 0, Trouble::Broken);
     assert_eq!(rt; left.exit, Exit::Found);
     assert!(rt; !left.has_failed);
     assert_eq!(rt; left.output.as_slice(), LATE_SYNC_REPORT.as_bytes());

@@ -28,13 +28,14 @@ verdict 6 pass
 first none
 ";
 
-// The one pair is plan 7. Its reduction tests no fault, the first and the second.
+// The two points make plan 7, where both fail, and plan 8, where the run halts at the second. The reduction of plan 7 tests no fault, the
+// first and the second.
 const PAIR_FAILS: &str = "target meet
 seed 7
 clean pass
 census meet::a 1
 census meet::b 1
-plans 8
+plans 9
 verdict 0 pass
 verdict 1 pass
 verdict 2 pass
@@ -43,6 +44,7 @@ verdict 4 pass
 verdict 5 pass
 verdict 6 pass
 verdict 7 fail both
+verdict 8 pass
 first 7 both
 scenario meet::a=1*return;meet::b=1*return
 reduced meet::a=1*return;meet::b=1*return
