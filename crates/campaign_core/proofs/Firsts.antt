@@ -45,8 +45,8 @@ findings_minimal asks names seed limit plans firsts distinct fail =
     let say : ℕ → Entries → Verdict = verdict_with asks names seed limit in
     All-map (ReducesToMinimal say) (finding say plans) firsts
     (λ k d lt. let f : ℕ × ℕ = get_or firsts k d in
-        let fails : IsFailure say plans f = fail k d lt in
-        reduced_minimal asks names seed limit f.0 f.1 (get_or plans f.0 []) (distinct f.0 [] fails.0) (failure_fails say plans f fails))
+    let fails : IsFailure say plans f = fail k d lt in
+    reduced_minimal asks names seed limit f.0 f.1 (get_or plans f.0 []) (distinct f.0 [] fails.0) (failure_fails say plans f fails))
 
 -- what was found is what the definition says
 pub found_is : (say : ℕ → Entries → Verdict) (plans : List Entries) (number code tests stream : ℕ) (scenario left : Entries)

@@ -1,5 +1,5 @@
 -- The names in each plan's scenario are distinct.
-use Rattle.std.proofs.Common.{◌≡◌, ℕ, ◌+◌, ◌<◌, Bool, true, false, List, [], ◌∷◌, ◌++◌, cond, map, length}
+use Rattle.std.proofs.Common.{◌≡◌, ℕ, ◌+◌, Bool, true, false, List, [], ◌∷◌, ◌++◌, map}
 use Rattle.std.specs.List.{AllByRecursion, All, flat_map, range_with_len}
 use Rattle.std.specs.Str.{bytes_eq}
 use Rattle.std.proofs.lemmas.List.Elements.{All-from_recursion, recursion_from_All}
@@ -63,9 +63,14 @@ unfolding plan_list
 listed_distinct names counts asked d listed =
     let P : Entries → Type 0 = λ s. DistinctNames s in
     let sites : List Site = sites_of counts in
-    let one : AllByRecursion P (flat_map (site_plans names) sites) = all_flat P (site_plans names) (λ s. all_map P _ (λ kind. rigging_distinct names (rig s kind ∷ []) d) alone) sites in
-    let storms : AllByRecursion P (storm_part names asked.seed asked.rate asked.storms sites) = all_map P _ (λ j. rigging_distinct names (storm asked.seed asked.rate sites j) d) (range_with_len 0 asked.storms) in
-    all_both P _ asked.listed (all_both P _ _ (all_both P _ _ (all_both P ([] ∷ []) _ (tt, tt) one) (pair_part_distinct names asked.pairs sites d)) storms) listed
+    let alone_part : List Entries = flat_map (site_plans names) sites in
+    let pairs : List Entries = pair_part names asked.pairs sites in
+    let storms : List Entries = storm_part names asked.seed asked.rate asked.storms sites in
+    let empty : List Entries = [] ∷ [] in
+    let one = all_flat P (site_plans names) (λ s. all_map P _ (λ kind. rigging_distinct names (rig s kind ∷ []) d) alone) sites in
+    let two = pair_part_distinct names asked.pairs sites d in
+    let many = all_map P _ (λ j. rigging_distinct names (storm asked.seed asked.rate sites j) d) (range_with_len 0 asked.storms) in
+    all_both P (empty ++ alone_part ++ pairs ++ storms) asked.listed (all_both P (empty ++ alone_part ++ pairs) storms (all_both P (empty ++ alone_part) pairs (all_both P empty alone_part (tt, tt) one) two) many) listed
 
 -- each plan's scenario has distinct names, where the names of the points are distinct and those in each listed scenario
 pub plans_distinct : (names : List (List ℕ)) (counts : List ℕ) (asked : Asked) → HasDistinct names → All (λ s. DistinctNames s) asked.listed → All (λ s. DistinctNames s) (plan_list names counts asked)

@@ -1,6 +1,4 @@
-use Rattle.std.proofs.Common.{◌≡◌, ℕ, List, ap, ◌∙◌, refl, eq-eqb}
-use Rattle.scenario_values.specs.Scenario.{Entries}
-use Rattle.target_trait.specs.declared.judgement.Verdict.{Verdict}
+use Rattle.std.proofs.Common.{ap, ◌∙◌, refl, eq-eqb}
 use Rattle.result_book.specs.Verdicts.{verdicts_from, numbered}
 use Rattle.result_book.specs.FirstFailures.{first_failures}
 use Rattle.result_book.proofs.EachCodeLemmas.{firsts_of}
