@@ -74,7 +74,8 @@ fn meets<R: Threads + Wait + Clock + Sync + Abort>(
     Ok(meeting.came.load(Ordering::SeqCst))
 }
 
-// Refuses the wrong body all_work_on_one_thread: the first run that waits would wait in vain.
+// Refuses, for the plans, the wrong bodies all_work_on_one_thread and every_hand_leaves_at_once: the first run that waits would wait in
+// vain.
 #[test]
 fn runs_meet_and_all_pass(rt: HostRuntime) -> Result<(), Fail> {
     let came = meets(&rt, rt.alloc(), true, 2, false, ALL_PASS)?;
