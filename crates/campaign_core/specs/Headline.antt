@@ -3,6 +3,7 @@ use Rattle.std.specs.Prelude.{ℕ, List, Option, All, slice_get}
 use Rattle.scenario_values.specs.Scenario.{Entries}
 use Rattle.action_eval.specs.Answers.{Reply}
 use Rattle.target_trait.specs.declared.judgement.Verdict.{Verdict}
+use Rattle.target_trait.specs.declared.target.Target.{Ghosts}
 use Rattle.target_trait.specs.Outcomes.{verdict_with}
 use Rattle.target_trait.specs.Play.{Move}
 use Rattle.plan_gen.specs.Census.{census_of}
@@ -36,6 +37,11 @@ asked_of settings = record {
 
 abbrev pub campaign_of : (List Reply → Move) → List (List ℕ) → (ℕ → List ℕ) → List ℕ → Settings → Campaign
 campaign_of asks points codes label settings = record { asks = asks; points = points; codes = codes; label = label; limit = settings.max_hits; plans = asked_of settings }
+
+-- the same by a target's setup, its workload and settings
+abbrev pub campaign_on : {T W : Type 0} → Ghosts T W → T → W → Settings → Campaign
+campaign_on target setup workload settings =
+    campaign_of (target.asks setup workload) target.names target.code_text (target.label_of setup) settings
 
 -- the verdict of a scenario under a stream number
 abbrev pub say : Campaign → ℕ → Entries → Verdict

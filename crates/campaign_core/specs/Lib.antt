@@ -1,4 +1,5 @@
 pub mod FaultTest
+pub mod Says
 pub mod Findings
 pub mod Headline
 pub mod CommandTexts

@@ -3,7 +3,7 @@ ghost use Rattle.std.specs.Prelude.{◌≡◌, ◌++◌, ◌≤◌, false, lengt
 ghost use Rattle.std.specs.Io.KnownBytes.{Appends};
 ghost use Rattle.plan_gen.specs.PlanList.{most_plans};
 ghost use Rattle.report.specs.ReportText.{ended, text_of};
-ghost use Rattle.campaign_core.specs.Headline.{campaign_of, plans};
+ghost use Rattle.campaign_core.specs.Headline.{campaign_on, plans};
 ghost use Rattle.campaign_core.specs.CommandTexts.{plan_line, plan_lines, plans_text, IsFault};
 
 use crate::ending::CampaignFault;
@@ -54,10 +54,10 @@ pub fn plan_list<T: Target, W: Sink>(
     sink: &mut W,
 ) -> Result<(), CampaignFault>
     requires { W.has_failed sink.old ≡ false }
-    ensures text { OnOk result (Appends (W.told sink.old) (W.told sink.new) (plans_text (campaign_of (T.asks target.now workload.now) T.names T.code_text (T.label_of target.now) settings.now))) }
-    ensures few { OnOk result (length (plans (campaign_of (T.asks target.now workload.now) T.names T.code_text (T.label_of target.now) settings.now)) ≤ most_plans) }
+    ensures text { OnOk result (Appends (W.told sink.old) (W.told sink.new) (plans_text (campaign_on T.Target target.now workload.now settings.now))) }
+    ensures few { OnOk result (length (plans (campaign_on T.Target target.now workload.now settings.now)) ≤ most_plans) }
     ensures sound { OnOk result (W.has_failed sink.new ≡ false) }
-    ensures fault { IfErr result (IsFault (campaign_of (T.asks target.now workload.now) T.names T.code_text (T.label_of target.now) settings.now) (plans_text (campaign_of (T.asks target.now workload.now) T.names T.code_text (T.label_of target.now) settings.now)) (W.told sink.old) (W.told sink.new) (W.has_failed sink.new)) }
+    ensures fault { IfErr result (let c = campaign_on T.Target target.now workload.now settings.now in IsFault c (plans_text c) (W.told sink.old) (W.told sink.new) (W.has_failed sink.new)) }
 {
     let (_, plans) = planned(alloc, target, workload, settings)?;
     let text = plans_text(alloc, plans.as_slice())?;

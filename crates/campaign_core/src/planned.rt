@@ -1,7 +1,7 @@
 //! The plans of a campaign.
 ghost use Rattle.std.specs.Prelude.{◌≡◌, ◌<◌, ◌≤◌, length, IfOk, OnOk, IsErrOf};
 ghost use Rattle.plan_gen.specs.PlanList.{most_plans};
-ghost use Rattle.campaign_core.specs.Headline.{asked_of, campaign_of, census, plans};
+ghost use Rattle.campaign_core.specs.Headline.{asked_of, campaign_on, census, plans};
 
 use campaign_settings::Settings;
 use plan_gen::{Census, Plan, PlanFault, PlanSettings, by_census, plans};
@@ -28,12 +28,12 @@ pub fn planned<'a, T: Target>(
     workload: &T::Workload,
     settings: &'a Settings,
 ) -> Result<(Census, Vec<Plan<'a>>), PlanFault>
-    ensures census { IfOk result (λ r. r.0.counts.items ≡ census (campaign_of (T.asks target.now workload.now) T.names T.code_text (T.label_of target.now) settings.now)) }
+    ensures census { IfOk result (λ r. r.0.counts.items ≡ census (campaign_on T.Target target.now workload.now settings.now)) }
     ensures counts { IfOk result (λ r. length r.0.counts.items ≡ length T.names) }
-    ensures plans { IfOk result (λ r. r.1.items ≡ plans (campaign_of (T.asks target.now workload.now) T.names T.code_text (T.label_of target.now) settings.now)) }
-    ensures few { OnOk result (length (plans (campaign_of (T.asks target.now workload.now) T.names T.code_text (T.label_of target.now) settings.now)) ≤ most_plans) }
+    ensures plans { IfOk result (λ r. r.1.items ≡ plans (campaign_on T.Target target.now workload.now settings.now)) }
+    ensures few { OnOk result (length (plans (campaign_on T.Target target.now workload.now settings.now)) ≤ most_plans) }
     ensures some { IfOk result (λ r. 0 < length r.1.items) }
-    ensures many { IsErrOf result PlanFault.TooManyPlans → most_plans < length (plans (campaign_of (T.asks target.now workload.now) T.names T.code_text (T.label_of target.now) settings.now)) }
+    ensures many { IsErrOf result PlanFault.TooManyPlans → most_plans < length (plans (campaign_on T.Target target.now workload.now settings.now)) }
 {
     let Ok(mut twin) = target.twin() else {
         return Err(PlanFault::Memory);

@@ -6,8 +6,9 @@ ghost use Rattle.target_trait.specs.Outcomes.{verdict_with};
 ghost use Rattle.report.specs.ReportText.{text_of};
 ghost use Rattle.campaign_core.specs.FaultTest.{fails_with};
 ghost use Rattle.campaign_core.specs.Findings.{reduction, reduced, IsMinimal};
-ghost use Rattle.campaign_core.specs.Headline.{campaign_of, say};
+ghost use Rattle.campaign_core.specs.Headline.{campaign_on, say};
 ghost use Rattle.campaign_core.specs.CommandTexts.{found_lines, reduce_text, IsReducedToMinimal, LeavesOnly};
+ghost use Rattle.campaign_core.specs.Says.{failure_says};
 
 use crate::ending::CampaignFault;
 use crate::probe::{Failure, fault_count, reduced};
@@ -32,13 +33,13 @@ pub fn reduced_scenario<T: Target + Send, G: Gate, R: Threads + Wait + Sync>(
 where
     T::Workload: Sync,
     requires some { 0 < workers }
-    requires fails { fails_with failure.now.code (verdict_with (T.asks target.now failure.now.workload.now) T.names failure.now.seed failure.now.max_hits failure.now.stream failure.now.scenario.now) ≡ true }
-    ensures scenario { IfOk result (λ r. r.0 ≡ reduced (verdict_with (T.asks target.now failure.now.workload.now) T.names failure.now.seed failure.now.max_hits)
+    requires fails { fails_with failure.now.code (failure_says T.Target target.now failure.now failure.now.stream failure.now.scenario.now) ≡ true }
+    ensures scenario { IfOk result (λ r. r.0 ≡ reduced (failure_says T.Target target.now failure.now)
         failure.now.stream failure.now.code failure.now.scenario.now) }
-    ensures tests { IfOk result (λ r. r.1 ≡ (reduction (verdict_with (T.asks target.now failure.now.workload.now) T.names failure.now.seed failure.now.max_hits)
+    ensures tests { IfOk result (λ r. r.1 ≡ (reduction (failure_says T.Target target.now failure.now)
         failure.now.stream failure.now.code failure.now.scenario.now).tests) }
-    ensures minimal { OnOk result (IsMinimal (verdict_with (T.asks target.now failure.now.workload.now) T.names failure.now.seed failure.now.max_hits failure.now.stream) failure.now.code
-        (reduced (verdict_with (T.asks target.now failure.now.workload.now) T.names failure.now.seed failure.now.max_hits) failure.now.stream failure.now.code failure.now.scenario.now)) }
+    ensures minimal { OnOk result (IsMinimal (failure_says T.Target target.now failure.now failure.now.stream) failure.now.code
+        (reduced (failure_says T.Target target.now failure.now) failure.now.stream failure.now.code failure.now.scenario.now)) }
 {
     let _ = failure.scenario.entries();
     let reduction = reduced(rt, alloc, gate, target, failure, workers)?;
@@ -79,10 +80,10 @@ fn write_reduced<T: Target + Send, G: Gate, R: Threads + Wait + Sync>(
 where
     T::Workload: Sync,
     requires some { 0 < workers }
-    requires fails { fails_with failure.now.code (verdict_with (T.asks target.now failure.now.workload.now) T.names failure.now.seed failure.now.max_hits failure.now.stream failure.now.scenario.now) ≡ true }
-    ensures text { OnOk result (string_bytes out.new ≡ string_bytes out.old ++ text_of (found_lines (verdict_with (T.asks target.now failure.now.workload.now) T.names failure.now.seed failure.now.max_hits) failure.now.stream failure.now.code failure.now.scenario.now)) }
-    ensures minimal { OnOk result (IsMinimal (verdict_with (T.asks target.now failure.now.workload.now) T.names failure.now.seed failure.now.max_hits failure.now.stream) failure.now.code
-        (reduced (verdict_with (T.asks target.now failure.now.workload.now) T.names failure.now.seed failure.now.max_hits) failure.now.stream failure.now.code failure.now.scenario.now)) }
+    requires fails { fails_with failure.now.code (failure_says T.Target target.now failure.now failure.now.stream failure.now.scenario.now) ≡ true }
+    ensures text { OnOk result (string_bytes out.new ≡ string_bytes out.old ++ text_of (found_lines (failure_says T.Target target.now failure.now) failure.now.stream failure.now.code failure.now.scenario.now)) }
+    ensures minimal { OnOk result (IsMinimal (failure_says T.Target target.now failure.now failure.now.stream) failure.now.code
+        (reduced (failure_says T.Target target.now failure.now) failure.now.stream failure.now.code failure.now.scenario.now)) }
 {
     let (scenario, tests) = reduced_scenario(rt, alloc, gate, target, failure, workers)?;
     out.push_str("reduced ")?;
@@ -104,8 +105,8 @@ fn reduce_text<T: Target + Send, G: Gate, R: Threads + Wait + Sync>(
 where
     T::Workload: Sync,
     requires { verdict ≡ verdict_with (T.asks target.now workload.now) T.names settings.now.seed settings.now.max_hits 0 scenario.now }
-    ensures text { IfOk result (λ text. string_bytes text ≡ reduce_text (campaign_of (T.asks target.now workload.now) T.names T.code_text (T.label_of target.now) settings.now) scenario.now) }
-    ensures minimal { OnOk result (IsReducedToMinimal (campaign_of (T.asks target.now workload.now) T.names T.code_text (T.label_of target.now) settings.now) scenario.now) }
+    ensures text { IfOk result (λ text. string_bytes text ≡ reduce_text (campaign_on T.Target target.now workload.now settings.now) scenario.now) }
+    ensures minimal { OnOk result (IsReducedToMinimal (campaign_on T.Target target.now workload.now settings.now) scenario.now) }
 {
     let mut text = String::new(alloc);
     text.push_str("verdict ")?;
@@ -147,11 +148,11 @@ pub fn reduce_one<T: Target + Send, G: Gate, W: Sink, R: Threads + Wait + Sync>(
 where
     T::Workload: Sync,
     requires { W.has_failed sink.old ≡ false }
-    ensures verdict { IfOk result (λ verdict. verdict ≡ say (campaign_of (T.asks target.now workload.now) T.names T.code_text (T.label_of target.now) settings.now) 0 scenario.now) }
-    ensures text { OnOk result (Appends (W.told sink.old) (W.told sink.new) (reduce_text (campaign_of (T.asks target.now workload.now) T.names T.code_text (T.label_of target.now) settings.now) scenario.now)) }
-    ensures minimal { OnOk result (IsReducedToMinimal (campaign_of (T.asks target.now workload.now) T.names T.code_text (T.label_of target.now) settings.now) scenario.now) }
+    ensures verdict { IfOk result (λ verdict. verdict ≡ say (campaign_on T.Target target.now workload.now settings.now) 0 scenario.now) }
+    ensures text { OnOk result (Appends (W.told sink.old) (W.told sink.new) (reduce_text (campaign_on T.Target target.now workload.now settings.now) scenario.now)) }
+    ensures minimal { OnOk result (IsReducedToMinimal (campaign_on T.Target target.now workload.now settings.now) scenario.now) }
     ensures sound { OnOk result (W.has_failed sink.new ≡ false) }
-    ensures fault { IfErr result (LeavesOnly (W.told sink.old) (W.told sink.new) (W.has_failed sink.new) (reduce_text (campaign_of (T.asks target.now workload.now) T.names T.code_text (T.label_of target.now) settings.now) scenario.now)) }
+    ensures fault { IfErr result (LeavesOnly (W.told sink.old) (W.told sink.new) (W.has_failed sink.new) (reduce_text (campaign_on T.Target target.now workload.now settings.now) scenario.now)) }
 {
     let verdict = verdict_of(alloc, target, workload, settings, scenario)?;
     let text = reduce_text(

@@ -1,14 +1,14 @@
 //! A whole campaign.
 ghost use Rattle.std.specs.Prelude.{◌≡◌, ◌<◌, ◌≤◌, false, length, map, option_map, slice_get, All, IfOk, IfErr, OnOk};
 ghost use Rattle.std.specs.Io.KnownBytes.{Appends};
-ghost use Rattle.target_trait.specs.Outcomes.{verdict_with};
 ghost use Rattle.plan_gen.specs.PlanList.{most_plans};
 ghost use Rattle.result_book.specs.Verdicts.{verdicts_from, numbered};
 ghost use Rattle.result_book.specs.FirstFailures.{first_failures};
 ghost use Rattle.report.specs.ReportText.{report_lines, text_of};
 ghost use Rattle.campaign_core.specs.Findings.{finding, report_of, IsFailure, ReducesToMinimal};
-ghost use Rattle.campaign_core.specs.Headline.{campaign_of, plans, report_text, first_failure, EachIsMinimal};
+ghost use Rattle.campaign_core.specs.Headline.{campaign_on, plans, report_text, first_failure, EachIsMinimal};
 ghost use Rattle.campaign_core.specs.CommandTexts.{IsFault};
+ghost use Rattle.campaign_core.specs.Says.{course_says};
 
 use crate::ending::{CampaignFault, Ending};
 use crate::planned::planned;
@@ -37,9 +37,9 @@ fn found<T: Target + Send, G: Gate, R: Threads + Wait + Sync>(
 where
     T::Workload: Sync,
     requires some { 0 < workers }
-    requires fails { IsFailure (verdict_with (T.asks target.now course.now.workload.now) T.names course.now.seed course.now.max_hits) course.now.plans.now first }
-    ensures found { IfOk result (λ found. found ≡ finding (verdict_with (T.asks target.now course.now.workload.now) T.names course.now.seed course.now.max_hits) course.now.plans.now first) }
-    ensures minimal { IfOk result (λ found. ReducesToMinimal (verdict_with (T.asks target.now course.now.workload.now) T.names course.now.seed course.now.max_hits) found) }
+    requires fails { IsFailure (course_says T.Target target.now course.now) course.now.plans.now first }
+    ensures found { IfOk result (λ found. found ≡ finding (course_says T.Target target.now course.now) course.now.plans.now first) }
+    ensures minimal { IfOk result (λ found. ReducesToMinimal (course_says T.Target target.now course.now) found) }
 {
     let (number, code) = first;
     let plan = &course.plans[number as usize];
@@ -77,9 +77,9 @@ fn findings<T: Target + Send, G: Gate, R: Threads + Wait + Sync>(
 where
     T::Workload: Sync,
     requires some { 0 < workers }
-    requires fail { All (λ first. IsFailure (verdict_with (T.asks target.now course.now.workload.now) T.names course.now.seed course.now.max_hits) course.now.plans.now first) firsts.now }
-    ensures found { IfOk result (λ all. all.items ≡ map (finding (verdict_with (T.asks target.now course.now.workload.now) T.names course.now.seed course.now.max_hits) course.now.plans.now) firsts.now) }
-    ensures minimal { IfOk result (λ all. All (λ found. ReducesToMinimal (verdict_with (T.asks target.now course.now.workload.now) T.names course.now.seed course.now.max_hits) found) all.items) }
+    requires fail { All (λ first. IsFailure (course_says T.Target target.now course.now) course.now.plans.now first) firsts.now }
+    ensures found { IfOk result (λ all. all.items ≡ map (finding (course_says T.Target target.now course.now) course.now.plans.now) firsts.now) }
+    ensures minimal { IfOk result (λ all. All (λ found. ReducesToMinimal (course_says T.Target target.now course.now) found) all.items) }
 {
     let mut all = Vec::with_capacity(alloc, firsts.len())?;
     for first in firsts {
@@ -116,11 +116,11 @@ where
     requires some { 0 < length course.now.plans.now }
     requires counts { length census.now ≡ length T.names }
     ensures text { IfOk result (λ r. r.0.items ≡ text_of (report_lines T.names T.code_text (report_of
-        (verdict_with (T.asks target.now course.now.workload.now) T.names course.now.seed course.now.max_hits)
+        (course_says T.Target target.now course.now)
         (T.label_of target.now) course.now.seed census.now course.now.plans.now))) }
-    ensures first { IfOk result (λ r. r.1 ≡ option_map (λ f. f.0) (slice_get (first_failures (numbered (verdicts_from (verdict_with (T.asks target.now course.now.workload.now) T.names course.now.seed course.now.max_hits) 0 course.now.plans.now))) 0)) }
-    ensures minimal { OnOk result (All (λ found. ReducesToMinimal (verdict_with (T.asks target.now course.now.workload.now) T.names course.now.seed course.now.max_hits) found)
-        (report_of (verdict_with (T.asks target.now course.now.workload.now) T.names course.now.seed course.now.max_hits) (T.label_of target.now) course.now.seed census.now course.now.plans.now).findings) }
+    ensures first { IfOk result (λ r. r.1 ≡ option_map (λ f. f.0) (slice_get (first_failures (numbered (verdicts_from (course_says T.Target target.now course.now) 0 course.now.plans.now))) 0)) }
+    ensures minimal { OnOk result (All (λ found. ReducesToMinimal (course_says T.Target target.now course.now) found)
+        (report_of (course_says T.Target target.now course.now) (T.label_of target.now) course.now.seed census.now course.now.plans.now).findings) }
 {
     let book = run_plans(rt, alloc, gate, target, course, workers)?;
     let verdicts = book.verdicts(alloc)?;
@@ -163,12 +163,12 @@ pub fn campaign<T: Target + Send, G: Gate, W: Sink, R: Threads + Wait + Sync>(
 where
     T::Workload: Sync,
     requires { W.has_failed sink.old ≡ false }
-    ensures text { IfOk result (λ _. Appends (W.told sink.old) (W.told sink.new) (report_text (campaign_of (T.asks target.now workload.now) T.names T.code_text (T.label_of target.now) settings.now))) }
-    ensures first { IfOk result (λ ending. ending.first ≡ option_map (λ f. f.0) (first_failure (campaign_of (T.asks target.now workload.now) T.names T.code_text (T.label_of target.now) settings.now))) }
-    ensures minimal { OnOk result (EachIsMinimal (campaign_of (T.asks target.now workload.now) T.names T.code_text (T.label_of target.now) settings.now)) }
-    ensures few { OnOk result (length (plans (campaign_of (T.asks target.now workload.now) T.names T.code_text (T.label_of target.now) settings.now)) ≤ most_plans) }
+    ensures text { IfOk result (λ _. Appends (W.told sink.old) (W.told sink.new) (report_text (campaign_on T.Target target.now workload.now settings.now))) }
+    ensures first { IfOk result (λ ending. ending.first ≡ option_map (λ f. f.0) (first_failure (campaign_on T.Target target.now workload.now settings.now))) }
+    ensures minimal { OnOk result (EachIsMinimal (campaign_on T.Target target.now workload.now settings.now)) }
+    ensures few { OnOk result (length (plans (campaign_on T.Target target.now workload.now settings.now)) ≤ most_plans) }
     ensures sound { OnOk result (W.has_failed sink.new ≡ false) }
-    ensures fault { IfErr result (IsFault (campaign_of (T.asks target.now workload.now) T.names T.code_text (T.label_of target.now) settings.now) (report_text (campaign_of (T.asks target.now workload.now) T.names T.code_text (T.label_of target.now) settings.now)) (W.told sink.old) (W.told sink.new) (W.has_failed sink.new)) }
+    ensures fault { IfErr result (let c = campaign_on T.Target target.now workload.now settings.now in IsFault c (report_text c) (W.told sink.old) (W.told sink.new) (W.has_failed sink.new)) }
 {
     let (census, plans) = planned(alloc, target, workload, settings)?;
     let course = Course {

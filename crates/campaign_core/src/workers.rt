@@ -1,8 +1,8 @@
 //! A course's plans, run by workers.
 ghost use Rattle.std.specs.Prelude.{◌≡◌, ◌<◌, ◌≤◌, ℕ, length, vec_len, map, Some, All, IfOk, slice_index_or};
-ghost use Rattle.target_trait.specs.Outcomes.{verdict_with};
 ghost use Rattle.result_book.specs.Verdicts.{verdicts_from};
 ghost use Rattle.worker_pool.specs.Hands.{hand_job, EachOnce};
+ghost use Rattle.campaign_core.specs.Says.{course_says};
 
 use crate::runner::Runner;
 use result_book::{Book, Course, put_all};
@@ -85,7 +85,7 @@ where
     requires few { length course.now.plans.now ≤ 65536 }
     requires some { 0 < workers }
     ensures { IfOk result (λ book. book ≡ map Some (verdicts_from
-        (verdict_with (T.asks target.now course.now.workload.now) T.names course.now.seed course.now.max_hits)
+        (course_says T.Target target.now course.now)
         0 course.now.plans.now)) }
 {
     let jobs = runners(alloc, target, course, workers)?;
