@@ -22,8 +22,16 @@ const SOUND: Expected<'static> = Expected {
     end: NONE,
 };
 
-const OUTCOME_IS_LOST: &str =
-    "first 22 split\nscenario commit::send_outcome=1*return\nreduced commit::send_outcome=1*return\ntests 1\n";
+// One participant misses the outcome, and then both do.
+const OUTCOME_IS_LOST: &str = "first 22 split
+scenario commit::send_outcome=1*return
+reduced commit::send_outcome=1*return
+tests 1
+first 23 lost
+scenario commit::send_outcome=return
+reduced commit::send_outcome=return
+tests 1
+";
 
 #[test]
 fn commit_sound(rt: HostRuntime) -> Result<(), Fail> {

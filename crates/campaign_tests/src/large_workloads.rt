@@ -28,29 +28,35 @@ fn replaced(alloc: Global, keys: &str, lists: u32, chunks: u32) -> Result<String
     )
 }
 
-/// One replacement of 355 chunks has 359 sites: 1 + 3 * 359 plans, 359 * 358 / 2 pairs and 197 storms are 65536.
+/// One replacement of 251 chunks has 255 sites: 1 + 3 * 255 plans and 255 * 254 for its pairs are 65536.
 #[test]
 fn as_many_plans_as_are_allowed(rt: HostRuntime) -> Result<(), Fail> {
     let alloc = rt.alloc();
-    let settings = replaced(alloc, "pairs = true\nstorms = 197\n", 1, 355)?;
+    let settings = replaced(alloc, "pairs = true\n", 1, 251)?;
     let did = answer(&rt, alloc, &Order::Plans, &mut settings.as_bytes())?;
     assert_eq!(rt; did.exit, Exit::Kept);
     assert_eq!(rt; did.fault.as_str(), "");
     assert_eq!(rt; did.output.lines().count(), 65536);
-    // the last pair, and the last storm
-    assert!(rt;
-        did.output.contains("\nplan 65338 replace::rename=1*return;replace::sync_dir=1*return\n")
-    );
-    assert!(rt; did.output.contains("\nplan 65535 "));
+    // the first pair, and the last one
+    let first = "\nplan 766 replace::create=1*return;replace::write=1*return
+plan 767 replace::create=1*return;replace::write=1*panic\n";
+    assert!(rt; did.output.contains(first));
+    let last = "\nplan 65534 replace::rename=1*return;replace::sync_dir=1*return
+plan 65535 replace::rename=1*return;replace::sync_dir=1*panic\n";
+    assert!(rt; did.output.ends_with(last));
     Ok(())
 }
 
+/// Whatever the number of workers.
 #[test]
 fn one_plan_too_many(rt: HostRuntime) -> Result<(), Fail> {
     let alloc = rt.alloc();
-    let settings = replaced(alloc, "pairs = true\nstorms = 198\n", 1, 355)?;
-    for order in [Order::Plans, Order::Run] {
-        refuses(&rt, alloc, &order, settings.as_str(), "too many plans\n")?;
+    for workers in [1, 2, 8] {
+        let keys = format!(in alloc; "pairs = true\nstorms = 1\nworkers = {workers}\n")?;
+        let settings = replaced(alloc, keys.as_str(), 1, 251)?;
+        for order in [Order::Plans, Order::Run] {
+            refuses(&rt, alloc, &order, settings.as_str(), "too many plans\n")?;
+        }
     }
     Ok(())
 }
@@ -69,12 +75,12 @@ fn sites_too_many(rt: HostRuntime) -> Result<(), Fail> {
     )
 }
 
-/// A command of one scenario makes no plans. Of 359 questions none fails.
+/// A command of one scenario makes no plans. Of 255 questions none fails.
 #[test]
 fn one_scenario_is_tried_whatever_the_plans(rt: HostRuntime) -> Result<(), Fail> {
     let alloc = rt.alloc();
-    let settings = replaced(alloc, "pairs = true\nstorms = 198\n", 1, 355)?;
-    let text = "verdict pass\nasked 359\nwords 0\nmillis 0\nnotes 0\n";
+    let settings = replaced(alloc, "pairs = true\nstorms = 1\n", 1, 251)?;
+    let text = "verdict pass\nasked 255\nwords 0\nmillis 0\nnotes 0\n";
     let order = try_order(alloc, "")?;
     writes(&rt, alloc, &order, settings.as_str(), Exit::Kept, text)?;
     let order = Order::Reduce(String::new(alloc));

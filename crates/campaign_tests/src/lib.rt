@@ -4,11 +4,7 @@
 #![tactic(auto)]
 
 #[cfg(test)]
-mod always_broken;
-#[cfg(test)]
 mod answers;
-#[cfg(test)]
-mod broken_runs;
 #[cfg(test)]
 mod commit_reports;
 #[cfg(test)]

@@ -90,9 +90,9 @@ fn maildir_appended_passes_without_pairs(rt: HostRuntime) -> Result<(), Fail> {
 fn maildir_pair_is_torn(rt: HostRuntime) -> Result<(), Fail> {
     let keys = "target = \"maildir\"\nvariant = \"append_tmp\"\npairs = true\n";
     let expected = Expected {
-        plans: 34,
-        others: &[(29, "fail torn"), (31, "fail torn")],
-        end: "first 29 torn\nscenario maildir::sync=1*return;maildir::unlink=1*return\nreduced maildir::sync=1*return;maildir::unlink=1*return\ntests 3\n",
+        plans: 49,
+        others: &[(39, "fail torn"), (43, "fail torn")],
+        end: "first 39 torn\nscenario maildir::sync=1*return;maildir::unlink=1*return\nreduced maildir::sync=1*return;maildir::unlink=1*return\ntests 3\n",
         ..APPENDS
     };
     reports(&rt, rt.alloc(), keys, M, &expected)
@@ -103,9 +103,9 @@ fn maildir_pair_is_torn(rt: HostRuntime) -> Result<(), Fail> {
 fn maildir_pair_with_a_half_chunk_is_torn(rt: HostRuntime) -> Result<(), Fail> {
     let keys = "target = \"maildir\"\nvariant = \"append_tmp\"\npairs = true\n";
     let expected = Expected {
-        plans: 34,
-        others: &[(26, "fail torn"), (29, "fail torn"), (31, "fail torn")],
-        end: "first 26 torn\nscenario maildir::write=1*return;maildir::unlink=1*return\nreduced maildir::write=1*return;maildir::unlink=1*return\ntests 3\n",
+        plans: 49,
+        others: &[(33, "fail torn"), (39, "fail torn"), (43, "fail torn")],
+        end: "first 33 torn\nscenario maildir::write=1*return;maildir::unlink=1*return\nreduced maildir::write=1*return;maildir::unlink=1*return\ntests 3\n",
         ..APPENDS
     };
     reports(&rt, rt.alloc(), keys, HI, &expected)

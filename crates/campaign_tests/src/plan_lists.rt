@@ -26,22 +26,37 @@ plan 17 replace::sync_dir=return
 plan 18 replace::sync_dir=1*panic
 ";
 
-// Those of each two of its sites.
+// Those of each two of its sites: both fail once, and then the first fails and the run stops at the second.
 const PAIRS: &str = "plan 19 replace::create=1*return;replace::write=1*return
-plan 20 replace::create=1*return;replace::write=1*off->1*return
-plan 21 replace::create=1*return;replace::sync=1*return
-plan 22 replace::create=1*return;replace::rename=1*return
-plan 23 replace::create=1*return;replace::sync_dir=1*return
-plan 24 replace::write=1*return->1*return
-plan 25 replace::write=1*return;replace::sync=1*return
-plan 26 replace::write=1*return;replace::rename=1*return
-plan 27 replace::write=1*return;replace::sync_dir=1*return
-plan 28 replace::write=1*off->1*return;replace::sync=1*return
-plan 29 replace::write=1*off->1*return;replace::rename=1*return
-plan 30 replace::write=1*off->1*return;replace::sync_dir=1*return
-plan 31 replace::sync=1*return;replace::rename=1*return
-plan 32 replace::sync=1*return;replace::sync_dir=1*return
-plan 33 replace::rename=1*return;replace::sync_dir=1*return
+plan 20 replace::create=1*return;replace::write=1*panic
+plan 21 replace::create=1*return;replace::write=1*off->1*return
+plan 22 replace::create=1*return;replace::write=1*off->1*panic
+plan 23 replace::create=1*return;replace::sync=1*return
+plan 24 replace::create=1*return;replace::sync=1*panic
+plan 25 replace::create=1*return;replace::rename=1*return
+plan 26 replace::create=1*return;replace::rename=1*panic
+plan 27 replace::create=1*return;replace::sync_dir=1*return
+plan 28 replace::create=1*return;replace::sync_dir=1*panic
+plan 29 replace::write=1*return->1*return
+plan 30 replace::write=1*return->1*panic
+plan 31 replace::write=1*return;replace::sync=1*return
+plan 32 replace::write=1*return;replace::sync=1*panic
+plan 33 replace::write=1*return;replace::rename=1*return
+plan 34 replace::write=1*return;replace::rename=1*panic
+plan 35 replace::write=1*return;replace::sync_dir=1*return
+plan 36 replace::write=1*return;replace::sync_dir=1*panic
+plan 37 replace::write=1*off->1*return;replace::sync=1*return
+plan 38 replace::write=1*off->1*return;replace::sync=1*panic
+plan 39 replace::write=1*off->1*return;replace::rename=1*return
+plan 40 replace::write=1*off->1*return;replace::rename=1*panic
+plan 41 replace::write=1*off->1*return;replace::sync_dir=1*return
+plan 42 replace::write=1*off->1*return;replace::sync_dir=1*panic
+plan 43 replace::sync=1*return;replace::rename=1*return
+plan 44 replace::sync=1*return;replace::rename=1*panic
+plan 45 replace::sync=1*return;replace::sync_dir=1*return
+plan 46 replace::sync=1*return;replace::sync_dir=1*panic
+plan 47 replace::rename=1*return;replace::sync_dir=1*return
+plan 48 replace::rename=1*return;replace::sync_dir=1*panic
 ";
 
 #[test]
@@ -66,8 +81,8 @@ fn pairs_and_storms_come_in_their_order(rt: HostRuntime) -> Result<(), Fail> {
     let keys = "target = \"replace\"\nseed = 7\npairs = true\n";
     let all = format!(in alloc; "{keys}storms = 2\nrate = 1000\n{SMALL}")?;
     let text = format!(in alloc;
-        "{SINGLE}{PAIRS}plan 34 replace::create=1*return;replace::write=1*return->1*return;replace::sync=1*return;replace::rename=1*panic;replace::sync_dir=1*return
-plan 35 replace::create=1*return;replace::write=1*return->1*return;replace::sync=1*return;replace::rename=1*return;replace::sync_dir=1*panic
+        "{SINGLE}{PAIRS}plan 49 replace::create=1*return;replace::write=1*return->1*return;replace::sync=1*return;replace::rename=1*panic;replace::sync_dir=1*return
+plan 50 replace::create=1*return;replace::write=1*return->1*return;replace::sync=1*return;replace::rename=1*return;replace::sync_dir=1*panic
 "
     )?;
     writes(
@@ -80,10 +95,10 @@ plan 35 replace::create=1*return;replace::write=1*return->1*return;replace::sync
     )?;
     let half = format!(in alloc; "{keys}storms = 4\nrate = 500\n{SMALL}")?;
     let text = format!(in alloc;
-        "{SINGLE}{PAIRS}plan 34 replace::create=1*return;replace::write=1*return;replace::sync=1*return;replace::rename=1*panic;replace::sync_dir=1*return
-plan 35 replace::create=1*return;replace::write=1*return->1*return
-plan 36 replace::create=1*return;replace::write=1*return
-plan 37 replace::create=1*return;replace::write=1*return;replace::sync_dir=1*panic
+        "{SINGLE}{PAIRS}plan 49 replace::create=1*return;replace::write=1*return;replace::sync=1*return;replace::rename=1*panic;replace::sync_dir=1*return
+plan 50 replace::create=1*return;replace::write=1*return->1*return
+plan 51 replace::create=1*return;replace::write=1*return
+plan 52 replace::create=1*return;replace::write=1*return;replace::sync_dir=1*panic
 "
     )?;
     writes(

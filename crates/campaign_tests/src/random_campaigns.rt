@@ -195,28 +195,54 @@ fn answer_of<H: Threads + Wait + Sync>(
     answer(rt, alloc, &Order::Run, &mut settings.as_bytes())
 }
 
-/// 1 if a campaign over these settings finds a failure, else 0. Five workers write the report that one does.
-fn found_by<H: Threads + Wait + Sync + Abort>(
+/// With how many codes a campaign over these settings fails. Five workers write the report that one does.
+fn codes_found<H: Threads + Wait + Sync + Abort>(
     rt: &H,
     alloc: Global,
     settings: &str,
-) -> Result<u32, Fail> {
+) -> Result<usize, Fail> {
     let one = answer_of(rt, alloc, settings, 1)?;
     let five = answer_of(rt, alloc, settings, 5)?;
     assert_eq!(rt; one.fault.as_str(), "", "at {settings}");
     assert_eq!(rt; five.output.as_str(), one.output.as_str(), "at {settings}");
     assert_eq!(rt; five.exit, one.exit, "at {settings}");
     match one.exit {
-        Exit::Found => Ok(1),
+        Exit::Found => Ok(
+            one.output
+                .lines()
+                .filter(|line| line.starts_with("first "))
+                .count(),
+        ),
         _ => Ok(0),
     }
 }
 
-/// Enough of the campaigns drawn find a failure, and enough don't, to show something.
-fn is_mixed(rt: &impl Abort, found: u32) {
+/// How many of the campaigns drawn fail, and how many with two codes or more.
+#[derive(Debug, Drop)]
+struct Tally {
+    failures: u32,
+    several: u32,
+}
+
+impl Tally {
+    fn new() -> Self {
+        Tally {
+            failures: 0,
+            several: 0,
+        }
+    }
+
+    fn count(&mut self, codes: usize) {
+        self.failures = self.failures.saturating_add(u32::from(codes > 0));
+        self.several = self.several.saturating_add(u32::from(codes > 1));
+    }
+}
+
+/// Enough of the campaigns drawn fail, and enough don't, to show something.
+fn is_mixed(rt: &impl Abort, tally: &Tally) {
     assert!(rt;
-        found >= 40 && found <= CAMPAIGNS - 40,
-        "{found} found a failure"
+        tally.failures >= 40 && tally.failures <= CAMPAIGNS - 40,
+        "{tally:?}"
     );
 }
 
@@ -224,12 +250,12 @@ fn is_mixed(rt: &impl Abort, found: u32) {
 fn random_replacements_are_reported_alike(rt: HostRuntime) -> Result<(), Fail> {
     let alloc = rt.alloc();
     let mut numbers = Numbers { state: 20261122 };
-    let mut found = 0u32;
+    let mut tally = Tally::new();
     for _ in 0..CAMPAIGNS {
         let settings = replacement(alloc, &mut numbers)?;
-        found = found.saturating_add(found_by(&rt, alloc, settings.as_str())?);
+        tally.count(codes_found(&rt, alloc, settings.as_str())?);
     }
-    is_mixed(&rt, found);
+    is_mixed(&rt, &tally);
     Ok(())
 }
 
@@ -237,24 +263,26 @@ fn random_replacements_are_reported_alike(rt: HostRuntime) -> Result<(), Fail> {
 fn random_deliveries_are_reported_alike(rt: HostRuntime) -> Result<(), Fail> {
     let alloc = rt.alloc();
     let mut numbers = Numbers { state: 1126 };
-    let mut found = 0u32;
+    let mut tally = Tally::new();
     for _ in 0..CAMPAIGNS {
         let settings = delivery(alloc, &mut numbers)?;
-        found = found.saturating_add(found_by(&rt, alloc, settings.as_str())?);
+        tally.count(codes_found(&rt, alloc, settings.as_str())?);
     }
-    is_mixed(&rt, found);
+    is_mixed(&rt, &tally);
     Ok(())
 }
 
+/// Some of them fail with two codes.
 #[test]
 fn random_commits_are_reported_alike(rt: HostRuntime) -> Result<(), Fail> {
     let alloc = rt.alloc();
     let mut numbers = Numbers { state: 90210 };
-    let mut found = 0u32;
+    let mut tally = Tally::new();
     for _ in 0..CAMPAIGNS {
         let settings = commit(alloc, &mut numbers)?;
-        found = found.saturating_add(found_by(&rt, alloc, settings.as_str())?);
+        tally.count(codes_found(&rt, alloc, settings.as_str())?);
     }
-    is_mixed(&rt, found);
+    is_mixed(&rt, &tally);
+    assert!(rt; tally.several >= 15, "{tally:?}");
     Ok(())
 }

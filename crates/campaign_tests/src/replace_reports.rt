@@ -1,7 +1,7 @@
 //! Campaigns on the small workload.
 
 use crate::answers::{SMALL, writes};
-use crate::expected::{Expected, NONE, reports};
+use crate::expected::{Expected, LATE_SYNC, LATE_SYNC_REPORT, NONE, reports};
 use campaign_main::{Exit, Order};
 use std::test::Fail;
 
@@ -27,6 +27,7 @@ fn sound(plans: u32) -> Expected<'static> {
     }
 }
 
+// Refuses the wrong body always_want_of_memory.
 #[test]
 fn small_workload_sound(rt: HostRuntime) -> Result<(), Fail> {
     let keys = "target = \"replace\"\n";
@@ -36,7 +37,7 @@ fn small_workload_sound(rt: HostRuntime) -> Result<(), Fail> {
 #[test]
 fn small_workload_sound_with_pairs(rt: HostRuntime) -> Result<(), Fail> {
     let keys = "target = \"replace\"\nvariant = \"sound\"\npairs = true\n";
-    reports(&rt, rt.alloc(), keys, SMALL, &sound(34))
+    reports(&rt, rt.alloc(), keys, SMALL, &sound(49))
 }
 
 #[test]
@@ -45,51 +46,27 @@ fn small_workload_sound_with_idle_storms(rt: HostRuntime) -> Result<(), Fail> {
     reports(&rt, rt.alloc(), keys, SMALL, &sound(21))
 }
 
-const LATE_SYNC: &str = "target = \"replace\"
-variant = \"late_sync\"
-seed = 7
-workers = 2
-[replace]
-old = \"old\"
-replacements = [[\"ne\", \"w\"]]
-";
+/// Three replacements, the second of no chunk, have 15 sites: 1 + 3 * 15 plans, 15 * 14 for the pairs, and 200 storms that take each site.
+#[test]
+fn sound_replacements_never_fail(rt: HostRuntime) -> Result<(), Fail> {
+    let keys = "target = \"replace\"\npairs = true\nstorms = 200\nrate = 1000\n";
+    let table = "[replace]\nold = \"old\"\nreplacements = [[\"ne\", \"w\"], [], [\"a\"]]\n";
+    let expected = Expected {
+        census: &[
+            ("replace::clear", 0),
+            ("replace::create", 3),
+            ("replace::write", 3),
+            ("replace::sync", 3),
+            ("replace::rename", 3),
+            ("replace::sync_dir", 3),
+            ("replace::unlink", 0),
+        ],
+        ..sound(456)
+    };
+    reports(&rt, rt.alloc(), keys, table, &expected)
+}
 
-const LATE_SYNC_REPORT: &str = "target replace late_sync
-seed 7
-clean pass
-census replace::clear 0
-census replace::create 1
-census replace::write 2
-census replace::sync 1
-census replace::rename 1
-census replace::sync_dir 1
-census replace::unlink 0
-plans 19
-verdict 0 pass
-verdict 1 pass
-verdict 2 pass
-verdict 3 pass
-verdict 4 pass
-verdict 5 pass
-verdict 6 pass
-verdict 7 pass
-verdict 8 pass
-verdict 9 pass
-verdict 10 fail torn
-verdict 11 fail torn
-verdict 12 fail torn
-verdict 13 pass
-verdict 14 pass
-verdict 15 pass
-verdict 16 pass
-verdict 17 pass
-verdict 18 pass
-first 10 torn
-scenario replace::sync=1*return
-reduced replace::sync=1*return
-tests 1
-";
-
+// Refuses the wrong body always_want_of_memory, where there is something to reduce.
 #[test]
 fn late_sync_report(rt: HostRuntime) -> Result<(), Fail> {
     writes(

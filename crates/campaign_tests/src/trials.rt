@@ -1,11 +1,8 @@
 //! One scenario tried.
 
-use crate::always_broken::AlwaysBroken;
 use crate::answers::{SMALL, refuses, try_order, writes};
-use campaign_main::{Exit, try_one};
-use scenario_grammar::parse;
+use campaign_main::Exit;
 use std::test::Fail;
-use target_trait::{Out, Verdict};
 
 // The five lines of `try` for scenarios on the small workload, worked out by hand from the protocol's table.
 const TRIED: [(&str, &str); 9] = [
@@ -110,19 +107,5 @@ fn refuses_scenarios_that_spell_nothing(rt: HostRuntime) -> Result<(), Fail> {
         let order = try_order(alloc, scenario)?;
         refuses(&rt, alloc, &order, settings.as_str(), line)?;
     }
-    Ok(())
-}
-
-#[test]
-fn finds_a_broken_target(rt: HostRuntime) -> Result<(), Fail> {
-    let alloc = rt.alloc();
-    let scenario = parse(alloc, "broken::point=return").map_err(|_| "a scenario")?;
-    let mut sink = Out::new(Vec::new(alloc));
-    let verdict = try_one(alloc, &mut AlwaysBroken, &(), 7, 1000, &scenario, &mut sink);
-    assert_eq!(rt; verdict, Ok(Verdict::Fail(0)));
-    assert_eq!(rt;
-        sink.into_writer().as_slice(),
-        b"verdict fail broken\nasked 0\nwords 0\nmillis 0\nnotes 0\n".as_slice()
-    );
     Ok(())
 }

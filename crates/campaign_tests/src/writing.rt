@@ -1,6 +1,7 @@
 //! Writers that fail.
 
 use crate::answers::SMALL;
+use crate::expected::{LATE_SYNC, LATE_SYNC_REPORT};
 use crate::streams::{Narrow, Trouble};
 use campaign_main::{Exit, Order, perform, status};
 use std::alloc::Global;
@@ -54,42 +55,6 @@ fn cut_off<H: Threads + Wait + Sync>(
     }
 }
 
-const LATE_SYNC_REPORT: &str = "target replace late_sync
-seed 7
-clean pass
-census replace::clear 0
-census replace::create 1
-census replace::write 2
-census replace::sync 1
-census replace::rename 1
-census replace::sync_dir 1
-census replace::unlink 0
-plans 19
-verdict 0 pass
-verdict 1 pass
-verdict 2 pass
-verdict 3 pass
-verdict 4 pass
-verdict 5 pass
-verdict 6 pass
-verdict 7 pass
-verdict 8 pass
-verdict 9 pass
-verdict 10 fail torn
-verdict 11 fail torn
-verdict 12 fail torn
-verdict 13 pass
-verdict 14 pass
-verdict 15 pass
-verdict 16 pass
-verdict 17 pass
-verdict 18 pass
-first 10 torn
-scenario replace::sync=1*return
-reduced replace::sync=1*return
-tests 1
-";
-
 /// A writer of one byte a write fails at each write of the report in turn.
 fn fails_at_each_write<H: Threads + Wait + Sync + Abort>(
     rt: &H,
@@ -97,14 +62,12 @@ fn fails_at_each_write<H: Threads + Wait + Sync + Abort>(
     trouble: Trouble,
 ) -> Result<(), Fail> {
     let text = LATE_SYNC_REPORT.as_bytes();
-    let keys = "target = \"replace\"\nvariant = \"late_sync\"\nseed = 7\nworkers = 2\n";
-    let settings = format!(in alloc; "{keys}{SMALL}")?;
     for fails_at in 1..=text.len() {
         let left = cut_off(
             rt,
             alloc,
             &Order::Run,
-            settings.as_str(),
+            LATE_SYNC,
             1,
             fails_at as u64,
             trouble,
@@ -139,10 +102,8 @@ fn tells_what_was_written_before_nothing_was_taken(rt: HostRuntime) -> Result<()
 #[test]
 fn narrow_writer_gets_the_whole_report(rt: HostRuntime) -> Result<(), Fail> {
     let alloc = rt.alloc();
-    let keys = "target = \"replace\"\nvariant = \"late_sync\"\nseed = 7\nworkers = 2\n";
-    let settings = format!(in alloc; "{keys}{SMALL}")?;
     let order = Order::Run;
-    let left = cut_off(&rt, alloc, &order, settings.as_str(), 1, 0, Trouble::Broken);
+    let left = cut_off(&rt, alloc, &order, LATE_SYNC, 1, 0, Trouble::Broken);
     assert_eq!(rt; left.exit, Exit::Found);
     assert!(rt; !left.has_failed);
     assert_eq!(rt; left.output.as_slice(), LATE_SYNC_REPORT.as_bytes());

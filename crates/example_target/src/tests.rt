@@ -1,7 +1,5 @@
-mod always_broken;
 mod scenarios;
 
-use crate::tests::always_broken::AlwaysBroken;
 use crate::tests::scenarios::{at_give, empty};
 use crate::transfer::{Amount, Care, Transfer};
 use scenario_values::{Scenario, Task, Text};
@@ -95,16 +93,6 @@ fn tells_the_note_of_a_print(rt: HostRuntime) -> Result<(), Fail> {
     let told = outcome(&rt, rt.alloc(), Care::Careful, &noting, 10)?;
     assert_eq!(rt; told.notes.len(), 1);
     assert_eq!(rt; told.notes[0].point, 1);
-    Ok(())
-}
-
-#[test]
-fn always_broken_fails_with_its_code(rt: HostRuntime) -> Result<(), Fail> {
-    let scenario = empty(rt.alloc());
-    let told = run_case(rt.alloc(), &mut AlwaysBroken, &(), &case(&scenario, 10))?;
-    assert_eq!(rt; told.verdict, Verdict::Fail(0));
-    assert_eq!(rt; told.asked.len(), 0);
-    assert_eq!(rt; AlwaysBroken::code_name(0), "broken");
     Ok(())
 }
 

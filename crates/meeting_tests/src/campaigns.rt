@@ -28,13 +28,14 @@ verdict 6 pass
 first none
 ";
 
-// The one pair is plan 7. Its reduction tests no fault, the first and the second.
+// The two points make plan 7, where both fail, and plan 8, where the run halts at the second. The reduction of plan 7 tests no fault, the
+// first and the second.
 const PAIR_FAILS: &str = "target meet
 seed 7
 clean pass
 census meet::a 1
 census meet::b 1
-plans 8
+plans 9
 verdict 0 pass
 verdict 1 pass
 verdict 2 pass
@@ -43,6 +44,7 @@ verdict 4 pass
 verdict 5 pass
 verdict 6 pass
 verdict 7 fail both
+verdict 8 pass
 first 7 both
 scenario meet::a=1*return;meet::b=1*return
 reduced meet::a=1*return;meet::b=1*return
@@ -62,7 +64,7 @@ fn meets<R: Threads + Wait + Clock + Sync + Abort>(
     requires few { workers ≤ 64 }
 {
     let meeting = Meeting::new(waits);
-    let settings = settings(alloc, workers, pairs);
+    let settings = settings(workers, pairs, Vec::new(alloc));
     let target = Meet { rt };
     let Ok((text, _)) = reported(rt, alloc, &FreeGate, &target, &meeting, &settings) else {
         return Err(Fail::from("no report"));
@@ -72,6 +74,8 @@ fn meets<R: Threads + Wait + Clock + Sync + Abort>(
     Ok(meeting.came.load(Ordering::SeqCst))
 }
 
+// Refuses, for the plans, the wrong bodies all_work_on_one_thread and every_hand_leaves_at_once: the first run that waits would wait in
+// vain.
 #[test]
 fn runs_meet_and_all_pass(rt: HostRuntime) -> Result<(), Fail> {
     let came = meets(&rt, rt.alloc(), true, 2, false, ALL_PASS)?;
@@ -79,6 +83,8 @@ fn runs_meet_and_all_pass(rt: HostRuntime) -> Result<(), Fail> {
     Ok(())
 }
 
+// Refuses, in the reduction, the wrong bodies all_work_on_one_thread, every_hand_leaves_at_once and probe_asked_under_the_lock: two tests
+// of one fault meet inside their runs.
 #[test]
 fn runs_meet_and_the_pair_fails(rt: HostRuntime) -> Result<(), Fail> {
     let came = meets(&rt, rt.alloc(), true, 2, true, PAIR_FAILS)?;

@@ -1,6 +1,6 @@
 ghost use Rattle.std.specs.Prelude.{◌≤◌};
 
-use crate::meet::{Meet, Meeting, TURNS};
+use crate::meet::{Meet, Meeting, comes_to};
 use crate::running::{reported, settings};
 use file_replace::{Chunks, Replace, Replacements, Variant};
 use scenario_values::Text;
@@ -8,8 +8,6 @@ use std::alloc::{AllocError, Global};
 use std::rt::Clock;
 use std::sync::atomic::{AtomicU64, Ordering};
 use std::test::Fail;
-use std::thread;
-use std::time::Duration;
 use target_trait::{Gate, Phase};
 
 /// Two that wait for each other, and how many of them waited in vain.
@@ -27,16 +25,6 @@ impl Pair {
         }
     }
 
-    fn wait_for<R: Clock>(&self, rt: &R, other: &AtomicU64) {
-        for _ in 0..TURNS {
-            if other.load(Ordering::SeqCst) > 0 {
-                return;
-            }
-            let _slept = thread::sleep(rt, Duration::from_millis(1));
-        }
-        self.late.fetch_add(1, Ordering::SeqCst);
-    }
-
     fn meet<R: Clock>(&self, rt: &R, is_first: bool) {
         let [first, second] = &self.arrived;
         let (own, other) = if is_first {
@@ -45,7 +33,9 @@ impl Pair {
             (second, first)
         };
         own.fetch_add(1, Ordering::SeqCst);
-        self.wait_for(rt, other);
+        if !comes_to(rt, other, 1) {
+            self.late.fetch_add(1, Ordering::SeqCst);
+        }
     }
 
     /// Whether each came once, and neither waited in vain.
@@ -85,6 +75,7 @@ fn small_work(alloc: Global) -> Result<Replacements, AllocError> {
     Ok(Replacements::new(Text::copy_of(alloc, "old")?, replacements))
 }
 
+// Refuses the wrong bodies all_work_on_one_thread and every_hand_leaves_at_once: the caller's thread arrives at no gate.
 #[test]
 fn two_plans_meet_at_the_gate(rt: HostRuntime) -> Result<(), Fail> {
     let alloc = rt.alloc();
@@ -97,7 +88,7 @@ fn two_plans_meet_at_the_gate(rt: HostRuntime) -> Result<(), Fail> {
     };
     let target = Replace::new(alloc, Variant::Sound);
     let work = small_work(alloc)?;
-    let settings = settings(alloc, 2, false);
+    let settings = settings(2, false, Vec::new(alloc));
     let Ok((_, first)) = reported(&rt, alloc, &gate, &target, &work, &settings) else {
         return Err(Fail::from("no report"));
     };
@@ -107,6 +98,7 @@ fn two_plans_meet_at_the_gate(rt: HostRuntime) -> Result<(), Fail> {
 }
 
 /// The cards of a reduction of two faults: none of them, and the first one ahead of its answer.
+// Refuses the wrong bodies all_work_on_one_thread and every_hand_leaves_at_once.
 #[test]
 fn two_cards_meet_at_the_gate(rt: HostRuntime) -> Result<(), Fail> {
     let alloc = rt.alloc();
@@ -119,7 +111,7 @@ fn two_cards_meet_at_the_gate(rt: HostRuntime) -> Result<(), Fail> {
     };
     let target = Meet { rt: &rt };
     let meeting = Meeting::new(false);
-    let settings = settings(alloc, 2, true);
+    let settings = settings(2, true, Vec::new(alloc));
     let Ok((_, first)) = reported(&rt, alloc, &gate, &target, &meeting, &settings) else {
         return Err(Fail::from("no report"));
     };

@@ -11,7 +11,18 @@ use std::time::Duration;
 use target_trait::{Answer, Judgement, Session, Target};
 
 /// How often a run that waits looks whether another has come. It sleeps a millisecond after each look.
-pub const TURNS: u32 = 10_000;
+const TURNS: u32 = 10_000;
+
+/// Whether a count comes to so much before the turns are over.
+pub fn comes_to<R: Clock>(rt: &R, count: &AtomicU64, wanted: u64) -> bool {
+    for _ in 0..TURNS {
+        if count.load(Ordering::SeqCst) >= wanted {
+            return true;
+        }
+        let _slept = thread::sleep(rt, Duration::from_millis(1));
+    }
+    false
+}
 
 /// The runs that were answered one Return and one Go, and those of them that waited in vain.
 #[derive(Drop)]
@@ -37,16 +48,10 @@ impl Meeting {
     /// Counts a run in. The first, third and each further odd one waits for the next.
     fn meet<R: Clock>(&self, rt: &R) {
         let before = self.came.fetch_add(1, Ordering::SeqCst);
-        if !self.waits || before % 2 == 1 {
-            return;
+        let waits = self.waits && before % 2 == 0;
+        if waits && !comes_to(rt, &self.came, before.saturating_add(2)) {
+            self.late.fetch_add(1, Ordering::SeqCst);
         }
-        for _ in 0..TURNS {
-            if self.came.load(Ordering::SeqCst) > before.saturating_add(1) {
-                return;
-            }
-            let _slept = thread::sleep(rt, Duration::from_millis(1));
-        }
-        self.late.fetch_add(1, Ordering::SeqCst);
     }
 }
 

@@ -1,17 +1,19 @@
 //! Campaigns of the tests.
-ghost use Rattle.std.specs.Prelude.{◌≤◌};
+ghost use Rattle.std.specs.Prelude.{◌≤◌, length};
 
 use campaign_core::{CampaignFault, campaign};
 use campaign_settings::Settings;
+use scenario_grammar::Scenario;
 use std::alloc::Global;
 use std::sync::Wait;
 use std::thread::Threads;
 use target_trait::{Gate, Out, Target};
 
 /// Seed 7, a limit of 1000 hits, and no storms.
-pub fn settings(alloc: Global, workers: u32, pairs: bool) -> Settings
+pub fn settings(workers: u32, pairs: bool, scenarios: Vec<Scenario>) -> Settings
     requires some { 1 ≤ workers }
     requires few { workers ≤ 64 }
+    requires listed { length scenarios.items ≤ 1000 }
 {
     Settings {
         choice: None,
@@ -21,7 +23,7 @@ pub fn settings(alloc: Global, workers: u32, pairs: bool) -> Settings
         pairs,
         storms: 0,
         rate: 0,
-        scenarios: Vec::new(alloc),
+        scenarios,
     }
 }
 

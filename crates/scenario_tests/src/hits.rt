@@ -11,7 +11,7 @@ use std::process::Abort;
 use std::test::Fail;
 
 /// The names of the points.
-pub const POINTS: [&str; 6] = ["used", "shares", "half", "panic", "pause", "notes"];
+const POINTS: [&str; 6] = ["used", "shares", "half", "panic", "pause", "notes"];
 
 const USED: u32 = 0;
 
@@ -23,14 +23,14 @@ const PANIC: u32 = 3;
 
 const PAUSE: u32 = 4;
 
-pub const NOTES: u32 = 5;
+const NOTES: u32 = 5;
 
 /// The scenario of the examples: a chain for each point.
-pub const SCENARIO: &str =
+const SCENARIO: &str =
     "used=2*off->1*return;shares=50%0*print->0%panic;half=50%return;panic=panic;pause=pause;notes=1*print(a)->1*sleep(5)->1*delay(7)->60%print(b)";
 
 /// The generator of a stream of words for the seed 7: ChaCha8 with that seed in eight bytes, low byte first, and 24 zeros.
-pub fn words_of(stream: u64) -> ChaCha8Rng {
+fn words_of(stream: u64) -> ChaCha8Rng {
     let mut seed = [0; 32];
     seed[0] = 7;
     let mut generator = ChaCha8Rng::from_seed(seed);
@@ -63,15 +63,15 @@ fn answers(
 
 /// What a session tells, but for the notes' texts.
 #[derive(Clone, Copy, Debug, PartialEq, Eq)]
-pub struct Told {
-    pub asked: usize,
-    pub words: u64,
-    pub millis: u64,
-    pub notes: usize,
-    pub stopped: Option<Stop>,
+struct Told {
+    asked: usize,
+    words: u64,
+    millis: u64,
+    notes: usize,
+    stopped: Option<Stop>,
 }
 
-pub fn tell(session: &Session<'_>) -> Told {
+fn tell(session: &Session<'_>) -> Told {
     Told {
         asked: session.trace().len(),
         words: session.words(),

@@ -10,8 +10,6 @@ mod parts;
 #[cfg(test)]
 mod reading;
 #[cfg(test)]
-mod refused_hits;
-#[cfg(test)]
 mod texts;
 #[cfg(test)]
 mod values;

@@ -49,14 +49,40 @@ fn most_milliseconds(rt: HostRuntime) -> Result<(), Fail> {
     has_fault(&rt, alloc, "a=sleep(1000000001)", want)
 }
 
+/// So many pieces of one name, each of 256 terms, all of them faults.
+fn pieces(alloc: Global, term: &str, count: u32) -> Result<String, Fail> {
+    let piece = long_text(alloc, "a=", term, "->", 256, "")?;
+    long_text(alloc, "", piece.as_str(), ";", count, "")
+}
+
+/// Four pieces of 256 faults and one fault more are far from the limit of 4,096.
+#[test]
+fn a_thousand_faults_are_few(rt: HostRuntime) -> Result<(), Fail> {
+    let alloc = rt.alloc();
+    let most = pieces(alloc, "yield", 4)?;
+    let one_more = long_text(alloc, most.as_str(), ";a=yield", "", 1, "")?;
+    has_fault(&rt, alloc, one_more.as_str(), None)?;
+    prints(&rt, alloc, &scenario(alloc, one_more.as_str())?, "a=yield")
+}
+
+/// Sixteen pieces of 256 faults are as many as a scenario may have.
+#[test]
+fn one_fault_too_many(rt: HostRuntime) -> Result<(), Fail> {
+    let alloc = rt.alloc();
+    let most = pieces(alloc, "yield", 16)?;
+    has_fault(&rt, alloc, most.as_str(), None)?;
+    let one_more = long_text(alloc, most.as_str(), ";a=yield", "", 1, "")?;
+    has_fault(&rt, alloc, one_more.as_str(), bad(Kind::TooMany, 17, 1))
+}
+
+/// Faults that can never act count, and those of a chain that a later one takes the place of.
 #[test]
 fn overwritten_faults_count(rt: HostRuntime) -> Result<(), Fail> {
     let alloc = rt.alloc();
-    let chain = long_text(alloc, "a=", "0%0*yield", "->", 256, "")?;
-    let most = long_text(alloc, "", chain.as_str(), ";", 4, "")?;
+    let most = pieces(alloc, "0%0*yield", 16)?;
     has_fault(&rt, alloc, most.as_str(), None)?;
     let one_more = long_text(alloc, most.as_str(), ";a=yield", "", 1, "")?;
-    has_fault(&rt, alloc, one_more.as_str(), bad(Kind::TooMany, 5, 1))?;
+    has_fault(&rt, alloc, one_more.as_str(), bad(Kind::TooMany, 17, 1))?;
     let off_after = long_text(alloc, most.as_str(), ";a=off", "", 1, "")?;
     prints(&rt, alloc, &scenario(alloc, off_after.as_str())?, "a=off")
 }
