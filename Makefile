@@ -3,6 +3,9 @@
 # The settings of the campaign that `make run` runs.
 FILE = examples/replace_late_sync.toml
 
+# Where `make install` puts the program.
+PREFIX = /usr/local
+
 # A first look: builds the program without proving it, and runs a campaign. A campaign that finds a failure ends with 1, which is no error
 # here.
 run:
@@ -16,10 +19,9 @@ build:
 examples:
 	@cd crates/paklour && rt try --cases ../../examples
 
-# Everything: the house rules, the examples, every proof from nothing, the must-fail edits, the tests and the program.
-test: examples
-	@tools/house_rules
-	@rt ci
+# Everything: the house rules, the examples, every proof from nothing, the must-fail edits, the tests, and the program as its users run it.
+test:
+	@tools/gate
 
 # Proves what changed since the last check.
 check:
@@ -27,6 +29,10 @@ check:
 
 fmt:
 	@for crate in crates/*/; do (cd $$crate && rt fmt) || exit 1; done
+
+# Copies the program that `make build` has made to PREFIX/bin.
+install: build
+	@install -D crates/paklour/out/paklour $(DESTDIR)$(PREFIX)/bin/paklour
 
 # Proves and builds the program, and refuses each of its allocations in turn, for each command of examples/.
 refuse: build
@@ -36,8 +42,8 @@ refuse: build
 edits:
 	@tools/further_edits
 
-# Proves and builds the benchmarks, and runs them: work counts, and times beside them.
+# Proves and builds the benchmarks, and runs them: work counts, which have to be those stored, and times beside them.
 bench:
 	@bench/run
 
-.PHONY: run build examples test check fmt refuse edits bench
+.PHONY: run build install examples test check fmt refuse edits bench

@@ -50,7 +50,7 @@ def refuse_all(program, name, shim, log):
             memory += 1
         else:
             sys.exit(f"{name}: allocation {at} refused: status {result[0]}, {result[1]!r}, {result[2]!r}")
-    print(f"{name}: status {plain[0]}, {at - 1} allocations refused in turn, {memory} ended for want of memory, {same} as without")
+    print(f"{os.path.basename(program)} on {name}: status {plain[0]}, {at - 1} allocations refused in turn, {memory} ended for want of memory, {same} as without")
 
 
 def main():
