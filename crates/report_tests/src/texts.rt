@@ -1,6 +1,8 @@
 //! What reports tell.
 
 use crate::telling::{finding, found, told};
+use report::Finding;
+use std::alloc::Global;
 use std::test::Fail;
 use target_trait::Verdict;
 
@@ -70,16 +72,24 @@ first none
     Ok(())
 }
 
+/// The first failures of three codes, in the order of their plans.
+fn three_findings(alloc: Global) -> Result<Vec<Finding>, Fail> {
+    let one = "replace::sync=1*return";
+    let two = "replace::write=1*off->1*return;replace::sync=panic";
+    let mut all = Vec::new(alloc);
+    for (number, code, scenario, reduced, tests) in [
+        (1, 1, one, one, 1),
+        (2, 2, two, "replace::sync=panic", 4),
+        (4, 0, "replace::rename=1*return", "", 0),
+    ] {
+        all.push(finding(alloc, number, code, scenario, reduced, tests)?)?;
+    }
+    Ok(all)
+}
+
 #[test]
 fn tells_each_finding_in_order(rt: HostRuntime) -> Result<(), Fail> {
     let alloc = rt.alloc();
-    let one = "replace::sync=1*return";
-    let two = "replace::write=1*off->1*return;replace::sync=panic";
-    let findings = vec![in alloc;
-        finding(alloc, 1, 1, one, one, 1)?,
-        finding(alloc, 2, 2, two, "replace::sync=panic", 4)?,
-        finding(alloc, 4, 0, "replace::rename=1*return", "", 0)?,
-    ]?;
     let verdicts = [
         Verdict::Pass,
         Verdict::Fail(1),
@@ -87,7 +97,7 @@ fn tells_each_finding_in_order(rt: HostRuntime) -> Result<(), Fail> {
         Verdict::Fail(1),
         Verdict::Fail(0),
     ];
-    let report = told(alloc, &verdicts, findings)?;
+    let report = told(alloc, &verdicts, three_findings(alloc)?)?;
     let want = "target replace late_sync
 seed 7
 clean pass
