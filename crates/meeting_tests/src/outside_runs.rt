@@ -159,7 +159,8 @@ fn draws(alloc: Global, count: usize) -> Result<Vec<Scenario>, Fail>
     ensures { IfOk result (λ scenarios. length scenarios.items ≡ count) }
 {
     let mut scenarios = Vec::new(alloc);
-    for _ in 0..count {
+    for made in 0..count {
+        let _ = made;
         match parse(
             alloc,
             "three::a=50%return;three::b=50%return;three::c=50%return",
