@@ -98,7 +98,7 @@ fn are_backed(events: &[Event], pairs: &[Vec<(Vec<u32>, bool)>]) -> bool
 }
 
 impl Board {
-    /// Begins the reduction of the faults `0 .. faults`, with no event yet. Up to 1,024 faults.
+    /// Begins the reduction of the faults `0 .. faults`, with no event yet. Up to 4,096 faults. Takes no memory.
     pub fn start(alloc: Global, faults: u32) -> Board
         requires { faults ≤ 4096 }
         ensures { result ≡ record { faults = faults; events = [] } }

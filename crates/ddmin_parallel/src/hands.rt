@@ -194,7 +194,7 @@ fn gathered<P: Probe>(
 }
 
 /// Reduces the faults `0 .. faults` with a thread for each hand. The result is that of `reduce_plain`,
-/// however many hands there are and in whatever order they answer. Up to 1,024 faults; at least one hand;
+/// however many hands there are and in whatever order they answer. Up to 4,096 faults; at least one hand;
 /// all hands of one setup.
 ///
 /// Each hand takes cards, also of the round one further, tells the gate the number of the card, from 0 in

@@ -36,7 +36,7 @@ fn first_failing<P: Probe>(
 }
 
 /// Reduces the faults `0 .. faults` on one thread: tests the empty set and then the rounds of ddmin, in
-/// order, until no round finds a smaller failing set. Up to 1,024 faults.
+/// order, until no round finds a smaller failing set. Up to 4,096 faults.
 ///
 /// Where all faults together fail, the kept set is one-minimal: it fails, and without any one of its
 /// members it does not. The only error is want of memory, the probe's own among it; the probe's setup

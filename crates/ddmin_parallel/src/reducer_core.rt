@@ -184,7 +184,7 @@ fn hand_out(
 }
 
 impl Core {
-    /// Begins the reduction of the faults `0 .. faults`. Up to 1,024 faults.
+    /// Begins the reduction of the faults `0 .. faults`. Up to 4,096 faults. Takes no memory.
     pub fn start(alloc: Global, faults: u32) -> Core
         requires { faults ≤ 4096 }
         ensures { result ≡ begin faults }

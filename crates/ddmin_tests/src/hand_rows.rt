@@ -139,6 +139,7 @@ impl<'a, R: Clock + Sync> Twin for Meets<'a, R> {
     }
 }
 
+// Wrong bodies: all_work_on_one_thread, every_hand_leaves_at_once, probe_asked_under_the_lock. Each waits in vain, or asks a set twice.
 #[test]
 fn two_cards_meet_in_the_test(rt: HostRuntime) -> Result<(), AllocError> {
     let meeting = Meeting::new();

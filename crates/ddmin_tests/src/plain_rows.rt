@@ -15,6 +15,7 @@ pub(crate) fn needs_both(first: u32, second: u32) -> Needs {
 }
 
 /// By the core each set is asked once: of the 29 tests of eight faults 17 are of sets not met before.
+// Wrong body: core_runs_the_plain_recursion. What it finds is the same, so the questions are counted.
 #[test]
 fn two_culprits(rt: HostRuntime) -> Result<(), AllocError> {
     let alloc = rt.alloc();
@@ -58,5 +59,19 @@ fn a_test_that_is_not_monotone(rt: HostRuntime) -> Result<(), AllocError> {
     let mut probe = OddWith { fault: 3 };
     assert!(&rt; is_found(&reduce_plain(alloc, &mut probe, 7)?, &[3], 19));
     assert!(&rt; is_found(&reduce_by_core(alloc, &mut probe, 7)?, &[3], 19));
+    Ok(())
+}
+
+/// The most faults, and one culprit: after the empty set twelve rounds of two halves, each of which ends with its first half or its
+/// second. 2730 is 101010101010 in binary, so six times it is in the second.
+#[test]
+fn one_culprit_of_the_most_faults(rt: HostRuntime) -> Result<(), AllocError> {
+    let alloc = rt.alloc();
+    let mut probe = needs_both(2730, 2730);
+    assert!(&rt; is_found(&reduce_plain(alloc, &mut probe, 4096)?, &[2730], 19));
+    assert!(&rt; probe.asked == 19);
+    let mut probe = needs_both(2730, 2730);
+    assert!(&rt; is_found(&reduce_by_core(alloc, &mut probe, 4096)?, &[2730], 19));
+    assert!(&rt; probe.asked == 19);
     Ok(())
 }

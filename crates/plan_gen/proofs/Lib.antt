@@ -7,3 +7,4 @@ pub mod Meeting
 pub mod CleanRuns
 pub mod RiggedChains
 pub mod RiggedRuns
+pub mod PlanOrder

@@ -1,4 +1,4 @@
--- What the runs of the census by a loop show; private contracts cite it.
+-- How often a point is asked; and what the runs of the census by a loop show, which private contracts cite.
 use Rattle.std.specs.Prelude.{◌≡◌, ℕ, ◌<◌, ◌==◌, nat_le, if◌then◌else◌, Bool, List, [], ◌∷◌, count_by, length}
 use Rattle.scenario_values.specs.Scenario.{Entries}
 use Rattle.action_eval.specs.Answers.{Reply, given_of}

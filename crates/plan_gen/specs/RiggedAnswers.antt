@@ -1,7 +1,8 @@
 -- What a rigging means: how each hit is answered under the scenario of rigged hits.
-use Rattle.std.specs.Prelude.{◌≡◌, ℕ, ◌+◌, ◌<◌, ◌==◌, ◌&&◌, ◌⊎◌, nat_le, if◌then◌else◌, Bool, true, false, List, [], ◌∷◌, None, find, length}
+use Rattle.std.specs.Prelude.{◌≡◌, ℕ, ◌+◌, ◌<◌, ◌==◌, ◌&&◌, ◌⊎◌, nat_le, if◌then◌else◌, Bool, true, false, List, [], ◌∷◌, None, find, map, length}
 use Rattle.std.specs.Option.{option_map_or}
 use Rattle.std.specs.List.{AllByRecursion}
+use Rattle.scenario_values.specs.Scenario.{Entries}
 use Rattle.action_eval.specs.Answers.{Reply, Go, Return, Halt, run_of, reply_to}
 use Rattle.plan_gen.specs.declared.site.Site.{Site}
 use Rattle.plan_gen.specs.declared.site.Rig.{Rig}
@@ -44,3 +45,7 @@ abbrev pub AnswersAsRigged : List (List ℕ) → List Rig → Type 0
 AnswersAsRigged names rigs =
     (seed stream limit : ℕ) (hits : List ℕ) (p : ℕ) → p < length names → length hits < limit
     → reply_to (run_of (rigging names rigs) names seed stream limit hits) p ≡ rigged_reply rigs p (times p hits + 1)
+
+-- a plan is the scenario of rigged hits, in order and none twice
+abbrev pub IsOfHits : List (List ℕ) → Entries → Type 0
+IsOfHits names plan = (rigs : List Rig) × ((plan ≡ rigging names rigs) × AreInOrder (map (λ r. r.site) rigs))

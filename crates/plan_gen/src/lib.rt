@@ -15,7 +15,7 @@ mod sites;
 mod storms;
 
 pub use census::{Census, by_census};
-pub use laws::hits_are_answered_as_rigged;
+pub use laws::{hits_are_answered_as_rigged, plans_rig_hits_in_order};
 pub use list::{PlanFault, plans};
 pub use looped::by_loop;
 pub use plan::{Plan, PlanSettings};

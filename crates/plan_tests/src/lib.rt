@@ -6,8 +6,12 @@ mod books;
 #[cfg(test)]
 mod counted;
 #[cfg(test)]
+mod counting;
+#[cfg(test)]
 mod one_step;
 #[cfg(test)]
 mod plan_lists;
+#[cfg(test)]
+mod replacing;
 #[cfg(test)]
 mod scenarios;
