@@ -1,18 +1,19 @@
 -- Answers, by what a command did.
-use Rattle.std.proofs.Common.{◌≡◌, ◌≤◌, ◌<◌, ◌∙◌, ℕ, Bool, false, List, Option, Some, None, Result, Ok, Err, length, refl, sym, ap, is_some, option_map, subst, if◌then◌else◌}
+use Rattle.std.proofs.Common.{◌≡◌, ◌≤◌, ◌<◌, ◌∙◌, ℕ, Bool, false, List, Option, Some, None, Result, Ok, Err, IfOk, IsErrAnd, length, refl, sym, ap, is_some, option_map, subst, if◌then◌else◌}
 use Rattle.std.proofs.lemmas.Bool.{le-ltb, lt-ltb}
 use Rattle.std.specs.Io.KnownBytes.{Appends}
 use Rattle.scenario_values.specs.Scenario.{Entries}
 use Rattle.scenario_grammar.specs.FirstFault.{Fault}
 use Rattle.plan_gen.specs.PlanList.{most_plans}
 use Rattle.campaign_core.specs.Headline.{Campaign, say, plans, report_text, first_failure}
-use Rattle.campaign_core.specs.CommandTexts.{IsFault, LeavesOnly, plans_text, reduce_text, tried, try_text}
+use Rattle.campaign_core.specs.CommandTexts.{IsFault, IsReducedToMinimal, LeavesOnly, plans_text, reduce_text, tried, try_text}
 use Rattle.campaign_core.specs.declared.ending.CampaignFault.{CampaignFault}
 use Rattle.campaign_core.specs.declared.ending.CampaignFault.TheVariants as campaign
+use Rattle.campaign_main.specs.declared.fault.CommandFault.{CommandFault}
 use Rattle.campaign_main.specs.declared.fault.CommandFault.TheVariants as faults
 use Rattle.campaign_main.specs.Exit.{is_fail}
 use Rattle.campaign_main.specs.Commands.{Answer, of_few_plans, plans_answer, reduce_answer, run_answer, spelled_answer, too_many_plans, try_answer}
-use Rattle.campaign_main.specs.Ends.{FallsShort, IsCutOff, IsWritten}
+use Rattle.campaign_main.specs.Ends.{ComesTo, FallsShort, IsCutOff, IsWritten}
 
 module _ (c : Campaign) (a : List ℕ × Bool) where
   few_plans : length (plans c) ≤ most_plans → of_few_plans c a ≡ Ok a
@@ -23,31 +24,31 @@ module _ (c : Campaign) (a : List ℕ × Bool) where
 
 -- what comes of a list of plans and of its text, where that is the answer
 module _ (c : Campaign) (answer : Answer) (text : List ℕ) (found : Bool) (is : answer ≡ of_few_plans c (text, found)) (old new : Option (List ℕ)) where
-  of_plans : length (plans c) ≤ most_plans → Appends old new text → IsWritten answer old new found
-  of_plans few written =
-      let P : Answer → Type 0 = λ x. IsWritten x old new found in
-      subst P (sym (is ∙ few_plans c (text, found) few)) (written, refl)
+  of_plans : (failed : Bool) → length (plans c) ≤ most_plans → Appends old new text → failed ≡ false → IsWritten answer old new failed found
+  of_plans failed few written sound =
+      let P : Answer → Type 0 = λ x. IsWritten x old new failed found in
+      subst P (sym (is ∙ few_plans c (text, found) few)) (written, refl, sound)
 
   short_of_plans : (failed : Bool) (f : CampaignFault) → IsFault c text old new failed f → FallsShort answer old new failed (faults.Campaign f)
-  short_of_plans failed campaign.TooManyPlans h = (h.0, is ∙ many_plans c (text, found) h.1)
+  short_of_plans failed campaign.TooManyPlans h = ((h.0, h.1), is ∙ many_plans c (text, found) h.2)
   short_of_plans failed campaign.Memory h = h
   short_of_plans failed (campaign.Write n) h =
       let P : Answer → Type 0 = λ x. IsCutOff x old new failed n in
-      subst P (sym (is ∙ few_plans c (text, found) h.3)) (h.0, h.2)
+      subst P (sym (is ∙ few_plans c (text, found) h.3)) (h.0, h.1, h.2)
 
 -- what comes of a scenario and of its text, where that is the answer
 module _ (answer : Answer) (text : List ℕ) (found : Bool) (is : answer ≡ Ok (text, found)) (old new : Option (List ℕ)) where
-  of_scenario : Appends old new text → IsWritten answer old new found
-  of_scenario written =
-      let P : Answer → Type 0 = λ x. IsWritten x old new found in
-      subst P (sym is) (written, refl)
+  of_scenario : (failed : Bool) → Appends old new text → failed ≡ false → IsWritten answer old new failed found
+  of_scenario failed written sound =
+      let P : Answer → Type 0 = λ x. IsWritten x old new failed found in
+      subst P (sym is) (written, refl, sound)
 
   short_of_scenario : (failed : Bool) (f : CampaignFault) → LeavesOnly old new failed text f → FallsShort answer old new failed (faults.Campaign f)
   short_of_scenario failed campaign.TooManyPlans h = absurd h
   short_of_scenario failed campaign.Memory h = h
   short_of_scenario failed (campaign.Write n) h =
       let P : Answer → Type 0 = λ x. IsCutOff x old new failed n in
-      subst P (sym is) (h.0, h.2)
+      subst P (sym is) h
 
 -- whether there is a first failure, by its number
 first_found : (first : Option (ℕ × ℕ)) → is_some (option_map (λ f. f.0) first) ≡ is_some first
@@ -57,21 +58,21 @@ first_found (Some f) = refl
 -- ---- the four commands
 
 module _ (c : Campaign) (old new : Option (List ℕ)) where
-  pub run-written : (found : Bool) (first : Option ℕ) → length (plans c) ≤ most_plans → Appends old new (report_text c)
-      → found ≡ is_some first → first ≡ option_map (λ f. f.0) (first_failure c) → IsWritten (run_answer c) old new found
+  pub run-written : (failed found : Bool) (first : Option ℕ) → length (plans c) ≤ most_plans → Appends old new (report_text c) → failed ≡ false
+      → found ≡ is_some first → first ≡ option_map (λ f. f.0) (first_failure c) → IsWritten (run_answer c) old new failed found
   unfolding run_answer
-  run-written found first few written is first-is =
-      let P : Bool → Type 0 = λ b. IsWritten (run_answer c) old new b in
+  run-written failed found first few written sound is first-is =
+      let P : Bool → Type 0 = λ b. IsWritten (run_answer c) old new failed b in
       let same : found ≡ is_some (first_failure c) = is ∙ ap is_some first-is ∙ first_found (first_failure c) in
-      subst P (sym same) (of_plans c (run_answer c) (report_text c) (is_some (first_failure c)) refl old new few written)
+      subst P (sym same) (of_plans c (run_answer c) (report_text c) (is_some (first_failure c)) refl old new failed few written sound)
 
   pub run-short : (failed : Bool) (f : CampaignFault) → IsFault c (report_text c) old new failed f → FallsShort (run_answer c) old new failed (faults.Campaign f)
   unfolding run_answer
   run-short failed f h = short_of_plans c (run_answer c) (report_text c) (is_some (first_failure c)) refl old new failed f h
 
-  pub plans-written : length (plans c) ≤ most_plans → Appends old new (plans_text c) → IsWritten (plans_answer c) old new false
+  pub plans-written : (failed : Bool) → length (plans c) ≤ most_plans → Appends old new (plans_text c) → failed ≡ false → IsWritten (plans_answer c) old new failed false
   unfolding plans_answer
-  plans-written few written = of_plans c (plans_answer c) (plans_text c) false refl old new few written
+  plans-written failed few written sound = of_plans c (plans_answer c) (plans_text c) false refl old new failed few written sound
 
   pub plans-short : (failed : Bool) (f : CampaignFault) → IsFault c (plans_text c) old new failed f → FallsShort (plans_answer c) old new failed (faults.Campaign f)
   unfolding plans_answer
@@ -82,10 +83,10 @@ module _ (c : Campaign) (read : Result Entries Fault) (s : Entries) (spelled : r
   unfolding try_answer
   tried-is = ap (spelled_answer (try_answer c)) spelled
 
-  pub try-written : (found : Bool) → Appends old new (try_text c.codes (tried c s)) → found ≡ is_fail (tried c s).verdict → IsWritten (spelled_answer (try_answer c) read) old new found
-  try-written found written is =
-      let P : Bool → Type 0 = λ b. IsWritten (spelled_answer (try_answer c) read) old new b in
-      subst P (sym is) (of_scenario _ _ _ tried-is old new written)
+  pub try-written : (failed found : Bool) → Appends old new (try_text c.codes (tried c s)) → failed ≡ false → found ≡ is_fail (tried c s).verdict → IsWritten (spelled_answer (try_answer c) read) old new failed found
+  try-written failed found written sound is =
+      let P : Bool → Type 0 = λ b. IsWritten (spelled_answer (try_answer c) read) old new failed b in
+      subst P (sym is) (of_scenario _ _ _ tried-is old new failed written sound)
 
   pub try-short : (failed : Bool) (f : CampaignFault) → LeavesOnly old new failed (try_text c.codes (tried c s)) f → FallsShort (spelled_answer (try_answer c) read) old new failed (faults.Campaign f)
   try-short failed f h = short_of_scenario _ _ _ tried-is old new failed f h
@@ -94,10 +95,19 @@ module _ (c : Campaign) (read : Result Entries Fault) (s : Entries) (spelled : r
   unfolding reduce_answer
   reduced-is = ap (spelled_answer (reduce_answer c)) spelled
 
-  pub reduce-written : (found : Bool) → Appends old new (reduce_text c s) → found ≡ is_fail (say c 0 s) → IsWritten (spelled_answer (reduce_answer c) read) old new found
-  reduce-written found written is =
-      let P : Bool → Type 0 = λ b. IsWritten (spelled_answer (reduce_answer c) read) old new b in
-      subst P (sym is) (of_scenario _ _ _ reduced-is old new written)
+  pub reduce-written : (failed found : Bool) → Appends old new (reduce_text c s) → failed ≡ false → found ≡ is_fail (say c 0 s) → IsWritten (spelled_answer (reduce_answer c) read) old new failed found
+  reduce-written failed found written sound is =
+      let P : Bool → Type 0 = λ b. IsWritten (spelled_answer (reduce_answer c) read) old new failed b in
+      subst P (sym is) (of_scenario _ _ _ reduced-is old new failed written sound)
 
   pub reduce-short : (failed : Bool) (f : CampaignFault) → LeavesOnly old new failed (reduce_text c s) f → FallsShort (spelled_answer (reduce_answer c) read) old new failed (faults.Campaign f)
   reduce-short failed f h = short_of_scenario _ _ _ reduced-is old new failed f h
+
+  pub reduce-minimal : IsReducedToMinimal c s → IfOk read (IsReducedToMinimal c)
+  reduce-minimal minimal = let P : Result Entries Fault → Type 0 = λ r. IfOk r (IsReducedToMinimal c) in subst P (sym spelled) minimal
+
+-- a fault that is passed up
+pub short-up : (answer : Answer) (old new : Option (List ℕ)) (failed : Bool) (result : Result Bool CommandFault) (fault : CommandFault) → IsErrAnd result (λ f. f ≡ fault)
+    → FallsShort answer old new failed fault → ComesTo answer old new failed result
+short-up answer old new failed (Ok found) fault is short = absurd is
+short-up answer old new failed (Err f) fault is short = let P : CommandFault → Type 0 = λ x. FallsShort answer old new failed x in subst P (sym is) short

@@ -1,5 +1,5 @@
 -- Ends, by what a command came to and by what was read.
-use Rattle.std.proofs.Common.{◌≡◌, ◌≤◌, ◌<◌, ◌∙◌, ℕ, Bool, true, false, List, Option, Some, None, IfSome, Ok, Err, length, refl, sym, ap, inl, inr, subst, if◌then◌else◌}
+use Rattle.std.proofs.Common.{◌≡◌, ◌≤◌, ◌<◌, ◌∙◌, ℕ, Bool, true, false, List, Option, Some, None, IfSome, IfOk, Ok, Err, length, refl, sym, ap, inl, inr, subst, if◌then◌else◌}
 use Rattle.std.proofs.lemmas.Bool.{false_from_ne_true, le-ltb, lt-ltb, true≢false}
 use Rattle.std.proofs.lemmas.Str.{IsUtf8-from_is_utf8, is_utf8-from_IsUtf8}
 use Rattle.std.specs.Str.{IsUtf8, is_utf8}
@@ -10,14 +10,20 @@ use Rattle.campaign_settings.specs.declared.choice.Choice.{Choice}
 use Rattle.campaign_settings.specs.declared.settings.Settings.{Settings}
 use Rattle.campaign_settings.specs.declared.fault.SettingsFault.{SettingsFault}
 use Rattle.campaign_settings.specs.declared.fault.SettingsFault.TheVariants.{TooLong, NotToml, UnknownKey, Missing, WrongType, OutOfRange, Scenario, Memory}
+use Rattle.scenario_grammar.specs.declared.fault.ScenarioFault.TheVariants as scenario
+use Rattle.campaign_core.specs.declared.ending.CampaignFault.TheVariants as campaign
 use Rattle.command_words.specs.declared.words.Order.{Order}
+use Rattle.campaign_main.specs.declared.fault.CommandFault.{CommandFault}
+use Rattle.campaign_main.specs.declared.fault.CommandFault.TheVariants as command
 use Rattle.campaign_main.specs.declared.exit.Exit.{Exit}
 use Rattle.campaign_main.specs.declared.exit.Exit.TheVariants as exit
 use Rattle.campaign_main.specs.declared.input.ReadFault.{ReadFault}
 use Rattle.campaign_main.specs.declared.input.ReadFault.TheVariants as read
-use Rattle.campaign_main.specs.Commands.{Answer, Refusal, answer_of, bad_settings, campaign_for, chosen_answer, given_answer, not_text, order_answer, text_answer}
-use Rattle.campaign_main.specs.Ends.{IsRefused, RefusesWith, TellsRefusal}
-use Rattle.campaign_main.specs.FaultLines.{refusal_line, settings_line, read_fault_line, unreadable_line}
+use Rattle.campaign_main.specs.Commands.{Answer, Refusal, answer_of, bad_scenario, bad_settings, campaign_for, chosen_answer, given_answer, not_text, order_answer, text_answer}
+use Rattle.campaign_main.specs.Ends.{EndsAs, FallsShort, IsCutOff, IsEndOf, IsRefused, IsWritten, Leaves, OnWhole, RefusesWith, Tells, TellsARefusal, TellsBy, TellsRefusal}
+use Rattle.campaign_main.specs.Exit.{exit_of}
+use Rattle.campaign_main.specs.Minimal.{ReducesToMinimal, TextReducesToMinimal}
+use Rattle.campaign_main.specs.FaultLines.{refusal_line, scenario_line, settings_line, read_fault_line, unreadable_line}
 
 -- whether this end is Refused
 abbrev is_refused : Exit → Bool
@@ -37,6 +43,114 @@ tells-refusal answer refusal end old new failed is refused told =
     let P : Exit → Type 0 = λ e. RefusesWith (refusal_line refusal) e old new failed in
     let Q : Answer → Type 0 = λ a. TellsRefusal a old new failed in
     subst Q (sym is) (subst P refused told)
+
+-- what an end tells that refuses with a line
+pub tells-by : (refusal : Type 0) (line : List ℕ) (end : Exit) (old new : Option (List ℕ)) (failed : Bool) → RefusesWith line end old new failed → (end ≡ exit.Refused → refusal)
+    → TellsBy refusal end old new failed
+tells-by refusal line exit.Kept old new failed told why = absurd told
+tells-by refusal line exit.Found old new failed told why = absurd told
+tells-by refusal line exit.Refused old new failed told why = why refl
+tells-by refusal line exit.Memory old new failed told why = told
+tells-by refusal line (exit.Write n) old new failed told why = absurd told
+
+-- an end that refuses with a line wrote nothing
+pub refuses-leaves : (line : List ℕ) (end : Exit) (old new : Option (List ℕ)) (failed : Bool) (answer : Answer) (output : Option (List ℕ)) (broken : Bool)
+    → RefusesWith line end old new failed → broken ≡ false → EndsAs end answer output output broken × Leaves end output output broken
+refuses-leaves line exit.Kept old new failed answer output broken told sound = absurd told
+refuses-leaves line exit.Found old new failed answer output broken told sound = absurd told
+refuses-leaves line exit.Refused old new failed answer output broken told sound = ((refl, sound), (refl, sound))
+refuses-leaves line exit.Memory old new failed answer output broken told sound = ((refl, sound), (refl, sound))
+refuses-leaves line (exit.Write n) old new failed answer output broken told sound = absurd told
+
+pub refuses-whole : (line : List ℕ) (end : Exit) (old new : Option (List ℕ)) (failed : Bool) (claim : Type 0) → RefusesWith line end old new failed → OnWhole end claim
+refuses-whole line exit.Kept old new failed claim told = absurd told
+refuses-whole line exit.Found old new failed claim told = absurd told
+refuses-whole line exit.Refused old new failed claim told = tt
+refuses-whole line exit.Memory old new failed claim told = tt
+refuses-whole line (exit.Write n) old new failed claim told = absurd told
+
+-- what is told of an answer's refusal is the line of some refusal
+pub some-refusal : (answer : Answer) (end : Exit) (old new : Option (List ℕ)) (failed : Bool) → TellsBy (TellsRefusal answer old new failed) end old new failed → Tells end old new failed
+some-refusal answer exit.Kept old new failed told = told
+some-refusal answer exit.Found old new failed told = told
+some-refusal answer exit.Refused old new failed told = of answer told
+  where
+    of : (answer : Answer) → TellsRefusal answer old new failed → TellsARefusal old new failed
+    of (Ok text) told = absurd told
+    of (Err refusal) told = inl (refusal, told)
+some-refusal answer exit.Memory old new failed told = told
+some-refusal answer (exit.Write n) old new failed told = told
+
+-- ---- by what a command over a target came to
+
+module _ (answer : Answer) (old new : Option (List ℕ)) (failed : Bool) where
+  written-sound : (a : Answer) (found : Bool) → IsWritten a old new failed found → failed ≡ false
+  written-sound (Ok text) found h = h.2
+  written-sound (Err refusal) found h = absurd h
+
+  cut-broken : (a : Answer) (n : ℕ) → IsCutOff a old new failed n → failed ≡ true
+  cut-broken (Ok text) n h = h.2
+  cut-broken (Err refusal) n h = absurd h
+
+  -- what an end says of its answer, it says of the output
+  pub leaves : (end : Exit) → EndsAs end answer old new failed → Leaves end old new failed
+  leaves exit.Kept h = written-sound answer false h
+  leaves exit.Found h = written-sound answer true h
+  leaves exit.Refused h = h
+  leaves exit.Memory h = h
+  leaves (exit.Write n) h = cut-broken answer n h
+
+  pub found-ends : (found : Bool) → IsWritten answer old new failed found → EndsAs (exit_of found) answer old new failed
+  found-ends false h = h
+  found-ends true h = h
+
+  module _ (line line' : Option (List ℕ)) (broken : Bool) where
+    pub fault-ends : (fault : CommandFault) (end : Exit) → FallsShort answer old new failed fault → IsEndOf fault end line line' broken → EndsAs end answer old new failed
+    fault-ends (command.Scenario scenario.Memory) end short is = let P : Exit → Type 0 = λ e. EndsAs e answer old new failed in subst P (sym is.0) short
+    fault-ends (command.Scenario (scenario.Bad kind entry term)) exit.Kept short is = absurd is
+    fault-ends (command.Scenario (scenario.Bad kind entry term)) exit.Found short is = absurd is
+    fault-ends (command.Scenario (scenario.Bad kind entry term)) exit.Refused short is = short.0
+    fault-ends (command.Scenario (scenario.Bad kind entry term)) exit.Memory short is = short.0
+    fault-ends (command.Scenario (scenario.Bad kind entry term)) (exit.Write n) short is = absurd is
+    fault-ends (command.Campaign campaign.TooManyPlans) end short is = let P : Exit → Type 0 = λ e. EndsAs e answer old new failed in subst P (sym is.0) short.0
+    fault-ends (command.Campaign campaign.Memory) end short is = let P : Exit → Type 0 = λ e. EndsAs e answer old new failed in subst P (sym is.0) short
+    fault-ends (command.Campaign (campaign.Write n)) end short is = let P : Exit → Type 0 = λ e. EndsAs e answer old new failed in subst P (sym is.0) short
+
+    pub fault-tells : (fault : CommandFault) (end : Exit) → FallsShort answer old new failed fault → IsEndOf fault end line line' broken → TellsBy (TellsRefusal answer line line' broken) end line line' broken
+    fault-tells (command.Scenario scenario.Memory) end short is = let P : Exit → Type 0 = λ e. TellsBy (TellsRefusal answer line line' broken) e line line' broken in subst P (sym is.0) is.1
+    fault-tells (command.Scenario (scenario.Bad kind entry term)) end short is =
+        tells-by (TellsRefusal answer line line' broken) (scenario_line (scenario.Bad kind entry term)) end line line' broken is
+        (λ refused. tells-refusal answer (bad_scenario (record { kind = kind; entry = entry; term = term })) end line line' broken short.1 refused is)
+    fault-tells (command.Campaign campaign.TooManyPlans) end short is =
+        let P : Exit → Type 0 = λ e. TellsBy (TellsRefusal answer line line' broken) e line line' broken in
+        let Q : Answer → Type 0 = λ a. TellsRefusal a line line' broken in
+        subst P (sym is.0) (subst Q (sym short.1) is.1)
+    fault-tells (command.Campaign campaign.Memory) end short is = let P : Exit → Type 0 = λ e. TellsBy (TellsRefusal answer line line' broken) e line line' broken in subst P (sym is.0) is.1
+    fault-tells (command.Campaign (campaign.Write n)) end short is = let P : Exit → Type 0 = λ e. TellsBy (TellsRefusal answer line line' broken) e line line' broken in subst P (sym is.0) is.1
+
+-- a fault is no end of a text that was written whole
+pub fault-whole : (line line' : Option (List ℕ)) (broken : Bool) (claim : Type 0) (fault : CommandFault) (end : Exit) → IsEndOf fault end line line' broken → OnWhole end claim
+fault-whole line line' broken claim (command.Scenario scenario.Memory) end is = let P : Exit → Type 0 = λ e. OnWhole e claim in subst P (sym is.0) tt
+fault-whole line line' broken claim (command.Scenario (scenario.Bad kind entry term)) end is = refuses-whole (scenario_line (scenario.Bad kind entry term)) end line line' broken claim is
+fault-whole line line' broken claim (command.Campaign campaign.TooManyPlans) end is = let P : Exit → Type 0 = λ e. OnWhole e claim in subst P (sym is.0) tt
+fault-whole line line' broken claim (command.Campaign campaign.Memory) end is = let P : Exit → Type 0 = λ e. OnWhole e claim in subst P (sym is.0) tt
+fault-whole line line' broken claim (command.Campaign (campaign.Write n)) end is = let P : Exit → Type 0 = λ e. OnWhole e claim in subst P (sym is.0) tt
+
+-- what holds of a text that was written whole
+pub found-whole : (found : Bool) (claim : Type 0) → claim → OnWhole (exit_of found) claim
+found-whole false claim h = h
+found-whole true claim h = h
+
+pub whole-map : (end : Exit) (claim other : Type 0) → (claim → other) → OnWhole end claim → OnWhole end other
+whole-map exit.Kept claim other f h = f h
+whole-map exit.Found claim other f h = f h
+whole-map exit.Refused claim other f h = tt
+whole-map exit.Memory claim other f h = tt
+whole-map (exit.Write n) claim other f h = tt
+
+pub found-tells : (refusal : Type 0) (found : Bool) (old : Option (List ℕ)) (failed : Bool) → failed ≡ false → TellsBy refusal (exit_of found) old old failed
+found-tells refusal false old failed sound = (refl, sound)
+found-tells refusal true old failed sound = (refl, sound)
 
 -- ---- by what the settings' text gives
 
@@ -70,6 +184,12 @@ module _ (order : Order) (text : List ℕ) where
         let f : Read Given → Answer = given_answer order in
         let g : Option Choice → Answer = chosen_answer order (given_of s) in
         ap f is ∙ ap g some
+
+    pub text-minimal : (choice : Choice) → s.choice ≡ Some choice → ReducesToMinimal order (campaign_for (given_of s) choice) → TextReducesToMinimal order text
+    text-minimal choice some minimal =
+        let Q : Option Choice → Type 0 = λ o. IfSome o (λ choice. ReducesToMinimal order (campaign_for (given_of s) choice)) in
+        let P : Read Given → Type 0 = λ r. IfOk r (λ given. IfSome given.choice (λ choice. ReducesToMinimal order (campaign_for given choice))) in
+        subst P (sym is) (subst Q (sym some) minimal)
 
 -- ---- by the bytes
 
@@ -110,6 +230,20 @@ read-answer order known text shown P same is few utf8 h =
     let there : P (answer_of order text) = subst P (sym (answer-text order text few (subst IsUtf8 same utf8))) (subst Q same h) in
     let R : List ℕ → Type 0 = λ bytes. P (answer_of order bytes) in
     if_some known (λ bytes. text ≡ bytes) R (λ bytes e. subst R e there) is
+
+-- what holds of the text that was read holds of the bytes that the reader tells
+pub read-whole : (known : Option (List ℕ)) (text shown : List ℕ) (P : List ℕ → Type 0) → shown ≡ text → IfSome known (λ bytes. text ≡ bytes) → P shown → IfSome known P
+read-whole known text shown P same is h = if_some known (λ bytes. text ≡ bytes) P (λ bytes e. subst P e (subst P same h)) is
+
+-- a reader that gave no text tells why
+pub tells-unread : (fault : ReadFault) (end : Exit) (old new : Option (List ℕ)) (failed : Bool) → RefusesWith (read_fault_line fault) end old new failed → (fault ≡ read.Memory → end ≡ exit.Memory) → Tells end old new failed
+tells-unread fault end old new failed told memory = tells-by (TellsARefusal old new failed) (read_fault_line fault) end old new failed told (which fault end told memory)
+  where
+    which : (fault : ReadFault) (end : Exit) → RefusesWith (read_fault_line fault) end old new failed → (fault ≡ read.Memory → end ≡ exit.Memory) → end ≡ exit.Refused → TellsARefusal old new failed
+    which read.TooLong end told memory refused = let P : Exit → Type 0 = λ e. RefusesWith (read_fault_line read.TooLong) e old new failed in inl (bad_settings too_long, subst P refused told)
+    which read.NotUtf8 end told memory refused = let P : Exit → Type 0 = λ e. RefusesWith (read_fault_line read.NotUtf8) e old new failed in inl (not_text, subst P refused told)
+    which read.NotReadable end told memory refused = let P : Exit → Type 0 = λ e. RefusesWith (read_fault_line read.NotReadable) e old new failed in inr (subst P refused told)
+    which read.Memory end told memory refused = memory-apart end (memory refl) refused
 
 -- a reader that gave no text
 module _ (order : Order) (known : Option (List ℕ)) (end : Exit) (old new : Option (List ℕ)) (failed : Bool) where

@@ -1,5 +1,5 @@
 -- How a command ends, by its answer. A sink held `old` and holds `new`, where it tells its bytes, and says whether it failed.
-use Rattle.std.specs.Prelude.{◌≡◌, ◌⊎◌, ℕ, Bool, true, false, List, Option, Result, Ok, Err, IsErrAnd, IsOkAnd, take}
+use Rattle.std.specs.Prelude.{◌≡◌, ◌<◌, ◌⊎◌, ℕ, Bool, true, false, List, Option, Result, Ok, Err, IsErrAnd, IsOkAnd, length, take}
 use Rattle.std.specs.Io.KnownBytes.{Appends}
 use Rattle.scenario_grammar.specs.declared.fault.ScenarioFault.TheVariants as scenario
 use Rattle.campaign_core.specs.declared.ending.CampaignFault.TheVariants as campaign
@@ -9,47 +9,68 @@ use Rattle.campaign_main.specs.declared.exit.Exit.{Exit}
 use Rattle.campaign_main.specs.declared.exit.Exit.TheVariants.{Kept, Found, Refused, Memory, Write}
 use Rattle.campaign_main.specs.declared.fault.CommandFault.{CommandFault}
 use Rattle.campaign_main.specs.declared.fault.CommandFault.TheVariants.{Scenario, Campaign}
-use Rattle.campaign_main.specs.Commands.{Answer, bad_scenario, too_many_plans}
+use Rattle.campaign_main.specs.Commands.{Answer, Refusal, bad_scenario, too_many_plans}
 use Rattle.campaign_main.specs.FaultLines.{cut_off_line, memory_line, refusal_line, scenario_line, unreadable_line}
 
--- the answer's whole text was written, and this is whether a verdict in it is fail
-abbrev pub IsWritten : Answer → Option (List ℕ) → Option (List ℕ) → Bool → Type 0
-IsWritten answer old new found = IsOkAnd answer (λ a. Appends old new a.0 × (a.1 ≡ found))
+-- nothing was written, and the sink hasn't failed
+abbrev pub IsUntouched : Option (List ℕ) → Option (List ℕ) → Bool → Type 0
+IsUntouched old new failed = (new ≡ old) × (failed ≡ false)
 
--- so many bytes of the answer's text were written before the sink failed
+-- the answer's whole text was written, and this is whether a verdict in it is fail; the sink hasn't failed
+abbrev pub IsWritten : Answer → Option (List ℕ) → Option (List ℕ) → Bool → Bool → Type 0
+IsWritten answer old new failed found = IsOkAnd answer (λ a. Appends old new a.0 × (a.1 ≡ found) × (failed ≡ false))
+
+-- so many bytes of the answer's text, and not all, were written before the sink failed
 abbrev pub IsCutOff : Answer → Option (List ℕ) → Option (List ℕ) → Bool → ℕ → Type 0
-IsCutOff answer old new failed written = IsOkAnd answer (λ a. Appends old new (take written a.0) × (failed ≡ true))
+IsCutOff answer old new failed written =
+    IsOkAnd answer (λ a. Appends old new (take written a.0) × (written < length a.0) × (failed ≡ true))
 
 -- What an end says: Kept and Found that the whole text was written and what was found, Write that a part was, and the others that
 -- nothing was.
 abbrev pub EndsAs : Exit → Answer → Option (List ℕ) → Option (List ℕ) → Bool → Type 0
-EndsAs Kept answer old new failed = IsWritten answer old new false
-EndsAs Found answer old new failed = IsWritten answer old new true
-EndsAs Refused answer old new failed = new ≡ old
-EndsAs Memory answer old new failed = new ≡ old
+EndsAs Kept answer old new failed = IsWritten answer old new failed false
+EndsAs Found answer old new failed = IsWritten answer old new failed true
+EndsAs Refused answer old new failed = IsUntouched old new failed
+EndsAs Memory answer old new failed = IsUntouched old new failed
 EndsAs (Write written) answer old new failed = IsCutOff answer old new failed written
+
+-- what an end says of the output whatever was read: it has failed where a write did, and only there; and where the command was refused,
+-- or memory was, nothing was written
+abbrev pub Leaves : Exit → Option (List ℕ) → Option (List ℕ) → Bool → Type 0
+Leaves Kept old new failed = failed ≡ false
+Leaves Found old new failed = failed ≡ false
+Leaves Refused old new failed = IsUntouched old new failed
+Leaves Memory old new failed = IsUntouched old new failed
+Leaves (Write written) old new failed = failed ≡ true
+
+-- where the whole text was written
+abbrev pub OnWhole : Exit → Type 0 → Type 0
+OnWhole Kept claim = claim
+OnWhole Found claim = claim
+OnWhole _ claim = Unit {0}
 
 -- ---- a command over a target
 
 -- what was written by a command that came to a fault, and why
 abbrev pub FallsShort : Answer → Option (List ℕ) → Option (List ℕ) → Bool → CommandFault → Type 0
-FallsShort answer old new failed (Scenario scenario.Memory) = new ≡ old
+FallsShort answer old new failed (Scenario scenario.Memory) = IsUntouched old new failed
 FallsShort answer old new failed (Scenario (scenario.Bad kind entry term)) =
-    (new ≡ old) × (answer ≡ Err (bad_scenario (record { kind = kind; entry = entry; term = term })))
-FallsShort answer old new failed (Campaign campaign.TooManyPlans) = (new ≡ old) × (answer ≡ Err too_many_plans)
-FallsShort answer old new failed (Campaign campaign.Memory) = new ≡ old
+    IsUntouched old new failed × (answer ≡ Err (bad_scenario (record { kind = kind; entry = entry; term = term })))
+FallsShort answer old new failed (Campaign campaign.TooManyPlans) = IsUntouched old new failed × (answer ≡ Err too_many_plans)
+FallsShort answer old new failed (Campaign campaign.Memory) = IsUntouched old new failed
 FallsShort answer old new failed (Campaign (campaign.Write written)) = IsCutOff answer old new failed written
 
 -- what a command came to: whether a verdict in its text is fail, or a fault
 abbrev pub ComesTo : Answer → Option (List ℕ) → Option (List ℕ) → Bool → Result Bool CommandFault → Type 0
-ComesTo answer old new failed (Ok found) = IsWritten answer old new found
+ComesTo answer old new failed (Ok found) = IsWritten answer old new failed found
 ComesTo answer old new failed (Err fault) = FallsShort answer old new failed fault
 
 -- ---- fault lines
 
--- a line stands on a sink, or the sink failed
+-- a line was written to a sink that hasn't failed, or a part of it before the sink failed
 abbrev pub IsTold : List ℕ → Option (List ℕ) → Option (List ℕ) → Bool → Type 0
-IsTold line old new failed = Appends old new line ⊎ (failed ≡ true)
+IsTold line old new failed = (Appends old new line × (failed ≡ false))
+    ⊎ ((written : ℕ) × Appends old new (take written line) × (written < length line) × (failed ≡ true))
 
 -- the answer is a refusal, and its line is told
 abbrev pub TellsRefusal : Answer → Option (List ℕ) → Option (List ℕ) → Bool → Type 0
@@ -59,14 +80,21 @@ TellsRefusal answer old new failed = IsErrAnd answer (λ refusal. IsTold (refusa
 abbrev pub IsRefused : Answer → Option (List ℕ) → Option (List ℕ) → Bool → Type 0
 IsRefused answer old new failed = TellsRefusal answer old new failed ⊎ IsTold unreadable_line old new failed
 
--- What an end tells on the sink of faults: nothing where a whole text was written, and else why there is none. Which lines a refusal tells,
--- its answer says; here they may be any.
+-- the line of a refusal is told, or that the settings couldn't be read
+abbrev pub TellsARefusal : Option (List ℕ) → Option (List ℕ) → Bool → Type 0
+TellsARefusal old new failed = ((refusal : Refusal) × IsTold (refusal_line refusal) old new failed) ⊎ IsTold unreadable_line old new failed
+
+-- what an end tells on the sink of faults: nothing where a whole text was written, and else why there is none; of a refusal, `refusal`
+abbrev pub TellsBy : Type 0 → Exit → Option (List ℕ) → Option (List ℕ) → Bool → Type 0
+TellsBy refusal Kept old new failed = IsUntouched old new failed
+TellsBy refusal Found old new failed = IsUntouched old new failed
+TellsBy refusal Refused old new failed = refusal
+TellsBy refusal Memory old new failed = IsTold memory_line old new failed
+TellsBy refusal (Write written) old new failed = IsTold (cut_off_line written) old new failed
+
+-- the same of a command, whatever was read: which refusal it is, its answer says
 abbrev pub Tells : Exit → Option (List ℕ) → Option (List ℕ) → Bool → Type 0
-Tells Kept old new failed = new ≡ old
-Tells Found old new failed = new ≡ old
-Tells Refused old new failed = (lines : List ℕ) × IsTold lines old new failed
-Tells Memory old new failed = IsTold memory_line old new failed
-Tells (Write written) old new failed = IsTold (cut_off_line written) old new failed
+Tells end old new failed = TellsBy (TellsARefusal old new failed) end old new failed
 
 -- what was read has a fault, and this line is told, or memory was refused, and that is
 abbrev pub RefusesWith : List ℕ → Exit → Option (List ℕ) → Option (List ℕ) → Bool → Type 0
@@ -85,11 +113,16 @@ IsEndOf (Campaign (campaign.Write written)) end old new failed = (end ≡ Write 
 
 -- ---- words
 
--- How the program ends that doesn't take its words: help was written, or as much of it as the output took; or the words are refused, or
--- memory was, and nothing was written to the output.
+-- How the program ends that doesn't take its words: help was written, or a part of it before the output failed; or the words are refused,
+-- or memory was, and nothing was written to the output. The texts are those of clap, which has no definition of them.
 abbrev pub EndsWords : Exit → WordsFault → Option (List ℕ) → Option (List ℕ) → Bool → Type 0
-EndsWords Kept fault old new failed = AsksForHelp fault
+EndsWords Kept fault old new failed = AsksForHelp fault × ((help : List ℕ) × Appends old new help) × (failed ≡ false)
 EndsWords Found fault old new failed = ⊥
-EndsWords Refused fault old new failed = (new ≡ old) × ¬ AsksForHelp fault
-EndsWords Memory fault old new failed = new ≡ old
-EndsWords (Write written) fault old new failed = AsksForHelp fault × (failed ≡ true)
+EndsWords Refused fault old new failed = (¬ AsksForHelp fault) × IsUntouched old new failed
+EndsWords Memory fault old new failed = IsUntouched old new failed
+EndsWords (Write written) fault old new failed = AsksForHelp fault
+    × ((help : List ℕ) × Appends old new (take written help) × (written < length help)) × (failed ≡ true)
+
+-- what it tells on the sink of faults; of refused words, some lines
+abbrev pub TellsWords : Exit → Option (List ℕ) → Option (List ℕ) → Bool → Type 0
+TellsWords end old new failed = TellsBy ((lines : List ℕ) × IsTold lines old new failed) end old new failed

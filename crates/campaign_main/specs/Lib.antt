@@ -2,3 +2,4 @@ pub mod Exit
 pub mod FaultLines
 pub mod Commands
 pub mod Ends
+pub mod Minimal

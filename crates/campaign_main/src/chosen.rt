@@ -1,8 +1,9 @@
 //! A command over the bundled target that the settings choose.
-ghost use Rattle.std.specs.Prelude.{◌≡◌, false};
+ghost use Rattle.std.specs.Prelude.{◌≡◌, false, OnOk};
 ghost use Rattle.campaign_settings.specs.Settings.{given_of};
 ghost use Rattle.campaign_main.specs.Commands.{campaign_for, order_answer};
 ghost use Rattle.campaign_main.specs.Ends.{ComesTo};
+ghost use Rattle.campaign_main.specs.Minimal.{ReducesToMinimal};
 
 use crate::command::command;
 use crate::fault::CommandFault;
@@ -26,7 +27,8 @@ pub fn chosen_command<W: Sink, H: Threads + Wait + Sync>(
     output: &mut W,
 ) -> Result<bool, CommandFault>
     requires { W.has_failed output.old ≡ false }
-    ensures { ComesTo (order_answer order.now (campaign_for (given_of settings.now) choice.now)) (W.told output.old) (W.told output.new) (W.has_failed output.new) result }
+    ensures text { ComesTo (order_answer order.now (campaign_for (given_of settings.now) choice.now)) (W.told output.old) (W.told output.new) (W.has_failed output.new) result }
+    ensures minimal { OnOk result (ReducesToMinimal order.now (campaign_for (given_of settings.now) choice.now)) }
 {
     match choice {
         Choice::Replace(variant, work) => {

@@ -1,8 +1,10 @@
 //! The commands over one target.
-ghost use Rattle.std.specs.Prelude.{◌≡◌, false, string_bytes};
-ghost use Rattle.campaign_core.specs.Headline.{campaign_of};
+ghost use Rattle.std.specs.Prelude.{◌≡◌, false, IfOk, OnOk, string_bytes};
+ghost use Rattle.campaign_core.specs.CommandTexts.{IsReducedToMinimal};
+ghost use Rattle.campaign_core.specs.Headline.{campaign_of, EachIsMinimal};
 ghost use Rattle.campaign_main.specs.Commands.{order_answer, plans_answer, reduce_answer, run_answer, spelled_answer, try_answer};
 ghost use Rattle.campaign_main.specs.Ends.{ComesTo};
+ghost use Rattle.campaign_main.specs.Minimal.{ReducesToMinimal};
 ghost use Rattle.scenario_grammar.specs.FirstFault.{reading};
 
 use crate::exit::is_fail;
@@ -28,12 +30,11 @@ fn run_plans<T: Target + Send, W: Sink, H: Threads + Wait + Sync>(
 where
     T::Workload: Sync,
     requires { W.has_failed output.old ≡ false }
-    ensures { ComesTo (run_answer (campaign_of (T.asks target.now workload.now) T.names T.code_text (T.label_of target.now) settings.now)) (W.told output.old) (W.told output.new) (W.has_failed output.new) result }
+    ensures text { ComesTo (run_answer (campaign_of (T.asks target.now workload.now) T.names T.code_text (T.label_of target.now) settings.now)) (W.told output.old) (W.told output.new) (W.has_failed output.new) result }
+    ensures minimal { OnOk result (EachIsMinimal (campaign_of (T.asks target.now workload.now) T.names T.code_text (T.label_of target.now) settings.now)) }
 {
-    match campaign(rt, alloc, target, workload, settings, &FreeGate, output) {
-        Ok(ending) => Ok(ending.first.is_some()),
-        Err(fault) => Err(CommandFault::Campaign(fault)),
-    }
+    let ending = campaign(rt, alloc, target, workload, settings, &FreeGate, output)?;
+    Ok(ending.first.is_some())
 }
 
 /// Writes the list of a campaign's plans.
@@ -47,10 +48,8 @@ fn list_plans<T: Target, W: Sink>(
     requires { W.has_failed output.old ≡ false }
     ensures { ComesTo (plans_answer (campaign_of (T.asks target.now workload.now) T.names T.code_text (T.label_of target.now) settings.now)) (W.told output.old) (W.told output.new) (W.has_failed output.new) result }
 {
-    match plan_list(alloc, target, workload, settings, output) {
-        Ok(()) => Ok(false),
-        Err(fault) => Err(CommandFault::Campaign(fault)),
-    }
+    plan_list(alloc, target, workload, settings, output)?;
+    Ok(false)
 }
 
 /// Tries the scenario that a text spells.
@@ -65,16 +64,11 @@ fn try_text<T: Target, W: Sink>(
     requires { W.has_failed output.old ≡ false }
     ensures { ComesTo (spelled_answer (try_answer (campaign_of (T.asks target.old workload.now) T.names T.code_text (T.label_of target.old) settings.now)) (reading text.now)) (W.told output.old) (W.told output.new) (W.has_failed output.new) result }
 {
-    let scenario = match parse(alloc, text) {
-        Ok(scenario) => scenario,
-        Err(fault) => return Err(CommandFault::Scenario(fault)),
-    };
+    let scenario = parse(alloc, text)?;
     let seed = settings.seed;
     let max_hits = settings.max_hits;
-    match try_one(alloc, target, workload, seed, max_hits, &scenario, output) {
-        Ok(verdict) => Ok(is_fail(verdict)),
-        Err(fault) => Err(CommandFault::Campaign(fault)),
-    }
+    let verdict = try_one(alloc, target, workload, seed, max_hits, &scenario, output)?;
+    Ok(is_fail(verdict))
 }
 
 /// Reduces the scenario that a text spells.
@@ -90,25 +84,21 @@ fn reduce_text<T: Target + Send, W: Sink, H: Threads + Wait + Sync>(
 where
     T::Workload: Sync,
     requires { W.has_failed output.old ≡ false }
-    ensures { ComesTo (spelled_answer (reduce_answer (campaign_of (T.asks target.now workload.now) T.names T.code_text (T.label_of target.now) settings.now)) (reading text.now)) (W.told output.old) (W.told output.new) (W.has_failed output.new) result }
+    ensures text { ComesTo (spelled_answer (reduce_answer (campaign_of (T.asks target.now workload.now) T.names T.code_text (T.label_of target.now) settings.now)) (reading text.now)) (W.told output.old) (W.told output.new) (W.has_failed output.new) result }
+    ensures minimal { OnOk result (IfOk (reading text.now) (IsReducedToMinimal (campaign_of (T.asks target.now workload.now) T.names T.code_text (T.label_of target.now) settings.now))) }
 {
-    let scenario = match parse(alloc, text) {
-        Ok(scenario) => scenario,
-        Err(fault) => return Err(CommandFault::Scenario(fault)),
-    };
+    let scenario = parse(alloc, text)?;
     let gate = FreeGate;
-    match reduce_one(
+    let verdict = reduce_one(
         rt, alloc, target, workload, settings, &scenario, &gate, output,
-    ) {
-        Ok(verdict) => Ok(is_fail(verdict)),
-        Err(fault) => Err(CommandFault::Campaign(fault)),
-    }
+    )?;
+    Ok(is_fail(verdict))
 }
 
 /// Does what is ordered with this target, and writes the command's text.
 ///
 /// It answers whether a verdict in the text is fail, where the whole text was written. Else nothing was written, or the fault tells
-/// how many bytes of the text went out.
+/// how many bytes of the text, fewer than all, went out. Only then the output has failed.
 pub fn command<T: Target + Send, W: Sink, H: Threads + Wait + Sync>(
     rt: &H,
     alloc: Global,
@@ -121,7 +111,8 @@ pub fn command<T: Target + Send, W: Sink, H: Threads + Wait + Sync>(
 where
     T::Workload: Sync,
     requires { W.has_failed output.old ≡ false }
-    ensures { ComesTo (order_answer order.now (campaign_of (T.asks target.old workload.now) T.names T.code_text (T.label_of target.old) settings.now)) (W.told output.old) (W.told output.new) (W.has_failed output.new) result }
+    ensures text { ComesTo (order_answer order.now (campaign_of (T.asks target.old workload.now) T.names T.code_text (T.label_of target.old) settings.now)) (W.told output.old) (W.told output.new) (W.has_failed output.new) result }
+    ensures minimal { OnOk result (ReducesToMinimal order.now (campaign_of (T.asks target.old workload.now) T.names T.code_text (T.label_of target.old) settings.now)) }
 {
     match order {
         Order::Run => run_plans(rt, alloc, target, workload, settings, output),

@@ -1,4 +1,7 @@
 //! Why a command over a target wrote no whole text.
+ghost use Rattle.std.specs.Prelude.{◌≡◌};
+ghost use Rattle.campaign_main.specs.declared.fault.CommandFault.TheVariants.{Campaign, Scenario};
+
 use campaign_core::CampaignFault;
 use scenario_grammar::ScenarioFault;
 
@@ -9,4 +12,20 @@ pub enum CommandFault {
     Scenario(ScenarioFault),
     /// What it does with the target came to no text, or the text wasn't written whole.
     Campaign(CampaignFault),
+}
+
+impl From<ScenarioFault> for CommandFault {
+    ghost from_gives = { λ cause fault. fault ≡ Scenario cause };
+
+    fn from(cause: ScenarioFault) -> CommandFault {
+        CommandFault::Scenario(cause)
+    }
+}
+
+impl From<CampaignFault> for CommandFault {
+    ghost from_gives = { λ cause fault. fault ≡ Campaign cause };
+
+    fn from(cause: CampaignFault) -> CommandFault {
+        CommandFault::Campaign(cause)
+    }
 }

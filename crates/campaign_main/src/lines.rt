@@ -1,6 +1,5 @@
 //! The ends of a command that failed, and the line that says why. A line that can't be written changes no end.
-ghost use Rattle.std.specs.Prelude.{◌≡◌, true, false, IfOk, OnErr, OnOk, string_bytes};
-ghost use Rattle.std.specs.Io.KnownBytes.{Appends};
+ghost use Rattle.std.specs.Prelude.{◌≡◌, false, IfOk, string_bytes};
 ghost use Rattle.campaign_settings.specs.declared.fault.SettingsFault.TheVariants as settings;
 ghost use Rattle.campaign_main.specs.Ends.{IsEndOf, IsTold, RefusesWith};
 ghost use Rattle.campaign_main.specs.FaultLines.{cut_off_line, memory_line, scenario_line, settings_line, read_fault_line};
@@ -16,13 +15,21 @@ use scenario_grammar::ScenarioFault;
 use std::alloc::{AllocError, Global};
 use target_trait::Sink;
 
+/// Writes a line, or as much of it as the sink takes.
+fn tell<E: Sink>(line: &[u8], faults: &mut E)
+    requires { E.has_failed faults.old ≡ false }
+    ensures { IsTold line.now (E.told faults.old) (E.told faults.new) (E.has_failed faults.new) }
+{
+    let _ = write_report(line, faults);
+}
+
 /// Ends as refused, with these lines.
 pub fn refused<E: Sink>(lines: &str, faults: &mut E) -> Exit
     requires { E.has_failed faults.old ≡ false }
     ensures end { result ≡ Exit.Refused }
     ensures told { IsTold lines.now (E.told faults.old) (E.told faults.new) (E.has_failed faults.new) }
 {
-    let _ = write_report(lines.as_bytes(), faults);
+    tell(lines.as_bytes(), faults);
     Exit::Refused
 }
 
@@ -32,7 +39,7 @@ pub fn no_memory<E: Sink>(faults: &mut E) -> Exit
     ensures end { result ≡ Exit.Memory }
     ensures told { IsTold memory_line (E.told faults.old) (E.told faults.new) (E.has_failed faults.new) }
 {
-    let _ = write_report(b"no memory\n", faults);
+    tell(b"no memory\n", faults);
     Exit::Memory
 }
 
@@ -93,11 +100,10 @@ fn unspelled<E: Sink>(alloc: Global, fault: &ScenarioFault, faults: &mut E) -> E
     }
 }
 
-/// Writes the line for a write that failed after so many bytes. It takes no memory.
+/// Writes the line for a write that failed after so many bytes, or as much of it as the sink takes. It takes no memory.
 fn write_cut_off<E: Sink>(written: u64, faults: &mut E) -> Result<(), WriteFault>
     requires { E.has_failed faults.old ≡ false }
-    ensures ok { OnOk result (Appends (E.told faults.old) (E.told faults.new) (cut_off_line written)) }
-    ensures fault { OnErr result (E.has_failed faults.new ≡ true) }
+    ensures { IsTold (cut_off_line written) (E.told faults.old) (E.told faults.new) (E.has_failed faults.new) }
 {
     let mut digits = Buffer::new();
     write_report(b"write failed after ", faults)?;
@@ -115,6 +121,18 @@ pub fn cut_off<E: Sink>(written: u64, faults: &mut E) -> Exit
     Exit::Write(written)
 }
 
+/// Ends where what was done with a target came to no whole text.
+fn unwritten<E: Sink>(fault: CampaignFault, faults: &mut E) -> Exit
+    requires { E.has_failed faults.old ≡ false }
+    ensures { IsEndOf (CommandFault.Campaign fault) result (E.told faults.old) (E.told faults.new) (E.has_failed faults.new) }
+{
+    match fault {
+        CampaignFault::TooManyPlans => refused("too many plans\n", faults),
+        CampaignFault::Memory => no_memory(faults),
+        CampaignFault::Write(written) => cut_off(written, faults),
+    }
+}
+
 /// Ends where a command wrote no whole text.
 pub fn unanswered<E: Sink>(alloc: Global, fault: &CommandFault, faults: &mut E) -> Exit
     requires { E.has_failed faults.old ≡ false }
@@ -122,8 +140,6 @@ pub fn unanswered<E: Sink>(alloc: Global, fault: &CommandFault, faults: &mut E) 
 {
     match fault {
         CommandFault::Scenario(cause) => unspelled(alloc, cause, faults),
-        CommandFault::Campaign(CampaignFault::TooManyPlans) => refused("too many plans\n", faults),
-        CommandFault::Campaign(CampaignFault::Memory) => no_memory(faults),
-        CommandFault::Campaign(CampaignFault::Write(written)) => cut_off(*written, faults),
+        CommandFault::Campaign(cause) => unwritten(*cause, faults),
     }
 }

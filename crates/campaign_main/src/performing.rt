@@ -2,7 +2,8 @@
 ghost use Rattle.std.specs.Prelude.{◌≡◌, false, IfSome};
 ghost use Rattle.campaign_settings.specs.Settings.{given_of};
 ghost use Rattle.campaign_main.specs.Commands.{answer_of, campaign_for, order_answer, text_answer};
-ghost use Rattle.campaign_main.specs.Ends.{EndsAs, IsRefused, Tells, TellsRefusal};
+ghost use Rattle.campaign_main.specs.Ends.{EndsAs, IsRefused, Leaves, OnWhole, Tells, TellsBy, TellsRefusal};
+ghost use Rattle.campaign_main.specs.Minimal.{ReducesToMinimal, TextReducesToMinimal};
 
 use crate::chosen::chosen_command;
 use crate::exit::{Exit, exit_of};
@@ -29,8 +30,9 @@ fn perform_chosen<W: Sink, E: Sink, H: Threads + Wait + Sync>(
     requires output { W.has_failed output.old ≡ false }
     requires faults { E.has_failed faults.old ≡ false }
     ensures end { EndsAs result (order_answer order.now (campaign_for (given_of settings.now) choice.now)) (W.told output.old) (W.told output.new) (W.has_failed output.new) }
-    ensures cause { result ≡ Exit.Refused → TellsRefusal (order_answer order.now (campaign_for (given_of settings.now) choice.now)) (E.told faults.old) (E.told faults.new) (E.has_failed faults.new) }
-    ensures told { Tells result (E.told faults.old) (E.told faults.new) (E.has_failed faults.new) }
+    ensures told { TellsBy (TellsRefusal (order_answer order.now (campaign_for (given_of settings.now) choice.now)) (E.told faults.old) (E.told faults.new) (E.has_failed faults.new))
+        result (E.told faults.old) (E.told faults.new) (E.has_failed faults.new) }
+    ensures minimal { OnWhole result (ReducesToMinimal order.now (campaign_for (given_of settings.now) choice.now)) }
 {
     match chosen_command(rt, alloc, order, choice, settings, output) {
         Ok(found) => exit_of(found),
@@ -50,8 +52,9 @@ fn perform_text<W: Sink, E: Sink, H: Threads + Wait + Sync>(
     requires output { W.has_failed output.old ≡ false }
     requires faults { E.has_failed faults.old ≡ false }
     ensures end { EndsAs result (text_answer order.now text.now) (W.told output.old) (W.told output.new) (W.has_failed output.new) }
-    ensures cause { result ≡ Exit.Refused → TellsRefusal (text_answer order.now text.now) (E.told faults.old) (E.told faults.new) (E.has_failed faults.new) }
-    ensures told { Tells result (E.told faults.old) (E.told faults.new) (E.has_failed faults.new) }
+    ensures told { TellsBy (TellsRefusal (text_answer order.now text.now) (E.told faults.old) (E.told faults.new) (E.has_failed faults.new))
+        result (E.told faults.old) (E.told faults.new) (E.has_failed faults.new) }
+    ensures minimal { OnWhole result (TextReducesToMinimal order.now text.now) }
 {
     let settings = match Settings::read(alloc, text) {
         Ok(settings) => settings,
@@ -68,8 +71,16 @@ fn perform_text<W: Sink, E: Sink, H: Threads + Wait + Sync>(
 /// It answers Kept, or Found where a verdict in the text is fail, where the whole text stands in the output. Else one line on the
 /// sink of faults says why there is none: Refused for settings that can't be read or have a fault, for a scenario with a fault and
 /// for more than 65536 plans, and Memory where memory was refused, both with the output unchanged; or Write, which tells how many
-/// bytes of the text went out before the output failed. Where that line can't be written the answer stays. The line of a refusal names
-/// the first fault in the order in which faults are looked for.
+/// bytes of the text, fewer than all, went out before the output failed. Where that line can't be written whole the answer stays. The
+/// line of a refusal names the first fault in the order in which faults are looked for.
+///
+/// Each reduced scenario in a text that was written whole fails with its code, under the same seed, stream number and limit as what it
+/// was reduced from, and no single fault can be left out of it.
+///
+/// Which text, which fault and which reduced scenarios, the contract says for a reader that tells its bytes, as a slice does, and which
+/// bytes were written, for sinks that tell theirs, as [`target_trait::Out`] over a `Vec` does. Of any other reader it says that the end
+/// and the line are those that some settings have; of any other sink, whether it has failed: the output only at Write, and then the
+/// sink of faults only where its line wasn't written whole.
 pub fn perform<R: Read, W: Sink, E: Sink, H: Threads + Wait + Sync>(
     rt: &H,
     alloc: Global,
@@ -82,6 +93,8 @@ pub fn perform<R: Read, W: Sink, E: Sink, H: Threads + Wait + Sync>(
     requires faults { E.has_failed faults.old ≡ false }
     ensures end { IfSome (R.remaining reader.old) (λ bytes. EndsAs result (answer_of order.now bytes) (W.told output.old) (W.told output.new) (W.has_failed output.new)) }
     ensures cause { result ≡ Exit.Refused → IfSome (R.remaining reader.old) (λ bytes. IsRefused (answer_of order.now bytes) (E.told faults.old) (E.told faults.new) (E.has_failed faults.new)) }
+    ensures minimal { OnWhole result (IfSome (R.remaining reader.old) (TextReducesToMinimal order.now)) }
+    ensures output { Leaves result (W.told output.old) (W.told output.new) (W.has_failed output.new) }
     ensures told { Tells result (E.told faults.old) (E.told faults.new) (E.has_failed faults.new) }
 {
     match read_all(alloc, reader) {

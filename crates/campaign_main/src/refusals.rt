@@ -1,7 +1,7 @@
 //! What the program answers where it has no settings to read.
 ghost use Rattle.std.specs.Prelude.{◌≡◌, ◌↔◌, false, codes};
 ghost use Rattle.std.specs.IoError.{error_kind};
-ghost use Rattle.campaign_main.specs.Ends.{EndsWords, RefusesWith, Tells};
+ghost use Rattle.campaign_main.specs.Ends.{EndsWords, RefusesWith, TellsWords};
 ghost use Rattle.campaign_main.specs.FaultLines.{unreadable_line};
 
 use crate::exit::Exit;
@@ -50,9 +50,9 @@ fn unreadable<E: Sink>(error: &io::Error, line: &str, faults: &mut E) -> Exit
 
 /// Writes what the program answers to words that it doesn't take, and ends.
 ///
-/// Help that was asked for goes to the output, and the end is Kept, or Write where the output failed. Any other refusal goes to the
-/// sink of faults, with the output unchanged, and the end is Refused. Where memory was refused the end is Memory. On the sink of
-/// faults nothing is written for Kept, and for Memory and Write the line that says so.
+/// Help that was asked for goes to the output, and the end is Kept, or Write where the output failed after a part of the help. Any other
+/// refusal goes to the sink of faults, with the output unchanged, and the end is Refused. Where memory was refused the end is Memory,
+/// with the output unchanged. On the sink of faults nothing is written for Kept, and for Memory and Write the line that says so.
 pub fn refuse_words<W: Sink, E: Sink>(
     alloc: Global,
     fault: &WordsFault,
@@ -63,7 +63,7 @@ pub fn refuse_words<W: Sink, E: Sink>(
     requires faults { E.has_failed faults.old ≡ false }
     ensures end { EndsWords result fault.now (W.told output.old) (W.told output.new) (W.has_failed output.new) }
     ensures memory { fault.now ≡ WordsFault.Memory → result ≡ Exit.Memory }
-    ensures told { Tells result (E.told faults.old) (E.told faults.new) (E.has_failed faults.new) }
+    ensures told { TellsWords result (E.told faults.old) (E.told faults.new) (E.has_failed faults.new) }
 {
     if let WordsFault::Memory = fault {
         return no_memory(faults);

@@ -1,23 +1,54 @@
-use Rattle.std.proofs.Common.{◌≡◌, ◌<◌, ◌+◌, ◌++◌, ℕ, drop, get_or, length, subst, List, [], ◌∷◌, Some, String, Global, Ok, Err, ap, cond, find, not, option_map, refl, string_bytes, sym, true, false, if◌then◌else◌}
+use Rattle.std.proofs.Common.{◌≡◌, ◌<◌, ◌+◌, ◌++◌, ℕ, drop, get_or, length, subst, List, [], ◌∷◌, Option, Some, None, String, Global, Ok, Err, ap, cond, find, not, option_map, refl, string_bytes, sym, true, false, if◌then◌else◌}
 use Rattle.std.proofs.lemmas.List.{append_assoc, drop_more}
+use Rattle.std.specs.Cmp.Lexicographic.{slice_cmp}
+use Rattle.std.specs.List.{AllByRecursion}
+use Rattle.std.specs.List.Sorted.{IsStrictlySortedBy}
 use Rattle.std.specs.Map.{keys_of}
+use Rattle.std.specs.Ordering.{match_ordering, nat_cmp}
+use Rattle.std.specs.String.{string_cmp}
+use Rattle.std.specs.declared.cmp.Ordering.TheVariants.{Less, Equal, Greater}
 use Rattle.toml.specs.View.{members_view}
 use Rattle.toml.specs.declared.value.Value.{Value}
 use Rattle.campaign_settings.specs.Keys.{Text, is_known}
 use Rattle.scenario_grammar.specs.FirstFault.{Fault, reading}
 use Rattle.scenario_values.specs.Scenario.{Entries}
-use Rattle.campaign_settings.specs.Settings.{Read, RefusedBy, after, and_spelled, listed, spelled_from, unknown_in}
+use Rattle.campaign_settings.specs.Settings.{Read, RefusedBy, after, and_spelled, listed, spelled_from, least_unknown, lesser}
 use Rattle.campaign_settings.specs.declared.keys.Place.{Place}
 use Rattle.campaign_settings.specs.declared.fault.SettingsFault.{SettingsFault}
 use Rattle.campaign_settings.specs.declared.fault.SettingsFault.TheVariants.{TooLong, NotToml, UnknownKey, Missing, WrongType, OutOfRange, Scenario, Memory}
 
--- the first unknown key of a map
-pub unknown_found : (place : Place) (es : List (String Global × Value)) → option_map string_bytes (find (λ k. not (is_known place (string_bytes k))) (keys_of es)) ≡ unknown_in place (members_view es)
-unknown_found place [] = refl
-unknown_found place (e ∷ es) = elim (is_known place (string_bytes e.0)) as (λ b. option_map string_bytes (cond (not b) (Some e.0) (find (λ k. not (is_known place (string_bytes k))) (keys_of es))) ≡ (if b then unknown_in place (members_view es) else Some (string_bytes e.0))) [
-  | true ↦ unknown_found place es
-  | false ↦ refl
-]
+-- a key below another and below the rest is below the lesser of them
+below_lesser : (name other : Text) (rest : Option Text) → slice_cmp nat_cmp name other ≡ Less → lesser name rest ≡ name → lesser name (Some (lesser other rest)) ≡ name
+below_lesser name other None less h = rw less refl
+below_lesser name other (Some r) less h =
+    elim (slice_cmp nat_cmp other r) as (λ o. lesser name (Some (match_ordering o other other r)) ≡ name) [
+      | Less ↦ rw less refl
+      | Equal ↦ rw less refl
+      | Greater ↦ h
+    ]
+
+-- a key below those of a map is below the least unknown one of them
+below_least : (place : Place) (name : String Global) (es : List (String Global × Value)) → AllByRecursion (λ k. string_cmp name k ≡ Less) (keys_of es)
+    → lesser (string_bytes name) (least_unknown place (members_view es)) ≡ string_bytes name
+below_least place name [] above = refl
+below_least place name (e ∷ es) above =
+    let rest : lesser (string_bytes name) (least_unknown place (members_view es)) ≡ string_bytes name = below_least place name es above.1 in
+    elim (is_known place (string_bytes e.0)) as (λ b. lesser (string_bytes name) (if b then least_unknown place (members_view es) else Some (lesser (string_bytes e.0) (least_unknown place (members_view es)))) ≡ string_bytes name) [
+      | true ↦ rest
+      | false ↦ below_lesser (string_bytes name) (string_bytes e.0) (least_unknown place (members_view es)) above.0 rest
+    ]
+
+-- the first unknown key of a map is the least, since the keys ascend
+pub unknown_found : (place : Place) (es : List (String Global × Value)) → IsStrictlySortedBy string_cmp (keys_of es)
+    → option_map string_bytes (find (λ k. not (is_known place (string_bytes k))) (keys_of es)) ≡ least_unknown place (members_view es)
+unfolding IsStrictlySortedBy
+unknown_found place [] sorted = refl
+unknown_found place (e ∷ es) sorted =
+    elim (is_known place (string_bytes e.0)) as (λ b. option_map string_bytes (cond (not b) (Some e.0) (find (λ k. not (is_known place (string_bytes k))) (keys_of es)))
+    ≡ (if b then least_unknown place (members_view es) else Some (lesser (string_bytes e.0) (least_unknown place (members_view es))))) [
+      | true ↦ unknown_found place es sorted.1
+      | false ↦ ap (λ n. Some n) (sym (below_least place e.0 es sorted.0))
+    ]
 
 module _ {X Y : Type 0} where
   -- a step that went well

@@ -1,5 +1,7 @@
 -- What the settings' text means: one definition, with the order in which its faults are looked for.
 use Rattle.std.specs.Prelude.{◌≡◌, ◌+◌, ℕ, Bool, List, [], ◌∷◌, length, Option, Some, None, Result, Ok, Err, codes, nat_lt, string_bytes, if◌then◌else◌}
+use Rattle.std.specs.Cmp.Lexicographic.{slice_cmp}
+use Rattle.std.specs.Ordering.{match_ordering, nat_cmp}
 use Rattle.toml.specs.Data.{Data, Members, get_member, member, no_members}
 use Rattle.toml.specs.Parse.{parse_document}
 use Rattle.scenario_grammar.specs.FirstFault.{Fault, reading}
@@ -60,17 +62,23 @@ keyed k (Err f) = Err (wrong k f)
 
 -- ---- unknown keys
 
--- the first key of the members that the table doesn't have
-abbrev pub unknown_in : Place → Members → Option Text
-unknown_in place no_members = None
-unknown_in place (member name d ms) = if is_known place name then unknown_in place ms else Some name
+-- a key, or one that is less in byte order
+abbrev pub lesser : Text → Option Text → Text
+lesser name None = name
+lesser name (Some other) = match_ordering (slice_cmp nat_cmp name other) name name other
+
+-- the least key of the members, in byte order, that the table doesn't have
+abbrev pub least_unknown : Place → Members → Option Text
+least_unknown place no_members = None
+least_unknown place (member name d ms) =
+    if is_known place name then least_unknown place ms else Some (lesser name (least_unknown place ms))
 
 abbrev pub all_known : Place → Option Text → Read (Unit {0})
 all_known place None = Ok tt
 all_known place (Some name) = Err (unknown place name)
 
 abbrev pub known_in : Place → Members → Read (Unit {0})
-known_in place ms = all_known place (unknown_in place ms)
+known_in place ms = all_known place (least_unknown place ms)
 
 -- the top, with the target that is named
 abbrev pub top_of : Result TargetName KeyFault → Place

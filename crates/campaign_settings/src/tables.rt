@@ -1,6 +1,8 @@
 //! The tables of the settings: their keys, and each target's own table.
 ghost use Rattle.std.specs.Prelude.{◌≡◌, Ok, Err, IfOk, IfErr, OnOk, Some, None, not, find, option_copied, string_bytes};
+ghost use Rattle.std.specs.List.Sorted.{IsStrictlySortedBy};
 ghost use Rattle.std.specs.Map.{keys_of};
+ghost use Rattle.std.specs.String.{string_cmp};
 ghost use Rattle.toml.specs.View.{table_view};
 ghost use Rattle.campaign_settings.specs.Keys.{is_known};
 ghost use Rattle.campaign_settings.specs.Settings.{RefusedBy, choice_in, committing_in, delivering_in, keyed, known_in, replacing_in};
@@ -30,7 +32,7 @@ pub fn keyed<X>(key: Key, value: Result<X, KeyFault>) -> Result<X, SettingsFault
     }
 }
 
-// Refuses the first key that the table doesn't have.
+// Refuses the least key that the table doesn't have.
 pub fn refuse_unknown(alloc: Global, place: Place, table: &Table) -> Result<(), SettingsFault>
     ensures ok { OnOk result (known_in place (table_view table.now) ≡ Ok tt) }
     ensures refused { IfErr result (RefusedBy (known_in place (table_view table.now))) }
@@ -41,8 +43,10 @@ pub fn refuse_unknown(alloc: Global, place: Place, table: &Table) -> Result<(), 
     }
 }
 
+// The first in the table's order, in which keys ascend.
 fn unknown_key(place: Place, table: &Table) -> Option<&String>
-    ensures { option_copied result ≡ find (λ name. not (is_known place (string_bytes name))) (keys_of table.now.entries) }
+    ensures ordered { IsStrictlySortedBy string_cmp (keys_of table.now.entries) }
+    ensures found { option_copied result ≡ find (λ name. not (is_known place (string_bytes name))) (keys_of table.now.entries) }
 {
     table.keys().find(|name| !place.knows(name.as_str()))
 }

@@ -1,33 +1,34 @@
-use Rattle.std.proofs.Common.{◌≡◌, ◌⊎◌, ◌∙◌, List, [], ◌∷◌, Bool, Option, Some, None, Box, ap, ap₂, codes, cond, find, inl, inr, option_map, refl, subst, sym, true, false}
+use Rattle.std.proofs.Common.{◌≡◌, ◌⊎◌, ◌∙◌, List, [], ◌∷◌, Bool, Option, Some, None, Box, ap, ap₂, codes, cond, find, inl, inr, option_map, refl, sym, true, false}
 use Rattle.std.proofs.lemmas.Option.{same_Some}
 use Rattle.std.specs.Box.{box_value}
 use Rattle.std.proofs.lemmas.Slice.Eq.{bytes_eq-Decides}
 use Rattle.clap.specs.Simple.{argument_words, names_of, built, entered, label_of, rows_at, subcommand_rows, subcommand_rows_of}
-use Rattle.clap.specs.Walk.{answers_to, nothing_held, rows_after, stop_after, walk, walk_from}
-use Rattle.clap.specs.Takes.{default_passes, entered_passes, is_given, is_valid, level_passes, settle_passes, walk_passes}
+use Rattle.clap.specs.Walk.{Held, answers_to, nothing_held, rows_after, settled, stop_after, walk, walk_from}
+use Rattle.clap.specs.Takes.{is_given}
 use Rattle.clap.specs.Facts.{explicit_source}
-use Rattle.std.specs.List.{list_all}
 use Rattle.std.specs.Option.{option_map_or}
 use Rattle.std.specs.Str.{bytes_eq}
-use Rattle.std.specs.Prelude.{is_some, ◌&&◌, ◌||◌}
+use Rattle.std.specs.Prelude.{is_some, not, ◌||◌, if◌then◌else◌}
 use Rattle.std.proofs.lemmas.Bool.{false≢true}
-use Rattle.clap.specs.Faults.{fault_of, is_simple_and_free}
-use Rattle.clap.specs.Kinds.{HasKind, IsAmong, Kinds}
+use Rattle.clap.specs.Faults.{check_fault, defaults_fault, entered_fault, fault_of, is_simple_and_free, level_fault, settle_fault, walk_fault}
+use Rattle.clap.specs.Kinds.{HasKind, IsAmong}
 use Rattle.clap.specs.Values.{kind_of}
 use Rattle.clap.specs.declared.error.Error.{Error}
-use Rattle.clap.specs.declared.error.kind.ErrorKind.TheVariants.{DisplayHelp, OutOfMemory}
+use Rattle.clap.specs.declared.error.kind.ErrorKind.TheVariants.{MissingRequiredArgument}
 use Rattle.clap.specs.declared.builder.command.Command.{Command}
 use Rattle.clap.specs.declared.parser.matches.Found.{Found}
-use Rattle.clap.proofs.WalkLemmas.{both, first_value-rows}
+use Rattle.clap.proofs.WalkLemmas.{first_value-rows}
 use Rattle.command_words.specs.declared.words.Line.{Line}
 use Rattle.clap.specs.Words.{App, HasMatchesOf, Row, Shape, Text, app_of, first_value, is_simple, takes, rows_of, first_of, subcommand_name_of, subcommand_of}
 use Rattle.clap.specs.declared.parser.matches.ArgMatches.{ArgMatches}
 use Rattle.clap.specs.declared.parser.matches.ArgMatches.TheViews.{out-ArgMatches, out-SubCommand}
 use Rattle.clap.specs.declared.parser.matches.SubCommand.{SubCommand}
 use Rattle.clap.proofs.OnLiterals.{clap_on_literals}
-use Rattle.command_words.proofs.HelpLemmas.{NotHelp, not-help}
+use Rattle.command_words.proofs.HelpLemmas.{NotHelp, no_faults, not-help}
 use Rattle.command_words.proofs.ValueLemmas.{all_have, first-there, level-has}
-use Rattle.command_words.specs.Words.{TakesText, IsLine, IsLineOf, IsName, paklour}
+use Rattle.command_words.specs.Words.{TakesText, IsFaultOf, IsLine, IsLineOf, IsName, IsRefusedFor, paklour}
+use Rattle.command_words.specs.declared.words.WordsFault.{WordsFault}
+use Rattle.command_words.specs.declared.words.WordsFault.TheVariants.{Refused, Memory}
 
 -- clap defines the matches of the program's command
 pub paklour-simple : is_simple paklour ≡ true
@@ -110,36 +111,35 @@ keeps_help : (built paklour).top.disable_help_subcommand ≡ false
 unfolding paklour
 keeps_help = refl
 
--- words that are taken name no `help`
-no-help : (words : List Text) → takes paklour words ≡ true → NotHelp (stop_after (built paklour).top.rules (names_of (built paklour)) (argument_words paklour words))
-no-help words t =
-    let level = (both _ _ (both _ _ t).1).1 in
+-- words without a fault name no `help`
+no-help : (words : List Text) → fault_of paklour words ≡ [] → NotHelp (stop_after (built paklour).top.rules (names_of (built paklour)) (argument_words paklour words))
+no-help words none =
     not-help (built paklour).top (names_of (built paklour)) keeps_help (argument_words paklour words)
-    (both (walk_passes (built paklour).top (names_of (built paklour)) (walk_from nothing_held) (argument_words paklour words)) _ level).0
+    (no_faults (walk_fault (built paklour).top (names_of (built paklour)) (walk_from nothing_held) (argument_words paklour words)) _ none).0
 
-pub name-entered : (words : List Text) (name : Text) (rows : List Row) → takes paklour words ≡ true → subcommand_of paklour words ≡ Some (name, rows) → IsName name
-name-entered words name rows t e =
-    entered-name (stop_after (built paklour).top.rules (names_of (built paklour)) (argument_words paklour words)) name rows (no-help words t) e
+pub name-entered : (words : List Text) (name : Text) (rows : List Row) → fault_of paklour words ≡ [] → subcommand_of paklour words ≡ Some (name, rows) → IsName name
+name-entered words name rows none e =
+    entered-name (stop_after (built paklour).top.rules (names_of (built paklour)) (argument_words paklour words)) name rows (no-help words none) e
 
 pub line-read : (o : Option (Text × List Row)) (name : Text) (f : Found) (line : Line) → o ≡ Some (name, rows_of f)
     → IsLineOf name (first_value f (codes "scenario")) (first_value f (codes "file")) line → IsLine o line
 line-read o name f line e h =
     rw (e, ← first_value-rows f (codes "scenario"), ← first_value-rows f (codes "file")) h
 
--- ---- a command that takes a scenario has its TEXT where clap takes the words
+-- ---- a command that takes a scenario has its TEXT where the words have no fault
 
--- a subcommand that a walk enters, and that passes, is one of the command's
+-- a subcommand that a walk enters, and that has no fault, is one of the command's
 abbrev Passed : Text → List Row → List Text → List Shape → Type 0
 Passed name rows words [] = ⊥
 Passed name rows words (s ∷ subs) =
-    ((name ≡ s.name) × (rows ≡ rows_after s.rules [] words) × (level_passes s [] nothing_held words false ≡ true))
+    ((name ≡ s.name) × (rows ≡ rows_after s.rules [] words) × (level_fault s [] nothing_held words false [] ≡ []))
     ⊎ Passed name rows words subs
 
 passed-in : (test : Shape → Bool) (subs : List Shape) (words : List Text) (name : Text) (rows : List Row) → option_map (λ s. rows_at s words) (find test subs) ≡ Some (name, rows)
-    → option_map_or (λ s. level_passes s [] nothing_held words false) (find test subs) true ≡ true → Passed name rows words subs
+    → option_map_or (λ s. level_fault s [] nothing_held words false []) (find test subs) [] ≡ [] → Passed name rows words subs
 passed-in test [] words name rows e t = cc
 passed-in test (s ∷ subs) words name rows e t =
-    elim (test s) as (λ b. option_map (λ x. rows_at x words) (cond b (Some s) (find test subs)) ≡ Some (name, rows) → option_map_or (λ x. level_passes x [] nothing_held words false) (cond b (Some s) (find test subs)) true ≡ true → Passed name rows words (s ∷ subs)) [
+    elim (test s) as (λ b. option_map (λ x. rows_at x words) (cond b (Some s) (find test subs)) ≡ Some (name, rows) → option_map_or (λ x. level_fault x [] nothing_held words false []) (cond b (Some s) (find test subs)) [] ≡ [] → Passed name rows words (s ∷ subs)) [
       | true ↦ λ here passes. inl (sym (ap (λ p. p.0) (same_Some _ _ here)), sym (ap (λ p. p.1) (same_Some _ _ here)), passes)
       | false ↦ λ there passes. inr (passed-in test subs words name rows there passes)
     ] e t
@@ -152,21 +152,26 @@ given-row id rows g = of (find (λ r. bytes_eq r.id id) rows) g
     of None h = cc
     of (Some r) h = refl
 
--- what is required is there where a level passes
-level-given : (s : Shape) (words : List Text) → level_passes s [] nothing_held words false ≡ true → is_valid s (rows_after s.rules [] words) false ≡ true
-level-given s words h =
-    let after_walk = both (walk_passes s [] (walk_from nothing_held) words) _ h in
-    let after_settle = both (settle_passes s.rules s.args_override_self (walk s.rules [] nothing_held words).held) _ after_walk.1 in
-    (both (list_all default_passes s.rules) _ after_settle.1).1
+-- what is required is there where a level has no fault
+level-given : (s : Shape) (words : List Text) → level_fault s [] nothing_held words false [] ≡ [] → check_fault s (rows_after s.rules [] words) false ≡ []
+level-given s words none =
+    let end : Held = (walk s.rules [] nothing_held words).held in
+    let after_walk = no_faults (walk_fault s [] (walk_from nothing_held) words) _ none in
+    let after_settle = no_faults (settle_fault s.rules s.args_override_self end) _ after_walk.1 in
+    (no_faults (defaults_fault (settled s.rules end).rows s.rules) _ after_settle.1).1
 
-scenario-first : (rows : List Row) → all_have rows ≡ true → (is_given (codes "scenario") rows && true) ≡ true → is_some (first_of (codes "scenario") rows) ≡ true
-scenario-first rows have h =
-    first-there (codes "scenario") rows have (given-row (codes "scenario") rows (both (is_given (codes "scenario") rows) true h).0)
+-- a scenario that is required is there where the checks find no fault
+scenario-first : (rows : List Row) → all_have rows ≡ true → (if not (is_given (codes "scenario") rows) || false then MissingRequiredArgument ∷ [] else []) ≡ [] → is_some (first_of (codes "scenario") rows) ≡ true
+scenario-first rows have none = first-there (codes "scenario") rows have (given-row (codes "scenario") rows (given (is_given (codes "scenario") rows) none))
+  where
+    given : (b : Bool) → (if not b || false then MissingRequiredArgument ∷ [] else []) ≡ [] → b ≡ true
+    given true none = refl
+    given false none = cc
 
 differ : (a b : Text) → bytes_eq a a ≡ true → bytes_eq a b ≡ false → a ≡ b → ⊥
 differ a b t f e = false≢true (sym f ∙ ap (bytes_eq a) (sym e) ∙ t)
 
-told-at : (stop : Option (Text × List Text)) (name : Text) (rows : List Row) → entered (built paklour) stop ≡ Some (name, rows) → entered_passes (built paklour) stop ≡ true → TakesText name → is_some (first_of (codes "scenario") rows) ≡ true
+told-at : (stop : Option (Text × List Text)) (name : Text) (rows : List Row) → entered (built paklour) stop ≡ Some (name, rows) → entered_fault (built paklour) stop ≡ [] → TakesText name → is_some (first_of (codes "scenario") rows) ≡ true
 unfolding paklour
 told-at None name rows e t n = cc
 told-at (Some p) name rows e t n =
@@ -196,52 +201,35 @@ told-at (Some p) name rows e t n =
       ]
     ]
 
-pub text-given : (words : List Text) (name : Text) (f : Found) → takes paklour words ≡ true → subcommand_of paklour words ≡ Some (name, rows_of f) → TakesText name → is_some (first_value f (codes "scenario")) ≡ true
-text-given words name f t e n =
+pub text-given : (words : List Text) (name : Text) (f : Found) → fault_of paklour words ≡ [] → subcommand_of paklour words ≡ Some (name, rows_of f) → TakesText name → is_some (first_value f (codes "scenario")) ≡ true
+text-given words name f none e n =
+    let top = built paklour in
+    let given = argument_words paklour words in
+    let after_walk = no_faults (walk_fault top.top (names_of top) (walk_from nothing_held) given) _ none in
     rw (first_value-rows f (codes "scenario"))
-    (told-at (stop_after (built paklour).top.rules (names_of (built paklour)) (argument_words paklour words)) name (rows_of f) e (both _ _ (both _ _ t).1).0 n)
+    (told-at (stop_after top.top.rules (names_of top) given) name (rows_of f) e (no_faults (entered_fault top (stop_after top.top.rules (names_of top) given)) _ after_walk.1).0 n)
 
 pub taken : (command : Command) (words : List Text) → app_of command ≡ paklour → takes paklour words ≡ true → takes (app_of command) words ≡ true
 taken command words a t = ap (λ (x : App). takes x words) a ∙ t
 
--- ---- help is answered where the words ask for it
+-- ---- which words are taken, and which kind a refusal has
 
 paklour-free : is_simple_and_free paklour ≡ true
 unfolding paklour clap_on_literals
 paklour-free = refl
 
-no-memory : DisplayHelp ≡ OutOfMemory → ⊥
-no-memory e = cc
+-- words of which clap gives the matches have no fault
+pub no-fault : (command : Command) (words : List Text) → app_of command ≡ paklour → (is_simple_and_free (app_of command) ≡ true → fault_of (app_of command) words ≡ []) → fault_of paklour words ≡ []
+no-fault command words a kinds = rw (← a) (kinds (ap is_simple_and_free a ∙ paklour-free))
 
--- help that clap answers is among the kinds that it defines for the words
-pub help-among : (command : Command) (words : List Text) (error : Error) → app_of command ≡ paklour → (is_simple_and_free (app_of command) ≡ true → HasKind (fault_of (app_of command) words) error)
-    → kind_of error ≡ DisplayHelp → IsAmong DisplayHelp (fault_of paklour words)
-help-among command words error a kinds is =
+-- a refusal of clap has a kind that it defines for the words
+pub refused-for : (command : Command) (words : List Text) (error : Error) (fault : WordsFault) → app_of command ≡ paklour → (is_simple_and_free (app_of command) ≡ true → HasKind (fault_of (app_of command) words) error)
+    → IsFaultOf error fault → IsRefusedFor (fault_of paklour words) fault
+refused-for command words error Memory a kinds is = tt
+refused-for command words error (Refused cause) a kinds is =
     elim (kinds (ap is_simple_and_free a ∙ paklour-free)) [
-      | inl memory ↦ absurd (no-memory (sym is ∙ memory))
-      | inr among ↦ rw (← is, ← a) among
-    ]
-
--- where help is all that it defines, it is help or want of memory
-pub help-alone : (command : Command) (words : List Text) (error : Error) → app_of command ≡ paklour → (is_simple_and_free (app_of command) ≡ true → HasKind (fault_of (app_of command) words) error)
-    → fault_of paklour words ≡ DisplayHelp ∷ [] → (kind_of error ≡ DisplayHelp) ⊎ (kind_of error ≡ OutOfMemory)
-help-alone command words error a kinds alone =
-    elim (kinds (ap is_simple_and_free a ∙ paklour-free)) [
-      | inl memory ↦ inr memory
+      | inl memory ↦ absurd (is.1 memory)
       | inr among ↦
-          let same : fault_of (app_of command) words ≡ DisplayHelp ∷ [] = ap (λ (x : App). fault_of x words) a ∙ alone in
-          let one : IsAmong (kind_of error) (DisplayHelp ∷ []) = subst (λ (ks : Kinds). IsAmong (kind_of error) ks) same among in
-          elim one [
-            | inl is ↦ inl is
-            | inr none ↦ absurd none
-          ]
+          let here : IsAmong (kind_of error) (fault_of paklour words) = rw (← a) among in
+          rw is.0 here
     ]
-
--- words of which clap gives the matches ask for no help
-pub no-help-matched : (command : Command) (words : List Text) → app_of command ≡ paklour → (is_simple_and_free (app_of command) ≡ true → fault_of (app_of command) words ≡ []) → fault_of paklour words ≡ DisplayHelp ∷ [] → ⊥
-no-help-matched command words a kinds alone =
-    let none : fault_of paklour words ≡ [] = rw (← a) (kinds (ap is_simple_and_free a ∙ paklour-free)) in
-    differs (sym none ∙ alone)
-  where
-    differs : [] ≡ DisplayHelp ∷ [] → ⊥
-    differs e = cc

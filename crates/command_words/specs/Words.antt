@@ -1,8 +1,9 @@
 -- The program's command line: the command that clap builds, and what its matches mean.
 use Rattle.std.specs.Prelude.{◌≡◌, ◌⊎◌, List, true, Option, Some, None, codes, option_map, string_bytes}
-use Rattle.clap.specs.Words.{App, Row, Rule, Text, first_of, new_app, new_rule, with_rule, with_subcommand}
+use Rattle.clap.specs.Words.{App, IsAmong, Kinds, Row, Rule, Text, first_of, new_app, new_rule, with_rule, with_subcommand}
 use Rattle.clap.specs.Values.{kind_of}
-use Rattle.clap.specs.declared.error.kind.ErrorKind.TheVariants.{DisplayHelp}
+use Rattle.clap.specs.declared.error.Error.{Error}
+use Rattle.clap.specs.declared.error.kind.ErrorKind.TheVariants.{DisplayHelp, OutOfMemory}
 use Rattle.command_words.specs.declared.words.Line.{Line}
 use Rattle.command_words.specs.declared.words.Order.{Order}
 use Rattle.command_words.specs.declared.words.Order.TheVariants.{Run, Plans, Try, Reduce}
@@ -66,6 +67,16 @@ IsName name = (name ≡ codes "run") ⊎ ((name ≡ codes "plans") ⊎ ((name �
 -- the names of the commands that take a scenario
 abbrev pub TakesText : Text → Type 0
 TakesText name = (name ≡ codes "try") ⊎ (name ≡ codes "reduce")
+
+-- what the program makes of an error of clap
+abbrev pub IsFaultOf : Error → WordsFault → Type 0
+IsFaultOf error (Refused cause) = (cause ≡ error) × ¬ (kind_of error ≡ OutOfMemory)
+IsFaultOf error Memory = kind_of error ≡ OutOfMemory
+
+-- a refusal of one of these kinds, or want of memory
+abbrev pub IsRefusedFor : Kinds → WordsFault → Type 0
+IsRefusedFor kinds (Refused error) = IsAmong (kind_of error) kinds
+IsRefusedFor kinds Memory = Unit {0}
 
 -- the words asked for help
 abbrev pub AsksForHelp : WordsFault → Type 0

@@ -32,6 +32,8 @@ A term is [PERCENT%][COUNT*]TASK[(ARGUMENT)], used up when it has acted COUNT ti
   panic                  the component stops there
   pause                  the run ends there, unresolved
 
+A scenario has up to 65536 bytes, 256 entries, 256 terms in an entry, and 4096 terms besides off.
+
 Examples:
   replace::sync=1*return            the first sync fails
   replace::write=2*off->1*panic     the component stops at the third write
@@ -61,7 +63,7 @@ and the table of the target, with all of its keys:
   [commit]
     participants  1 to 8
     transactions  up to 100 lists of \"yes\" and \"no\", one for each participant
-A chunk is a text of up to 4096 bytes.
+A chunk is a text of up to 4096 bytes. `paklour help try` says what a scenario may hold.
 
 Example:
   target = \"replace\"

@@ -1,7 +1,7 @@
-ghost use Rattle.std.specs.Prelude.{◌≡◌, ◌↔◌, ◌⊎◌, [], ◌∷◌, IsErrAnd, IsTrue, Some, is_some, false, true, IfOk, IfErr, map, codes, string_bytes};
-ghost use Rattle.clap.specs.Words.{IsAmong, app_of, fault_of, first_value, found_of, kind_of, rule_of, subcommand_of, takes};
+ghost use Rattle.std.specs.Prelude.{◌≡◌, ◌↔◌, [], IsTrue, Some, is_some, false, true, IfOk, IfErr, map, codes, string_bytes};
+ghost use Rattle.clap.specs.Words.{app_of, fault_of, first_value, found_of, rule_of, subcommand_of, takes};
 ghost use Rattle.clap.specs.declared.builder.command.Command.TheViews.{out-Command as fields_of};
-ghost use Rattle.command_words.specs.Words.{AsksForHelp, IsLine, IsLineOf, IsName, TakesText, file_app, file_rule, paklour, scenario_app, scenario_rule};
+ghost use Rattle.command_words.specs.Words.{AsksForHelp, IsFaultOf, IsLine, IsLineOf, IsName, IsRefusedFor, TakesText, file_app, file_rule, paklour, scenario_app, scenario_rule};
 ghost use Rattle.command_words.specs.declared.words.WordsFault.TheVariants.{Memory};
 
 use crate::help;
@@ -126,13 +126,15 @@ fn command<'a>(alloc: Global) -> Result<Command<'a>, AllocError>
         .subcommand(scenario_command(alloc, "reduce", help::REDUCE)?)
 }
 
-/// The order and the file that the words give, of which the first is the program's name. `Err` is a refusal or help, as the
-/// reader of command lines tells it, or that memory ran out; help comes only where the words ask for it.
+/// The order and the file that the words give, of which the first is the program's name.
+///
+/// Words give them only where the reader of command lines finds no fault in the words. `Err` is a fault that it finds, as which it
+/// also tells help that was asked for, or that memory ran out.
 pub fn read_words(alloc: Global, words: &[String]) -> Result<Line, WordsFault>
     ensures ok { IfOk result (IsLine (subcommand_of paklour (map string_bytes words.now))) }
-    ensures refused { IfErr result (λ fault. takes paklour (map string_bytes words.now) ≡ true → fault ≡ Memory) }
-    ensures help_only { IfErr result (λ fault. AsksForHelp fault → IsAmong ErrorKind.DisplayHelp (fault_of paklour (map string_bytes words.now))) }
-    ensures help { fault_of paklour (map string_bytes words.now) ≡ ErrorKind.DisplayHelp ∷ [] → IsErrAnd result (λ fault. AsksForHelp fault ⊎ (fault ≡ Memory)) }
+    ensures taken { IfOk result (λ _. fault_of paklour (map string_bytes words.now) ≡ []) }
+    ensures refused { IfErr result (IsRefusedFor (fault_of paklour (map string_bytes words.now))) }
+    ensures memory { IfErr result (λ fault. takes paklour (map string_bytes words.now) ≡ true → fault ≡ Memory) }
 {
     let command = command(alloc)?;
     let matches = match command.try_get_matches_from(words) {
@@ -140,7 +142,7 @@ pub fn read_words(alloc: Global, words: &[String]) -> Result<Line, WordsFault>
         Err(error) => return Err(refusal(error)),
     };
     match matches.subcommand() {
-        Some((name, own)) => line_of(alloc, name, own),
+        Some((name, own)) => Ok(line_of(alloc, name, own)?),
         None => Ok(Line {
             order: Order::Run,
             file: None,
@@ -149,8 +151,7 @@ pub fn read_words(alloc: Global, words: &[String]) -> Result<Line, WordsFault>
 }
 
 fn refusal(error: clap::Error) -> WordsFault
-    ensures memory { kind_of error ≡ ErrorKind.OutOfMemory → result ≡ Memory }
-    ensures help { AsksForHelp result ↔ (kind_of error ≡ ErrorKind.DisplayHelp) }
+    ensures { IsFaultOf error result }
 {
     if error.kind() == ErrorKind::OutOfMemory {
         WordsFault::Memory
@@ -160,10 +161,10 @@ fn refusal(error: clap::Error) -> WordsFault
 }
 
 // The line of a command's name and its matches.
-fn line_of<'a>(alloc: Global, name: &str, own: &ArgMatches<'a>) -> Result<Line, WordsFault>
-    ensures ok { IfOk result (λ line. IsLineOf name.now (first_value (found_of own.now) (codes "scenario")) (first_value (found_of own.now) (codes "file")) line) }
-    ensures refused { IfErr result (λ fault. IsName name.now → (TakesText name.now → is_some (first_value (found_of own.now) (codes "scenario")) ≡ true) → fault ≡ Memory) }
-    ensures no_help { IfErr result (λ fault. AsksForHelp fault → ⊥) }
+fn line_of<'a>(alloc: Global, name: &str, own: &ArgMatches<'a>) -> Result<Line, AllocError>
+    requires name { IsName name.now }
+    requires text { TakesText name.now → is_some (first_value (found_of own.now) (codes "scenario")) ≡ true }
+    ensures { IfOk result (IsLineOf name.now (first_value (found_of own.now) (codes "scenario")) (first_value (found_of own.now) (codes "file"))) }
 {
     let file = match own.get_str("file") {
         Some(file) => Some(String::from_str(alloc, file)?),
@@ -174,25 +175,18 @@ fn line_of<'a>(alloc: Global, name: &str, own: &ArgMatches<'a>) -> Result<Line, 
         "plans" => Order::Plans,
         "try" => Order::Try(scenario_of(alloc, own)?),
         "reduce" => Order::Reduce(scenario_of(alloc, own)?),
-        _ => return Err(WordsFault::Refused(missing(alloc)?)),
+        _ => unreachable!(),
     };
     Ok(Line { order, file })
 }
 
 // TEXT, as text of its own.
-fn scenario_of<'a>(alloc: Global, own: &ArgMatches<'a>) -> Result<String, WordsFault>
-    ensures text { IfOk result (λ text. first_value (found_of own.now) (codes "scenario") ≡ Some (string_bytes text)) }
-    ensures refused { IfErr result (λ fault. is_some (first_value (found_of own.now) (codes "scenario")) ≡ true → fault ≡ Memory) }
-    ensures no_help { IfErr result (λ fault. AsksForHelp fault → ⊥) }
+fn scenario_of<'a>(alloc: Global, own: &ArgMatches<'a>) -> Result<String, AllocError>
+    requires { is_some (first_value (found_of own.now) (codes "scenario")) ≡ true }
+    ensures { IfOk result (λ text. first_value (found_of own.now) (codes "scenario") ≡ Some (string_bytes text)) }
 {
     match own.get_str("scenario") {
-        Some(text) => Ok(String::from_str(alloc, text)?),
-        None => Err(WordsFault::Refused(missing(alloc)?)),
+        Some(text) => String::from_str(alloc, text),
+        None => unreachable!(),
     }
-}
-
-fn missing(alloc: Global) -> Result<clap::Error, AllocError>
-    ensures { IfOk result (λ error. kind_of error ≡ ErrorKind.MissingRequiredArgument) }
-{
-    command(alloc)?.error(ErrorKind::MissingRequiredArgument, "no scenario is given")
 }

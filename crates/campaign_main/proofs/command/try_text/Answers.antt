@@ -1,12 +1,15 @@
 use Rattle.std.proofs.Common.{◌∙◌, ap}
 use Rattle.campaign_main.specs.Exit.{is_fail}
-use Rattle.campaign_main.proofs.AnswerLemmas.{try-short, try-written}
+use Rattle.campaign_main.specs.declared.fault.CommandFault.TheVariants.{Campaign}
+use Rattle.campaign_main.proofs.AnswerLemmas.{short-up, try-short, try-written}
 use Rattle.campaign_main.proofs.command.try_text.Goals as goal
 
-pub returns-in-Ok-try_one : goal.returns-in-Ok-try_one
-returns-in-Ok-try_one g c =
-    try-written _ _ c.in-Ok.scenario c.in-Ok.ensures.exact _ _ _ c.in-Ok-try_one.ensures.text
-    (c.is_fail.ensures ∙ ap is_fail c.in-Ok-try_one.ensures.verdict)
-
 pub returns : goal.returns
-returns g c = try-short _ _ c.in-Ok.scenario c.in-Ok.ensures.exact _ _ _ _ c.in-Err-try_one.ensures.fault
+returns g c =
+    try-written _ _ c.in_ok-scenario.scenario c.in_ok-scenario.ensures.exact _ _ _ _ c.in_ok-verdict.ensures.text c.in_ok-verdict.ensures.sound
+    (c.is_fail.ensures ∙ ap is_fail c.in_ok-verdict.ensures.verdict)
+
+pub returns-in_err-verdict : goal.returns-in_err-verdict
+returns-in_err-verdict g c =
+    short-up _ _ _ _ _ (Campaign c.in_err-verdict.field-0.0) c.from_residual-in_err-verdict.ensures.1
+    (try-short _ _ c.in_ok-scenario.scenario c.in_ok-scenario.ensures.exact _ _ _ _ c.in_err-verdict.ensures.fault)

@@ -1,7 +1,8 @@
-use Rattle.std.proofs.Common.{Err, ap, inl}
-use Rattle.campaign_main.specs.Commands.{Answer}
-use Rattle.campaign_main.specs.Ends.{EndsAs, IsRefused}
-use Rattle.campaign_main.proofs.EndLemmas.{cause-unread, read-answer}
+use Rattle.std.proofs.Common.{Err, ap, inl, subst}
+use Rattle.campaign_main.specs.declared.exit.Exit.{Exit}
+use Rattle.campaign_main.specs.Commands.{Answer, text_answer}
+use Rattle.campaign_main.specs.Ends.{EndsAs, IsRefused, TellsBy, TellsRefusal}
+use Rattle.campaign_main.proofs.EndLemmas.{cause-unread, read-answer, tells-unread}
 use Rattle.campaign_main.proofs.performing.perform.Goals as goal
 
 pub returns-in-Ok-clause-end : goal.returns-in-Ok-clause-end
@@ -15,12 +16,18 @@ pub returns-in-Ok-clause-cause : goal.returns-in-Ok-clause-cause
 returns-in-Ok-clause-cause g c =
     λ refused.
     let E = g.E.Sink in
-    let new = c.perform_text.new.faults in
-    let P : Answer → Type 0 = λ a. IsRefused a (E.told c.args.faults.now) (E.told new) (E.has_failed new) in
-    read-answer _ _ _ _ P c.as_str.ensures.value c.in-Ok.ensures.ok c.in-Ok.ensures.limit c.as_str.utf8 (inl (c.perform_text.ensures.cause refused))
+    let old = E.told c.args.faults.now in
+    let new = E.told c.perform_text.new.faults in
+    let failed = E.has_failed c.perform_text.new.faults in
+    let P : Answer → Type 0 = λ a. IsRefused a old new failed in
+    let Q : Exit → Type 0 = λ e. TellsBy (TellsRefusal (text_answer c.args.order.now c.as_str.result.now) old new failed) e old new failed in
+    read-answer _ _ _ _ P c.as_str.ensures.value c.in-Ok.ensures.ok c.in-Ok.ensures.limit c.as_str.utf8 (inl (subst Q refused c.perform_text.ensures.told))
 
 pub returns-in-Err-clause-cause : goal.returns-in-Err-clause-cause
 returns-in-Err-clause-cause g c =
     λ refused.
     cause-unread _ _ _ _ _ _ c.in-Err.fault (λ e. c.in-Err.ensures.too_long (ap (λ f. Err f) e)) (λ e. c.in-Err.ensures.not_text (ap (λ f. Err f) e))
     c.unread.ensures.end c.unread.ensures.memory refused
+
+pub returns-in-Err-clause-told : goal.returns-in-Err-clause-told
+returns-in-Err-clause-told g c = tells-unread c.in-Err.fault c.unread.result _ _ _ c.unread.ensures.end c.unread.ensures.memory

@@ -1,0 +1,22 @@
+-- Of each reduced scenario in the text that a command writes: it fails with its code, under the same seed and limit and its own stream
+-- number, and no single fault can be left out of it.
+use Rattle.std.specs.Prelude.{List, ℕ, IfOk, IfSome, string_bytes}
+use Rattle.scenario_grammar.specs.FirstFault.{reading}
+use Rattle.campaign_settings.specs.Settings.{settings_of}
+use Rattle.campaign_core.specs.Headline.{Campaign, EachIsMinimal}
+use Rattle.campaign_core.specs.CommandTexts.{IsReducedToMinimal}
+use Rattle.command_words.specs.declared.words.Order.{Order}
+use Rattle.command_words.specs.declared.words.Order.TheVariants as order
+use Rattle.campaign_main.specs.Commands.{campaign_for}
+
+-- by what a campaign is given: of `run` the scenarios of the first failures, of `reduce` the one that its text spells
+abbrev pub ReducesToMinimal : Order → Campaign → Type 0
+ReducesToMinimal order.Run c = EachIsMinimal c
+ReducesToMinimal order.Plans c = Unit {0}
+ReducesToMinimal (order.Try text) c = Unit {0}
+ReducesToMinimal (order.Reduce text) c = IfOk (reading (string_bytes text)) (IsReducedToMinimal c)
+
+-- by the text of the settings, where it gives settings and they choose a target
+abbrev pub TextReducesToMinimal : Order → List ℕ → Type 0
+TextReducesToMinimal order text =
+    IfOk (settings_of text) (λ given. IfSome given.choice (λ choice. ReducesToMinimal order (campaign_for given choice)))
