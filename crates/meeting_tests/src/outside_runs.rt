@@ -72,8 +72,8 @@ fn a_failure_without_faults_needs_no_test(rt: HostRuntime) -> Result<(), Fail> {
     Ok(())
 }
 
-// Each point is asked once, so that there are 1 + 3 * 3 plans, and 3 * 2 of two sites. In each of the codes' order the later plan has the
-// lower code but for the last one, whose two faults are both kept: the first of them alone fails too, with another code.
+// Each point is asked once, so that there are 1 + 3 * 3 plans, and 3 * 2 of two sites. The findings stand in the order of their plans, not
+// of their codes, which are 2, 0 and 1. The last one keeps both faults: the first of them alone fails too, but with another code.
 const THREE_FINDINGS: &str = "target three codes
 seed 7
 clean pass
@@ -159,7 +159,8 @@ fn draws(alloc: Global, count: usize) -> Result<Vec<Scenario>, Fail>
     ensures { IfOk result (λ scenarios. length scenarios.items ≡ count) }
 {
     let mut scenarios = Vec::new(alloc);
-    for _ in 0..count {
+    for made in 0..count {
+        let _ = made;
         match parse(
             alloc,
             "three::a=50%return;three::b=50%return;three::c=50%return",
