@@ -1,26 +1,40 @@
 //! What the hands of a run perform, and what they have performed over all their runs.
 
-use crate::adding::{adders, finished, have_performed, is_each_once};
+use crate::adding::{Adder, adders, finished, have_performed, is_each_once};
+use std::alloc::Global;
+use std::process::Abort;
+use std::sync::Wait;
 use std::sync::atomic::AtomicU64;
 use std::test::Fail;
+use std::thread::Threads;
 use target_trait::FreeGate;
+use worker_pool::Hand;
+
+/// One run of three hands, after which they have performed so many tickets over all their runs.
+fn ran<'a, R: Abort + Threads + Wait + Sync>(
+    rt: &R,
+    alloc: Global,
+    hands: Vec<Hand<Adder<'a>>>,
+    calls: &AtomicU64,
+    count: u32,
+    performed: u64,
+) -> Result<Vec<Hand<Adder<'a>>>, Fail> {
+    let done = finished(rt, alloc, &FreeGate, hands, count)?;
+    assert_eq!(rt; done.answers.len(), 3);
+    assert!(rt; is_each_once(alloc, &done.answers, count as usize)?);
+    have_performed(rt, &done.hands, calls, performed);
+    Ok(done.hands)
+}
 
 // What the body every_worker_performs_every_plan fails, by the count of calls.
 #[test]
 fn three_runs_of_three_hands(rt: HostRuntime) -> Result<(), Fail> {
     let alloc = rt.alloc();
     let calls = AtomicU64::new(0);
-    let hands = adders(alloc, &calls, 3, 0)?;
-    let first = finished(&rt, alloc, &FreeGate, hands, 19)?;
-    assert!(rt; is_each_once(alloc, &first.answers, 19)?);
-    have_performed(&rt, &first.hands, &calls, 19);
-    let second = finished(&rt, alloc, &FreeGate, first.hands, 19)?;
-    assert!(rt; is_each_once(alloc, &second.answers, 19)?);
-    have_performed(&rt, &second.hands, &calls, 38);
-    let third = finished(&rt, alloc, &FreeGate, second.hands, 0)?;
-    assert_eq!(rt; third.answers.len(), 3);
-    assert!(rt; third.answers.iter().all(|list| list.is_empty()));
-    have_performed(&rt, &third.hands, &calls, 38);
+    let mut hands = adders(alloc, &calls, 3, 0)?;
+    for (count, performed) in [(19, 19), (19, 38), (0, 38)] {
+        hands = ran(&rt, alloc, hands, &calls, count, performed)?;
+    }
     Ok(())
 }
 

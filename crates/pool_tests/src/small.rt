@@ -12,7 +12,7 @@ use std::sync::Wait;
 use std::sync::atomic::{AtomicU64, Ordering};
 use std::test::Fail;
 use std::thread::Threads;
-use target_trait::{FreeGate, Target};
+use target_trait::{FreeGate, Target, Verdict};
 use worker_pool::{Gathered, Hand, Job, run_all};
 
 /// Runs the plans of a course on a target of its own, and counts its calls.
@@ -25,7 +25,7 @@ struct Runner<'a> {
 }
 
 impl<'a> Job for Runner<'a> {
-    type Answer = Numbered<'a, Replace>;
+    type Answer = Verdict;
 
     type Setup = Setup;
 
@@ -35,12 +35,13 @@ impl<'a> Job for Runner<'a> {
 
     ghost answers = { λ _ n a. ⊤ };
 
-    fn perform(&mut self, number: u32) -> Result<Numbered<'a, Replace>, AllocError> {
+    fn perform(&mut self, number: u32) -> Result<Verdict, AllocError> {
         if number as usize >= self.course.plans.len() {
             return Err(AllocError);
         }
         self.calls.fetch_add(1, Ordering::SeqCst);
-        Numbered::run(self.alloc, &mut self.target, self.course, number)
+        let result = Numbered::run(self.alloc, &mut self.target, self.course, number)?;
+        Ok(result.verdict())
     }
 }
 
@@ -91,19 +92,22 @@ fn run<'a, R: Threads + Wait + Abort + Sync>(
     Ok(done)
 }
 
-/// Whether the lists have the result of each plan once, under its number.
-fn has_each_once(lists: &[Vec<(u32, Numbered<'_, Replace>)>], count: u32) -> bool {
-    (0..count).all(|number| {
+/// Whether each plan passes, once.
+fn passes_each_once(lists: &[Vec<(u32, Verdict)>], count: u32) -> bool {
+    for number in 0..count {
         let mut times = 0u32;
         for list in lists.iter() {
             for pair in list.iter() {
-                if pair.0 == number && pair.1.number() == number {
+                if pair.0 == number && pair.1 == Verdict::Pass {
                     times = times.saturating_add(1);
                 }
             }
         }
-        times == 1
-    })
+        if times != 1 {
+            return false;
+        }
+    }
+    true
 }
 
 // What the body every_worker_performs_every_plan fails: each of its workers calls its job for every number.
@@ -133,9 +137,9 @@ fn three_hands_twice_on_the_small_workload(rt: HostRuntime) -> Result<(), Fail> 
     let calls = AtomicU64::new(0);
     let hands = three_hands(alloc, &course, &calls)?;
     let first = run(&rt, alloc, hands, &calls, 19, 19)?;
-    assert!(rt; has_each_once(&first.answers, 19));
+    assert!(rt; passes_each_once(&first.answers, 19));
     let second = run(&rt, alloc, first.hands, &calls, 19, 38)?;
-    assert!(rt; has_each_once(&second.answers, 19));
+    assert!(rt; passes_each_once(&second.answers, 19));
     let third = run(&rt, alloc, second.hands, &calls, 0, 38)?;
     assert_eq!(rt; third.answers.len(), 3);
     assert!(rt; third.answers.iter().all(|list| list.is_empty()));
