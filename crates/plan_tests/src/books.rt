@@ -131,7 +131,10 @@ fn the_first_failure_is_that_of_the_least_number(rt: HostRuntime) -> Result<(), 
     let plans = plans(alloc, &scenarios)?;
     let course = course(&plans);
     let mut book = book(&rt, alloc, &course)?;
-    assert_eq!(rt; put(&rt, alloc, &mut book, &mut OneStep, &course, 3)?, "put");
+    assert_eq!(rt;
+        put(&rt, alloc, &mut book, &mut OneStep, &course, 3)?,
+        "put"
+    );
     tells(&rt, alloc, &book, &[(3, 4)], &[Verdict::Fail(4)])?;
     put_others(&rt, alloc, &course, &mut book)?;
     assert!(rt; book.whole());

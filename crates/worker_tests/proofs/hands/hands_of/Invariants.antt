@@ -1,6 +1,6 @@
 use Rattle.std.proofs.Common.{◌≡◌, length}
 use Rattle.std.specs.Prelude.{All}
-use Rattle.ddmin_tests.proofs.hands.hands_of.Given as goal
+use Rattle.worker_tests.proofs.hands.hands_of.Given as goal
 
 abbrev pub invariant-loop-made : goal.invariant-loop-made
 invariant-loop-made g l =

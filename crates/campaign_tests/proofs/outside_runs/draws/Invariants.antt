@@ -1,5 +1,5 @@
 use Rattle.std.proofs.Common.{◌≡◌, length}
-use Rattle.meeting_tests.proofs.outside_runs.draws.Given as goal
+use Rattle.campaign_tests.proofs.outside_runs.draws.Given as goal
 
 abbrev pub invariant-loop-made : goal.invariant-loop-made
 invariant-loop-made l = length l.scenarios.items ≡ l.made

@@ -1,7 +1,7 @@
 //! A target of three points, each asked once, that breaks its promise in three ways.
 ghost use Rattle.std.specs.Prelude.{codes};
 ghost use Rattle.std.proofs.Common.{rules};
-ghost use Rattle.meeting_tests.specs.ThreeCodes.{point_names, code_text, asks_of, asks-within, asks-halts};
+ghost use Rattle.campaign_tests.specs.ThreeCodes.{point_names, code_text, asks_of, asks-within, asks-halts};
 
 use std::alloc::AllocError;
 use target_trait::{Answer, Judgement, Session, Target};

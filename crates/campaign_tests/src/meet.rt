@@ -1,7 +1,7 @@
 //! A target whose runs wait for one another.
 ghost use Rattle.std.specs.Prelude.{codes};
 ghost use Rattle.std.proofs.Common.{rules};
-ghost use Rattle.meeting_tests.specs.Steps.{point_names, asks_of, asks-within, asks-halts};
+ghost use Rattle.campaign_tests.specs.Steps.{point_names, asks_of, asks-within, asks-halts};
 
 use std::alloc::AllocError;
 use std::rt::Clock;
