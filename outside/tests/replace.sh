@@ -72,5 +72,5 @@ is 'replace under a refused scenario is unresolved' 'unresolved	libc::write=retr
 # States that the bundled device doesn't have: the new name may last before the folder is synced, the contents may not.
 is 'replace late_sync, names before contents' 'fail torn	libc::fsync=1*return' \
     "$(STATES='lasting names' FLAW=late_sync examples/replace/try.sh 'libc::fsync=1*return')"
-is 'replace sound in every state' pass,pass,pass,pass,pass "$(STATES='lasting names contents live' verdicts sound \
+is 'replace sound in every state' pass,pass,pass,pass,pass "$(export STATES='lasting names contents live' && verdicts sound \
     none libc::write=1*return 'libc::fsync=1*return' 'libc::fsync=1*off->1*return' 'libc::fsync=1*off->1*panic')"

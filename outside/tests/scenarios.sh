@@ -68,12 +68,12 @@ try "a=off$(repeated 65531 ' ')" create a
 is '65536 bytes' 'create 0 0' "$said $status"
 
 # The variables beside FAILPOINTS.
-bare() { (cd "$here/data" && LD_PRELOAD="$outside/out/faults.so" "$@" "$outside/out/component" create a) 2>&1; }
-is 'no FAULTS_ROOT' "faults: isn't set: FAULTS_ROOT" "$(bare env)"
-is 'no FAULTS_RUN' "faults: isn't set: FAULTS_RUN" "$(FAULTS_ROOT=$here/data bare)"
-is 'FAULTS_RUN of no run' "faults: FAULTS_RUN isn't a run's folder: $here/data" "$(FAULTS_ROOT=$here/data FAULTS_RUN=$here/data bare)"
+bare() { (cd "$here/data" && env LD_PRELOAD="$outside/out/faults.so" "$@" "$outside/out/component" create a) 2>&1; }
+is 'no FAULTS_ROOT' "faults: isn't set: FAULTS_ROOT" "$(bare)"
+is 'no FAULTS_RUN' "faults: isn't set: FAULTS_RUN" "$(bare FAULTS_ROOT="$here/data")"
+is 'FAULTS_RUN of no run' "faults: FAULTS_RUN isn't a run's folder: $here/data" "$(bare FAULTS_ROOT="$here/data" FAULTS_RUN="$here/data")"
 new
-is 'FAULTS_ROOT of nothing' "faults: FAULTS_ROOT isn't a folder: $here/none" "$(FAULTS_ROOT=$here/none FAULTS_RUN=$here/run bare)"
+is 'FAULTS_ROOT of nothing' "faults: FAULTS_ROOT isn't a folder: $here/none" "$(bare FAULTS_ROOT="$here/none" FAULTS_RUN="$here/run")"
 
 # The census.
 try none mkdir b create a write b write c fsync rename a sub/b folder . fsync
