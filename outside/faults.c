@@ -64,11 +64,10 @@ static const char *watched_name(int folder, const char *name, char *path) {
     for (size_t end = strlen(joined); end > 1 && joined[end - 1] == '/';) joined[--end] = 0;
     char *slash = strrchr(joined, '/'), *base = slash ? slash + 1 : joined;
     if (!*base || !strcmp(base, ".") || !strcmp(base, "..")) return realpath(joined, path) ? watched(path) : NULL;
-    if (slash == joined) return NULL; /* a name of the uppermost folder: the root is below it or is it */
     if (slash) *slash = 0;
-    if (!realpath(slash ? joined : ".", path)) return NULL;
+    if (!realpath(!slash ? "." : *joined ? joined : "/", path)) return NULL;
     if (strlen(path) + strlen(base) + 2 > PATH_MAX) return NULL;
-    strcat(path, "/");
+    if (path[1]) strcat(path, "/");
     strcat(path, base);
     return watched(path);
 }
@@ -474,6 +473,7 @@ __attribute__((constructor)) static void begin(void) {
     is_kept = !access(book, F_OK);
     forgets = sync;
     if (!realpath(where, root)) refuse("FAULTS_ROOT isn't a folder", where);
+    if (!root[1]) refuse("FAULTS_ROOT is too much", root);
     root_length = strlen(root);
     errno = before;
 }
