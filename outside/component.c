@@ -6,10 +6,12 @@
      fsync, fdatasync, ftruncate N, truncate NAME N
      rename FROM TO, link FROM TO, unlink NAME, remove NAME, mkdir NAME, rmdir NAME, symlink TEXT NAME
      child: a child does the steps that follow, up to `parent`, while this process waits
+     threads N: so many threads write a byte each; answers how many of them failed
      forget: closes each descriptor above 2, also those that it doesn't know */
 #define _GNU_SOURCE
 #include <errno.h>
 #include <fcntl.h>
+#include <pthread.h>
 #include <stdio.h>
 #include <stdlib.h>
 #include <string.h>
@@ -41,6 +43,24 @@ static long of_two(const char *step, char *first, char *second) {
     return in_parts(step, first, second);
 }
 
+static void *write_byte(void *unused) {
+    (void)unused;
+    return write(file, "x", 1) == 1 ? NULL : bytes;
+}
+
+static long threads(int count) {
+    pthread_t made[64];
+    long failed = 0;
+    void *answer;
+    for (int i = 0; i < count; i++)
+        if (pthread_create(&made[i], NULL, write_byte, NULL)) exit(65);
+    for (int i = 0; i < count; i++) {
+        pthread_join(made[i], &answer);
+        failed += answer != NULL;
+    }
+    return failed;
+}
+
 static long opened(const char *name, int flags) {
     int made = open(name, flags | O_CLOEXEC, 0644);
     if (made >= 0) file = made;
@@ -59,6 +79,7 @@ static long of_one(const char *step, char *argument) {
     if (!strcmp(step, "ftruncate")) return ftruncate(file, atol(argument));
     if (!strcmp(step, "unlink")) return unlink(argument);
     if (!strcmp(step, "remove")) return remove(argument);
+    if (!strcmp(step, "threads")) return threads(atoi(argument));
     if (!strcmp(step, "mkdir")) return mkdir(argument, 0755);
     return rmdir(argument);
 }

@@ -102,7 +102,7 @@ is 'folders on the way are resolved' 'sub/x,sub/x' "$(cut -f 5 "$here/run/trace"
 try 'libc::write=1*off->1*return' create a write b forget create c write d
 is 'a program may close every descriptor' 'create 0,write 1,forget 0,create 0,write EIO' "$said"
 
-# Several processes of one run.
+# Several processes of one run, and threads.
 try 'libc::write=2*off->1*return' create a write b child write c write d parent write e
 is 'a child goes on counting' 'create 0,write 1,write 1,write EIO,child 0,write 1' "$said"
 try 'libc::write=1*off->1*panic' create a write b child write c parent write d
@@ -111,3 +111,5 @@ is 'nor is it traced' 'go,go,panic' "$(answers)"
 try 'libc::write=1*off->1*return' create a write b
 go 'libc::write=1*off->1*return' open a write c write d
 is 'the next program goes on counting' 'open 0,write EIO,write 1' "$said"
+try 'libc::write=9*off->3*return' create a threads 40
+is 'threads share the counts' 'create 0,threads 3 41' "$said $(wc -l < "$here/run/trace")"

@@ -1,56 +1,39 @@
 # File replacement in C under the plans of examples/replace/outside.toml, and its verdicts beside those of the bundled file
-# replacement with the same workload. Sourced by `test`.
+# replacement with the same workload. Sourced by `test`. examples/replace/plans and the reports beside it are worked out by
+# hand: the plans by the rules of plans, the verdicts by the protocol.
 #
-# Their sites, in the order of the protocol. The C program opens the folder first, and to the C library the sync of the
-# file and of the folder are one point: with late_sync the folder's comes first. A Return of the bundled target leaves
-# half a chunk, as HALF does here.
+# The C program opens the folder first, and to the C library the sync of the file and of the folder are one point: with
+# late_sync the folder's comes first. A Return of the bundled target leaves half a chunk, as HALF does here.
 #
-#   bundled plans      site              here
-#                                        libc::open, first hit
-#   1, 2, 3            create 1          libc::open, second hit
-#   4, 5, 6            write 1           libc::write, first hit
-#   7, 8, 9            write 2           libc::write, second hit
-#   10, 11, 12         sync 1            libc::fsync, first hit; with late_sync second hit
-#   13, 14, 15         rename 1          libc::rename
-#   16, 17, 18         sync_dir 1        libc::fsync, second hit; with late_sync first hit
+#   site of the protocol   bundled plans   plans here
+#   open the folder                        1, 2, 3
+#   create                 1, 2, 3         4, 5, 6
+#   write 1                4, 5, 6         7, 8, 9; 22 leaves half a chunk, as 4 does
+#   write 2                7, 8, 9         10, 11, 12; 23 as 7
+#   sync                   10, 11, 12      13, 14, 15; with late_sync 16, 17, 18
+#   rename                 13, 14, 15      19, 20, 21
+#   sync_dir               16, 17, 18      16, 17, 18; with late_sync 13, 14, 15
 #
-# The bundled target's failures: late_sync 10, 11 and 12 torn; ignore_sync 10 and 11 torn; retry_write 4 torn; all else
-# passes. Plan 11, a sync that fails from then on, fails the folder's sync too where both are one point: ignore_sync then
-# never promises anything, and passes here.
+# The bundled target's failures, all torn: late_sync 10, 11 and 12; ignore_sync 10 and 11; retry_write 4; of the sound
+# variant none. Where the tables agree, so do the failures here: 16, 17 and 18; 13; 22. They don't agree on ignore_sync's 11,
+# a sync that fails from then on: here it fails the folder's sync too (14), so nothing is promised.
 
-# verdicts FLAW SCENARIO..: the verdicts alone, in order
-verdicts() {
-    flaw=$1
-    shift
-    for scenario in "$@"; do
-        FLAW=$flaw examples/replace/try.sh "$scenario" | cut -f 1
-    done | paste -s -d ,
+# campaign FLAW: each plan that doesn't pass, with its number, and how many were tried
+campaign() {
+    while read -r _ number scenario; do
+        FLAW=$1 examples/replace/try.sh "$scenario" < /dev/null | sed "s/^/$number	/"
+    done < examples/replace/plans | awk -F '\t' '$2 != "pass"; END { print NR " plans" }' | paste -s -d ,
 }
 
-# site FLAW POINT HIT EXPECTED [ERROR]: one failure, failing from then on, and a panic, at that hit
-site() {
-    off=
-    [ "$3" -eq 1 ] || off="$(($3 - 1))*off->"
-    is "replace $1 $2 $3${5:+ $5}" "$4" "$(verdicts "$1" "$2=${off}1*return${5-}" "$2=${off}return${5-}" "$2=${off}1*panic")"
+# told FLAW: the same of the stored report
+told() {
+    sed -n 's/^verdict //p' "examples/replace/$1.report" | while read -r number verdict; do
+        printf '%s\t%s\t%s\n' "$number" "$verdict" "$(sed -n "s/^plan $number //p" examples/replace/plans)"
+    done | awk -F '\t' '$2 != "pass"; END { print NR " plans" }' | paste -s -d ,
 }
 
 for flaw in sound late_sync ignore_sync retry_write; do
-    sync1=pass,pass,pass sync2=pass,pass,pass half=pass,pass,pass
-    case $flaw in
-    late_sync) sync2='fail torn,fail torn,fail torn' ;;
-    ignore_sync) sync1='fail torn,pass,pass' ;;
-    retry_write) half='fail torn,pass,pass' ;;
-    esac
-    is "replace $flaw without faults" pass "$(verdicts $flaw none)"
-    site $flaw libc::open 1 pass,pass,pass
-    site $flaw libc::open 2 pass,pass,pass
-    site $flaw libc::write 1 pass,pass,pass
-    site $flaw libc::write 1 "$half" '(HALF)'
-    site $flaw libc::write 2 pass,pass,pass
-    site $flaw libc::write 2 pass,pass,pass '(HALF)'
-    site $flaw libc::fsync 1 "$sync1"
-    site $flaw libc::fsync 2 "$sync2"
-    site $flaw libc::rename 1 pass,pass,pass
+    is "replace $flaw, its plans" "$(told $flaw)" "$(campaign $flaw)"
 done
 
 # The bundled target's other worked rows: old contents that are empty, and what each run asks.
@@ -66,8 +49,21 @@ is 'replace twice, what was left is cleared' 'open open write unlink unlink open
 is 'and passes' 'pass	libc::write=1*return;libc::unlink=1*return' "$(cat "$here/said")"
 TRACE=$here/trace examples/replace/try.sh none > "$here/said"
 is 'the census of replace is that of its settings' "$(grep -E '^(points|hits)' examples/replace/outside.toml)" "$(./census "$here/trace")"
-is 'replace without time is unresolved' 'unresolved	libc::write=pause' "$(examples/replace/try.sh 'libc::write=pause')"
+is 'replace under a pause is unresolved' 'unresolved	libc::write=pause' "$(examples/replace/try.sh 'libc::write=pause')"
 is 'replace under a refused scenario is unresolved' 'unresolved	libc::write=retrun' "$(examples/replace/try.sh 'libc::write=retrun' 2> "$here/faults")"
+
+# verdicts FLAW SCENARIO..: the verdicts alone, in order
+verdicts() {
+    flaw=$1
+    shift
+    for scenario in "$@"; do
+        FLAW=$flaw examples/replace/try.sh "$scenario" | cut -f 1
+    done | paste -s -d ,
+}
+
+# What has no plan of its own.
+is 'replace retry_write, two halves in turn' 'pass,pass,fail torn' "$(verdicts retry_write 'libc::write=2*return(HALF)' \
+    'libc::write=return(HALF)' 'libc::write=1*return(HALF)->1*off->1*return(HALF)')"
 
 # States that the bundled device doesn't have: the new name may last before the folder is synced, the contents may not.
 is 'replace late_sync, names before contents' 'fail torn	libc::fsync=1*return' \

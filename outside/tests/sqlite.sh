@@ -30,6 +30,8 @@ else
     database 'EXTRA, the folder cannot be opened' 'libc::open=3*off->1*return' 'fail lost' SYNC=EXTRA
     database 'EXTRA, the sync of the folder fails' 'libc::fsync=1*off->1*return' pass SYNC=EXTRA
     database 'EXTRA, dies while it writes pages' 'libc::write=9*off->1*panic' pass SYNC=EXTRA
-    database 'EXTRA, both' 'libc::fsync=1*off->1*return;libc::write=9*off->1*panic' 'fail corrupt' SYNC=EXTRA
+    database 'EXTRA, that folder cannot be opened while the journal is made' 'libc::open=2*off->1*return' pass SYNC=EXTRA
+    database 'EXTRA, both' 'libc::open=2*off->1*return;libc::write=9*off->1*panic' 'fail corrupt' SYNC=EXTRA
+    database 'EXTRA, both, by the sync' 'libc::fsync=1*off->1*return;libc::write=9*off->1*panic' 'fail corrupt' SYNC=EXTRA
     database 'EXTRA, a fault that is not met' 'libc::mkdir=1*return' unresolved SYNC=EXTRA
 fi
