@@ -88,6 +88,17 @@ left lasting > /dev/null
 rm "$here/data/old"
 is 'a look at one state changes no other' 'old=ab23456789 ' "$(left lasting | sed 's|sub/.*||')"
 
+# A sync that fails by itself, not by the scenario.
+if command -v strace > "$here/said" && strace -o "$here/calls" true 2> "$here/faults"; then
+    new
+    said=$(cd "$here/data" && strace -qq -o "$here/calls" -e trace=fsync -e inject=fsync:error=EIO:when=1 \
+        env LD_PRELOAD="$outside/out/faults.so" FAULTS_ROOT="$here/data" FAULTS_RUN="$here/run" \
+        "$outside/out/component" open old write ab fsync | paste -s -d ,)
+    is 'a sync that fails by itself keeps nothing' 'open 0,write 2,fsync EIO old=0123456789 ' "$said $(left lasting | sed 's|sub/.*||')"
+else
+    echo 'skipped a sync that fails by itself: no strace'
+fi
+
 # What is refused, with nothing changed.
 try none open old
 mkdir -p "$here/other"

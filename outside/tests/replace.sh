@@ -49,6 +49,8 @@ is 'replace twice, what was left is cleared' 'open open write unlink unlink open
 is 'and passes' 'pass	libc::write=1*return;libc::unlink=1*return' "$(cat "$here/said")"
 TRACE=$here/trace examples/replace/try.sh none > "$here/said"
 is 'the census of replace is that of its settings' "$(grep -E '^(points|hits)' examples/replace/outside.toml)" "$(./census "$here/trace")"
+is 'replace, the scenario in FAILPOINTS' 'fail torn	libc::fsync=1*return' \
+    "$(FAILPOINTS='libc::fsync=1*return' FLAW=ignore_sync examples/replace/try.sh)"
 is 'replace under a pause is unresolved' 'unresolved	libc::write=pause' "$(examples/replace/try.sh 'libc::write=pause')"
 is 'replace under a refused scenario is unresolved' 'unresolved	libc::write=retrun' "$(examples/replace/try.sh 'libc::write=retrun' 2> "$here/faults")"
 

@@ -1,13 +1,13 @@
 #!/bin/sh
-# try.sh SCENARIO: replaces the file under that scenario, cuts the power, and writes what became of it: a line
-# `VERDICT<TAB>SCENARIO`. `make` in outside/ has to have been done. By the environment:
+# try.sh [SCENARIO]: replaces the file under that scenario, or the one in FAILPOINTS, cuts the power, and writes what became
+# of it: a line `VERDICT<TAB>SCENARIO`. `make` in outside/ has to have been done. By the environment:
 #   FLAW           sound (where it isn't set), late_sync, ignore_sync or retry_write
 #   OLD            what the file holds before: old
 #   REPLACEMENTS   lists of chunks without blanks, a comma between two lists: ne w
 #   STATES         the states after a power cut that are judged: lasting
 #   TRACE          a file that takes the run's trace
 outside=$(cd "$(dirname "$0")/../.." && pwd) || exit 2
-[ $# -eq 1 ] || { echo "usage: try.sh SCENARIO" >&2; exit 2; }
+scenario=${1-${FAILPOINTS-none}}
 OLD=${OLD-old}
 REPLACEMENTS=${REPLACEMENTS-ne w}
 set -f
@@ -19,7 +19,7 @@ mkdir "$here/data" && printf %s "$OLD" > "$here/data/target" || exit 2
 "$outside/out/powercut" begin "$here/run" "$here/data" || exit 2
 
 # The lists of chunks are words of the program.
-(cd "$here/data" && LD_PRELOAD="$outside/out/faults.so" FAULTS_ROOT="$here/data" FAULTS_RUN="$here/run" FAILPOINTS="$1" \
+(cd "$here/data" && LD_PRELOAD="$outside/out/faults.so" FAULTS_ROOT="$here/data" FAULTS_RUN="$here/run" FAILPOINTS="$scenario" \
     timeout -s KILL 5 "$outside/out/replace" "${FLAW:-sound}" $REPLACEMENTS) > "$here/said"
 status=$?
 [ -z "${TRACE-}" ] || cp "$here/run/trace" "$TRACE"
@@ -28,7 +28,6 @@ verdict() {
     printf '%s\t%s\n' "$1" "$scenario"
     exit 0
 }
-scenario=$1
 
 # 0 and 1 are the program's own, 99 is a panic of the scenario. All else (a pause, a refused scenario, no time left, a
 # signal) tells nothing of the file.

@@ -1,6 +1,7 @@
 #!/bin/sh
-# try.sh SCENARIO: commits transactions to an SQLite database under that scenario, cuts the power, and writes what became of
-# them: a line `VERDICT<TAB>SCENARIO`. `make` in outside/ has to have been done. By the environment:
+# try.sh [SCENARIO]: commits transactions to an SQLite database under that scenario, or the one in FAILPOINTS, cuts the
+# power, and writes what became of them: a line `VERDICT<TAB>SCENARIO`. `make` in outside/ has to have been done. By the
+# environment:
 #   JOURNAL        the journal mode: DELETE (where it isn't set) or WAL
 #   SYNC           PRAGMA synchronous: FULL (SQLite's own), EXTRA, NORMAL or OFF
 #   TRANSACTIONS   how many are committed, each of two rows: 1
@@ -9,8 +10,7 @@
 # corrupt: the integrity check finds something. half: a transaction has one of its rows. lost: a transaction that was
 # acknowledged isn't there.
 outside=$(cd "$(dirname "$0")/../.." && pwd) || exit 2
-[ $# -eq 1 ] || { echo "usage: try.sh SCENARIO" >&2; exit 2; }
-scenario=$1
+scenario=${1-${FAILPOINTS-none}}
 JOURNAL=${JOURNAL:-DELETE}
 SYNC=${SYNC:-FULL}
 TRANSACTIONS=${TRANSACTIONS:-1}
