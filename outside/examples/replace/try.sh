@@ -20,7 +20,7 @@ mkdir "$here/data" && printf %s "$OLD" > "$here/data/target" || exit 2
 
 # The lists of chunks are words of the program.
 (cd "$here/data" && LD_PRELOAD="$outside/out/faults.so" FAULTS_ROOT="$here/data" FAULTS_RUN="$here/run" FAILPOINTS="$scenario" \
-    timeout -s KILL 5 "$outside/out/replace" "${FLAW:-sound}" $REPLACEMENTS) > "$here/said"
+    timeout -s KILL 20 "$outside/out/replace" "${FLAW:-sound}" $REPLACEMENTS) > "$here/said"
 status=$?
 [ -z "${TRACE-}" ] || cp "$here/run/trace" "$TRACE"
 

@@ -38,7 +38,7 @@ workload() {
 # Line by line, so that no promise is lost in a buffer where the program ends.
 workload > "$here/workload"
 (cd "$here/data" && LD_PRELOAD="$outside/out/faults.so" FAULTS_ROOT="$here/data" FAULTS_RUN="$here/run" FAILPOINTS="$scenario" \
-    timeout -s KILL 10 stdbuf -oL sqlite3 -batch -bail db < "$here/workload") > "$here/said" 2> "$here/errors"
+    timeout -s KILL 20 stdbuf -oL sqlite3 -batch -bail db < "$here/workload") > "$here/said" 2> "$here/errors"
 status=$?
 [ -z "${TRACE-}" ] || cp "$here/run/trace" "$TRACE"
 
