@@ -1,6 +1,6 @@
 -- One deque's part of the tickets, and its rule. Its owner pushes at the back before the work begins, and pops from the
 -- front; its one thief steals from the front too.
-use Rattle.std.specs.Prelude.{◌≡◌, ℕ, ◌+◌, ◌<◌, List, [], ◌∷◌, ◌++◌}
+use Rattle.std.specs.Prelude.{◌≡◌, ℕ, ◌+◌, ◌<◌, Bool, List, [], ◌∷◌, ◌++◌, count_by}
 use Rattle.std.specs.List.{sum_by}
 use mathlib.Core.Option.{some}
 use lib.ListN.{get_elem?}
@@ -44,6 +44,34 @@ part_after (move ∷ earlier) = moved move (part_after earlier)
 abbrev pub seat : ℕ → ℕ → List ℕ → List ℕ → List ℕ → Seat
 seat pop_right steal_right pushed popped stolen =
     record { pop_right = pop_right; steal_right = steal_right; pushed = pushed; popped = popped; stolen = stolen }
+
+-- a seat that knows of more numbers pushed, popped or stolen
+abbrev pub more_pushed : List ℕ → Seat → Seat
+more_pushed xs v = seat v.pop_right v.steal_right (v.pushed ++ xs) v.popped v.stolen
+
+abbrev pub more_popped : List ℕ → Seat → Seat
+more_popped xs v = seat v.pop_right v.steal_right v.pushed (v.popped ++ xs) v.stolen
+
+abbrev pub more_stolen : List ℕ → Seat → Seat
+more_stolen xs v = seat v.pop_right v.steal_right v.pushed v.popped (v.stolen ++ xs)
+
+-- a seat with both rights is cut into an owner's and a thief's, and an owner's and a thief's are joined to one
+abbrev pub owner_of : Seat → Seat
+owner_of v = seat v.pop_right 0 v.pushed v.popped []
+
+abbrev pub thief_of : Seat → Seat
+thief_of v = seat 0 v.steal_right v.pushed [] v.stolen
+
+abbrev pub joined : Seat → Seat → Seat
+joined v w = seat v.pop_right w.steal_right v.pushed v.popped w.stolen
+
+-- the numbers are among those pushed: where none of these passes a test, none of them does
+abbrev pub IsAmong : List ℕ → Seat → Type 0
+IsAmong xs v = (test : ℕ → Bool) → count_by test v.pushed ≡ 0 → count_by test xs ≡ 0
+
+-- all that was pushed was taken
+abbrev pub AllTaken : Seat → Type 0
+AllTaken v = (test : ℕ → Bool) → count_by test v.pushed ≡ count_by test v.popped + count_by test v.stolen
 
 -- The owner's seat has the right to pop and knows all that was popped, the thief's has the right to steal and knows all
 -- that was stolen, and each of the two knows what was pushed. Another seat knows nothing.

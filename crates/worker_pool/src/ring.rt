@@ -3,7 +3,8 @@ ghost use Rattle.std.specs.Prelude.{◌≡◌, ℕ, ◌+◌, ◌/◌, ◌%◌, �
 ghost use Rattle.std.specs.List.{sum_by};
 ghost use Rattle.crossbeam_deque.specs.Handles.{worker_view};
 ghost use Rattle.worker_pool.specs.declared.desk.Desk.{Desk};
-ghost use Rattle.worker_pool.specs.Ring.{next_of, AreDealtRound, DealtRound, Fresh, IsRing, IsSettled, PushedOnce, SameOwn, TakenIn, Whole, pushed_by, stolen_by, stolen_from};
+ghost use Rattle.worker_pool.specs.Ring.{next_of, IsRing, Fresh, Whole, TakenIn, IsSettled, SameOwn, pushed_by, stolen_by, stolen_from};
+ghost use Rattle.worker_pool.specs.Ring.{AreDealtRound, DealtRound, PushedOnce};
 
 use crate::desk::Desk;
 use crate::ticket::Ticket;
@@ -130,11 +131,13 @@ fn deal_one(desks: &mut Vec<Desk>, k: usize, ticket: Ticket, count: u32)
     requires round { k ≡ ticket % vec_len desks.old }
     requires below { ticket < count }
     requires whole { All (Whole count) desks.old.items }
-    requires room { (j : ℕ) (d : Desk) → j < vec_len desks.old → DealtRound (vec_len desks.old) (count / vec_len desks.old + 1) ticket j (slice_index_or desks.old.items j d) }
+    requires room { (j : ℕ) (d : Desk) → j < vec_len desks.old
+        → DealtRound (vec_len desks.old) (count / vec_len desks.old + 1) ticket j (slice_index_or desks.old.items j d) }
     ensures len { vec_len desks.new ≡ vec_len desks.old }
     ensures whole { All (Whole count) desks.new.items }
     ensures pushed { (test : ℕ → Bool) → sum_by (pushed_by test) desks.new.items ≡ sum_by (pushed_by test) desks.old.items + cond (test ticket) 1 0 }
-    ensures room { (j : ℕ) (d : Desk) → j < vec_len desks.old → DealtRound (vec_len desks.old) (count / vec_len desks.old + 1) (ticket + 1) j (slice_index_or desks.new.items j d) }
+    ensures room { (j : ℕ) (d : Desk) → j < vec_len desks.old
+        → DealtRound (vec_len desks.old) (count / vec_len desks.old + 1) (ticket + 1) j (slice_index_or desks.new.items j d) }
 {
     desks[k].deal(ticket);
 }

@@ -1,7 +1,7 @@
 //! The rule of one deque, and the kinds of step that keep it: what was pushed is, each once, what its owner popped, what its
 //! thief stole and what it holds.
-ghost use Rattle.std.specs.Prelude.{◌≡◌, ℕ, ◌+◌, ◌<◌, Bool, ◌++◌, count_by};
-ghost use Rattle.worker_pool.specs.Parts.{seat, IsWhole};
+ghost use Rattle.std.specs.Prelude.{◌≡◌, ◌<◌};
+ghost use Rattle.worker_pool.specs.Parts.{more_pushed, more_popped, more_stolen, AllTaken, IsAmong, IsWhole};
 
 use crate::ticket::Ticket;
 use crossbeam_deque::protocol::{Join, Lesson, Outcome, Protocol, Split};
@@ -37,25 +37,23 @@ impl Protocol<Ticket, Seat> for Fair {
 pub struct Puts;
 
 impl Outcome<Ticket, Seat> for Puts {
-    ghost then = { λ v xs w. w ≡ seat v.pop_right v.steal_right (v.pushed ++ xs) v.popped v.stolen };
+    ghost then = { λ v xs w. w ≡ more_pushed xs v };
 }
 
 /// The owner takes what was pushed. Where it has both rights, it finds nothing only where all that was pushed was taken.
 pub struct Pops;
 
 impl Outcome<Ticket, Seat> for Pops {
-    ghost then = { λ v xs w. (w ≡ seat v.pop_right v.steal_right v.pushed (v.popped ++ xs) v.stolen)
-        × ((test : ℕ → Bool) → count_by test v.pushed ≡ 0 → count_by test xs ≡ 0) };
+    ghost then = { λ v xs w. (w ≡ more_popped xs v) × IsAmong xs v };
 
-    ghost empty = { λ v. 0 < v.steal_right → (test : ℕ → Bool) → count_by test v.pushed ≡ count_by test v.popped + count_by test v.stolen };
+    ghost empty = { λ v. 0 < v.steal_right → AllTaken v };
 }
 
 /// The thief takes what was pushed.
 pub struct Steals;
 
 impl Outcome<Ticket, Seat> for Steals {
-    ghost then = { λ v xs w. (w ≡ seat v.pop_right v.steal_right v.pushed v.popped (v.stolen ++ xs))
-        × ((test : ℕ → Bool) → count_by test v.pushed ≡ 0 → count_by test xs ≡ 0) };
+    ghost then = { λ v xs w. (w ≡ more_stolen xs v) × IsAmong xs v };
 }
 
 /// The owner makes the thief's seat, and takes it in. The thief knows from the start what was pushed, and so that what it
@@ -63,19 +61,18 @@ impl Outcome<Ticket, Seat> for Steals {
 pub struct Shared;
 
 impl Split<Seat> for Shared {
-    ghost use Rattle.std.specs.Prelude.{[]};
-    ghost use Rattle.worker_pool.specs.Parts.{seat};
+    ghost use Rattle.worker_pool.specs.Parts.{owner_of, thief_of};
 
-    ghost left = { λ v. seat v.pop_right 0 v.pushed v.popped [] };
+    ghost left = { owner_of };
 
-    ghost right = { λ v. seat 0 v.steal_right v.pushed [] v.stolen };
+    ghost right = { thief_of };
 }
 
 impl Join<Seat> for Shared {
     ghost use Rattle.std.specs.Prelude.{[]};
-    ghost use Rattle.worker_pool.specs.Parts.{seat};
+    ghost use Rattle.worker_pool.specs.Parts.{seat, joined};
 
-    ghost both = { λ v w. seat v.pop_right w.steal_right v.pushed v.popped w.stolen };
+    ghost both = { joined };
 
     ghost spent = { seat 0 0 [] [] [] };
 }

@@ -64,7 +64,8 @@ fn lend_one<J: Job>(station: &mut Station<J>, desk: Desk)
 pub fn lend<J: Job>(stations: &mut Vec<Station<J>>, mut desks: Vec<Desk>)
     requires len { vec_len desks ≡ vec_len stations.old }
     ensures len { vec_len stations.new ≡ vec_len stations.old }
-    ensures lent { (k : ℕ) (s : _) (d : Desk) → k < vec_len stations.old → (slice_index_or stations.new.items k s).desk ≡ Some (slice_index_or desks.items k d) }
+    ensures lent { (k : ℕ) (s : _) (d : Desk) → k < vec_len stations.old
+        → (slice_index_or stations.new.items k s).desk ≡ Some (slice_index_or desks.items k d) }
     ensures same { (k : ℕ) (s : _) → SameWork (slice_index_or stations.old.items k s) (slice_index_or stations.new.items k s) }
 {
     while let Some(desk) = desks.pop() {
@@ -79,7 +80,8 @@ pub fn take_back<J: Job>(stations: &mut Vec<Station<J>>, mut desks: Vec<Desk>) -
     requires room { vec_len stations.old ≤ vec_capacity desks }
     requires lent { All (λ s. IsSome s.desk) stations.old.items }
     ensures len { (vec_len stations.new ≡ vec_len stations.old) × (vec_len result ≡ vec_len stations.old) }
-    ensures back { (k : ℕ) (s : _) (d : Desk) → k < vec_len stations.old → (slice_index_or stations.old.items k s).desk ≡ Some (slice_index_or result.items k d) }
+    ensures back { (k : ℕ) (s : _) (d : Desk) → k < vec_len stations.old
+        → (slice_index_or stations.old.items k s).desk ≡ Some (slice_index_or result.items k d) }
     ensures same { (k : ℕ) (s : _) → SameWork (slice_index_or stations.old.items k s) (slice_index_or stations.new.items k s) }
 {
     for k in 0..stations.len() {

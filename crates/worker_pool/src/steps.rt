@@ -1,8 +1,8 @@
 //! The steps at a desk.
-ghost use Rattle.std.specs.Prelude.{◌≡◌, ℕ, ◌+◌, ◌<◌, ◌≤◌, Bool, List, [], ◌∷◌, ◌++◌, count_by, IfOk, IfSome, IfNone};
+ghost use Rattle.std.specs.Prelude.{◌≡◌, ℕ, ◌+◌, ◌<◌, ◌≤◌, Bool, [], ◌∷◌, count_by, IfOk, OnOk, IfSome, IfNone};
 ghost use Rattle.crossbeam_deque.specs.Handles.{view, IsPassOf, stealer_deque, worker_deque, worker_view, worker_index, worker_capacity};
 ghost use Rattle.worker_pool.specs.Desks.{took, Below, SameButOwn, SameDesk};
-ghost use Rattle.worker_pool.specs.Parts.{seat as seat_of};
+ghost use Rattle.worker_pool.specs.Parts.{seat as seat_of, owner_of, thief_of, joined, more_pushed, more_popped, more_stolen, AllTaken, IsAmong};
 ghost use Rattle.worker_pool.specs.Ring.{IsSettled, TakenIn};
 
 use crate::desk::{Desk, Next};
@@ -34,7 +34,7 @@ impl Desk {
         requires alone { 0 < (worker_view self.old.own).steal_right }
         requires room { worker_index self.old.own < worker_capacity self.old.own }
         ensures same { SameButOwn self.old self.new }
-        ensures view { let v = worker_view self.old.own in worker_view self.new.own ≡ seat_of v.pop_right v.steal_right (v.pushed ++ ticket ∷ []) v.popped v.stolen }
+        ensures view { worker_view self.new.own ≡ more_pushed (ticket ∷ []) (worker_view self.old.own) }
         ensures room { (worker_index self.new.own ≡ worker_index self.old.own + 1) × (worker_capacity self.old.own ≤ worker_capacity self.new.own) }
     {
         let Ok(()) = self.own.push_as::<Puts>(ticket) else {
@@ -46,8 +46,8 @@ impl Desk {
     pub fn share(&mut self) -> Result<Next, AllocError>
         requires { 0 < (worker_view self.old.own).steal_right }
         ensures same { SameButOwn self.old self.new }
-        ensures own { IfOk result (λ n. let v = worker_view self.old.own in worker_view self.new.own ≡ seat_of v.pop_right 0 v.pushed v.popped []) }
-        ensures next { IfOk result (λ n. let v = worker_view self.old.own in view n.seat ≡ seat_of 0 v.steal_right v.pushed [] v.stolen) }
+        ensures own { OnOk result (worker_view self.new.own ≡ owner_of (worker_view self.old.own)) }
+        ensures next { IfOk result (λ n. view n.seat ≡ thief_of (worker_view self.old.own)) }
         ensures from { IfOk result (λ n. stealer_deque n.from ≡ worker_deque self.old.own) }
     {
         let from = self.own.stealer()?;
@@ -59,7 +59,7 @@ impl Desk {
     pub fn take_in(&mut self, next: Next)
         requires { stealer_deque next.from ≡ worker_deque self.old.own }
         ensures same { SameButOwn self.old self.new }
-        ensures view { let v = worker_view self.old.own in worker_view self.new.own ≡ seat_of v.pop_right (view next.seat).steal_right v.pushed v.popped (view next.seat).stolen }
+        ensures view { worker_view self.new.own ≡ joined (worker_view self.old.own) (view next.seat) }
     {
         let Next { from, seat } = next;
         self.own.absorb::<Shared>(seat);
@@ -77,10 +77,10 @@ impl Desk {
     /// Takes the front of the desk's own deque.
     pub fn pop(&mut self) -> Option<Ticket>
         ensures same { SameDesk self.old self.new × (self.new.next ≡ self.old.next) × (self.new.kept ≡ self.old.kept) }
-        ensures some { IfSome result (λ x. let v = worker_view self.old.own in worker_view self.new.own ≡ seat_of v.pop_right v.steal_right v.pushed (v.popped ++ x ∷ []) v.stolen) }
-        ensures among { IfSome result (λ x. (test : ℕ → Bool) → count_by test (worker_view self.old.own).pushed ≡ 0 → count_by test (x ∷ []) ≡ 0) }
+        ensures some { IfSome result (λ x. worker_view self.new.own ≡ more_popped (x ∷ []) (worker_view self.old.own)) }
+        ensures among { IfSome result (λ x. IsAmong (x ∷ []) (worker_view self.old.own)) }
         ensures same_view { IfNone result (worker_view self.new.own ≡ worker_view self.old.own) }
-        ensures none { IfNone result (let v = worker_view self.old.own in 0 < v.steal_right → (test : ℕ → Bool) → count_by test v.pushed ≡ count_by test v.popped + count_by test v.stolen) }
+        ensures none { IfNone result (0 < (worker_view self.old.own).steal_right → AllTaken (worker_view self.old.own)) }
     {
         self.own.pop_as::<Pops>()
     }
@@ -111,8 +111,8 @@ fn steal<R: Wait>(rt: &R, from: &Thief, seat: &mut SeatPass) -> Option<Ticket>
     requires table { IsPassOf (stealer_deque from.now) seat.old }
     requires right { 0 < (view seat.old).steal_right }
     ensures table { IsPassOf (stealer_deque from.now) seat.new }
-    ensures some { IfSome result (λ x. let v = view seat.old in view seat.new ≡ seat_of v.pop_right v.steal_right v.pushed v.popped (v.stolen ++ x ∷ [])) }
-    ensures among { IfSome result (λ x. (test : ℕ → Bool) → count_by test (view seat.old).pushed ≡ 0 → count_by test (x ∷ []) ≡ 0) }
+    ensures some { IfSome result (λ x. view seat.new ≡ more_stolen (x ∷ []) (view seat.old)) }
+    ensures among { IfSome result (λ x. IsAmong (x ∷ []) (view seat.old)) }
     ensures none { IfNone result (view seat.new ≡ view seat.old) }
 {
     for _ in rt.forever() {
