@@ -5,6 +5,7 @@ use std::sync::atomic::AtomicU64;
 use std::test::Fail;
 use target_trait::FreeGate;
 
+// What the body every_worker_performs_every_plan fails, by the count of calls.
 #[test]
 fn three_runs_of_three_hands(rt: HostRuntime) -> Result<(), Fail> {
     let alloc = rt.alloc();

@@ -9,3 +9,5 @@ mod counts;
 mod meetings;
 #[cfg(test)]
 mod refusals;
+#[cfg(test)]
+mod small;

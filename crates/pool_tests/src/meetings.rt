@@ -46,6 +46,7 @@ impl<'a, C: Clock + Sync> Gate for Meeting<'a, C> {
     }
 }
 
+// What the bodies all_work_on_one_thread and every_hand_leaves_at_once fail: nobody else comes to the gate.
 #[test]
 fn two_hands_meet_at_the_gate(rt: HostRuntime) -> Result<(), Fail> {
     let calls = AtomicU64::new(0);
@@ -121,6 +122,7 @@ fn run_meeters<'a, R: Threads + Wait + Clock + Sync>(
     }
 }
 
+// What the bodies all_work_on_one_thread and every_hand_leaves_at_once fail, also where they go round the gate.
 #[test]
 fn two_jobs_meet_inside_perform(rt: HostRuntime) -> Result<(), Fail> {
     let left = AtomicU64::new(0);

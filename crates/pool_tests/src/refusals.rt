@@ -6,6 +6,7 @@ use std::test::Fail;
 use target_trait::FreeGate;
 use worker_pool::Gathered;
 
+// What the body tickets_of_a_leaver_dropped fails: each hand leaves at its first ticket.
 #[test]
 fn first_performs_refused(rt: HostRuntime) -> Result<(), Fail> {
     let calls = AtomicU64::new(0);
