@@ -1,3 +1,5 @@
+pub mod Safe
+pub mod Never
 pub mod Playing
 pub mod Readying
 pub mod Numbers
