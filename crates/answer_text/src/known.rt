@@ -39,7 +39,7 @@ impl Model for Known {
 
 impl Known {
     /// Nothing is known.
-    pub fn new(alloc: Global) -> Known
+    pub(crate) fn new(alloc: Global) -> Known
         ensures { result ≡ [] }
     {
         Known {
@@ -65,7 +65,7 @@ impl Known {
 
     /// Takes the answer of a line: its tidied scenario and the verdict. An `Err` changes nothing.
     #[tactic(auto, unfolding(crate::specs::Books::noted))]
-    pub fn note(
+    pub(crate) fn note(
         &mut self,
         alloc: Global,
         line: u32,
