@@ -1,3 +1,5 @@
 pub mod Outside
 pub mod Reached
 pub mod Tests
+pub mod Told
+pub mod Asked
