@@ -1,16 +1,15 @@
 -- What is gathered of failures.
-use Rattle.std.proofs.Common.{◌≡◌, ℕ, zero, suc, ◌+◌, ◌<◌, ◌≤◌, List, [], ◌∷◌, ◌++◌, Bool, true, false, length, get_or, map, take, Option, Some, None, refl, ap, sym, ◌∙◌, arith, subst}
-use Rattle.std.specs.Prelude.{Contains, unwrap_or, nat_le, nat_lt, ◌&&◌}
+use Rattle.std.proofs.Common.{◌≡◌, ℕ, zero, suc, ◌+◌, ◌<◌, ◌≤◌, List, [], ◌∷◌, ◌++◌, true, length, get_or, map, take, refl, ap, sym, ◌∙◌, arith, subst}
+use Rattle.std.specs.Prelude.{Contains, unwrap_or}
 use Rattle.std.specs.List.{AllByRecursion}
 use Rattle.std.proofs.lemmas.List.{take_more, take_all}
 use Rattle.std.proofs.lemmas.List.Elements.{Contains-get_or}
-use Rattle.scenario_values.specs.Scenario.{Entries, IsScenario, all_faults}
+use Rattle.scenario_values.specs.Scenario.{Entries, all_faults}
 use Rattle.scenario_values.specs.Keep.{are_faults, ascend_from, kept}
 use Rattle.scenario_values.specs.Tidied.{tidied}
 use Rattle.scenario_values.proofs.Sets.{faults_from, weaker}
-use Rattle.target_trait.specs.declared.judgement.Verdict.{Verdict}
 use Rattle.target_trait.specs.declared.judgement.Verdict.TheVariants as verdict
-use Rattle.ddmin_parallel.specs.Ddmin.{Reduced, ddmin}
+use Rattle.ddmin_parallel.specs.Ddmin.{Reduced}
 use Rattle.ddmin_parallel.specs.Sublists.{Ascends}
 use Rattle.ddmin_parallel.proofs.Kept.{kept_are_faults}
 use Rattle.report.specs.Reports.{FindingFacts}
@@ -19,7 +18,7 @@ use Rattle.campaign_core.specs.FaultTest.{fault_test}
 use Rattle.campaign_core.specs.Findings.{reduction, plan_at, finding}
 use Rattle.outside_campaign.specs.Outside.{Component, say}
 use Rattle.outside_campaign.specs.Reached.{IsOpen}
-use Rattle.outside_campaign.specs.Told.{told_of, IsLook, IsCard, AreFindings, IsGathered}
+use Rattle.outside_campaign.specs.Told.{told_of, IsLook, IsCard, IsGathered}
 use Rattle.outside_campaign.specs.declared.findings.Look.{Look}
 use Rattle.outside_campaign.specs.declared.findings.Look.TheVariants as look
 

@@ -1,5 +1,5 @@
 -- A reduction while known answers are put.
-use Rattle.std.proofs.Common.{◌≡◌, ℕ, zero, suc, ◌+◌, ◌<◌, List, [], ◌∷◌, ◌++◌, Bool, true, false, ◌&&◌, cond, length, get_or, map, Option, Some, None, refl, ap, sym, ◌∙◌, arith, subst, length-append}
+use Rattle.std.proofs.Common.{◌≡◌, ℕ, suc, ◌<◌, List, [], ◌∷◌, ◌++◌, Bool, true, false, length, map, Option, Some, None, refl, ap, sym, ◌∙◌, arith, subst, length-append}
 use Rattle.std.specs.Prelude.{◌||◌, Contains}
 use Rattle.std.specs.List.{AllByRecursion, list_any}
 use Rattle.std.specs.FinMap.{get}
@@ -10,8 +10,7 @@ use Rattle.scenario_values.proofs.Limits.{kept_scenario, tidied_scenario}
 use Rattle.target_trait.specs.declared.judgement.Verdict.{Verdict}
 use Rattle.ddmin_parallel.specs.Ddmin.{Reduced}
 use Rattle.ddmin_parallel.specs.Rounds.{Candidate}
-use Rattle.ddmin_parallel.specs.CoreEvents.{Answers, State, Put, Take, begin, apply, position, next, or_else, first_open, round_at, after_take, is_out, same_set, without, start, furthest, walk, End}
-use Rattle.ddmin_parallel.specs.Cards.{IsFinished}
+use Rattle.ddmin_parallel.specs.CoreEvents.{Answers, State, Put, begin, apply, position, next, or_else, first_open, round_at, after_take, is_out, same_set, without, start, furthest, walk, End}
 use Rattle.ddmin_parallel.specs.Logs.{Tells}
 use Rattle.ddmin_parallel.proofs.BoardLemmas.{tells_start, tells_take, tells_put, tells_end}
 use Rattle.ddmin_parallel.proofs.CoreLemmas.{none_open}

@@ -3,3 +3,4 @@ pub mod Reached
 pub mod Tests
 pub mod Told
 pub mod Asked
+pub mod Verdicts

@@ -5,8 +5,6 @@ use Rattle.scenario_values.specs.Scenario.{Entries, all_faults}
 use Rattle.scenario_values.specs.Keep.{are_faults, kept}
 use Rattle.scenario_values.specs.Tidied.{tidied}
 use Rattle.ddmin_parallel.specs.CoreEvents.{round_at, start, walk}
-use Rattle.ddmin_parallel.specs.Ddmin.{Reduced}
-use Rattle.ddmin_parallel.specs.Rounds.{Candidate}
 use Rattle.answer_text.specs.Known.{Book, verdict_in, Agrees}
 use Rattle.campaign_core.specs.FaultTest.{fault_test}
 use Rattle.campaign_core.specs.Findings.{reduction}

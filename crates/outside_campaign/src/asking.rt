@@ -1,10 +1,11 @@
 //! What is still to be tried.
-ghost use Rattle.std.specs.Prelude.{◌≡◌, ◌++◌, ◌∷◌, [], map, IfOk, OnOk, fold};
+ghost use Rattle.std.specs.Prelude.{◌≡◌, ◌<◌, ◌∷◌, [], All, length, map, IfOk, OnOk, fold};
 ghost use Rattle.std.specs.Str.{bytes_eq};
 ghost use Rattle.indexmap.specs.IndexSet.{insert_key};
 ghost use Rattle.report.specs.ReportText.{scenario_text};
-ghost use Rattle.outside_campaign.specs.Asked.{asked, open_plans};
+ghost use Rattle.outside_campaign.specs.Asked.{AreAsked, asked, open_plans};
 
+use crate::findings::{Findings, findings_known};
 use answer_text::Known;
 use indexmap::IndexSet;
 use plan_gen::Plan;
@@ -13,11 +14,7 @@ use scenario_values::{Scenario, Text, tidy};
 use std::alloc::{AllocError, Global};
 
 /// Adds the text of a scenario, unless it is there.
-fn add(
-    alloc: Global,
-    lines: &mut IndexSet<Text>,
-    scenario: &Scenario,
-) -> Result<(), AllocError>
+fn add(alloc: Global, lines: &mut IndexSet<Text>, scenario: &Scenario) -> Result<(), AllocError>
     ensures { OnOk result (lines.new.keys ≡ insert_key bytes_eq lines.old.keys (scenario_text scenario.now)) }
 {
     let mut text = String::new(alloc);
@@ -72,9 +69,8 @@ fn add_plans(
     Ok(())
 }
 
-/// The texts of the scenarios that are still to be tried: these cards, then each plan that isn't answered, in order; tidied, `none` for
-/// the one without entries, and each once. An error means that memory was refused.
-pub fn asked(
+/// The texts of these cards, and of each plan that isn't answered.
+fn asked(
     alloc: Global,
     known: &Known,
     cards: &[Scenario],
@@ -86,4 +82,23 @@ pub fn asked(
     add_cards(alloc, &mut lines, cards)?;
     add_plans(alloc, &mut lines, known, plans)?;
     Ok(lines)
+}
+
+/// The texts of the scenarios that are still to be tried, tidied, `none` for the one without entries, and each once: open candidates of
+/// the reductions of these failures, each the number of a plan and its code, and then each plan that isn't answered, in the plans' order.
+///
+/// Any of them may be tried in any order. An error means that memory was refused.
+pub fn asks(
+    alloc: Global,
+    known: &Known,
+    plans: &[Plan<'_>],
+    failures: &[(u32, u32)],
+) -> Result<IndexSet<Text>, AllocError>
+    requires { All (λ f. f.0 < length plans.now) failures.now }
+    ensures { IfOk result (λ lines. AreAsked known.now plans.now failures.now lines.keys) }
+{
+    match findings_known(alloc, known, plans, failures)? {
+        Findings::Told(_) => asked(alloc, known, &[], plans),
+        Findings::Open(cards) => asked(alloc, known, cards.as_slice(), plans),
+    }
 }

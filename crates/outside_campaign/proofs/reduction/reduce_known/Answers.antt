@@ -23,4 +23,4 @@ loop-preserved c =
     let event : c.take.new.self ≡ after_take c.loop.core (Some c.in-Some.card) = c.in_ok-card.ensures.event ∙ ap (after_take c.loop.core) c.in-Some.is in
     let P : List ℕ → Type 0 = λ set. IsTested c.args.known.now c.args.code c.args.scenario.now set c.in_ok-test.test in
     settle_keeps c.args.known.now c.args.code c.args.scenario.now c.loop.core c.take.new.self c.settle.new.core c.loop.untried.items c.settle.new.untried.items c.in-Some.card c.in_ok-test.test
-        c.loop.invariant card event (subst P c.set.ensures c.in_ok-test.ensures) c.in_ok-settle.ensures
+    c.loop.invariant card event (subst P c.set.ensures c.in_ok-test.ensures) c.in_ok-settle.ensures
