@@ -5,18 +5,15 @@ use scenario_grammar::{Scenario, Text, parse};
 use std::alloc::Global;
 use std::test::Fail;
 
-/// The codes `torn`, `lost note` and `stale`, numbered 0, 1 and 2.
-fn codes(alloc: Global) -> Result<Vec<Text>, Fail> {
-    Ok(vec![in alloc;
-        Text::copy_of(alloc, "torn")?,
-        Text::copy_of(alloc, "lost note")?,
-        Text::copy_of(alloc, "stale")?,
-    ]?)
-}
-
-/// What a text is read as.
+/// What a text is read as, where the codes are `torn`, `lost note` and `stale`, numbered 0, 1 and 2.
 pub fn answers(alloc: Global, text: &[u8]) -> Result<Result<Known, AnswersFault>, Fail> {
-    let codes = codes(alloc)?;
+    let mut codes = Vec::new(alloc);
+    for name in ["torn", "lost note", "stale"].iter() {
+        codes.push(Text::copy_of(alloc, name)?)?;
+    }
+    if codes.len() != 3 {
+        return Err(Fail::from("there are three codes"));
+    }
     Ok(read(alloc, codes.as_slice(), text))
 }
 
