@@ -31,4 +31,5 @@ pub record AreAsked (book : Book) (plans : List Entries) (failures : List (ℕ �
   pub cards : List Entries
   pub cards_are : AllByRecursion (IsCard book plans failures) cards
   pub lines_are : lines ≡ asked book cards plans
-  pub decided : cards ≡ [] → (all : List FindingFacts) × ((component : Component) → Agrees component book → all ≡ map (finding (say component) plans) failures)
+  pub decided : cards ≡ []
+      → (all : List FindingFacts) × ((component : Component) → Agrees component book → all ≡ map (finding (say component) plans) failures)

@@ -35,7 +35,8 @@ pub record IsCard (book : Book) (plans : List Entries) (failures : List (ℕ × 
 
 -- what is told of these failures for each component that agrees with what is known, or open candidates of their reductions
 abbrev pub AreFindings : Book → List Entries → List (ℕ × ℕ) → Findings → Type 0
-AreFindings book plans failures (findings.Told all) = (component : Component) → Agrees component book → all.items ≡ map (finding (say component) plans) failures
+AreFindings book plans failures (findings.Told all) =
+    (component : Component) → Agrees component book → all.items ≡ map (finding (say component) plans) failures
 AreFindings book plans failures (findings.Open cards) = (0 < length cards.items) × AllByRecursion (IsCard book plans failures) cards.items
 
 -- what a look adds to what was gathered

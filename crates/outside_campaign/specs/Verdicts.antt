@@ -10,5 +10,6 @@ use Rattle.outside_campaign.specs.declared.verdicts.Verdicts.TheVariants.{All, N
 
 -- no plan is open, and these are the verdicts that each component that agrees with what is known gives them; or the first open plan, tidied
 abbrev pub AreVerdicts : Book → List Entries → Verdicts → Type 0
-AreVerdicts book plans (All verdicts) = (open_plans book plans ≡ []) × ((component : Component) → Agrees component book → verdicts.items ≡ verdicts_from (say component) 0 plans)
+AreVerdicts book plans (All verdicts) =
+    (open_plans book plans ≡ []) × ((component : Component) → Agrees component book → verdicts.items ≡ verdicts_from (say component) 0 plans)
 AreVerdicts book plans (NotAnswered t) = (rest : List Entries) × (open_plans book plans ≡ t ∷ rest)

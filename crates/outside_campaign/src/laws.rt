@@ -10,5 +10,6 @@ ghost use Rattle.outside_campaign.specs.Asked.{AreAsked, open_plans};
 /// Where nothing is asked, each plan is answered, and what is known decides what is told of each failure.
 pub fn nothing_is_asked_where_all_is_told()
     ensures { (book : Book) (plans : List Entries) (failures : List (ℕ × ℕ)) → AreAsked book plans failures []
-        → (open_plans book plans ≡ []) × ((all : List FindingFacts) × ((component : Component) → Agrees component book → all ≡ map (finding (say component) plans) failures)) }
+        → (open_plans book plans ≡ [])
+        × ((all : List FindingFacts) × ((component : Component) → Agrees component book → all ≡ map (finding (say component) plans) failures)) }
 {}
