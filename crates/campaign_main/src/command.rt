@@ -1,7 +1,7 @@
 //! The commands over one target.
 ghost use Rattle.std.specs.Prelude.{◌≡◌, false, IfOk, OnOk, string_bytes};
 ghost use Rattle.campaign_core.specs.CommandTexts.{IsReducedToMinimal};
-ghost use Rattle.campaign_core.specs.Headline.{campaign_of, EachIsMinimal};
+ghost use Rattle.campaign_core.specs.Headline.{campaign_on, EachIsMinimal};
 ghost use Rattle.campaign_main.specs.Commands.{order_answer, plans_answer, reduce_answer, run_answer, spelled_answer, try_answer};
 ghost use Rattle.campaign_main.specs.Ends.{ComesTo};
 ghost use Rattle.campaign_main.specs.Minimal.{ReducesToMinimal};
@@ -30,8 +30,8 @@ fn run_plans<T: Target + Send, W: Sink, H: Threads + Wait + Sync>(
 where
     T::Workload: Sync,
     requires { W.has_failed output.old ≡ false }
-    ensures text { ComesTo (run_answer (campaign_of (T.asks target.now workload.now) T.names T.code_text (T.label_of target.now) settings.now)) (W.told output.old) (W.told output.new) (W.has_failed output.new) result }
-    ensures minimal { OnOk result (EachIsMinimal (campaign_of (T.asks target.now workload.now) T.names T.code_text (T.label_of target.now) settings.now)) }
+    ensures text { ComesTo (run_answer (campaign_on T.Target target.now workload.now settings.now)) (W.told output.old) (W.told output.new) (W.has_failed output.new) result }
+    ensures minimal { OnOk result (EachIsMinimal (campaign_on T.Target target.now workload.now settings.now)) }
 {
     let ending = campaign(rt, alloc, target, workload, settings, &FreeGate, output)?;
     Ok(ending.first.is_some())
@@ -46,7 +46,7 @@ fn list_plans<T: Target, W: Sink>(
     output: &mut W,
 ) -> Result<bool, CommandFault>
     requires { W.has_failed output.old ≡ false }
-    ensures { ComesTo (plans_answer (campaign_of (T.asks target.now workload.now) T.names T.code_text (T.label_of target.now) settings.now)) (W.told output.old) (W.told output.new) (W.has_failed output.new) result }
+    ensures { ComesTo (plans_answer (campaign_on T.Target target.now workload.now settings.now)) (W.told output.old) (W.told output.new) (W.has_failed output.new) result }
 {
     plan_list(alloc, target, workload, settings, output)?;
     Ok(false)
@@ -62,7 +62,7 @@ fn try_text<T: Target, W: Sink>(
     output: &mut W,
 ) -> Result<bool, CommandFault>
     requires { W.has_failed output.old ≡ false }
-    ensures { ComesTo (spelled_answer (try_answer (campaign_of (T.asks target.old workload.now) T.names T.code_text (T.label_of target.old) settings.now)) (reading text.now)) (W.told output.old) (W.told output.new) (W.has_failed output.new) result }
+    ensures { ComesTo (spelled_answer (try_answer (campaign_on T.Target target.old workload.now settings.now)) (reading text.now)) (W.told output.old) (W.told output.new) (W.has_failed output.new) result }
 {
     let scenario = parse(alloc, text)?;
     let seed = settings.seed;
@@ -84,8 +84,8 @@ fn reduce_text<T: Target + Send, W: Sink, H: Threads + Wait + Sync>(
 where
     T::Workload: Sync,
     requires { W.has_failed output.old ≡ false }
-    ensures text { ComesTo (spelled_answer (reduce_answer (campaign_of (T.asks target.now workload.now) T.names T.code_text (T.label_of target.now) settings.now)) (reading text.now)) (W.told output.old) (W.told output.new) (W.has_failed output.new) result }
-    ensures minimal { OnOk result (IfOk (reading text.now) (IsReducedToMinimal (campaign_of (T.asks target.now workload.now) T.names T.code_text (T.label_of target.now) settings.now))) }
+    ensures text { ComesTo (spelled_answer (reduce_answer (campaign_on T.Target target.now workload.now settings.now)) (reading text.now)) (W.told output.old) (W.told output.new) (W.has_failed output.new) result }
+    ensures minimal { OnOk result (IfOk (reading text.now) (IsReducedToMinimal (campaign_on T.Target target.now workload.now settings.now))) }
 {
     let scenario = parse(alloc, text)?;
     let gate = FreeGate;
@@ -111,8 +111,8 @@ pub fn command<T: Target + Send, W: Sink, H: Threads + Wait + Sync>(
 where
     T::Workload: Sync,
     requires { W.has_failed output.old ≡ false }
-    ensures text { ComesTo (order_answer order.now (campaign_of (T.asks target.old workload.now) T.names T.code_text (T.label_of target.old) settings.now)) (W.told output.old) (W.told output.new) (W.has_failed output.new) result }
-    ensures minimal { OnOk result (ReducesToMinimal order.now (campaign_of (T.asks target.old workload.now) T.names T.code_text (T.label_of target.old) settings.now)) }
+    ensures text { ComesTo (order_answer order.now (campaign_on T.Target target.old workload.now settings.now)) (W.told output.old) (W.told output.new) (W.has_failed output.new) result }
+    ensures minimal { OnOk result (ReducesToMinimal order.now (campaign_on T.Target target.old workload.now settings.now)) }
 {
     match order {
         Order::Run => run_plans(rt, alloc, target, workload, settings, output),

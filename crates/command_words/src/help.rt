@@ -50,7 +50,7 @@ Settings are TOML. Their keys, with ranges and defaults:
   seed       the seed of all that is drawn, 0 to 9223372036854775807; default 0
   workers    how many threads run plans, 1 to 64; default 1
   max_hits   how many steps a run may take before it counts as unresolved, 1 to 100000; default 1000
-  pairs      true or false: whether there are plans of two steps, where both fail or the second panics; default false
+  pairs      true or false: plans of two steps that both fail, or the second panics; default false
   storms     how many plans of faults drawn at random there are, 0 to 10000; default 0
   rate       how many steps in a thousand each of these plans draws, 0 to 1000; default 100
   scenarios  scenarios to run as plans too, up to 1000 texts; default none

@@ -1,3 +1,6 @@
+pub mod Safe
+pub mod Never
+pub mod Flawed
 pub mod Playing
 pub mod Readying
 pub mod Numbers

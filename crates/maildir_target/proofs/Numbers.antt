@@ -25,7 +25,7 @@ parts folder.New folder.New First Second m n e = let never : ⊥ = omega arith i
 parts folder.New folder.New Second First m n e = let never : ⊥ = omega arith in absurd never
 parts folder.New folder.New Second Second m n e = let same : m ≡ n = omega arith in (refl, (refl, same))
 
-abbrev named : Folder → ℕ → Attempt → Name
+abbrev pub named : Folder → ℕ → Attempt → Name
 named f m x = record { folder = f; message = m; attempt = x }
 
 pub apart : (a b : Name) → number_of a ≡ number_of b → a ≡ b

@@ -3,6 +3,7 @@
 
 mod disk;
 mod judge;
+mod laws;
 mod maildir;
 mod messages;
 mod name;
@@ -13,6 +14,7 @@ mod steps;
 mod variant;
 
 pub use judge::{LOST, TORN, judge as judge_mail};
+pub use laws::{append_tmp_is_torn, ignore_write_is_torn, link_first_is_torn, sound_never_fails};
 pub use maildir::Maildir;
 pub use messages::Messages;
 pub use name::names_are_apart;

@@ -2,6 +2,8 @@ ghost use Rattle.std.specs.Prelude.{◌≡◌, IfOk};
 ghost use Rattle.std.proofs.Common.{rules};
 ghost use Rattle.action_eval.specs.Answers.{start};
 ghost use Rattle.target_trait.specs.Play.{IsPlay};
+ghost use Rattle.target_trait.specs.declared.judgement.Judgement.TheVariants.{Kept};
+ghost use Rattle.maildir_target.specs.declared.variant.Variant.TheVariants.{Sound};
 ghost use Rattle.maildir_target.specs.Words.{label, code_text, point_names};
 ghost use Rattle.maildir_target.specs.Steps.{asks_of, asks-within, asks-halts};
 
@@ -102,6 +104,8 @@ impl Target for Maildir {
         ensures play { IfOk result (IsPlay (asks_of self.old messages.now) session.new) }
         ensures given { session.new.given ≡ session.old.given }
         ensures setup { self.new ≡ self.old }
+        // A sound delivery is kept, whatever fails.
+        ensures sound { self.old ≡ Sound → IfOk result (λ judgement. judgement ≡ Kept) }
     {
         play(
             self.alloc,

@@ -76,59 +76,73 @@ pub fn book<T: Target>(
     Ok(Book::new(alloc, course)?)
 }
 
-#[test]
-fn a_book_takes_each_result_of_its_course_once(rt: HostRuntime) -> Result<(), Fail> {
-    let scenarios = scenarios(rt.alloc(), 19, &[])?;
-    let plans = plans(rt.alloc(), &scenarios)?;
-    let all = plans.as_slice();
-    assert_eq!(rt; all.len(), 19);
-    let longer = course(all);
-    let shorter = course(&all[..10]);
-    let mut book = book(&rt, rt.alloc(), &shorter)?;
-    assert!(rt; book.put(result(&rt, rt.alloc(), &longer, 3)?).is_ok());
-    match book.put(result(&rt, rt.alloc(), &longer, 3)?) {
-        Err(PutFault::Twice(pair)) => assert_eq!(rt; pair.number(), 3),
-        _ => panic!(rt; "it was put before"),
-    }
-    match book.put(result(&rt, rt.alloc(), &longer, 12)?) {
-        Err(PutFault::Stranger(pair)) => assert_eq!(rt; pair.number(), 12),
-        _ => panic!(rt; "the shorter course has no such plan"),
-    }
-    assert!(rt; !book.whole());
-    assert_eq!(rt; book.first_failure(), None);
-    assert!(rt; book.first_failures(rt.alloc())?.is_empty());
-    assert_eq!(rt;
-        book.verdicts(rt.alloc())?.as_slice(),
-        [Verdict::Pass].as_slice()
-    );
+/// Puts the result of a plan, and says what came of it; a result that isn't put comes back.
+pub fn put<T: Target>(
+    rt: &impl Abort,
+    alloc: Global,
+    book: &mut Book,
+    target: &mut T,
+    course: &Course<'_, T>,
+    number: u32,
+) -> Result<&'static str, Fail> {
+    let result = result_of(rt, alloc, target, course, number)?;
+    Ok(match book.put(result) {
+        Ok(()) => "put",
+        Err(PutFault::Twice(pair)) if pair.number() == number => "twice",
+        Err(PutFault::Stranger(pair)) if pair.number() == number => "stranger",
+        Err(_) => "another result",
+    })
+}
+
+/// The book tells these first failures and these verdicts.
+pub fn tells(
+    rt: &impl Abort,
+    alloc: Global,
+    book: &Book,
+    firsts: &[(u32, u32)],
+    verdicts: &[Verdict],
+) -> Result<(), Fail> {
+    assert_eq!(rt; book.first_failure(), firsts.first().copied());
+    assert_eq!(rt; book.first_failures(alloc)?.as_slice(), firsts);
+    assert_eq!(rt; book.verdicts(alloc)?.as_slice(), verdicts);
     Ok(())
 }
 
 #[test]
+fn a_book_takes_each_result_of_its_course_once(rt: HostRuntime) -> Result<(), Fail> {
+    let alloc = rt.alloc();
+    let scenarios = scenarios(alloc, 19, &[])?;
+    let plans = plans(alloc, &scenarios)?;
+    assert_eq!(rt; plans.len(), 19);
+    let longer = course(&plans);
+    let mut book = book(&rt, alloc, &course(&plans[..10]))?;
+    for (number, want) in [(3, "put"), (3, "twice"), (12, "stranger")] {
+        let came = put(&rt, alloc, &mut book, &mut OneStep, &longer, number)?;
+        assert_eq!(rt; came, want);
+    }
+    assert!(rt; !book.whole());
+    tells(&rt, alloc, &book, &[], &[Verdict::Pass])
+}
+
+#[test]
 fn the_first_failure_is_that_of_the_least_number(rt: HostRuntime) -> Result<(), Fail> {
-    let scenarios = scenarios(rt.alloc(), 4, &[1, 3])?;
-    let plans = plans(rt.alloc(), &scenarios)?;
+    let alloc = rt.alloc();
+    let scenarios = scenarios(alloc, 4, &[1, 3])?;
+    let plans = plans(alloc, &scenarios)?;
     let course = course(&plans);
-    let mut book = book(&rt, rt.alloc(), &course)?;
-    assert!(rt; book.put(result(&rt, rt.alloc(), &course, 3)?).is_ok());
-    assert_eq!(rt; book.first_failure(), Some((3, 4)));
+    let mut book = book(&rt, alloc, &course)?;
     assert_eq!(rt;
-        book.first_failures(rt.alloc())?.as_slice(),
-        [(3, 4)].as_slice()
+        put(&rt, alloc, &mut book, &mut OneStep, &course, 3)?,
+        "put"
     );
-    put_others(&rt, rt.alloc(), &course, &mut book)?;
+    tells(&rt, alloc, &book, &[(3, 4)], &[Verdict::Fail(4)])?;
+    put_others(&rt, alloc, &course, &mut book)?;
     assert!(rt; book.whole());
-    assert_eq!(rt; book.first_failure(), Some((1, 4)));
-    assert_eq!(rt;
-        book.first_failures(rt.alloc())?.as_slice(),
-        [(1, 4)].as_slice()
-    );
     let told = [
         Verdict::Pass,
         Verdict::Fail(4),
         Verdict::Pass,
         Verdict::Fail(4),
     ];
-    assert_eq!(rt; book.verdicts(rt.alloc())?.as_slice(), told.as_slice());
-    Ok(())
+    tells(&rt, alloc, &book, &[(1, 4)], &told)
 }

@@ -1,12 +1,11 @@
 //! Tests of the book on the plans of the small workload, of which one course has all and another the first ten.
 
-use crate::books::{book, result_of};
+use crate::books::{book, put};
 use crate::replacing::small_workload;
 use file_replace::{Replace, Replacements, TORN, Variant};
 use plan_gen::{Plan, PlanSettings, by_census, plans};
-use result_book::{Book, Course, PutFault};
+use result_book::Course;
 use std::alloc::Global;
-use std::process::Abort;
 use std::test::Fail;
 use target_trait::Target;
 
@@ -37,24 +36,6 @@ fn course<'a>(workload: &'a Replacements, plans: &'a [Plan<'a>]) -> Course<'a, R
     }
 }
 
-/// Puts the result of a plan, and says what came of it; a result that isn't put comes back.
-fn put(
-    rt: &impl Abort,
-    alloc: Global,
-    book: &mut Book,
-    course: &Course<'_, Replace>,
-    number: u32,
-) -> Result<&'static str, Fail> {
-    let mut target = Replace::new(alloc, Variant::LateSync);
-    let result = result_of(rt, alloc, &mut target, course, number)?;
-    Ok(match book.put(result) {
-        Ok(()) => "put",
-        Err(PutFault::Twice(pair)) if pair.number() == number => "twice",
-        Err(PutFault::Stranger(pair)) if pair.number() == number => "stranger",
-        Err(_) => "another result",
-    })
-}
-
 #[test]
 fn a_book_takes_no_result_of_a_longer_course(rt: HostRuntime) -> Result<(), Fail> {
     let alloc = rt.alloc();
@@ -63,8 +44,10 @@ fn a_book_takes_no_result_of_a_longer_course(rt: HostRuntime) -> Result<(), Fail
     assert_eq!(rt; plans.len(), 19);
     let longer = course(&workload, &plans);
     let mut book = book(&rt, alloc, &course(&workload, &plans[..10]))?;
+    let mut target = Replace::new(alloc, Variant::Sound);
     for (number, want) in [(3, "put"), (3, "twice"), (12, "stranger")] {
-        assert_eq!(rt; put(&rt, alloc, &mut book, &longer, number)?, want);
+        let came = put(&rt, alloc, &mut book, &mut target, &longer, number)?;
+        assert_eq!(rt; came, want);
     }
     assert!(rt; !book.whole());
     assert_eq!(rt; book.first_failure(), None);
@@ -79,8 +62,10 @@ fn the_first_failure_of_a_code_is_told_once(rt: HostRuntime) -> Result<(), Fail>
     let plans = plans_of(alloc, &workload)?;
     let course = course(&workload, &plans);
     let mut book = book(&rt, alloc, &course)?;
+    let mut target = Replace::new(alloc, Variant::LateSync);
     for number in (0..19).rev() {
-        assert_eq!(rt; put(&rt, alloc, &mut book, &course, number)?, "put");
+        let came = put(&rt, alloc, &mut book, &mut target, &course, number)?;
+        assert_eq!(rt; came, "put");
     }
     assert!(rt; book.whole());
     assert_eq!(rt;

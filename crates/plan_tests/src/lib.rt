@@ -1,4 +1,5 @@
-//! Tests of censuses, lists of plans, numbered results and the book, through their public calls.
+//! Tests of censuses, lists of plans, numbered results, the book and reports, through their public calls, and of what a failing writer was
+//! given of a report.
 #![tactic(auto)]
 
 #[cfg(test)]
@@ -10,6 +11,10 @@ mod counting;
 #[cfg(test)]
 mod courses;
 #[cfg(test)]
+mod named;
+#[cfg(test)]
+mod narrow;
+#[cfg(test)]
 mod one_step;
 #[cfg(test)]
 mod plan_lists;
@@ -17,3 +22,9 @@ mod plan_lists;
 mod replacing;
 #[cfg(test)]
 mod scenarios;
+#[cfg(test)]
+mod telling;
+#[cfg(test)]
+mod texts;
+#[cfg(test)]
+mod writing;

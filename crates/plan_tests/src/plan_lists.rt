@@ -114,18 +114,27 @@ fn two_hits_of_a_point_share_a_chain(rt: HostRuntime) -> Result<(), Fail> {
     Ok(())
 }
 
+/// How many faults a plan has, of a replacement by so many writes, with storms of this rate.
+fn faults_of(alloc: Global, writes: u32, storms: (u32, u32), number: usize) -> Result<usize, Fail> {
+    let list = list(alloc, writes, &settings(false, storms.0, storms.1))?.map_err(|_| "fault")?;
+    Ok(faults(alloc, &scenario(alloc, &list, number)?)?.len())
+}
+
 #[test]
 fn storms_take_sites_by_their_rate(rt: HostRuntime) -> Result<(), Fail> {
     let alloc = rt.alloc();
+    // a storm takes none, all six, or the most of 104 sites
+    for (writes, storms, number, want) in [
+        (2, (2, 0), 19, 0),
+        (2, (2, 0), 20, 0),
+        (2, (1, 1000), 19, 6),
+        (100, (1, 1000), 313, 64),
+    ] {
+        assert_eq!(rt; faults_of(alloc, writes, storms, number)?, want);
+    }
     let calm = list(alloc, 2, &settings(false, 2, 0))?.map_err(|_| "fault")?;
     assert_eq!(rt; calm.len(), 21);
-    assert!(rt; is_empty(alloc, &calm, 19)?);
     assert!(rt; is_empty(alloc, &calm, 20)?);
-    let full = list(alloc, 2, &settings(false, 1, 1000))?.map_err(|_| "fault")?;
-    assert_eq!(rt; faults(alloc, &scenario(alloc, &full, 19)?)?.len(), 6);
-    let wide = list(alloc, 100, &settings(false, 1, 1000))?.map_err(|_| "fault")?;
-    let last = wide.len().saturating_sub(1);
-    assert_eq!(rt; faults(alloc, &scenario(alloc, &wide, last)?)?.len(), 64);
     Ok(())
 }
 

@@ -37,7 +37,11 @@ fn has_lines(
 
 #[test]
 fn help_of_the_program_names_the_keys(rt: HostRuntime) -> Result<(), Fail> {
-    const ROWS: [(&str, &str); 14] = [
+    const ROWS: [(&str, &str); 15] = [
+        (
+            "A chunk ",
+            "`paklour help try` says what a scenario may hold",
+        ),
         ("target ", "\"replace\", \"maildir\" or \"commit\""),
         ("variant ", "default \"sound\""),
         ("seed ", "0 to 9223372036854775807; default 0"),
@@ -87,8 +91,12 @@ fn help_of_commands(rt: HostRuntime) -> Result<(), Fail> {
         ("[FILE]", "TOML settings"),
         ("[FILE]", "left out, standard input is read"),
     ];
-    const TRY: [(&str, &str); 2] = [
+    const TRY: [(&str, &str); 3] = [
         ("Usage:", "paklour try --scenario <TEXT> [FILE]"),
+        (
+            "A scenario has ",
+            "65536 bytes, 256 entries, 256 terms in an entry, and 4096 terms besides off",
+        ),
         ("--scenario <TEXT>", "The scenario"),
     ];
     has_lines(&rt, rt.alloc(), &["run", "-h"], &RUN)?;

@@ -1,4 +1,5 @@
-//! Tests of settings and of the words of the command line: what is read, the line of each fault, and the texts of help.
+//! Tests of settings and of the words of the command line: what is read, the line of each fault, the texts of help, and what the program
+//! answers to words that it doesn't take.
 #![tactic(auto)]
 
 #[cfg(test)]
@@ -9,6 +10,8 @@ mod given;
 mod help;
 #[cfg(test)]
 mod keys;
+#[cfg(test)]
+mod refusals;
 #[cfg(test)]
 mod sizes;
 #[cfg(test)]

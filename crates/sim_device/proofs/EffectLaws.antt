@@ -2,7 +2,7 @@
 use Rattle.std.proofs.Common.{◌≡◌, ℕ, ◌+◌, ◌<◌, ◌≤◌, ◌==◌, Bool, true, false, cond, List, [], ◌∷◌, ◌++◌, Option, Some, None, refl, ap, ◌∙◌, arith}
 use Rattle.std.proofs.lemmas.Bool.{eq-eqb, ne_eqb}
 use Rattle.std.proofs.Common.{nat_eq}
-use Rattle.sim_device.specs.Later.{IsUntouched, HasNoSyncDir}
+use Rattle.sim_device.specs.Later.{IsUntouched, HasNoSyncDir, IsUnnamed, IsUnsynced}
 use Rattle.sim_device.specs.FileEffects.{Effect, Create, Append, Sync, Rename, Link, Unlink, SyncDir, PowerCut, Side, Live, Lasting, created, leads, contents, is_file}
 
 some_of : (b : Bool) (x y : Option ℕ) (f bound : ℕ) → (x ≡ Some f → f < bound) → (y ≡ Some f → f < bound) → cond b x y ≡ Some f → f < bound
@@ -94,3 +94,44 @@ names_stay (Link a b ∷ later) before n u = names_stay later before n u
 names_stay (Unlink m ∷ later) before n u = names_stay later before n u
 names_stay (SyncDir ∷ later) before n u = absurd u
 names_stay (PowerCut ∷ later) before n u = names_stay later before n u
+
+pub names_alone : (later before : List Effect) (n : ℕ) → IsUnnamed n later → leads (later ++ before) Live n ≡ leads before Live n
+names_alone [] before n u = refl
+names_alone (Create m ∷ later) before n u = ap (λ b. cond b (Some (created (later ++ before))) (leads (later ++ before) Live n)) u.0 ∙ names_alone later before n u.1
+names_alone (Append m bytes ∷ later) before n u = names_alone later before n u
+names_alone (Sync m ∷ later) before n u = names_alone later before n u
+names_alone (Rename a b ∷ later) before n u =
+    ap (λ x. cond x (leads (later ++ before) Live a) (cond (n == a) None (leads (later ++ before) Live n))) u.1.0
+    ∙ ap (λ x. cond x None (leads (later ++ before) Live n)) u.0
+    ∙ names_alone later before n u.1.1
+names_alone (Link a b ∷ later) before n u = ap (λ x. cond x (leads (later ++ before) Live a) (leads (later ++ before) Live n)) u.0 ∙ names_alone later before n u.1
+names_alone (Unlink m ∷ later) before n u = ap (λ x. cond x None (leads (later ++ before) Live n)) u.0 ∙ names_alone later before n u.1
+names_alone (SyncDir ∷ later) before n u = names_alone later before n u
+names_alone (PowerCut ∷ later) before n u = absurd u
+
+pub contents_stay : (later before : List Effect) (f : ℕ) → f < created before → IsUnsynced f later before → contents (later ++ before) Lasting f ≡ contents before Lasting f
+contents_stay [] before f old u = refl
+contents_stay (Create m ∷ later) before f old u =
+    let new : nat_eq f (created (later ++ before)) ≡ false = ne_eqb f (created (later ++ before)) (λ e. omega (arith, created_more later before)) in
+    ap (λ b. cond b [] (contents (later ++ before) Lasting f)) new ∙ contents_stay later before f old u
+contents_stay (Append m bytes ∷ later) before f old u = contents_stay later before f old u
+contents_stay (Sync m ∷ later) before f old u = ap (λ b. cond b (contents (later ++ before) Live f) (contents (later ++ before) Lasting f)) u.0 ∙ contents_stay later before f old u.1
+contents_stay (Rename a b ∷ later) before f old u = contents_stay later before f old u
+contents_stay (Link a b ∷ later) before f old u = contents_stay later before f old u
+contents_stay (Unlink m ∷ later) before f old u = contents_stay later before f old u
+contents_stay (SyncDir ∷ later) before f old u = contents_stay later before f old u
+contents_stay (PowerCut ∷ later) before f old u = contents_stay later before f old u
+
+pub link_shares : (before : List Effect) (from to : ℕ) → leads (Link from to ∷ before) Live to ≡ leads before Live from
+link_shares before from to = ap (λ b. cond b (leads before Live from) (leads before Live to)) (eq-eqb to to refl)
+
+pub create_names : (before : List Effect) (n : ℕ) → leads (Create n ∷ before) Live n ≡ Some (created before)
+create_names before n = ap (λ b. cond b (Some (created before)) (leads before Live n)) (eq-eqb n n refl)
+
+pub create_empties : (before : List Effect) (n : ℕ) → contents (Create n ∷ before) Live (created before) ≡ []
+create_empties before n = ap (λ b. cond b [] (contents before Live (created before))) (eq-eqb (created before) (created before) refl)
+
+pub append_adds : (before : List Effect) (n f : ℕ) (bytes : List ℕ) → leads before Live n ≡ Some f → contents (Append n bytes ∷ before) Live f ≡ contents before Live f ++ bytes
+append_adds before n f bytes at =
+    ap (λ o. cond (is_file f o) (contents before Live f ++ bytes) (contents before Live f)) at
+    ∙ ap (λ b. cond b (contents before Live f ++ bytes) (contents before Live f)) (eq-eqb f f refl)

@@ -1,5 +1,5 @@
 -- What the laws of file effects speak of, the newest effect first.
-use Rattle.std.specs.Prelude.{◌≡◌, ℕ, false, List, [], ◌∷◌, ◌++◌}
+use Rattle.std.specs.Prelude.{◌≡◌, ℕ, ◌==◌, false, List, [], ◌∷◌, ◌++◌}
 use Rattle.sim_device.specs.FileEffects.{Effect, Create, Append, Sync, Rename, Link, Unlink, SyncDir, PowerCut, Live, leads, is_file}
 
 -- among the later effects no append went to a name that then led to this file
@@ -25,3 +25,27 @@ HasNoSyncDir (Rename a b ∷ later) = HasNoSyncDir later
 HasNoSyncDir (Link a b ∷ later) = HasNoSyncDir later
 HasNoSyncDir (Unlink m ∷ later) = HasNoSyncDir later
 HasNoSyncDir (PowerCut ∷ later) = HasNoSyncDir later
+
+-- the later effects give this name to no file, and take it from none
+abbrev pub IsUnnamed : ℕ → List Effect → Type 0
+IsUnnamed n [] = Unit {0}
+IsUnnamed n (Create m ∷ later) = ((n == m) ≡ false) × IsUnnamed n later
+IsUnnamed n (Rename a b ∷ later) = ((n == a) ≡ false) × (((n == b) ≡ false) × IsUnnamed n later)
+IsUnnamed n (Link a b ∷ later) = ((n == b) ≡ false) × IsUnnamed n later
+IsUnnamed n (Unlink m ∷ later) = ((n == m) ≡ false) × IsUnnamed n later
+IsUnnamed n (PowerCut ∷ later) = ⊥
+IsUnnamed n (Append m bytes ∷ later) = IsUnnamed n later
+IsUnnamed n (Sync m ∷ later) = IsUnnamed n later
+IsUnnamed n (SyncDir ∷ later) = IsUnnamed n later
+
+-- among the later effects no sync went to a name that then led to this file
+abbrev pub IsUnsynced : ℕ → List Effect → List Effect → Type 0
+IsUnsynced f [] before = Unit {0}
+IsUnsynced f (Sync m ∷ later) before = (is_file f (leads (later ++ before) Live m) ≡ false) × IsUnsynced f later before
+IsUnsynced f (Create m ∷ later) before = IsUnsynced f later before
+IsUnsynced f (Append m bytes ∷ later) before = IsUnsynced f later before
+IsUnsynced f (Rename a b ∷ later) before = IsUnsynced f later before
+IsUnsynced f (Link a b ∷ later) before = IsUnsynced f later before
+IsUnsynced f (Unlink m ∷ later) before = IsUnsynced f later before
+IsUnsynced f (SyncDir ∷ later) before = IsUnsynced f later before
+IsUnsynced f (PowerCut ∷ later) before = IsUnsynced f later before

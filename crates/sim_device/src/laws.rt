@@ -1,7 +1,7 @@
 //! Laws of devices, over every list of effects and so over every run.
 ghost use Rattle.std.specs.Prelude.{◌≡◌, ◌<◌, ℕ, List, [], ◌∷◌, ◌++◌, Some, Contains};
-ghost use Rattle.sim_device.specs.FileEffects.{Effect, Sync, Rename, PowerCut, Side, Live, Lasting, created, leads, contents};
-ghost use Rattle.sim_device.specs.Later.{IsUntouched, HasNoSyncDir};
+ghost use Rattle.sim_device.specs.FileEffects.{Effect, Create, Append, Sync, Rename, Link, PowerCut, Side, Live, Lasting, created, leads, contents};
+ghost use Rattle.sim_device.specs.Later.{IsUntouched, HasNoSyncDir, IsUnnamed, IsUnsynced};
 ghost use Rattle.sim_device.specs.LogEffects.{LogEffect, Force, Restart, records, HasNoForce};
 
 /// A name leads only to a file that was created.
@@ -21,6 +21,43 @@ pub fn synced_contents_stay()
 pub fn names_last()
     ensures { (later before : List Effect) (n : ℕ) →
         HasNoSyncDir later → leads (later ++ before) Lasting n ≡ leads before Lasting n }
+{}
+
+/// A name leads where it led, until a call names it or the power is cut.
+pub fn unnamed_names_stay()
+    ensures { (later before : List Effect) (n : ℕ) →
+        IsUnnamed n later → leads (later ++ before) Live n ≡ leads before Live n }
+{}
+
+/// Contents change on the disk at a `sync` of their file only.
+pub fn contents_last()
+    ensures { (later before : List Effect) (f : ℕ) →
+        f < created before → IsUnsynced f later before → contents (later ++ before) Lasting f ≡ contents before Lasting f }
+{}
+
+/// A created name leads to a new file.
+pub fn create_names_a_new_file()
+    ensures { (before : List Effect) (name : ℕ) →
+        leads (Create name ∷ before) Live name ≡ Some (created before) }
+{}
+
+/// A new file is empty.
+pub fn new_files_are_empty()
+    ensures { (before : List Effect) (name : ℕ) →
+        contents (Create name ∷ before) Live (created before) ≡ [] }
+{}
+
+/// What is appended comes after what the file held.
+pub fn append_adds()
+    ensures { (before : List Effect) (name f : ℕ) (bytes : List ℕ) →
+        leads before Live name ≡ Some f →
+        contents (Append name bytes ∷ before) Live f ≡ contents before Live f ++ bytes }
+{}
+
+/// A link gives a file one more name.
+pub fn link_adds_a_name()
+    ensures { (before : List Effect) (from to : ℕ) →
+        leads (Link from to ∷ before) Live to ≡ leads before Live from }
 {}
 
 /// A rename touches no contents.

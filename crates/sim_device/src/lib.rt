@@ -12,7 +12,8 @@ mod names;
 pub use device::FileDevice;
 pub use fault::DeviceFault;
 pub use laws::{
-    forced_record_survives, forced_records_stay, names_last, names_lead_to_files,
-    rename_keeps_contents, synced_contents_stay, unforced_records_are_lost,
+    append_adds, contents_last, create_names_a_new_file, forced_record_survives,
+    forced_records_stay, link_adds_a_name, names_last, names_lead_to_files, new_files_are_empty,
+    rename_keeps_contents, synced_contents_stay, unforced_records_are_lost, unnamed_names_stay,
 };
 pub use log::RecordLog;

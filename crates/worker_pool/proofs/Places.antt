@@ -3,7 +3,7 @@ use Rattle.std.proofs.Common.{◌≡◌, true, Vec, Global, vec_len, ℕ, zero, 
 use Rattle.std.specs.List.{sum_by}
 use Rattle.worker_pool.specs.Tickets.{count_below}
 use Rattle.std.proofs.lemmas.List.{length-map}
-use Rattle.std.proofs.lemmas.List.Sums.{sum_by-set, sum_by-cons}
+use Rattle.std.proofs.lemmas.List.Sums.{sum_by-cons}
 
 module _ {A : Type 0} where
   pub holds_set : (P : ℕ → A → Type 0) (xs : List A) (i : ℕ) (v d : A) → P i v → ((j : ℕ) → P j (get_or xs j d)) → (j : ℕ) → P j (get_or (set xs i v) j d)
@@ -12,24 +12,6 @@ module _ {A : Type 0} where
   holds_set P (x ∷ xs) zero v d here old (suc j) = old (suc j)
   holds_set P (x ∷ xs) (suc i) v d here old zero = old zero
   holds_set P (x ∷ xs) (suc i) v d here old (suc j) = holds_set (λ n. P (suc n)) xs i v d here (λ n. old (suc n)) j
-
--- the balance of sums over two lists, of which one place each changes
-pub balance_at : {X H : Type 0} (t q : X → ℕ) (a : H → ℕ) (xs : List X) (hs : List H) (i : ℕ) (x x' : X) (h h' : H) → i < length xs → i < length hs → x ≡ get_or xs i x → h ≡ get_or hs i h
-    → t x + a h' + q x' ≡ t x' + a h + q x
-    → sum_by t xs + sum_by a (set hs i h') + sum_by q (set xs i x') ≡ sum_by t (set xs i x') + sum_by a hs + sum_by q xs
-balance_at t q a xs hs i x x' h h' in_x in_h is_x is_h now =
-    omega (arith, sum_by-set t xs i x' x in_x, sum_by-set q xs i x' x in_x, sum_by-set a hs i h' h in_h, ap t is_x, ap q is_x, ap a is_h, now)
-
--- sums over two lists that agree place by place
-pub sums_same : {X H : Type 0} (f e : X → ℕ) (g : H → ℕ) (xs : List X) (hs : List H) → length xs ≡ length hs → ((k : ℕ) (d : X) (h : H) → k < length hs → f (get_or xs k d) ≡ g (get_or hs k h) + e (get_or xs k d))
-    → sum_by f xs ≡ sum_by g hs + sum_by e xs
-sums_same f e g [] [] len each = refl
-sums_same f e g [] (h ∷ hs) len each = absurd (omega arith)
-sums_same f e g (x ∷ xs) [] len each = absurd (omega arith)
-sums_same f e g (x ∷ xs) (h ∷ hs) len each =
-    let here : f x ≡ g h + e x = each 0 x h (omega arith) in
-    let rest = sums_same f e g xs hs (omega arith) (λ k d i within. each (suc k) d i (omega arith)) in
-    omega (arith, sum_by-cons f x xs, sum_by-cons g h hs, sum_by-cons e x xs)
 
 pub sums_by_place : {X : Type 0} (f : X → ℕ) (xs ys : List X) → length xs ≡ length ys → ((k : ℕ) (d : X) → k < length xs → f (get_or xs k d) ≡ f (get_or ys k d)) → sum_by f xs ≡ sum_by f ys
 sums_by_place f [] [] len each = refl

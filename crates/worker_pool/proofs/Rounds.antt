@@ -1,5 +1,5 @@
 -- What the desks are after a round.
-use Rattle.std.proofs.Common.{◌≡◌, ℕ, ◌<◌, List, [], ◌∷◌, ◌++◌, take, drop, length, get_or, Option, Some, None, IsSome, sym, ap, ◌∙◌, subst, arith, rules}
+use Rattle.std.proofs.Common.{◌≡◌, ℕ, ◌<◌, List, [], ◌∷◌, length, get_or, Option, Some, None, IsSome, sym, ◌∙◌, subst, arith, rules}
 use Rattle.crossbeam_deque.specs.Handles.{worker_deque, worker_view}
 use Rattle.worker_pool.specs.declared.desk.Next.{Next}
 use Rattle.worker_pool.specs.declared.desk.Desk.{Desk}
@@ -8,7 +8,6 @@ use Rattle.worker_pool.specs.declared.station.Station.{Station}
 use Rattle.worker_pool.specs.Stations.{WorkedAt}
 use Rattle.worker_pool.specs.Ring.{next_of, Link, IsRing}
 use Rattle.worker_pool.proofs.Rings.{next_of-within}
-use Rattle.std.proofs.lemmas.List.{drop_all, take_all, append-nil}
 
 pub pick : {A : Type 0} (xs : List A) (k : ℕ) → k < length xs → A
 pick [] k within = absurd (omega arith)
@@ -35,7 +34,3 @@ ring_same ds es len same ring k d within =
     let s = same k d in_k in
     let t = same (next_of n k) d (next_of-within n k in_k) in
     subst (λ (m : ℕ). Link (get_or es k d).next (get_or es (next_of m k) d)) (sym len) (link_same (get_or ds k d).next (get_or es k d).next (get_or ds (next_of n k) d) (get_or es (next_of n k) d) s.next t.deque t.right (ring k d in_k))
-
-pub written_back : {A : Type 0} (n : ℕ) (s items : List A) → length s ≡ n → length items ≡ n → take n (s ++ drop (length s) items) ≡ s
-written_back n s items len_s len =
-    ap (λ xs. take n (s ++ xs)) (drop_all (length s) items (omega arith)) ∙ ap (take n) (append-nil s) ∙ take_all n s (omega arith)

@@ -1,5 +1,5 @@
 -- A station that goes on, turn after turn.
-use Rattle.std.proofs.Common.{◌≡◌, ◌≢◌, ◌⊎◌, inl, inr, ◌∙◌, ℕ, zero, suc, ◌+◌, ◌<◌, ◌≤◌, ◌^◌, List, All, Option, Some, None, IfSome, count_by, length, get_or, ⊎_elim, refl, sym, ap, subst, arith}
+use Rattle.std.proofs.Common.{◌≡◌, ◌≢◌, ◌⊎◌, inl, inr, ◌∙◌, ℕ, zero, suc, ◌+◌, ◌<◌, ◌≤◌, ◌^◌, List, All, Option, Some, count_by, length, get_or, ⊎_elim, refl, sym, ap, subst, arith}
 use mathlib.Core.Logic.{dite}
 use native.Mathlib.Decide.{ℕ_discrete}
 use Rattle.worker_pool.specs.declared.hand.Hand.{Hand}
@@ -8,7 +8,7 @@ use Rattle.worker_pool.specs.declared.station.Station.{Station}
 use Rattle.worker_pool.specs.Desks.{KeptBelow}
 use Rattle.worker_pool.specs.Ring.{TakenIn}
 use Rattle.worker_pool.specs.Stations.{IsRight, SameWork, GoesOn, Worked, WorkedAt, Finishes}
-use Rattle.worker_pool.proofs.Same.{SameDesk-refl, SameDesk-trans}
+use Rattle.worker_pool.proofs.Same.{SameDesk-trans}
 
 -- o, m and n: a count before, on the way and after, with the lengths a, b and d
 counted_on : (o m n a b d : ℕ) → a ≤ b → b ≤ d → (o + b < 2 ^ 64 + a → m + a ≡ o + b) → (m + d < 2 ^ 64 + b → n + b ≡ m + d) → o + d < 2 ^ 64 + a → n + a ≡ o + d
@@ -54,14 +54,6 @@ module _ {J A S T : Type 0} (setup : J → T) (limit : T → ℕ) (answers : T �
         omega arith;
   }
 
-  pub Worked-refl : (s : Station J A S) (d : Desk) → d.kept ≡ None → Worked setup limit answers s s d d
-  Worked-refl s d none = record {
-    on = GoesOn-refl s;
-    once = λ test. refl;
-    same = SameDesk-refl d;
-    kept = subst (λ (o : Option ℕ). IfSome o (λ x. x < limit (setup s.hand.job))) (sym none) tt;
-  }
-
   pub Worked-trans : (s t u : Station J A S) (d e f : Desk) → Worked setup limit answers s t d e → Worked setup limit answers t u e f → Worked setup limit answers s u d f
   Worked-trans s t u d e f was now = record {
     on = GoesOn-trans s t u was.on now.on;
@@ -85,15 +77,6 @@ module _ {J A S T : Type 0} (setup : J → T) (limit : T → ℕ) (answers : T �
 
   pub Finishes-refl : (s : Station J A S) (d : Desk) → TakenIn d → Finishes setup answers s s d d
   Finishes-refl s d taken_in = record { on = GoesOn-refl s; once = λ test. refl; taken_in = taken_in; pushed = refl; stolen = refl }
-
-  pub Finishes-trans : (s t u : Station J A S) (d e f : Desk) → Finishes setup answers s t d e → Finishes setup answers t u e f → Finishes setup answers s u d f
-  Finishes-trans s t u d e f was now = record {
-    on = GoesOn-trans s t u was.on now.on;
-    once = λ test. (let a = was.once test in let b = now.once test in omega arith);
-    taken_in = now.taken_in;
-    pushed = now.pushed ∙ was.pushed;
-    stolen = now.stolen ∙ was.stolen;
-  }
 
   -- one more desk is finished, and the others are as they were
   module _ (starts seen ends : List (Station J A S)) (firsts desks lasts : List Desk) (k : ℕ)

@@ -1,0 +1,41 @@
+//! What holds of every run.
+ghost use Rattle.std.specs.Prelude.{◌≡◌, ℕ};
+ghost use Rattle.action_eval.specs.Answers.{given_of};
+ghost use Rattle.target_trait.specs.Outcomes.{outcome};
+ghost use Rattle.target_trait.specs.declared.judgement.Verdict.TheVariants.{Fail};
+ghost use Rattle.maildir_target.specs.declared.variant.Variant.TheVariants.{Sound, LinkFirst, IgnoreWrite, AppendTmp};
+ghost use Rattle.maildir_target.specs.Words.{point_names, torn};
+ghost use Rattle.maildir_target.specs.Steps.{asks_of};
+ghost use Rattle.maildir_target.specs.Flaws.{hi, m, write_fails, sync_and_unlink_fail};
+
+use crate::messages::Messages;
+use scenario_values::Scenario;
+
+/// The sound variant never fails: whatever the scenario, the workload, the seed, the number of the stream and the limit, the verdict
+/// of its run is pass or unresolved.
+pub fn sound_never_fails(
+    workload: &Messages,
+    scenario: &Scenario,
+    seed: u64,
+    stream: u64,
+    max_hits: u32,
+)
+    ensures { (code : ℕ) → (outcome (asks_of Sound workload.now) (given_of scenario.now point_names seed stream max_hits)).verdict ≡ Fail code → ⊥ }
+{}
+
+/// link_first fails: under `maildir::write=1*return` the message `hi` is torn, whatever the seed and the number of the stream. The name
+/// under `new/` that the first attempt made stays, and its file is never synced.
+pub fn link_first_is_torn()
+    ensures { (seed stream : ℕ) → (outcome (asks_of LinkFirst hi) (given_of write_fails point_names seed stream 1000)).verdict ≡ Fail torn }
+{}
+
+/// ignore_write fails: under `maildir::write=1*return` the message `hi` is torn, since half of it is synced, linked and acknowledged.
+pub fn ignore_write_is_torn()
+    ensures { (seed stream : ℕ) → (outcome (asks_of IgnoreWrite hi) (given_of write_fails point_names seed stream 1000)).verdict ≡ Fail torn }
+{}
+
+/// append_tmp fails: under `maildir::sync=1*return;maildir::unlink=1*return` the message `m` is torn. The first attempt leaves its file,
+/// and the second writes the message once more behind it.
+pub fn append_tmp_is_torn()
+    ensures { (seed stream : ℕ) → (outcome (asks_of AppendTmp m) (given_of sync_and_unlink_fail point_names seed stream 1000)).verdict ≡ Fail torn }
+{}

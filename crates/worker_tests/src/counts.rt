@@ -1,0 +1,68 @@
+//! What the hands of a run perform, and what they have performed over all their runs.
+
+use crate::adding::{Adder, adders, finished, have_performed, is_each_once};
+use std::alloc::Global;
+use std::process::Abort;
+use std::sync::Wait;
+use std::sync::atomic::AtomicU64;
+use std::test::Fail;
+use std::thread::Threads;
+use target_trait::FreeGate;
+use worker_pool::Hand;
+
+/// One run of three hands, after which they have performed so many tickets over all their runs.
+fn ran<'a, R: Abort + Threads + Wait + Sync>(
+    rt: &R,
+    alloc: Global,
+    hands: Vec<Hand<Adder<'a>>>,
+    calls: &AtomicU64,
+    count: u32,
+    performed: u64,
+) -> Result<Vec<Hand<Adder<'a>>>, Fail> {
+    let done = finished(rt, alloc, &FreeGate, hands, count)?;
+    assert_eq!(rt; done.answers.len(), 3);
+    assert!(rt; is_each_once(alloc, &done.answers, count as usize)?);
+    have_performed(rt, &done.hands, calls, performed);
+    Ok(done.hands)
+}
+
+// What the body every_worker_performs_every_plan fails, by the count of calls.
+#[test]
+fn three_runs_of_three_hands(rt: HostRuntime) -> Result<(), Fail> {
+    let alloc = rt.alloc();
+    let calls = AtomicU64::new(0);
+    let mut hands = adders(alloc, &calls, 3, 0)?;
+    for (count, performed) in [(19, 19), (19, 38), (0, 38)] {
+        hands = ran(&rt, alloc, hands, &calls, count, performed)?;
+    }
+    Ok(())
+}
+
+/// Whether each hand performed only tickets that were dealt to it or to the next hand.
+fn is_own_or_stolen(lists: &[Vec<(u32, u64)>]) -> bool {
+    let n = lists.len().max(1);
+    for (hand, list) in lists.iter().enumerate() {
+        for pair in list.iter() {
+            let dealt_to = pair.0 as usize % n;
+            if dealt_to != hand && dealt_to != (hand + 1) % n {
+                return false;
+            }
+        }
+    }
+    true
+}
+
+#[test]
+fn any_number_of_hands(rt: HostRuntime) -> Result<(), Fail> {
+    let alloc = rt.alloc();
+    for count in [1usize, 2, 8, 64] {
+        let calls = AtomicU64::new(0);
+        let hands = adders(alloc, &calls, count, 0)?;
+        let done = finished(&rt, alloc, &FreeGate, hands, 300)?;
+        assert_eq!(rt; done.hands.len(), count);
+        assert!(rt; is_each_once(alloc, &done.answers, 300)?);
+        assert!(rt; is_own_or_stolen(&done.answers));
+        have_performed(&rt, &done.hands, &calls, 300);
+    }
+    Ok(())
+}

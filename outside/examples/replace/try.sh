@@ -1,0 +1,65 @@
+#!/bin/sh
+# try.sh [SCENARIO]: replaces the file under that scenario, or the one in FAILPOINTS, cuts the power, and writes what became
+# of it: a line `VERDICT<TAB>SCENARIO`. `make` in outside/ has to have been done. By the environment:
+#   FLAW           sound (where it isn't set), late_sync, ignore_sync or retry_write
+#   OLD            what the file holds before: old
+#   REPLACEMENTS   lists of chunks without blanks, a comma between two lists: ne w
+#   STATES         the states after a power cut that are judged: lasting
+#   TRACE          a file that takes the run's trace
+outside=$(cd "$(dirname "$0")/../.." && pwd) || exit 2
+scenario=${1-${FAILPOINTS-none}}
+OLD=${OLD-old}
+REPLACEMENTS=${REPLACEMENTS-ne w}
+set -f
+
+here=$(mktemp -d) || exit 2
+trap 'rm -rf "$here"' EXIT
+trap 'exit 2' HUP INT TERM
+mkdir "$here/data" && printf %s "$OLD" > "$here/data/target" || exit 2
+"$outside/out/powercut" begin "$here/run" "$here/data" || exit 2
+
+# The lists of chunks are words of the program.
+(cd "$here/data" && LD_PRELOAD="$outside/out/faults.so" FAULTS_ROOT="$here/data" FAULTS_RUN="$here/run" FAILPOINTS="$scenario" \
+    timeout -s KILL 20 "$outside/out/replace" "${FLAW:-sound}" $REPLACEMENTS) > "$here/said"
+status=$?
+[ -z "${TRACE-}" ] || cp "$here/run/trace" "$TRACE"
+
+verdict() {
+    printf '%s\t%s\n' "$1" "$scenario"
+    exit 0
+}
+
+# 0 and 1 are the program's own, 99 is a panic of the scenario. All else (a pause, a refused scenario, no time left, a
+# signal) tells nothing of the file.
+case $status in 0 | 1 | 99) ;; *) verdict unresolved ;; esac
+
+# contents N: what the file holds after replacement N, 0 for the old contents
+contents() {
+    [ "$1" -gt 0 ] || { printf %s "$OLD"; return; }
+    number=1
+    for word in $REPLACEMENTS; do
+        if [ "$word" = , ]; then number=$((number + 1)); elif [ "$number" -eq "$1" ]; then printf %s "$word"; fi
+    done
+}
+
+# holds_from N: whether the file holds what the last promise or a replacement begun since, from N on, leaves whole
+holds_from() {
+    number_of=$1
+    while [ "$number_of" -le "$begun" ]; do
+        contents "$number_of" > "$here/whole"
+        cmp -s "$here/whole" "$here/data/target" && return 0
+        number_of=$((number_of + 1))
+    done
+    return 1
+}
+
+begun=$(sed -n 's/^begun //p' "$here/said" | tail -n 1)
+promised=$(sed -n 's/^done //p' "$here/said" | tail -n 1)
+begun=${begun:-0}
+for state in ${STATES-lasting}; do
+    "$outside/out/powercut" cut "$here/run" "$here/data" "$state" || exit 2
+    holds_from "${promised:-0}" && continue
+    holds_from 0 && verdict "fail stale"
+    verdict "fail torn"
+done
+verdict pass

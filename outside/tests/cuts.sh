@@ -1,0 +1,117 @@
+# What a power cut leaves. Sourced by `test`. Names and contents as they last or as they are: lasting is neither, live both,
+# names the names alone, contents the contents alone.
+
+# leaves NAME LASTING NAMES CONTENTS LIVE: the files in each state, laid in turn; what all have, `sub/ sub/in=inside`, left out
+leaves() {
+    name=$1
+    for state in lasting names contents live; do
+        shift
+        is "$name: $state" "$1" "$(left $state | sed 's|sub/ sub/in=inside ||')"
+    done
+}
+
+try none open old write ab
+leaves 'written, nothing synced' 'old=0123456789 ' 'old=0123456789 ' 'old=ab23456789 ' 'old=ab23456789 '
+try none open old write ab fsync write c
+leaves 'a write after the sync' 'old=ab23456789 ' 'old=ab23456789 ' 'old=abc3456789 ' 'old=abc3456789 '
+try none create a write b
+leaves 'a new file' 'old=0123456789 ' 'a= old=0123456789 ' 'old=0123456789 ' 'a=b old=0123456789 '
+try none create a write b fsync
+leaves 'a new file, synced' 'old=0123456789 ' 'a=b old=0123456789 ' 'old=0123456789 ' 'a=b old=0123456789 '
+try none create a write b folder . fsync
+leaves 'a new file, its folder synced' 'a= old=0123456789 ' 'a= old=0123456789 ' 'a=b old=0123456789 ' 'a=b old=0123456789 '
+try none create a write b fsync rename a old
+leaves 'renamed over another' 'old=0123456789 ' 'old=b ' 'old=0123456789 ' 'old=b '
+try none create a write b rename a old folder . fsync
+leaves 'renamed before it was synced' 'old= ' 'old= ' 'old=b ' 'old=b '
+try none create a write b fsync rename a old folder . fsync
+leaves 'replaced as it should be' 'old=b ' 'old=b ' 'old=b ' 'old=b '
+try none unlink old
+leaves 'unlinked' 'old=0123456789 ' '' 'old=0123456789 ' ''
+try none unlink old folder . fsync
+leaves 'unlinked, its folder synced' '' '' '' ''
+try none link old new unlink old folder . fsync
+leaves 'linked under another name' 'new=0123456789 ' 'new=0123456789 ' 'new=0123456789 ' 'new=0123456789 '
+try none truncate old 3
+leaves 'cut short' 'old=0123456789 ' 'old=0123456789 ' 'old=012 ' 'old=012 '
+try none log a write b write c folder . fsync open old
+leaves 'writes that sync by themselves' 'a=bc old=0123456789 ' 'a=bc old=0123456789 ' 'a=bc old=0123456789 ' 'a=bc old=0123456789 '
+try none mkdir new create new/a write b fsync folder . fsync
+leaves 'a new folder, only its own name synced' 'new/ old=0123456789 ' 'new/ new/a=b old=0123456789 ' 'new/ old=0123456789 ' \
+    'new/ new/a=b old=0123456789 '
+try none mkdir new create new/a write b fsync folder new fsync
+leaves 'a new folder, only its names synced' 'old=0123456789 ' 'new/ new/a=b old=0123456789 ' 'old=0123456789 ' \
+    'new/ new/a=b old=0123456789 '
+try none mkdir new create new/a write b fsync folder new fsync folder . fsync
+leaves 'a new folder, both synced' 'new/ new/a=b old=0123456789 ' 'new/ new/a=b old=0123456789 ' \
+    'new/ new/a=b old=0123456789 ' 'new/ new/a=b old=0123456789 '
+try none symlink 'old file' way folder . fsync
+leaves 'a symbolic link' 'old=0123456789 way->old file ' 'old=0123456789 way->old file ' 'old=0123456789 way->old file ' \
+    'old=0123456789 way->old file '
+try none create 'a  b
+c' write b fsync folder . fsync
+is 'odd names' 'b' "$(out/powercut cut "$here/run" "$here/data" && cat "$here/data/a  b
+c")"
+try none unlink old create old write new folder . fsync
+leaves 'a new file of an old name' 'old= ' 'old= ' 'old=new ' 'old=new '
+try none rename sub way folder . fsync
+is 'a folder under another name' 'old=0123456789 way/ way/in=inside ' "$(left lasting)"
+
+try 'libc::fsync=1*return' open old write ab fsync
+is 'a sync that failed keeps nothing' 'old=0123456789 ' "$(left lasting | sed 's|sub/.*||')"
+try 'libc::fsync=1*return' open old write ab fsync fsync
+is 'a second one keeps all' 'old=ab23456789 ' "$(left lasting | sed 's|sub/.*||')"
+FAULTS_FSYNC=once
+export FAULTS_FSYNC
+try 'libc::fsync=1*return' open old write ab fsync fsync
+is 'with once, what the failed one lost stays lost' 'old=0123456789 ' "$(left lasting | sed 's|sub/.*||')"
+try 'libc::fsync=1*return' open old write ab fsync write c fsync
+is 'with once, a block written again is kept' 'old=abc3456789 ' "$(left lasting | sed 's|sub/.*||')"
+FAULTS_FSYNC=twice
+try none open old
+is 'FAULTS_FSYNC is once' '98 faults: FAULTS_FSYNC is once or isn'"'"'t set: twice' "$status $faults"
+unset FAULTS_FSYNC
+
+try 'libc::fsync=1*off->panic' create a write b fsync folder . fsync
+is 'a panic at the sync of the folder' '99 old=0123456789 ' "$status $(left lasting | sed 's|sub/.*||')"
+try none child create a write b fsync folder . fsync parent
+is 'what a child synced lasts' 'a=b old=0123456789 ' "$(left lasting | sed 's|sub/.*||')"
+new
+chmod 640 "$here/data/old"
+chmod 500 "$here/data/sub"
+go none folder . fsync
+left lasting > /dev/null
+is 'modes stay' '640 500' "$(stat -c %a "$here/data/old" "$here/data/sub" | paste -s -d ' ')"
+chmod 700 "$here/data/sub"
+try none open old write ab fsync
+left lasting > /dev/null
+rm "$here/data/old"
+is 'a look at one state changes no other' 'old=ab23456789 ' "$(left lasting | sed 's|sub/.*||')"
+
+# A sync that fails by itself, not by the scenario.
+if command -v strace > "$here/said" && strace -o "$here/calls" true 2> "$here/faults"; then
+    new
+    said=$(cd "$here/data" && strace -qq -o "$here/calls" -e trace=fsync -e inject=fsync:error=EIO:when=1 \
+        env LD_PRELOAD="$outside/out/faults.so" FAULTS_ROOT="$here/data" FAULTS_RUN="$here/run" \
+        "$outside/out/component" open old write ab fsync | paste -s -d ,)
+    is 'a sync that fails by itself keeps nothing' 'open 0,write 2,fsync EIO old=0123456789 ' "$said $(left lasting | sed 's|sub/.*||')"
+else
+    echo 'skipped a sync that fails by itself: no strace'
+fi
+
+# What is refused, with nothing changed.
+try none open old
+mkdir -p "$here/other"
+is 'cut of another folder' "powercut: $here/other: not the folder that begin noted" "$(out/powercut cut "$here/run" "$here/other" 2>&1)"
+is 'cut to an unknown state' 'powercut: never: no such state' "$(out/powercut cut "$here/run" "$here/data" never 2>&1)"
+is 'cut without a run' "powercut: $here/other: no folder of a run that noted a root" "$(out/powercut cut "$here/other" "$here/data" 2>&1)"
+is 'begin where there is something' "powercut: $here/run: File exists" "$(out/powercut begin "$here/run" "$here/data" 2>&1)"
+is 'begin under the root' "powercut: $here/data/run: a run's folder can't be under ROOT" "$(out/powercut begin "$here/data/run" "$here/data" 2>&1)"
+is 'begin of a file' "powercut: $here/data/old: not a folder" "$(out/powercut begin "$here/file" "$here/data/old" 2>&1)"
+rm -rf "$here/run"
+out/powercut begin "$here/run"
+go 'libc::open=1*return' open old open old
+is 'a run without a power cut' 'open EIO,open 0' "$said"
+is 'and none can be cut' "powercut: $here/run: no folder of a run that noted a root" "$(out/powercut cut "$here/run" "$here/data" 2>&1)"
+out/powercut > "$here/said" 2>&1
+is 'a refusal ends with 2' 2 $?

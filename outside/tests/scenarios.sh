@@ -1,0 +1,89 @@
+# What FAILPOINTS may hold, and what is refused. Sourced by `test`.
+
+# acts NAME SCENARIO: the scenario fails the second write alone
+acts() {
+    try "$2" create a write b write c write d
+    is "$1" 'create 0,write 1,write EIO,write 1' "$said"
+}
+acts 'blanks round names and terms' " 
+ libc::write	= 1*off ->
+1*return ;"
+acts 'blank pieces' ';; libc::write=1*off->1*return; ;'
+acts 'leading zeros' 'libc::write=0100.0000%01*off->100%0001*return'
+acts 'more than the whole share' 'libc::write=250%1*off->99999999999999999999%1*return'
+acts 'a share of nothing' 'libc::write=0%panic->1*off->0.0000%3*return(ENOSPC)->1*return'
+acts 'a name again takes its last chain' 'libc::write=panic;libc::open=off;libc::write=1*off->1*return'
+acts 'names of others' 'store::flush=20.5%3*return(x(y))->panic;libc::write=1*off->1*return;libc::write =off;a->b=off; libc::write=1*off->1*return'
+acts 'arguments that are dropped' 'libc::write=1*off(x)->1*return(EIO)'
+try 'libc::wirte=panic' create a write b
+is 'an unknown name of this library never acts' 'create 0,write 1 faults: never acts: libc::wirte' "$said $faults"
+try '' create a
+is 'an empty text' 'create 0 0' "$said $status"
+try none create a
+is 'the empty scenario, written as none' 'create 0 0' "$said $status"
+
+# refused SCENARIO WHAT: nothing runs, and the refusal tells where
+refused() {
+    try "$1" create a
+    is "refused: $2" "98  faults: scenario: $2" "$status $said $faults"
+}
+refused 'libc::open' 'NoAction entry 1 term 0'
+refused ';b' 'NoAction entry 2 term 0'
+refused '=off' 'NoName entry 1 term 0'
+refused 'libc::open=return(x' 'Parentheses entry 1 term 1'
+refused 'a=off;b=off->panic(x)y' 'Parentheses entry 2 term 2'
+refused 'a=3*20%off' 'BadPercent entry 1 term 1'
+refused 'a=.5%off' 'BadPercent entry 1 term 1'
+refused 'a=5.%off' 'BadPercent entry 1 term 1'
+refused 'a=250.00000%off' 'BadPercent entry 1 term 1'
+refused 'a=20 %off' 'BadPercent entry 1 term 1'
+refused 'a=1*off->4294967296*off' 'BadCount entry 1 term 2'
+refused 'a=*off' 'BadCount entry 1 term 1'
+refused 'a=+1*off' 'BadCount entry 1 term 1'
+refused 'a=off->' 'UnknownTask entry 1 term 2'
+refused 'a=20%%off' 'UnknownTask entry 1 term 1'
+refused 'a=1**off' 'UnknownTask entry 1 term 1'
+refused 'a=return (x)' 'UnknownTask entry 1 term 1'
+refused 'a=Return' 'UnknownTask entry 1 term 1'
+refused 'a=sleep' 'BadMillis entry 1 term 1'
+refused 'a=off;;a=delay(1000000001)' 'BadMillis entry 3 term 1'
+refused 'a=sleep()' 'BadMillis entry 1 term 1'
+refused 'a=sleep;b' 'BadMillis entry 1 term 1'
+refused 'libc::open=off;libc::write=1*off->20%return' 'NoShares entry 2 term 2'
+refused 'libc::open=return(EWHAT)' 'UnknownError entry 1 term 1'
+refused 'libc::fsync=1*off->return(HALF)' 'UnknownError entry 1 term 2'
+
+# repeated COUNT TEXT
+repeated() { awk -v count="$1" -v text="$2" 'BEGIN { while (count-- > 0) printf "%s", text }'; }
+try "$(repeated 256 'a=off;')" create a
+is '256 entries' 'create 0 0' "$said $status"
+refused "$(repeated 256 'a=off;');b" 'TooMany entry 258 term 0'
+refused "a=off$(repeated 256 '->off')" 'TooMany entry 1 term 257'
+fifteen=$(repeated 16 "a=yield$(repeated 255 '->yield');")
+try "$fifteen" create a
+is '4096 faults' 'create 0 0' "$said $status"
+refused "${fifteen}a=off->yield" 'TooMany entry 17 term 2'
+refused "a=off$(repeated 65532 ' ')" 'TooLong entry 0 term 0'
+try "a=off$(repeated 65531 ' ')" create a
+is '65536 bytes' 'create 0 0' "$said $status"
+
+# The variables beside FAILPOINTS.
+bare() { (cd "$here/data" && env LD_PRELOAD="$outside/out/faults.so" "$@" "$outside/out/component" create a) 2>&1; }
+is 'no FAULTS_ROOT' "faults: isn't set: FAULTS_ROOT" "$(bare)"
+is 'no FAULTS_RUN' "faults: isn't set: FAULTS_RUN" "$(bare FAULTS_ROOT="$here/data")"
+is 'FAULTS_RUN of no run' "faults: FAULTS_RUN isn't a run's folder: $here/data" "$(bare FAULTS_ROOT="$here/data" FAULTS_RUN="$here/data")"
+new
+is 'FAULTS_ROOT of nothing' "faults: FAULTS_ROOT isn't a folder: $here/none" "$(bare FAULTS_ROOT="$here/none" FAULTS_RUN="$here/run")"
+
+# The census.
+try none mkdir b create a write b write c fsync rename a sub/b folder . fsync
+is 'a census' 'points = ["libc::open", "libc::write", "libc::fsync", "libc::rename", "libc::mkdir"]
+hits = [2, 2, 2, 1, 1]' "$(./census "$here/run/trace")"
+try 'libc::write=1*off->1*return(ENOSPC)' create a write b write c
+./census "$here/run/trace" > "$here/said" 2>&1
+is 'no census of a run with faults' '2 census: line 3 has a fault: return(ENOSPC)' "$? $(cat "$here/said")"
+printf '' > "$here/nothing"
+is 'no census of nothing' 'census: nothing was hit' "$(./census "$here/nothing" 2>&1)"
+printf '1\tstore::flush\t1\tgo\tx\n2\tlibc::read\t1\tgo\tx\n3\tstore::flush\t2\tgo\tx\n' > "$here/mixed"
+is 'points of others come last' 'points = ["libc::read", "store::flush"]
+hits = [1, 2]' "$(./census "$here/mixed")"
