@@ -16,6 +16,7 @@ mod workers;
 pub use ending::{CampaignFault, Ending};
 pub use laws::reduced_scenarios_are_minimal;
 pub use listing::plan_list;
+pub use probe::fault_count;
 pub use reducing::reduce_one;
 pub use running::campaign;
 pub use trying::try_one;

@@ -53,6 +53,16 @@ pub record Base (w : ℕ → List ℕ) (m : ℕ) (chunks : List (List ℕ)) (res
   pub mine : w m ≡ joined chunks
   pub others : Tells w (m + 1) rest
 
+abbrev Stands : (ℕ → List ℕ) → Tally → List Effect → Type 0
+Stands w t es = Base w t.message t.chunks t.rest t.acknowledged es
+
+-- the names of the attempt under way
+abbrev tmp : Tally → ℕ
+tmp t = tmp_name t.message t.attempt
+
+abbrev new : Tally → ℕ
+new t = new_name t.message t.attempt
+
 -- what stands before a step, by the name under `tmp/`, and the message with its whole contents
 abbrev StepSafe : Step → ℕ → ℕ → List ℕ → List Effect → Type 0
 StepSafe Looking n m whole es = Unit {0}
@@ -104,28 +114,28 @@ create_solid w es i b k Lasting m a f e = contents_stay (Create (tmp_name i b) �
 create_there : (es : List Effect) (i : ℕ) (b : Attempt) (m : ℕ) → There es Live m → There (Create (tmp_name i b) ∷ es) Live m
 create_there es i b m k = (k.0, (k.1.0, names_alone (Create (tmp_name i b) ∷ []) es (new_name m k.0) (not_tmp m i k.0 b, tt) ∙ k.1.1))
 
-create_base : (w : ℕ → List ℕ) (m : ℕ) (chunks : List (List ℕ)) (rest : List (List (List ℕ))) (done : List ℕ) (es : List Effect) (b : Attempt) → Base w m chunks rest done es → Base w m chunks rest done (Create (tmp_name m b) ∷ es)
-create_base w m chunks rest done es b k = record {
-  solid = create_solid w es m b k.solid;
-  delivered = deliver es (Create (tmp_name m b) ∷ es) (create_there es m b) (λ i there. there Lasting) done k.delivered;
+create_base : (w : ℕ → List ℕ) (t : Tally) (es : List Effect) → Stands w t es → Stands w t (Create (tmp t) ∷ es)
+create_base w t es k = record {
+  solid = create_solid w es t.message t.attempt k.solid;
+  delivered = deliver es (Create (tmp t) ∷ es) (create_there es t.message t.attempt) (λ i there. there Lasting) t.acknowledged k.delivered;
   mine = k.mine;
   others = k.others;
 }
 
-older : (f bound : ℕ) → f < bound → f ≡ bound → ⊥
-older f bound h e = omega arith
+not_below : (n : ℕ) → n < n → ⊥
+not_below n h = omega arith
 
 -- the file just created
 create_own : (es : List Effect) (i : ℕ) (b : Attempt) → IsOwn (Create (tmp_name i b) ∷ es) (created es)
 create_own es i b Live m a e =
     let at : leads es Live (new_name m a) ≡ Some (created es) = sym (names_alone (Create (tmp_name i b) ∷ []) es (new_name m a) (not_tmp m i a b, tt)) ∙ e in
-    older (created es) (created es) (leads_created es Live (new_name m a) (created es) at) refl
-create_own es i b Lasting m a e = older (created es) (created es) (leads_created es Lasting (new_name m a) (created es) e) refl
+    not_below (created es) (leads_created es Live (new_name m a) (created es) at)
+create_own es i b Lasting m a e = not_below (created es) (leads_created es Lasting (new_name m a) (created es) e)
 
-append_base : (w : ℕ → List ℕ) (m : ℕ) (chunks : List (List ℕ)) (rest : List (List (List ℕ))) (done : List ℕ) (es : List Effect) (n : ℕ) (bytes : List ℕ) → Base w m chunks rest done es → Base w m chunks rest done (Append n bytes ∷ es)
-append_base w m chunks rest done es n bytes k = record {
+append_base : (w : ℕ → List ℕ) (t : Tally) (es : List Effect) (n : ℕ) (bytes : List ℕ) → Stands w t es → Stands w t (Append n bytes ∷ es)
+append_base w t es n bytes k = record {
   solid = same_solid;
-  delivered = deliver es (Append n bytes ∷ es) (λ i there. there) (λ i there. there Lasting) done k.delivered;
+  delivered = deliver es (Append n bytes ∷ es) (λ i there. there) (λ i there. there Lasting) t.acknowledged k.delivered;
   mine = k.mine;
   others = k.others;
 }
@@ -144,10 +154,10 @@ sync_solid w es n own at alone k Live m a f e =
 sync_solid w es n own at alone k Lasting m a f e =
     contents_stay (Sync n ∷ []) es f (leads_created es Lasting (new_name m a) f e) (not_own es n own f at (λ same. alone Lasting m a (e ∙ ap Some (sym same))), tt) ∙ k Lasting m a f e
 
-sync_base : (w : ℕ → List ℕ) (m : ℕ) (chunks : List (List ℕ)) (rest : List (List (List ℕ))) (done : List ℕ) (es : List Effect) (n own : ℕ) → leads es Live n ≡ Some own → IsOwn es own → Base w m chunks rest done es → Base w m chunks rest done (Sync n ∷ es)
-sync_base w m chunks rest done es n own at alone k = record {
+sync_base : (w : ℕ → List ℕ) (t : Tally) (es : List Effect) (n own : ℕ) → leads es Live n ≡ Some own → IsOwn es own → Stands w t es → Stands w t (Sync n ∷ es)
+sync_base w t es n own at alone k = record {
   solid = sync_solid w es n own at alone k.solid;
-  delivered = deliver es (Sync n ∷ es) (λ i there. there) (λ i there. there Lasting) done k.delivered;
+  delivered = deliver es (Sync n ∷ es) (λ i there. there) (λ i there. there Lasting) t.acknowledged k.delivered;
   mine = k.mine;
   others = k.others;
 }
@@ -169,11 +179,11 @@ link_leads x y own f false at e = (f, e)
 link_there : (es : List Effect) (i : ℕ) (b : Attempt) (own : ℕ) → leads es Live (tmp_name i b) ≡ Some own → (m : ℕ) → There es Live m → There (Link (tmp_name i b) (new_name i b) ∷ es) Live m
 link_there es i b own at m k = (k.0, link_leads (leads es Live (tmp_name i b)) (leads es Live (new_name m k.0)) own k.1.0 (new_name m k.0 == new_name i b) at k.1.1)
 
-link_base : (w : ℕ → List ℕ) (m : ℕ) (chunks : List (List ℕ)) (rest : List (List (List ℕ))) (done : List ℕ) (es : List Effect) (b : Attempt) (own : ℕ) → leads es Live (tmp_name m b) ≡ Some own → contents es Lasting own ≡ w m
-    → Base w m chunks rest done es → Base w m chunks rest done (Link (tmp_name m b) (new_name m b) ∷ es)
-link_base w m chunks rest done es b own at is k = record {
-  solid = link_solid w es m b own at is k.solid;
-  delivered = deliver es (Link (tmp_name m b) (new_name m b) ∷ es) (link_there es m b own at) (λ i there. there Lasting) done k.delivered;
+link_base : (w : ℕ → List ℕ) (t : Tally) (es : List Effect) (own : ℕ) → leads es Live (tmp t) ≡ Some own → contents es Lasting own ≡ w t.message
+    → Stands w t es → Stands w t (Link (tmp t) (new t) ∷ es)
+link_base w t es own at is k = record {
+  solid = link_solid w es t.message t.attempt own at is k.solid;
+  delivered = deliver es (Link (tmp t) (new t) ∷ es) (link_there es t.message t.attempt own at) (λ i there. there Lasting) t.acknowledged k.delivered;
   mine = k.mine;
   others = k.others;
 }
@@ -185,10 +195,10 @@ unlink_solid w es i b k Lasting m a f e = k Lasting m a f e
 unlink_there : (es : List Effect) (i : ℕ) (b : Attempt) (m : ℕ) → There es Live m → There (Unlink (tmp_name i b) ∷ es) Live m
 unlink_there es i b m k = (k.0, (k.1.0, names_alone (Unlink (tmp_name i b) ∷ []) es (new_name m k.0) (not_tmp m i k.0 b, tt) ∙ k.1.1))
 
-unlink_base : (w : ℕ → List ℕ) (m : ℕ) (chunks : List (List ℕ)) (rest : List (List (List ℕ))) (done : List ℕ) (es : List Effect) (b : Attempt) → Base w m chunks rest done es → Base w m chunks rest done (Unlink (tmp_name m b) ∷ es)
-unlink_base w m chunks rest done es b k = record {
-  solid = unlink_solid w es m b k.solid;
-  delivered = deliver es (Unlink (tmp_name m b) ∷ es) (unlink_there es m b) (λ i there. there Lasting) done k.delivered;
+unlink_base : (w : ℕ → List ℕ) (t : Tally) (es : List Effect) → Stands w t es → Stands w t (Unlink (tmp t) ∷ es)
+unlink_base w t es k = record {
+  solid = unlink_solid w es t.message t.attempt k.solid;
+  delivered = deliver es (Unlink (tmp t) ∷ es) (unlink_there es t.message t.attempt) (λ i there. there Lasting) t.acknowledged k.delivered;
   mine = k.mine;
   others = k.others;
 }
@@ -206,25 +216,25 @@ sync_dir_there es m k Live = k
 sync_dir_there es m k Lasting = k
 
 -- what is there when the directory is synced is acknowledged
-sync_dir_base : (w : ℕ → List ℕ) (m : ℕ) (chunks : List (List ℕ)) (rest : List (List (List ℕ))) (done : List ℕ) (es : List Effect) → There es Live m → Base w m chunks rest done es → Base w m chunks rest (done ++ m ∷ []) (SyncDir ∷ es)
-sync_dir_base w m chunks rest done es there k = record {
+sync_dir_base : (w : ℕ → List ℕ) (t : Tally) (es : List Effect) → There es Live t.message → Stands w t es → Stands w (acknowledged t) (SyncDir ∷ es)
+sync_dir_base w t es there k = record {
   solid = sync_dir_solid w es k.solid;
-  delivered = more_delivered (SyncDir ∷ es) m (sync_dir_there es m there) done (deliver es (SyncDir ∷ es) (λ i at. at) (λ i at. at Live) done k.delivered);
+  delivered = more_delivered (SyncDir ∷ es) t.message (sync_dir_there es t.message there) t.acknowledged (deliver es (SyncDir ∷ es) (λ i at. at) (λ i at. at Live) t.acknowledged k.delivered);
   mine = k.mine;
   others = k.others;
 }
 
 -- ---- step by step
 
-begun_safe : (w : ℕ → List ℕ) (t : Tally) (rest : List (List (List ℕ))) (es : List Effect) → Base w t.message t.chunks t.rest t.acknowledged es → Tells w (t.message + 1) rest → Safe w (state (begun_of Sound t rest) es)
+begun_safe : (w : ℕ → List ℕ) (t : Tally) (rest : List (List (List ℕ))) (es : List Effect) → Stands w t es → Tells w (t.message + 1) rest → Safe w (state (begun_of Sound t rest) es)
 begun_safe w t [] es k tells = record { base = k; step = tt }
 begun_safe w t (chunks ∷ more) es k tells = record { base = record { solid = k.solid; delivered = k.delivered; mine = tells.0; others = tells.1 }; step = tt }
 
-failed_safe : (w : ℕ → List ℕ) (t : Tally) (attempt : Attempt) (es : List Effect) → Base w t.message t.chunks t.rest t.acknowledged es → Safe w (state (failed_of Sound t attempt) es)
+failed_safe : (w : ℕ → List ℕ) (t : Tally) (attempt : Attempt) (es : List Effect) → Stands w t es → Safe w (state (failed_of Sound t attempt) es)
 failed_safe w t First es k = record { base = k; step = tt }
 failed_safe w t Second es k = begun_safe w t t.rest es k k.others
 
-looked_safe : (w : ℕ → List ℕ) (there : Bool) (t : Tally) (es : List Effect) → Base w t.message t.chunks t.rest t.acknowledged es → Safe w (state (looked there Sound t) es)
+looked_safe : (w : ℕ → List ℕ) (there : Bool) (t : Tally) (es : List Effect) → Stands w t es → Safe w (state (looked there Sound t) es)
 looked_safe w true t es k = failed_safe w t t.attempt es k
 looked_safe w false t es k = record { base = k; step = tt }
 
@@ -232,47 +242,47 @@ write_safe : (es : List Effect) (n m f : ℕ) (whole : List ℕ) (cs : List (Lis
 write_safe es n m f whole [] at own is = (f, (at, (own, sym (append-nil (contents es Live f)) ∙ is)))
 write_safe es n m f whole (c ∷ cs) at own is = (f, (at, (own, is)))
 
-linked_safe : (w : ℕ → List ℕ) (there : Bool) (t : Tally) (es : List Effect) (own : ℕ) → leads es Live (tmp_name t.message t.attempt) ≡ Some own → contents es Lasting own ≡ w t.message → Base w t.message t.chunks t.rest t.acknowledged es → Safe w (linked there Sound t es)
+linked_safe : (w : ℕ → List ℕ) (there : Bool) (t : Tally) (es : List Effect) (own : ℕ) → leads es Live (tmp t) ≡ Some own → contents es Lasting own ≡ w t.message → Stands w t es → Safe w (linked there Sound t es)
 linked_safe w true t es own at is k = record { base = k; step = tt }
 linked_safe w false t es own at is k = record {
-  base = link_base w t.message t.chunks t.rest t.acknowledged es t.attempt own at is k;
-  step = (t.attempt, (own, link_shares es (tmp_name t.message t.attempt) (new_name t.message t.attempt) ∙ at));
+  base = link_base w t es own at is k;
+  step = (t.attempt, (own, link_shares es (tmp t) (new t) ∙ at));
 }
 
 append_own : (es : List Effect) (n f : ℕ) (bytes : List ℕ) → IsOwn es f → IsOwn (Append n bytes ∷ es) f
 append_own es n f bytes own Live m a e = own Live m a e
 append_own es n f bytes own Lasting m a e = own Lasting m a e
 
-go_safe : (w : ℕ → List ℕ) (t : Tally) (es : List Effect) (step : Step) → Base w t.message t.chunks t.rest t.acknowledged es → StepSafe step (tmp_name t.message t.attempt) t.message (w t.message) es → Safe w (on_go Sound t es step)
-go_safe w t es Looking k r = looked_safe w (is_there (tmp_name t.message t.attempt) es) t es k
+go_safe : (w : ℕ → List ℕ) (t : Tally) (es : List Effect) (step : Step) → Stands w t es → StepSafe step (tmp t) t.message (w t.message) es → Safe w (on_go Sound t es step)
+go_safe w t es Looking k r = looked_safe w (is_there (tmp t) es) t es k
 go_safe w t es Creating k r = record {
-  base = create_base w t.message t.chunks t.rest t.acknowledged es t.attempt k;
+  base = create_base w t es k;
   step =
-      let n = tmp_name t.message t.attempt in
+      let n = tmp t in
       write_safe (Create n ∷ es) n t.message (created es) (w t.message) t.chunks (create_names es n) (create_own es t.message t.attempt)
       (ap (λ x. x ++ joined t.chunks) (create_empties es n) ∙ sym k.mine);
 }
 go_safe w t es (Writing c cs) k r = record {
-  base = append_base w t.message t.chunks t.rest t.acknowledged es (tmp_name t.message t.attempt) c k;
+  base = append_base w t es (tmp t) c k;
   step =
-      let n = tmp_name t.message t.attempt in
+      let n = tmp t in
       write_safe (Append n c ∷ es) n t.message r.0 (w t.message) cs r.1.0 (append_own es n r.0 c r.1.1.0)
       (ap (λ x. x ++ joined cs) (append_adds es n r.0 c r.1.0) ∙ append_assoc (contents es Live r.0) c (joined cs) ∙ r.1.1.1);
 }
 go_safe w t es Syncing k r = record {
-  base = sync_base w t.message t.chunks t.rest t.acknowledged es (tmp_name t.message t.attempt) r.0 r.1.0 r.1.1.0 k;
-  step = (r.0, (r.1.0, synced_stays [] es (tmp_name t.message t.attempt) r.0 r.1.0 tt ∙ r.1.1.1));
+  base = sync_base w t es (tmp t) r.0 r.1.0 r.1.1.0 k;
+  step = (r.0, (r.1.0, synced_stays [] es (tmp t) r.0 r.1.0 tt ∙ r.1.1.1));
 }
-go_safe w t es Linking k r = linked_safe w (is_there (new_name t.message t.attempt) es) t es r.0 r.1.0 r.1.1 k
-go_safe w t es Unlinking k r = record { base = unlink_base w t.message t.chunks t.rest t.acknowledged es t.attempt k; step = unlink_there es t.message t.attempt t.message r }
-go_safe w t es SyncingDir k r = begun_safe w (acknowledged t) t.rest (SyncDir ∷ es) (sync_dir_base w t.message t.chunks t.rest t.acknowledged es r k) k.others
-go_safe w t es Cleaning k r = failed_safe w t t.attempt (Unlink (tmp_name t.message t.attempt) ∷ es) (unlink_base w t.message t.chunks t.rest t.acknowledged es t.attempt k)
+go_safe w t es Linking k r = linked_safe w (is_there (new t) es) t es r.0 r.1.0 r.1.1 k
+go_safe w t es Unlinking k r = record { base = unlink_base w t es k; step = unlink_there es t.message t.attempt t.message r }
+go_safe w t es SyncingDir k r = begun_safe w (acknowledged t) t.rest (SyncDir ∷ es) (sync_dir_base w t es r k) k.others
+go_safe w t es Cleaning k r = failed_safe w t t.attempt (Unlink (tmp t) ∷ es) (unlink_base w t es k)
 go_safe w t es Over k r = record { base = k; step = tt }
 
-return_safe : (w : ℕ → List ℕ) (t : Tally) (es : List Effect) (step : Step) → Base w t.message t.chunks t.rest t.acknowledged es → StepSafe step (tmp_name t.message t.attempt) t.message (w t.message) es → Safe w (on_return Sound t es step)
+return_safe : (w : ℕ → List ℕ) (t : Tally) (es : List Effect) (step : Step) → Stands w t es → StepSafe step (tmp t) t.message (w t.message) es → Safe w (on_return Sound t es step)
 return_safe w t es Looking k r = failed_safe w t t.attempt es k
 return_safe w t es Creating k r = failed_safe w t t.attempt es k
-return_safe w t es (Writing c cs) k r = record { base = append_base w t.message t.chunks t.rest t.acknowledged es (tmp_name t.message t.attempt) (half c) k; step = tt }
+return_safe w t es (Writing c cs) k r = record { base = append_base w t es (tmp t) (half c) k; step = tt }
 return_safe w t es Syncing k r = record { base = k; step = tt }
 return_safe w t es Linking k r = record { base = k; step = tt }
 return_safe w t es Unlinking k r = record { base = k; step = r }

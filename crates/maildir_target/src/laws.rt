@@ -23,19 +23,20 @@ pub fn sound_never_fails(
     ensures { (code : ℕ) → (outcome (asks_of Sound workload.now) (given_of scenario.now point_names seed stream max_hits)).verdict ≡ Fail code → ⊥ }
 {}
 
-/// link_first fails: under `maildir::write=1*return` the message `hi` is torn, whatever the seed and the number of the stream. The name
-/// under `new/` that the first attempt made stays, and its file is never synced.
+/// link_first fails: under `maildir::write=1*return` the message `hi` is torn, whatever the seed and the number of the stream, with a
+/// limit of 1,000 hits. The name under `new/` that the first attempt made stays, and its file is never synced.
 pub fn link_first_is_torn()
     ensures { (seed stream : ℕ) → (outcome (asks_of LinkFirst hi) (given_of write_fails point_names seed stream 1000)).verdict ≡ Fail torn }
 {}
 
-/// ignore_write fails: under `maildir::write=1*return` the message `hi` is torn, since half of it is synced, linked and acknowledged.
+/// ignore_write fails: under `maildir::write=1*return` the message `hi` is torn, whatever the seed and the number of the stream, with a
+/// limit of 1,000 hits. Half of it is synced, linked and acknowledged.
 pub fn ignore_write_is_torn()
     ensures { (seed stream : ℕ) → (outcome (asks_of IgnoreWrite hi) (given_of write_fails point_names seed stream 1000)).verdict ≡ Fail torn }
 {}
 
-/// append_tmp fails: under `maildir::sync=1*return;maildir::unlink=1*return` the message `m` is torn. The first attempt leaves its file,
-/// and the second writes the message once more behind it.
+/// append_tmp fails: under `maildir::sync=1*return;maildir::unlink=1*return` the message `m` is torn, whatever the seed and the number of
+/// the stream, with a limit of 1,000 hits. The first attempt leaves its file, and the second writes the message behind it once more.
 pub fn append_tmp_is_torn()
     ensures { (seed stream : ℕ) → (outcome (asks_of AppendTmp m) (given_of sync_and_unlink_fail point_names seed stream 1000)).verdict ≡ Fail torn }
 {}

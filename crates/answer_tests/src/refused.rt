@@ -1,0 +1,205 @@
+//! The first fault of a text of answers, and its line.
+
+use crate::shared::answers;
+use answer_text::LIMIT;
+use std::alloc::Global;
+use std::process::Abort;
+use std::test::Fail;
+
+/// The line of the first fault of a text of answers, or `no fault`.
+fn refusal(alloc: Global, text: &[u8]) -> Result<String, Fail> {
+    Ok(match answers(alloc, text)? {
+        Ok(_) => String::from_str(alloc, "no fault")?,
+        Err(fault) => format!(in alloc; "{fault}")?,
+    })
+}
+
+fn is_refused(rt: &impl Abort, alloc: Global, text: &[u8], want: &str) -> Result<(), Fail> {
+    assert_eq!(rt; refusal(alloc, text)?.as_str(), want);
+    Ok(())
+}
+
+#[test]
+fn no_answers_are_no_fault(rt: HostRuntime) -> Result<(), Fail> {
+    is_refused(&rt, rt.alloc(), b"", "no fault")
+}
+
+#[test]
+fn a_line_has_an_end_and_a_tab(rt: HostRuntime) -> Result<(), Fail> {
+    let alloc = rt.alloc();
+    is_refused(&rt, alloc, b"pass\tnone", "answers: line 1: not ended")?;
+    is_refused(
+        &rt,
+        alloc,
+        b"pass\tnone\npass\ta=ret",
+        "answers: line 2: not ended",
+    )?;
+    is_refused(&rt, alloc, b"pass\tnone\npa", "answers: line 2: not ended")?;
+    is_refused(&rt, alloc, b"\n", "answers: line 1: no tab")?;
+    is_refused(
+        &rt,
+        alloc,
+        b"pass\tnone\n\npass\tnone\n",
+        "answers: line 2: no tab",
+    )?;
+    is_refused(&rt, alloc, b"pass none\n", "answers: line 1: no tab")
+}
+
+#[test]
+fn bytes_are_text_without_control_bytes(rt: HostRuntime) -> Result<(), Fail> {
+    let alloc = rt.alloc();
+    is_refused(
+        &rt,
+        alloc,
+        b"pass\tnone\npass\t\xff=return\n",
+        "answers: line 2: not UTF-8",
+    )?;
+    is_refused(
+        &rt,
+        alloc,
+        b"\xc3\npass none\n",
+        "answers: line 1: not UTF-8",
+    )?;
+    is_refused(
+        &rt,
+        alloc,
+        b"pass\ta=return\r\n",
+        "answers: line 1: control byte",
+    )?;
+    is_refused(
+        &rt,
+        alloc,
+        b"pass\ta=return\t\n",
+        "answers: line 1: control byte",
+    )?;
+    is_refused(
+        &rt,
+        alloc,
+        b"pass\ta=return(\x00)\n",
+        "answers: line 1: control byte",
+    )?;
+    is_refused(
+        &rt,
+        alloc,
+        b"pass\ta=return(\x7f)\n",
+        "answers: line 1: control byte",
+    )?;
+    is_refused(&rt, alloc, b"pass\t\xc3\xa9=return\n", "no fault")
+}
+
+#[test]
+fn a_verdict_is_one_of_three_and_a_code_one_of_the_codes(rt: HostRuntime) -> Result<(), Fail> {
+    let alloc = rt.alloc();
+    is_refused(
+        &rt,
+        alloc,
+        b"Pass\tnone\n",
+        "answers: line 1: unknown verdict",
+    )?;
+    is_refused(&rt, alloc, b"\tnone\n", "answers: line 1: unknown verdict")?;
+    is_refused(
+        &rt,
+        alloc,
+        b"fail\tnone\n",
+        "answers: line 1: unknown verdict",
+    )?;
+    is_refused(
+        &rt,
+        alloc,
+        b"pass \tnone\n",
+        "answers: line 1: unknown verdict",
+    )?;
+    is_refused(
+        &rt,
+        alloc,
+        b"fail \tnone\n",
+        "answers: line 1: unknown code",
+    )?;
+    is_refused(
+        &rt,
+        alloc,
+        b"fail torn \tnone\n",
+        "answers: line 1: unknown code",
+    )?;
+    is_refused(
+        &rt,
+        alloc,
+        b"fail lost\tnone\n",
+        "answers: line 1: unknown code",
+    )
+}
+
+#[test]
+fn a_scenario_has_its_own_first_fault(rt: HostRuntime) -> Result<(), Fail> {
+    let alloc = rt.alloc();
+    is_refused(
+        &rt,
+        alloc,
+        b"pass\tnone\npass\ta=return;b=101\n",
+        "answers: line 2: UnknownTask entry 2 term 1",
+    )?;
+    is_refused(
+        &rt,
+        alloc,
+        b"pass\tNone\n",
+        "answers: line 1: NoAction entry 1 term 0",
+    )?;
+    is_refused(
+        &rt,
+        alloc,
+        b"pass\tnone;a=return\n",
+        "answers: line 1: NoAction entry 1 term 0",
+    )
+}
+
+#[test]
+fn two_verdicts_of_one_scenario_contradict(rt: HostRuntime) -> Result<(), Fail> {
+    let alloc = rt.alloc();
+    is_refused(
+        &rt,
+        alloc,
+        b"pass\ta=return\npass\tnone\nfail torn\ta=return\n",
+        "answers: line 3: contradicts line 1",
+    )?;
+    is_refused(
+        &rt,
+        alloc,
+        b"fail torn\tnone\nfail torn\tb=0*return\nfail stale\t\n",
+        "answers: line 3: contradicts line 1",
+    )?;
+    is_refused(
+        &rt,
+        alloc,
+        b"unresolved\ta=2*off->return\npass\ta=1*off->1*off->return->off\n",
+        "answers: line 2: contradicts line 1",
+    )
+}
+
+#[test]
+fn the_first_faulty_line_is_told(rt: HostRuntime) -> Result<(), Fail> {
+    let alloc = rt.alloc();
+    is_refused(
+        &rt,
+        alloc,
+        b"pass\tnone\nfail torn\tnone\nno tab\npass",
+        "answers: line 2: contradicts line 1",
+    )?;
+    is_refused(
+        &rt,
+        alloc,
+        b"perhaps\ta=\x01\n",
+        "answers: line 1: unknown verdict",
+    )
+}
+
+#[test]
+fn a_text_has_up_to_256_mebibytes(rt: HostRuntime) -> Result<(), Fail> {
+    let alloc = rt.alloc();
+    let chunk = vec![in alloc; b'a'; LIMIT / 256]?;
+    let mut text = Vec::with_capacity(alloc, LIMIT + 1)?;
+    for _ in 0..256 {
+        text.extend_from_slice(chunk.as_slice())?;
+    }
+    text.push(b'a')?;
+    is_refused(&rt, alloc, text.as_slice(), "answers: too long")
+}

@@ -1,0 +1,80 @@
+-- Texts cut at their first line feed.
+use Rattle.std.proofs.Common.{◌≡◌, ℕ, suc, ◌+◌, ◌-◌, ◌<◌, List, [], ◌∷◌, Bool, true, false, not, eqb, ltb, cond, length, take, drop, length-append, length-drop, Option, Some, None, refl, ap, sym, ◌∙◌, arith}
+use Rattle.std.specs.List.{slice_split, position_or_len}
+use Rattle.std.specs.Prelude.{position}
+use Rattle.std.specs.Option.{option_map}
+use Rattle.std.proofs.lemmas.List.{take_all}
+use Rattle.std.proofs.lemmas.Bool.Decides.{nat_tests}
+use Rattle.scenario_values.specs.Words.{lacks}
+use Rattle.scenario_grammar.specs.Words.{cut}
+use Rattle.scenario_grammar.proofs.CutLaws.{and_both, same_byte, cut_gives, cut_front_lacks}
+use Rattle.scenario_grammar.proofs.JoinLaws.{byte_cut, byte_none}
+
+abbrev at_place : List ℕ → ℕ → Option (List ℕ × List ℕ)
+at_place text n = cond (ltb n (length text)) (Some (take n text, drop (n + 1) text)) None
+
+less_more : (m n : ℕ) → ltb (suc m) (suc n) ≡ ltb m n
+less_more m n = grind (arith, nat_tests)
+
+zero_less : (n : ℕ) → ltb 0 (suc n) ≡ true
+zero_less n = grind (arith, nat_tests)
+
+one_more : (b : ℕ) (text : List ℕ) (n m : ℕ) → m ≡ suc n → option_map (λ parts. (b ∷ parts.0, parts.1)) (at_place text n) ≡ at_place (b ∷ text) m
+one_more b text n m e = rw (e, less_more n (length text)) (by_test (ltb n (length text)))
+  where
+    by_test : (t : Bool) → option_map (λ parts. (b ∷ parts.0, parts.1)) (cond {A = Option (List ℕ × List ℕ)} t (Some (take n text, drop (n + 1) text)) None) ≡ cond {A = Option (List ℕ × List ℕ)} t (Some (b ∷ take n text, drop (suc n + 1) (b ∷ text))) None
+    by_test true =
+        let e : suc n + 1 ≡ suc (n + 1) = omega arith in
+        ap (λ (r : List ℕ). Some (b ∷ take n text, r)) (sym (ap (λ (k : ℕ). drop k (b ∷ text)) e))
+    by_test false = refl
+
+cut_is : (text : List ℕ) → cut 10 text ≡ at_place text (position_or_len (λ b. eqb b 10) text)
+cut_is [] = refl
+cut_is (b ∷ text) = by_test (eqb b 10) (cut_is text)
+  where
+    by_test : (t : Bool) → cut 10 text ≡ at_place text (position_or_len (λ b. eqb b 10) text)
+        → cond {A = Option (List ℕ × List ℕ)} t (Some ([], text)) (option_map (λ parts. (b ∷ parts.0, parts.1)) (cut 10 text)) ≡ at_place (b ∷ text) (cond (not t) (1 + position_or_len (λ b. eqb b 10) text) 0)
+    by_test true ih = rw (zero_less (length text)) refl
+    by_test false ih = rw ih (one_more b text (position_or_len (λ b. eqb b 10) text) (1 + position_or_len (λ b. eqb b 10) text) (omega arith))
+
+some_is : (m n : ℕ) → Some m ≡ Some n → m ≡ n
+some_is m n e = cc
+
+pub cut_none : (text : List ℕ) → None ≡ position (λ b. eqb b 10) text → None ≡ cut 10 text
+cut_none text h = sym (cut_is text ∙ by_test (ltb (position_or_len (λ b. eqb b 10) text) (length text)) h)
+  where
+    by_test : (t : Bool) → None ≡ cond t (Some (position_or_len (λ b. eqb b 10) text)) None → cond {A = Option (List ℕ × List ℕ)} t (Some (take (position_or_len (λ b. eqb b 10) text) text, drop (position_or_len (λ b. eqb b 10) text + 1) text)) None ≡ None
+    by_test true e = absurd cc
+    by_test false e = refl
+
+cut_some : (text : List ℕ) (n : ℕ) → Some n ≡ position (λ b. eqb b 10) text → Some (take n text, drop (n + 1) text) ≡ cut 10 text
+cut_some text n h = sym (cut_is text ∙ by_test (ltb (position_or_len (λ b. eqb b 10) text) (length text)) h)
+  where
+    by_test : (t : Bool) → Some n ≡ cond t (Some (position_or_len (λ b. eqb b 10) text)) None → cond {A = Option (List ℕ × List ℕ)} t (Some (take (position_or_len (λ b. eqb b 10) text) text, drop (position_or_len (λ b. eqb b 10) text + 1) text)) None ≡ Some (take n text, drop (n + 1) text)
+    by_test true e = ap (λ (k : ℕ). Some (take k text, drop (k + 1) text)) (sym (some_is n (position_or_len (λ b. eqb b 10) text) e))
+    by_test false e = absurd cc
+
+pub cut_range : (text : List ℕ) (n : ℕ) → Some n ≡ position (λ b. eqb b 10) text → Some (take n text, take (length text - (n + 1)) (drop (n + 1) text)) ≡ cut 10 text
+cut_range text n h =
+    let rest : take (length text - (n + 1)) (drop (n + 1) text) ≡ drop (n + 1) text = take_all (length text - (n + 1)) (drop (n + 1) text) (omega (arith, length-drop (n + 1) text)) in
+    ap (λ (r : List ℕ). Some (take n text, r)) rest ∙ cut_some text n h
+
+lacks_if_none : (text : List ℕ) → cut 10 text ≡ None → lacks 10 text ≡ true
+lacks_if_none [] h = refl
+lacks_if_none (b ∷ text) h = by_test (eqb b 10) (cut 10 text) refl (lacks_if_none text) h
+  where
+    by_test : (t : Bool) (r : Option (List ℕ × List ℕ)) → eqb b 10 ≡ t → (r ≡ None → lacks 10 text ≡ true) → cond {A = Option (List ℕ × List ℕ)} t (Some ([], text)) (option_map (λ parts. (b ∷ parts.0, parts.1)) r) ≡ None → lacks 10 (b ∷ text) ≡ true
+    by_test true r is ih k = absurd cc
+    by_test false None is ih k = and_both (not (eqb b 10)) (lacks 10 text) (rw is refl) (ih refl)
+    by_test false (Some p) is ih k = absurd cc
+
+pub split_one : (text : List ℕ) → cut 10 text ≡ None → slice_split (λ b. eqb b 10) text ≡ text ∷ []
+split_one text h = byte_none 10 text (lacks_if_none text h)
+
+pub split_first : (text front rest : List ℕ) → cut 10 text ≡ Some (front, rest) → slice_split (λ b. eqb b 10) text ≡ front ∷ slice_split (λ b. eqb b 10) rest
+split_first text front rest h =
+    ap (slice_split (λ b. eqb b 10)) (cut_gives 10 text front rest h)
+    ∙ byte_cut 10 front rest (same_byte 10) (cut_front_lacks 10 text front rest h)
+
+pub shorter : (text front rest : List ℕ) → cut 10 text ≡ Some (front, rest) → length rest < length text
+shorter text front rest h = let e = cut_gives 10 text front rest h in rw e (simp length-append (omega arith))

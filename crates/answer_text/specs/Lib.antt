@@ -1,0 +1,5 @@
+pub mod Answers
+pub mod FirstFault
+pub mod FaultText
+pub mod Known
+pub mod Books

@@ -1,0 +1,107 @@
+//! What is wrong with a text of answers.
+ghost use Rattle.std.specs.Prelude.{◌≡◌, Some};
+ghost use Rattle.answer_text.specs.FaultText.{fault_text, line_of};
+ghost use Rattle.answer_text.specs.declared.fault.LineError.TheVariants.{Memory as Lacking};
+ghost use Rattle.answer_text.specs.declared.fault.AnswersFault.TheVariants.{Memory};
+
+use scenario_grammar::Kind;
+use std::alloc::{AllocError, AllocFailed};
+use std::error::Error;
+use std::fmt;
+
+/// What is wrong with a line.
+#[derive(Clone, Copy, Debug, PartialEq, Eq)]
+pub enum LineFault {
+    /// The last line has no line feed at its end, as after a writer that was killed: the next answer would join it.
+    NotEnded,
+    /// The line isn't UTF-8.
+    NotUtf8,
+    /// The line has no tab.
+    NoTab,
+    /// What stands before the first tab is neither `pass` nor `unresolved`, and doesn't begin with `fail` and a space.
+    UnknownVerdict,
+    /// What follows `fail` and a space is none of the codes' names.
+    UnknownCode,
+    /// An ASCII control character stands after the first tab.
+    ControlByte,
+    /// What stands after the tab spells no scenario: what is wrong, in which piece and in which term, both numbered from 1, as the
+    /// grammar of scenarios tells it.
+    Scenario { kind: Kind, entry: u32, term: u32 },
+    /// The line of this number, from 1, is the first to answer the same tidied scenario, and gives it another verdict.
+    Contradicts(u32),
+}
+
+impl fmt::Display for LineFault {
+    ghost output = { λ fault. Some (fault_text fault) };
+
+    fn fmt<W: fmt::Write>(&self, f: &mut fmt::Formatter<W>) -> fmt::Result {
+        match self {
+            LineFault::NotEnded => f.write_str("not ended"),
+            LineFault::NotUtf8 => f.write_str("not UTF-8"),
+            LineFault::NoTab => f.write_str("no tab"),
+            LineFault::UnknownVerdict => f.write_str("unknown verdict"),
+            LineFault::UnknownCode => f.write_str("unknown code"),
+            LineFault::ControlByte => f.write_str("control byte"),
+            LineFault::Scenario { kind, entry, term } => {
+                write!(f, "{kind} entry {entry} term {term}")
+            }
+            LineFault::Contradicts(line) => write!(f, "contradicts line {line}"),
+        }
+    }
+}
+
+/// Why a line gives no answer.
+#[derive(Debug, Drop)]
+pub enum LineError {
+    Bad(LineFault),
+    Memory,
+}
+
+impl From<AllocError> for LineError {
+    ghost from_gives = { λ _ error. error ≡ Lacking };
+
+    fn from(_: AllocError) -> LineError {
+        LineError::Memory
+    }
+}
+
+impl<T: Drop> From<AllocFailed<T>> for LineError {
+    ghost from_gives = { λ _ error. error ≡ Lacking };
+
+    fn from(_: AllocFailed<T>) -> LineError {
+        LineError::Memory
+    }
+}
+
+/// Why a text gives no answers: its first fault, or that memory ran out.
+#[derive(Debug, Drop, PartialEq, Eq)]
+pub enum AnswersFault {
+    /// The text has more than 268435456 bytes.
+    TooLong,
+    /// What is wrong with the line of this number, from 1.
+    Line(u32, LineFault),
+    /// Memory was refused.
+    Memory,
+}
+
+impl fmt::Display for AnswersFault {
+    ghost output = { λ fault. Some (line_of fault) };
+
+    fn fmt<W: fmt::Write>(&self, f: &mut fmt::Formatter<W>) -> fmt::Result {
+        match self {
+            AnswersFault::TooLong => f.write_str("answers: too long"),
+            AnswersFault::Line(number, fault) => write!(f, "answers: line {number}: {fault}"),
+            AnswersFault::Memory => f.write_str("no memory"),
+        }
+    }
+}
+
+impl Error for AnswersFault {}
+
+impl From<AllocError> for AnswersFault {
+    ghost from_gives = { λ _ fault. fault ≡ Memory };
+
+    fn from(_: AllocError) -> AnswersFault {
+        AnswersFault::Memory
+    }
+}

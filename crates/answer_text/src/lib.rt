@@ -1,0 +1,16 @@
+//! The answers of a component that somebody else runs: a text of verdicts and scenarios, read with the exact line of its first fault,
+//! and what is then known of each scenario.
+#![tactic(auto)]
+
+mod cuts;
+mod fault;
+mod known;
+mod laws;
+mod line;
+mod reading;
+mod verdicts;
+
+pub use fault::{AnswersFault, LineFault};
+pub use known::{Known, Told};
+pub use laws::{texts_say_what_is_read, tidying_again_changes_nothing};
+pub use reading::{LIMIT, read};

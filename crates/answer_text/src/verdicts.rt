@@ -1,0 +1,34 @@
+//! Verdicts, read.
+ghost use Rattle.std.specs.Prelude.{◌≡◌, ◌<◌, ◌^◌, length, map, position};
+ghost use Rattle.std.specs.Str.{bytes_eq};
+ghost use Rattle.answer_text.specs.FirstFault.{Gives, verdict_in, same_verdict};
+
+use crate::cuts::cut_once;
+use crate::fault::{LineError, LineFault};
+use scenario_values::Text;
+use target_trait::Verdict;
+
+fn place_of(name: &str, codes: &[Text]) -> Option<usize>
+    ensures { result ≡ position (bytes_eq name.now) codes.now }
+{
+    codes.iter().position(|code| name == code.as_str())
+}
+
+/// The verdict that a word names, where each code is named by its text.
+#[tactic(auto, unfolding(crate::specs::FirstFault::verdict_in))]
+pub fn verdict_in(codes: &[Text], word: &str) -> Result<Verdict, LineError>
+    requires { length codes.now < 2 ^ 32 }
+    ensures { Gives (λ v. v) result (verdict_in codes.now word.now) }
+{
+    match word {
+        "pass" => Ok(Verdict::Pass),
+        "unresolved" => Ok(Verdict::Unresolved),
+        _ => match cut_once(word, ' ') {
+            Some(("fail", name)) => match place_of(name, codes) {
+                Some(code) => Ok(Verdict::Fail(code as u32)),
+                None => Err(LineError::Bad(LineFault::UnknownCode)),
+            },
+            _ => Err(LineError::Bad(LineFault::UnknownVerdict)),
+        },
+    }
+}

@@ -1,0 +1,5 @@
+use Rattle.outside_campaign.proofs.Gathered.{Gathering}
+use Rattle.outside_campaign.proofs.findings.findings_known.Given as goal
+
+abbrev pub invariant-loop-i : goal.invariant-loop-i
+invariant-loop-i l = Gathering l.known l.plans l.failures l.i l.findings.items l.cards.items

@@ -1,0 +1,104 @@
+//! What is still to be tried.
+ghost use Rattle.std.specs.Prelude.{◌≡◌, ◌<◌, ◌∷◌, [], All, length, map, IfOk, OnOk, fold};
+ghost use Rattle.std.specs.Str.{bytes_eq};
+ghost use Rattle.indexmap.specs.IndexSet.{insert_key};
+ghost use Rattle.report.specs.ReportText.{scenario_text};
+ghost use Rattle.outside_campaign.specs.Asked.{AreAsked, asked, open_plans};
+
+use crate::findings::{Findings, findings_known};
+use answer_text::Known;
+use indexmap::IndexSet;
+use plan_gen::Plan;
+use report::write_scenario;
+use scenario_values::{Scenario, Text, tidy};
+use std::alloc::{AllocError, Global};
+
+/// Adds the text of a scenario, unless it is there.
+fn add(alloc: Global, lines: &mut IndexSet<Text>, scenario: &Scenario) -> Result<(), AllocError>
+    ensures { OnOk result (lines.new.keys ≡ insert_key bytes_eq lines.old.keys (scenario_text scenario.now)) }
+{
+    let mut text = String::new(alloc);
+    write_scenario(alloc, &mut text, scenario)?;
+    lines.insert(Text::from_string(text))?;
+    Ok(())
+}
+
+fn add_cards(
+    alloc: Global,
+    lines: &mut IndexSet<Text>,
+    cards: &[Scenario],
+) -> Result<(), AllocError>
+    ensures { OnOk result (lines.new.keys ≡ fold (insert_key bytes_eq) lines.old.keys (map scenario_text cards.now)) }
+{
+    for card in cards {
+        add(alloc, lines, card)?;
+    }
+    Ok(())
+}
+
+/// Adds a plan that isn't answered, tidied.
+fn add_plan(
+    alloc: Global,
+    lines: &mut IndexSet<Text>,
+    known: &Known,
+    plan: &Plan<'_>,
+) -> Result<(), AllocError>
+    ensures { OnOk result (lines.new.keys ≡ fold (insert_key bytes_eq) lines.old.keys (map scenario_text (open_plans known.now (plan.now ∷ [])))) }
+{
+    let scenario = plan.scenario(alloc)?;
+    match known.verdict_of(alloc, &scenario)? {
+        Some(_) => Ok(()),
+        None => {
+            let tidied = tidy(alloc, &scenario)?;
+            add(alloc, lines, &tidied)
+        }
+    }
+}
+
+fn add_plans(
+    alloc: Global,
+    lines: &mut IndexSet<Text>,
+    known: &Known,
+    plans: &[Plan<'_>],
+) -> Result<(), AllocError>
+    ensures { OnOk result (lines.new.keys ≡ fold (insert_key bytes_eq) lines.old.keys (map scenario_text (open_plans known.now plans.now))) }
+{
+    for plan in plans {
+        add_plan(alloc, lines, known, plan)?;
+    }
+    Ok(())
+}
+
+/// The texts of these cards, and of each plan that isn't answered.
+fn asked(
+    alloc: Global,
+    known: &Known,
+    cards: &[Scenario],
+    plans: &[Plan<'_>],
+) -> Result<IndexSet<Text>, AllocError>
+    ensures { IfOk result (λ lines. lines.keys ≡ asked known.now cards.now plans.now) }
+{
+    let mut lines = IndexSet::new(alloc);
+    add_cards(alloc, &mut lines, cards)?;
+    add_plans(alloc, &mut lines, known, plans)?;
+    Ok(lines)
+}
+
+/// The texts of the scenarios that are still to be tried, tidied, `none` for the one without entries, and each once: open candidates of
+/// the reductions of these failures, each the number of a plan and its code, and then each plan that isn't answered, in the plans' order.
+///
+/// Any of them may be tried in any order. An error means that memory was refused.
+pub fn asks(
+    alloc: Global,
+    known: &Known,
+    plans: &[Plan<'_>],
+    failures: &[(u32, u32)],
+) -> Result<IndexSet<Text>, AllocError>
+    requires { All (λ f. f.0 < length plans.now) failures.now }
+    ensures { IfOk result (λ lines. AreAsked known.now plans.now failures.now lines.keys) }
+{
+    match findings_known(alloc, known, plans, failures)? {
+        Findings::Told(_) => asked(alloc, known, &[], plans),
+        Findings::Open(cards) => asked(alloc, known, cards.as_slice(), plans),
+    }
+}

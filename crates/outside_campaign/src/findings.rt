@@ -1,0 +1,102 @@
+//! What is told of failures, by what is known.
+ghost use Rattle.std.specs.Prelude.{◌≡◌, ◌<◌, All, length, IfOk, OnOk};
+ghost use Rattle.outside_campaign.specs.Told.{IsLook, IsGathered, AreFindings};
+
+use crate::reduction::{Reached, reduce_known};
+use answer_text::Known;
+use plan_gen::Plan;
+use report::Finding;
+use scenario_values::{Scenario, keep, tidy};
+use std::alloc::{AllocError, Global};
+
+/// What is told of a failure by what is known.
+#[derive(Drop)]
+enum Look {
+    Told(Finding),
+    /// Scenarios that are to be tried first, at least one.
+    Open(Vec<Scenario>),
+}
+
+/// What is told of some failures by what is known.
+#[derive(Drop)]
+pub enum Findings {
+    /// What each is reduced to.
+    Told(Vec<Finding>),
+    /// Tidied scenarios that are to be tried first, at least one. Two of them may be equal.
+    Open(Vec<Scenario>),
+}
+
+/// What is told of a plan that fails with this code.
+fn look_at(
+    alloc: Global,
+    known: &Known,
+    scenario: Scenario,
+    number: u32,
+    code: u32,
+) -> Result<Look, AllocError>
+    ensures { IfOk result (IsLook known.now number code scenario) }
+{
+    match reduce_known(alloc, known, &scenario, code)? {
+        Reached::Open(cards) => Ok(Look::Open(cards)),
+        Reached::Reduced(reduction) => {
+            let kept = keep(alloc, &scenario, reduction.kept.as_slice())?;
+            let reduced = tidy(alloc, &kept)?;
+            let tests = reduction.tests;
+            Ok(Look::Told(Finding {
+                number,
+                code,
+                scenario,
+                reduced,
+                tests,
+            }))
+        }
+    }
+}
+
+/// Adds what a look came to.
+fn gather(
+    findings: &mut Vec<Finding>,
+    cards: &mut Vec<Scenario>,
+    look: Look,
+) -> Result<(), AllocError>
+    ensures { OnOk result (IsGathered findings.old.items findings.new.items cards.old.items cards.new.items look) }
+{
+    match look {
+        Look::Told(finding) => {
+            findings.push(finding)?;
+            Ok(())
+        }
+        Look::Open(more) => {
+            let mut more = more;
+            cards.append(&mut more)
+        }
+    }
+}
+
+/// What is told of these failures, each the number of a plan and its code, by what is known: what each is reduced to, for each component
+/// that agrees with what is known; or scenarios that are to be tried first.
+///
+/// An error means that memory was refused.
+pub fn findings_known(
+    alloc: Global,
+    known: &Known,
+    plans: &[Plan<'_>],
+    failures: &[(u32, u32)],
+) -> Result<Findings, AllocError>
+    requires { All (λ f. f.0 < length plans.now) failures.now }
+    ensures { IfOk result (AreFindings known.now plans.now failures.now) }
+{
+    let mut findings = Vec::new(alloc);
+    let mut cards = Vec::new(alloc);
+    for i in 0..failures.len() {
+        let (number, code) = failures[i];
+        let scenario = plans[number as usize].scenario(alloc)?;
+        let look = look_at(alloc, known, scenario, number, code)?;
+        gather(&mut findings, &mut cards, look)?;
+    }
+    if cards.is_empty() {
+        Ok(Findings::Told(findings))
+    } else {
+        Ok(Findings::Open(cards))
+    }
+}

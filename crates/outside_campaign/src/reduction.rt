@@ -1,0 +1,130 @@
+//! Reductions by what is known.
+ghost use Rattle.std.specs.Prelude.{◌≡◌, IfOk, OnOk};
+ghost use Rattle.scenario_values.specs.Scenario.{all_faults};
+ghost use Rattle.campaign_core.specs.FaultTest.{fails_with};
+ghost use Rattle.outside_campaign.specs.Reached.{IsReached};
+ghost use Rattle.outside_campaign.specs.Tests.{IsTested, IsSettled, IsEnded};
+
+use answer_text::Known;
+use campaign_core::fault_count;
+use ddmin_parallel::{Card, Core, Reduction};
+use scenario_values::{Scenario, are_faults, keep, tidy};
+use std::alloc::{AllocError, Global};
+use target_trait::Verdict;
+
+/// How far a reduction comes by what is known.
+#[derive(Drop)]
+pub enum Reached {
+    /// To its end.
+    Reduced(Reduction),
+    /// To a round that what is known doesn't decide: tidied scenarios of it that aren't answered, at least one. Two of them may be equal.
+    Open(Vec<Scenario>),
+}
+
+/// What is known of a set of faults.
+#[derive(Drop)]
+enum Test {
+    /// Whether the scenario with these faults alone fails with the code.
+    Told(bool),
+    /// Its tidied form isn't answered.
+    Untold(Scenario),
+}
+
+fn fails_with(code: u32, verdict: Verdict) -> bool
+    ensures { result ≡ fails_with code verdict }
+{
+    match verdict {
+        Verdict::Fail(other) => other == code,
+        Verdict::Pass | Verdict::Unresolved => false,
+    }
+}
+
+/// What is known of the scenario with the faults of the set alone. A list that isn't faults of the scenario in ascending order fails not.
+fn look_up(
+    alloc: Global,
+    known: &Known,
+    scenario: &Scenario,
+    faults: u32,
+    code: u32,
+    set: &[u32],
+) -> Result<Test, AllocError>
+    requires { faults ≡ all_faults scenario.now }
+    ensures { IfOk result (IsTested known.now code scenario.now set.now) }
+{
+    let _ = scenario.entries();
+    if !are_faults(faults, set) {
+        return Ok(Test::Told(false));
+    }
+    let kept = keep(alloc, scenario, set)?;
+    match known.verdict_of(alloc, &kept)? {
+        Some(verdict) => Ok(Test::Told(fails_with(code, verdict))),
+        None => Ok(Test::Untold(tidy(alloc, &kept)?)),
+    }
+}
+
+fn copied(alloc: Global, reduction: &Reduction) -> Result<Reduction, AllocError>
+    ensures { IfOk result (λ r. r ≡ reduction.now) }
+{
+    let tests = reduction.tests;
+    let kept = Vec::from_slice(alloc, reduction.kept.as_slice())?;
+    Ok(Reduction { kept, tests })
+}
+
+/// Takes what is known of a card that is out: puts its answer, or adds its scenario to those that are to be tried.
+fn settle(
+    alloc: Global,
+    core: &mut Core,
+    untried: &mut Vec<Scenario>,
+    card: Card,
+    test: Test,
+) -> Result<(), AllocError>
+    ensures { OnOk result (IsSettled core.old core.new untried.old.items untried.new.items card test) }
+{
+    match test {
+        Test::Told(fails) => match core.put(alloc, card, fails) {
+            Ok(()) => Ok(()),
+            Err(_) => Err(AllocError),
+        },
+        Test::Untold(tidied) => {
+            untried.push(tidied)?;
+            Ok(())
+        }
+    }
+}
+
+/// What a core that hands out no card has come to.
+fn ended(alloc: Global, core: &Core, untried: Vec<Scenario>) -> Result<Reached, AllocError>
+    ensures { IfOk result (IsEnded core.now untried.items) }
+{
+    match core.finished() {
+        Some(reduction) => Ok(Reached::Reduced(copied(alloc, reduction)?)),
+        None => Ok(Reached::Open(untried)),
+    }
+}
+
+/// Reduces a scenario that fails with this code as far as what is known decides: to the reduction of each component that agrees with it,
+/// or to scenarios that are still to be tried.
+///
+/// Each answer is looked up, and none is asked of a component; a verdict that isn't a failure with the code is no failure here. An error
+/// means that memory was refused.
+pub fn reduce_known(
+    alloc: Global,
+    known: &Known,
+    scenario: &Scenario,
+    code: u32,
+) -> Result<Reached, AllocError>
+    ensures { IfOk result (IsReached known.now code scenario.now) }
+{
+    let faults = fault_count(alloc, scenario)?;
+    let mut core = Core::start(alloc, faults);
+    let mut untried = Vec::new(alloc);
+    for _ in 0..u64::MAX {
+        let Some(card) = core.take(alloc, false)? else {
+            return ended(alloc, &core, untried);
+        };
+        let test = look_up(alloc, known, scenario, faults, code, card.set())?;
+        settle(alloc, &mut core, &mut untried, card, test)?;
+    }
+    // so many cards don't fit in any memory
+    Err(AllocError)
+}
