@@ -19,7 +19,8 @@ build:
 examples:
 	@cd crates/paklour && rt try --cases ../../examples
 
-# Everything: the house rules, every proof from nothing, the must-fail edits, the tests, and the program as its users run it.
+# Everything: the house rules, the tests of outside/, every proof from nothing, the must-fail edits, the tests, and the program as its
+# users run it.
 test:
 	@tools/gate
 
