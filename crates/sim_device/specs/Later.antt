@@ -26,7 +26,7 @@ HasNoSyncDir (Link a b ∷ later) = HasNoSyncDir later
 HasNoSyncDir (Unlink m ∷ later) = HasNoSyncDir later
 HasNoSyncDir (PowerCut ∷ later) = HasNoSyncDir later
 
--- the later effects give this name to no file, and take it from none
+-- among the later effects none gives this name to a file or takes it from one, and none is a power cut
 abbrev pub IsUnnamed : ℕ → List Effect → Type 0
 IsUnnamed n [] = Unit {0}
 IsUnnamed n (Create m ∷ later) = ((n == m) ≡ false) × IsUnnamed n later
