@@ -1,2 +1,6 @@
+pub mod Logged
+pub mod Agreeing
+pub mod Safe
+pub mod Never
 pub mod Playing
 pub mod Counting

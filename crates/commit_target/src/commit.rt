@@ -1,5 +1,9 @@
-ghost use Rattle.std.specs.Prelude.{◌≡◌};
+ghost use Rattle.std.specs.Prelude.{◌≡◌, IfOk};
 ghost use Rattle.std.proofs.Common.{rules};
+ghost use Rattle.action_eval.specs.Answers.{start};
+ghost use Rattle.target_trait.specs.Play.{IsPlay};
+ghost use Rattle.target_trait.specs.declared.judgement.Judgement.TheVariants.{Kept};
+ghost use Rattle.commit_target.specs.declared.variant.Variant.TheVariants.{Sound};
 ghost use Rattle.commit_target.specs.Words.{label, code_text, point_names};
 ghost use Rattle.commit_target.specs.Steps.{asks_of, asks-within, asks-halts};
 
@@ -96,7 +100,15 @@ impl Target for Commit {
         &mut self,
         workload: &Transactions,
         session: &mut Session<'_>,
-    ) -> Result<Judgement, AllocError> {
+    ) -> Result<Judgement, AllocError>
+        requires new { session.old ≡ start session.old.given }
+        requires points { session.old.given.catalogue ≡ point_names }
+        ensures play { IfOk result (IsPlay (asks_of self.old workload.now) session.new) }
+        ensures given { session.new.given ≡ session.old.given }
+        ensures setup { self.new ≡ self.old }
+        // Presumed abort is kept, whatever fails.
+        ensures sound { self.old ≡ Sound → IfOk result (λ judgement. judgement ≡ Kept) }
+    {
         play(self.alloc, self.variant, workload, &mut self.logs, session)
     }
 

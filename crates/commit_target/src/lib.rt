@@ -3,6 +3,7 @@
 
 mod commit;
 mod judge;
+mod laws;
 mod logs;
 mod play;
 mod progress;
@@ -13,6 +14,7 @@ mod work;
 
 pub use commit::Commit;
 pub use judge::{LOST, PHANTOM, SPLIT, judge as judge_logs};
+pub use laws::sound_never_fails;
 pub use logs::Logs;
 pub use records::{Kind, Party, Record, Write};
 pub use variant::Variant;

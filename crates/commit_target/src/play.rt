@@ -1,5 +1,5 @@
 //! A run: question after question, up to the judgement.
-ghost use Rattle.std.specs.Prelude.{◌≡◌, ◌+◌, ◌-◌, ◌<◌, ℕ, List, length, IfOk, OnOk, Some};
+ghost use Rattle.std.specs.Prelude.{◌≡◌, ◌+◌, ◌-◌, ◌<◌, ◌≤◌, ℕ, List, length, IfOk, OnOk, Some};
 ghost use Rattle.action_eval.specs.Answers.{start};
 ghost use Rattle.target_trait.specs.Play.{IsPlay};
 ghost use Rattle.commit_target.specs.Words.{point_names};
@@ -100,6 +100,7 @@ pub fn play(
     requires points { session.old.given.catalogue ≡ point_names }
     ensures play { IfOk result (IsPlay (asks_of variant workload.now) session.new) }
     ensures given { session.new.given ≡ session.old.given }
+    ensures some { 1 ≤ workload.now.participants }
 {
     logs.clear(workload.participants())?;
     let mut progress = Progress::new(alloc);

@@ -74,9 +74,10 @@ impl Transactions {
         }
     }
 
-    /// How many participants there are.
+    /// How many participants there are: at least one.
     pub fn participants(&self) -> usize
-        ensures { result ≡ self.now.participants }
+        ensures count { result ≡ self.now.participants }
+        ensures some { 1 ≤ result }
     {
         self.participants
     }
