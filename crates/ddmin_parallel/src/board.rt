@@ -47,7 +47,7 @@ impl Model for Board {
     ghost invariant = { IsBoard };
 }
 
-fn is_said(set: &[u32], fails: bool, other: &[u32], said: bool) -> bool
+pub fn is_said(set: &[u32], fails: bool, other: &[u32], said: bool) -> bool
     ensures { result ≡ (same_set set.now other.now && (if fails then said else not said)) }
 {
     let same = is_same(set, other);
@@ -107,6 +107,12 @@ impl Board {
             core: Core::start(alloc, faults),
             events: Vec::new(alloc),
         }
+    }
+
+    pub(crate) fn faults(&self) -> u32
+        ensures { result ≡ self.now.faults }
+    {
+        self.core.faults()
     }
 
     /// The events, the first one first.

@@ -4,6 +4,7 @@ ghost use Rattle.ddmin_parallel.specs.Logs.{AreAnswers, AllAnswers};
 
 use crate::board::Board;
 use crate::by_core::{finish, reduce_by_core};
+use crate::merge::is_backed_by;
 use crate::probe::Probe;
 use crate::reducer_core::{Card, CardFault};
 use crate::reduction::Reduction;
@@ -183,7 +184,7 @@ fn gathered<P: Probe>(
     requires own { AllAnswers (P.answers probe.old) pairs.now }
     ensures { IfOk result (λ r. r ≡ ddmin (P.answers probe.old) faults) }
 {
-    let is_backed = board.backed(faults, pairs);
+    let is_backed = is_backed_by(alloc, &board, faults, pairs);
     if is_backed {
         let mut core = board.into_core();
         core.recall();

@@ -27,6 +27,7 @@ mod by_core;
 mod hands;
 mod known;
 mod laws;
+mod merge;
 mod open;
 mod plain;
 mod probe;

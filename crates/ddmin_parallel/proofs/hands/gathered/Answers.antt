@@ -8,4 +8,4 @@ pub finish-requires-clause-tells : goal.finish-requires-clause-tells
 finish-requires-clause-tells g c κs within =
     let test = g.P.Probe.answers c.args.probe.now in
     subst (Tells c.args.faults test) (sym (c.recall.ensures ∙ ap (λ s. core.apply s core.Recall) c.into_core-core.ensures))
-    (backed_tells test c.args.board c.args.faults c.args.pairs.now c.requires.own (sym c.backed-is_backed.ensures ∙ c.if-is_backed.true))
+    (backed_tells test c.args.board c.args.faults c.args.pairs.now c.requires.own (sym c.is_backed_by-is_backed.ensures ∙ c.if-is_backed.true))
