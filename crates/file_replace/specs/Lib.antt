@@ -4,3 +4,4 @@ pub mod Judgement
 pub mod Steps
 pub mod Ready
 pub mod Seen
+pub mod Flaws
