@@ -10,8 +10,7 @@ const POINTS: [&str; 3] = ["shares", "counts", "notes"];
 
 // The first point takes a word at each hit and never acts, the second one returns at its third hit, and the third one takes words until it
 // has left three notes: six of them, as a program in another language drew them for seed 7 and stream 5.
-const SCENARIO: &str =
-    "shares=50%0*print->0%panic;counts=2*off->1*return;notes=60%3*print(a)";
+const SCENARIO: &str = "shares=50%0*print->0%panic;counts=2*off->1*return;notes=60%3*print(a)";
 
 /// Hits of each point: with all three, more than the room that a session makes at first.
 const ROUNDS: u32 = 100;
