@@ -2,5 +2,6 @@ pub mod Logged
 pub mod Agreeing
 pub mod Safe
 pub mod Never
+pub mod Flawed
 pub mod Playing
 pub mod Counting

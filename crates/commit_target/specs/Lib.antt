@@ -4,3 +4,4 @@ pub mod Writes
 pub mod Judgement
 pub mod Steps
 pub mod Seen
+pub mod Flaws

@@ -3,10 +3,11 @@ ghost use Rattle.std.specs.Prelude.{◌≡◌, ◌≤◌, ℕ};
 ghost use Rattle.action_eval.specs.Answers.{given_of};
 ghost use Rattle.target_trait.specs.Outcomes.{outcome};
 ghost use Rattle.target_trait.specs.declared.judgement.Verdict.TheVariants.{Fail};
-ghost use Rattle.commit_target.specs.declared.variant.Variant.TheVariants.{Sound};
+ghost use Rattle.commit_target.specs.declared.variant.Variant.TheVariants.{Sound, LazyPrepare, EarlyEnd, TwoTries};
 ghost use Rattle.commit_target.specs.Work.{Work};
-ghost use Rattle.commit_target.specs.Words.{point_names};
+ghost use Rattle.commit_target.specs.Words.{point_names, split, lost};
 ghost use Rattle.commit_target.specs.Steps.{asks_of};
+ghost use Rattle.commit_target.specs.Flaws.{both_wish_yes, first_outcome_is_lost, each_outcome_is_lost, no_commit_record};
 
 use scenario_values::Scenario;
 
@@ -16,4 +17,27 @@ use scenario_values::Scenario;
 pub fn sound_never_fails(scenario: &Scenario, seed: u64, stream: u64, max_hits: u32)
     ensures { (w : Work) → 1 ≤ w.participants → (code : ℕ) →
         (outcome (asks_of Sound w) (given_of scenario.now point_names seed stream max_hits)).verdict ≡ Fail code → ⊥ }
+{}
+
+/// lazy_prepare fails: under `commit::send_outcome=1*return` two participants that both wish yes end differently, whatever the seed and the
+/// number of the stream. The first forgets its prepare record at the restart, and aborts; the second has committed.
+pub fn lazy_prepare_is_split()
+    ensures { (seed stream : ℕ) → (outcome (asks_of LazyPrepare both_wish_yes) (given_of first_outcome_is_lost point_names seed stream 1000)).verdict ≡ Fail split }
+{}
+
+/// Under `commit::send_outcome=return` both forget it, and the commit that the client was told of is lost.
+pub fn lazy_prepare_is_lost()
+    ensures { (seed stream : ℕ) → (outcome (asks_of LazyPrepare both_wish_yes) (given_of each_outcome_is_lost point_names seed stream 1000)).verdict ≡ Fail lost }
+{}
+
+/// early_end fails: under `commit::send_outcome=1*return` the two end differently. The first inquires, and the coordinator, which has ended
+/// the transaction, presumes an abort.
+pub fn early_end_is_split()
+    ensures { (seed stream : ℕ) → (outcome (asks_of EarlyEnd both_wish_yes) (given_of first_outcome_is_lost point_names seed stream 1000)).verdict ≡ Fail split }
+{}
+
+/// two_tries fails: under `commit::force_commit=2*return;commit::send_outcome=1*return` the two end differently. The first inquires, and the
+/// coordinator has no commit record.
+pub fn two_tries_is_split()
+    ensures { (seed stream : ℕ) → (outcome (asks_of TwoTries both_wish_yes) (given_of no_commit_record point_names seed stream 1000)).verdict ≡ Fail split }
 {}
