@@ -1,16 +1,21 @@
--- Of the faults of a scenario, tidying leaves those whose terms it leaves.
+-- Of the faults of a scenario, tidying leaves those whose terms it leaves, and the others never act.
 use Rattle.std.proofs.Common.{◌≡◌, ℕ, zero, suc, ◌+◌, ◌-◌, ◌<◌, ◌≤◌, List, [], ◌∷◌, ◌++◌, Bool, true, false, cond, not, eqb, ◌&&◌, ◌||◌, length, Option, Some, None, refl, ap, sym, ◌∙◌, arith, ◌⊎◌, inl, inr}
 use Rattle.std.specs.Prelude.{slice_get}
+use Rattle.std.specs.List.{AllByRecursion}
+use Rattle.std.specs.Option.{option_map_or}
+use Rattle.std.specs.Str.{bytes_eq}
 use Rattle.std.proofs.lemmas.Bool.Decides.{nat_tests}
 use Rattle.scenario_values.specs.declared.term.Term.{Term}
 use Rattle.scenario_values.specs.declared.place.Place.{Place}
-use Rattle.scenario_values.specs.Scenario.{Entries, chain_at, is_off, faults_in}
+use Rattle.scenario_values.specs.Scenario.{Entries, New, DistinctNames, chain_of, chain_at, is_off, faults_in}
 use Rattle.scenario_values.specs.Faults.{chain_faults, faults_from, faults}
 use Rattle.scenario_values.specs.Keep.{holds, after_chain}
 use Rattle.scenario_values.specs.Tidied.{is_used, is_endless, is_uncounted}
 use Rattle.scenario_values.specs.Origins.{left_numbers, all_left_numbers, origins}
 use Rattle.scenario_values.proofs.KeptAgain.{after_is}
-use Rattle.action_eval.specs.LeftTerms.{is_left}
+use Rattle.action_eval.specs.Answers.{Hit}
+use Rattle.action_eval.specs.LeftTerms.{is_left, ActsLeft, OnlyLeftActed}
+use Rattle.action_eval.proofs.Alike.{bytes_self}
 
 -- ---- which numbers a list holds
 
@@ -214,3 +219,39 @@ left_faults s k p g =
     let number : k ≡ 0 + k = omega arith in
     let whole : p.entry - 0 ≡ p.entry = omega arith in
     ap (holds (origins s)) number ∙ r.left ∙ ap (λ x. is_left (chain_at s x) p.term) whole
+
+-- ---- a fault that is dropped never acts
+
+get_chain : (es : Entries) (f : List ℕ × List Term) (i : ℕ) (e : List ℕ × List Term) → New f.0 es → slice_get es i ≡ Some e → bytes_eq e.0 f.0 ≡ false
+get_chain [] f i e new g = absurd cc
+get_chain (x ∷ es) f zero e new g =
+    let same : x ≡ e = cc in
+    ap (λ (y : List ℕ × List Term). bytes_eq y.0 f.0) (sym same) ∙ new.0
+get_chain (x ∷ es) f (suc i) e new g = get_chain es f i e new.1 g
+
+chain_by_name : (s : Entries) (i : ℕ) (e : List ℕ × List Term) → DistinctNames s → slice_get s i ≡ Some e → chain_of s e.0 ≡ e.1
+chain_by_name [] i e d g = absurd cc
+chain_by_name (x ∷ s) zero e d g =
+    let same : x ≡ e = cc in
+    ap (λ (y : List ℕ × List Term). chain_of (y ∷ s) e.0) same ∙ ap (λ b. cond b e.1 (chain_of s e.0)) (bytes_self e.0)
+chain_by_name (x ∷ s) (suc i) e d g = ap (λ b. cond b x.1 (chain_of s e.0)) (get_chain s x i e d.0 g) ∙ chain_by_name s i e d.1 g
+
+never : (s : Entries) (name : List ℕ) (i : ℕ) (o : Option (List ℕ × ℕ)) → is_left (chain_of s name) i ≡ false → ActsLeft s o → o ≡ Some (name, i) → ⊥
+never s name i None dropped acts e = cc
+never s name i (Some q) dropped acts e =
+    let same : q ≡ (name, i) = cc in
+    let left : is_left (chain_of s name) i ≡ true = sym (ap (λ (r : List ℕ × ℕ). is_left (chain_of s r.0) r.1) same) ∙ acts in
+    cc
+
+all_never : (s : Entries) (name : List ℕ) (i : ℕ) (history : List Hit) → is_left (chain_of s name) i ≡ false → OnlyLeftActed s history → AllByRecursion (λ (h : Hit). h.term ≡ Some (name, i) → ⊥) history
+all_never s name i [] dropped acts = tt
+all_never s name i (h ∷ history) dropped acts = (never s name i h.term dropped acts.0, all_never s name i history dropped acts.1)
+
+pub dropped_never : (s : Entries) (k : ℕ) (p : Place) (e : List ℕ × List Term) (history : List Hit) → DistinctNames s → slice_get (faults s) k ≡ Some p → slice_get s p.entry ≡ Some e → holds (origins s) k ≡ false
+    → OnlyLeftActed s history → AllByRecursion (λ (h : Hit). h.term ≡ Some (e.0, p.term) → ⊥) history
+dropped_never s k p e history d g at out acts =
+    let chain : chain_at s p.entry ≡ e.1 = ap (λ (o : Option (List ℕ × List Term)). option_map_or (λ (x : List ℕ × List Term). x.1) o []) at in
+    let dropped : is_left (chain_of s e.0) p.term ≡ false =
+    ap (λ ts. is_left ts p.term) (chain_by_name s p.entry e d at ∙ sym chain) ∙ sym (left_faults s k p g) ∙ out
+    in
+    all_never s e.0 p.term history dropped acts
