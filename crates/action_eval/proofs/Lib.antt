@@ -16,3 +16,4 @@ pub mod Rests
 pub mod Steps
 pub mod CallerLemmas
 pub mod RunLaws
+pub mod LeftFaults

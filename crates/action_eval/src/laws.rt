@@ -1,14 +1,17 @@
 //! Laws of runs, as contracts of functions that do nothing.
-ghost use Rattle.std.specs.Prelude.{◌≡◌, ◌<◌, ℕ, List, [], take, remove, slice_index};
+ghost use Rattle.std.specs.Prelude.{◌≡◌, ◌<◌, ℕ, List, [], false, Some, take, remove, slice_get, slice_index};
 ghost use Rattle.std.specs.List.{AllByRecursion, range_with_len};
-ghost use Rattle.scenario_values.specs.Scenario.{all_faults};
-ghost use Rattle.scenario_values.specs.Keep.{kept, members_at};
+ghost use Rattle.scenario_values.specs.declared.place.Place.{Place};
+ghost use Rattle.scenario_values.specs.declared.term.Term.{Term};
+ghost use Rattle.scenario_values.specs.Scenario.{Entries, all_faults, chain_at};
+ghost use Rattle.scenario_values.specs.Faults.{faults};
+ghost use Rattle.scenario_values.specs.Keep.{kept, holds, members_at};
 ghost use Rattle.scenario_values.specs.Origins.{origins};
 ghost use Rattle.scenario_values.specs.Tidied.{tidied};
-ghost use Rattle.action_eval.specs.Answers.{Run, run_of, history_of};
+ghost use Rattle.action_eval.specs.Answers.{Hit, Run, run_of, history_of};
 ghost use Rattle.action_eval.specs.FullShares.{HasFullShares, NoFaultActed};
 ghost use Rattle.action_eval.specs.LeftFrom.{left_from};
-ghost use Rattle.action_eval.specs.LeftTerms.{OnlyLeftActed};
+ghost use Rattle.action_eval.specs.LeftTerms.{OnlyLeftActed, is_left};
 ghost use Rattle.action_eval.specs.SameMeaning.{MeansTheSame, meaning_of};
 
 use scenario_values::Scenario;
@@ -48,6 +51,24 @@ pub fn tidied_without_a_fault(scenario: &Scenario, fault: u32)
 pub fn dropped_terms_never_act(scenario: &Scenario)
     ensures { (catalogue : List (List ℕ)) (seed stream limit : ℕ) (hits : List ℕ) → OnlyLeftActed scenario.now (history_of (run_of scenario.now catalogue seed stream limit hits)) }
 {}
+
+/// Of the faults of a scenario tidying leaves those whose terms it leaves: the number of a fault is among the origins just where its term
+/// has a count other than 0 and stands after none that acts at each hit.
+pub fn faults_left_by_tidying()
+    ensures { (s : Entries) (k : ℕ) (p : Place) → slice_get (faults s) k ≡ Some p → holds (origins s) k ≡ is_left (chain_at s p.entry) p.term }
+{}
+
+/// A fault that tidying drops, one whose number isn't among the origins, never acts: no hit is answered by its term.
+pub fn dropped_faults_never_act(scenario: &Scenario)
+    ensures { (k : ℕ) (p : Place) (e : List ℕ × List Term)
+        → slice_get (faults scenario.now) k ≡ Some p
+        → slice_get scenario.now p.entry ≡ Some e
+        → holds (origins scenario.now) k ≡ false
+        → (catalogue : List (List ℕ)) (seed stream limit : ℕ) (hits : List ℕ)
+        → AllByRecursion (λ (h : Hit). h.term ≡ Some (e.0, p.term) → ⊥) (history_of (run_of scenario.now catalogue seed stream limit hits)) }
+{
+    let _ = scenario.entries();
+}
 
 /// Up to the first hit at which a fault acts, a scenario whose shares are all full means what the empty scenario means: the first n hits
 /// do, where at none of them a fault acts.

@@ -11,7 +11,8 @@ mod terms;
 
 pub use answer::{Answer, Note, Stop};
 pub use laws::{
-    clean_until_a_fault_acts, dropped_terms_never_act, history_of_a_part, keep_of_tidied,
-    keep_then_tidy, tidied_without_a_fault, tidy_keeps_meaning,
+    clean_until_a_fault_acts, dropped_faults_never_act, dropped_terms_never_act,
+    faults_left_by_tidying, history_of_a_part, keep_of_tidied, keep_then_tidy,
+    tidied_without_a_fault, tidy_keeps_meaning,
 };
 pub use session::Session;

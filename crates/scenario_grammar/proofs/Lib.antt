@@ -22,3 +22,4 @@ pub mod Plain
 pub mod JoinLaws
 pub mod RoundTrip
 pub mod OneSpelling
+pub mod FirstPieces

@@ -1,5 +1,6 @@
 pub mod Words
 pub mod FirstFault
+pub mod FirstPieces
 pub mod Spelling
 pub mod FaultText
 pub mod Built

@@ -1,9 +1,11 @@
 //! Laws about the definitions, each the contract of a function.
-ghost use Rattle.std.specs.Prelude.{◌≡◌, true, List, ℕ, Ok, Some, None};
+ghost use Rattle.std.specs.Prelude.{◌≡◌, ◌-◌, true, List, ℕ, Ok, Some, None};
 ghost use Rattle.scenario_values.specs.declared.term.Term.{Term};
 ghost use Rattle.scenario_values.specs.Scenario.{Entries, IsScenario, entries_of, is_lawful_term};
 ghost use Rattle.scenario_values.specs.Printed.{printed, term_text};
-ghost use Rattle.scenario_grammar.specs.FirstFault.{term_of, share_of, reading, fault};
+ghost use Rattle.scenario_grammar.specs.declared.fault.Kind.TheVariants.{TooLong};
+ghost use Rattle.scenario_grammar.specs.FirstFault.{Fault, term_of, share_of, reading, fault};
+ghost use Rattle.scenario_grammar.specs.FirstPieces.{first_pieces};
 ghost use Rattle.scenario_grammar.specs.Spelling.{IsScenarioText, Spells, Writes, Within, SpellsTerm, WholePercent, DecimalPercent};
 
 /// A percentage is read as it is spelled.
@@ -41,6 +43,13 @@ pub fn texts_read_are_spelled()
 pub fn faults_tell()
     ensures spelled { (text : List ℕ) → fault text ≡ None → IsScenarioText text }
     ensures sound { (text : List ℕ) → IsScenarioText text → fault text ≡ None }
+{}
+
+/// Where a text has a fault and isn't too long, the text up to the end of the piece of its first fault has the same first fault, and the
+/// text of the pieces before that one has none.
+pub fn first_fault_is_local()
+    ensures same { (text : List ℕ) (f : Fault) → fault text ≡ Some f → (f.kind ≡ TooLong → ⊥) → fault (first_pieces f.entry text) ≡ Some f }
+    ensures before { (text : List ℕ) (f : Fault) → fault text ≡ Some f → (f.kind ≡ TooLong → ⊥) → fault (first_pieces (f.entry - 1) text) ≡ None }
 {}
 
 /// A lawful term's printed form spells it, and is read as it.

@@ -15,9 +15,9 @@ mod terms;
 
 pub use fault::{Kind, ScenarioFault};
 pub use laws::{
-    faults_tell, percentages_are_read, printed_scenarios_are_read, printed_terms_are_read,
-    spelled_terms_are_read, spelled_texts_are_read, terms_read_are_spelled, texts_read_are_spelled,
-    texts_spell_one_scenario,
+    faults_tell, first_fault_is_local, percentages_are_read, printed_scenarios_are_read,
+    printed_terms_are_read, spelled_terms_are_read, spelled_texts_are_read, terms_read_are_spelled,
+    texts_read_are_spelled, texts_spell_one_scenario,
 };
 pub use names::{is_argument, is_name};
 pub use parsing::parse;
