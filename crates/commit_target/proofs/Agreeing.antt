@@ -94,7 +94,8 @@ not_both b p q = cc
 true_or_false : true ≡ false → ⊥
 true_or_false e = cc
 
-all_committed : (p : ℕ) (es : List Event) (k : ℕ) → decides es Live k End ≡ true → ((decides es Live k End ≡ false) ⊎ AllHold p es k Commit) → AllHold p es k Commit
+all_committed : (p : ℕ) (es : List Event) (k : ℕ) → decides es Live k End ≡ true → ((decides es Live k End ≡ false) ⊎ AllHold p es k Commit)
+    → AllHold p es k Commit
 all_committed p es k is (inl e) = absurd (not_both _ is e)
 all_committed p es k is (inr all) = all
 
@@ -160,11 +161,14 @@ one_commits f zero some all = absurd (omega arith)
 one_commits f (suc n) some all = or_right _ _ (all n (omega arith))
 
 kept_by : (b : Bool) (p : ℕ) → 1 ≤ p → (f : ℕ → Bool) → ((n : ℕ) → n < p → f n ≡ b) → judged_ends (some_ends f true p) (some_ends f false p) b ≡ Kept
-kept_by true p some f all = ap (λ c. judged_ends c (some_ends f false p) true) (one_commits f p some all) ∙ ap (λ a. judged_ends true a true) (none_aborts f p all)
+kept_by true p some f all =
+    ap (λ c. judged_ends c (some_ends f false p) true) (one_commits f p some all)
+    ∙ ap (λ a. judged_ends true a true) (none_aborts f p all)
 kept_by false p some f all = ap (λ c. judged_ends c (some_ends f false p) false) (none_commits f p all)
 
 pub one_kept : (p : ℕ) → 1 ≤ p → (told : List ℕ) (es : List Event) (k : ℕ) → Settled p es k (was_told told k) → judged_one p told es k ≡ Kept
-one_kept p some told es k h = kept_by (was_told told k) p some (λ n. is_committed (known es) (own es n) k) (λ n below. ends_alike (was_told told k) p es k n below h)
+one_kept p some told es k h =
+    kept_by (was_told told k) p some (λ n. is_committed (known es) (own es n) k) (λ n below. ends_alike (was_told told k) p es k n below h)
 
 pub all_kept : (p : ℕ) → 1 ≤ p → (told : List ℕ) (es : List Event) (begun : ℕ) → ((k : ℕ) → k < begun → Settled p es k (was_told told k))
     → judged p told es begun ≡ Kept

@@ -378,8 +378,9 @@ abort_record_safe : (w : Work) → 1 ≤ w.participants → (t : Tally) (es : Li
     → Safe w (state (abort_to w t next) (Written (Append (Participant n) (entry t kind.Abort)) ∷ es))
 abort_record_safe w some t es n next b h untold =
     let abort : Write = Append (Participant n) (entry t kind.Abort) in
+    let other = other_kind (entry t kind.Abort) (number t) in
     abort_safe w some t (Written abort ∷ es) next (base_stay abort w.participants t.told t.begun es refl b)
-    (undecided_stay abort es (number t) (other_kind (entry t kind.Abort) (number t) kind.Commit refl) (other_kind (entry t kind.Abort) (number t) kind.End refl) h) untold
+    (undecided_stay abort es (number t) (other kind.Commit refl) (other kind.End refl) h) untold
 
 -- what stands before a step says how the transaction under way ends
 settled_now : (p c : ℕ) (told votes : List ℕ) (all : Bool) (es : List Event) (step : Step) → StepSafe step p c told votes all es
