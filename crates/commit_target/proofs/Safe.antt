@@ -73,7 +73,7 @@ pub record Safe (w : Work) (s : State) : Type 0 where
   pub base : Base w.participants s.tally.told s.tally.begun s.events
   pub step : StepSafe s.tally.step w.participants (number s.tally) s.tally.told s.tally.yes s.tally.acknowledged s.events
 
-abbrev state : Tally → List Event → State
+abbrev pub state : Tally → List Event → State
 state t es = record { tally = t; events = es }
 
 -- ---- a write in the transaction under way
@@ -136,7 +136,7 @@ settled_all p told count es b now k below = in_case (k == count - 1) refl
 one_later : (n : ℕ) → n ≡ n + 1 - 1
 one_later n = omega arith
 
-abbrev opened : Tally → Tally
+abbrev pub opened : Tally → Tally
 opened t = record { step = SendPrepare 0; begun = t.begun + 1; yes = []; acknowledged = true; told = t.told }
 
 begun_safe : (w : Work) → 1 ≤ w.participants → (t : Tally) (es : List Event) → ((k : ℕ) → k < t.begun → Settled w.participants es k (was_told t.told k))

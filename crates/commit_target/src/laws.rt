@@ -1,13 +1,17 @@
 //! What holds of every run.
-ghost use Rattle.std.specs.Prelude.{◌≡◌, ◌≤◌, ℕ, List};
+ghost use Rattle.std.specs.Prelude.{◌≡◌, ◌≤◌, ℕ, true, List, All};
 ghost use Rattle.action_eval.specs.Answers.{Reply, given_of};
 ghost use Rattle.target_trait.specs.Outcomes.{outcome};
 ghost use Rattle.target_trait.specs.declared.judgement.Verdict.TheVariants.{Fail};
 ghost use Rattle.commit_target.specs.declared.variant.Variant.TheVariants.{Sound, LazyPrepare, EarlyEnd, TwoTries};
 ghost use Rattle.commit_target.specs.Work.{Work};
 ghost use Rattle.commit_target.specs.Words.{point_names, split, lost};
-ghost use Rattle.commit_target.specs.Steps.{laid, start_of, asks_of};
-ghost use Rattle.commit_target.specs.Judgement.{was_told};
+ghost use Rattle.commit_target.specs.Steps.{number, laid, start_of, asks_of};
+ghost use Rattle.commit_target.specs.Writes.{on_participant};
+ghost use Rattle.commit_target.specs.declared.records.Kind.TheVariants.{Prepare};
+ghost use Rattle.sim_device.specs.FileEffects.{Lasting};
+ghost use Rattle.sim_device.specs.LogEffects.{records};
+ghost use Rattle.commit_target.specs.Judgement.{has, was_told};
 ghost use Rattle.commit_target.specs.Protocol.{BearsOut};
 ghost use Rattle.commit_target.specs.Flaws.{both_wish_yes, first_outcome_is_lost, each_outcome_is_lost, no_commit_record};
 
@@ -27,6 +31,13 @@ pub fn sound_never_fails(scenario: &Scenario, seed: u64, stream: u64, max_hits: 
 pub fn sound_bears_out()
     ensures { (w : Work) → 1 ≤ w.participants → (answers : List Reply) (transaction : ℕ) →
         let s = laid Sound w (start_of w) answers in BearsOut w.participants s.events transaction (was_told s.tally.told transaction) }
+{}
+
+/// After any answers a yes that arrived stands on a lasting prepare record: of that participant, for the transaction under way.
+pub fn yes_is_prepared()
+    ensures { (w : Work) (answers : List Reply) →
+        let s = laid Sound w (start_of w) answers in
+        All (λ n. has (records (on_participant s.events n) Lasting) (number s.tally) Prepare ≡ true) s.tally.yes }
 {}
 
 /// lazy_prepare fails: under `commit::send_outcome=1*return` two participants that both wish yes end differently, whatever the seed and the
