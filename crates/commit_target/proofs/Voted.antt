@@ -1,5 +1,5 @@
 -- A yes that arrived stands on a forced prepare record, whatever is answered.
-use Rattle.std.proofs.Common.{◌≡◌, ℕ, ◌+◌, ◌==◌, nat_lt, Bool, true, false, cond, List, [], ◌∷◌, ◌++◌, length, Option, Some, None, All, slice_index_or, refl}
+use Rattle.std.proofs.Common.{◌≡◌, ℕ, ◌==◌, nat_lt, Bool, true, false, cond, List, [], ◌∷◌, length, Option, Some, None, All, slice_index_or, refl}
 use Rattle.std.proofs.lemmas.List.Elements.{All-nil, All-cons, All-append}
 use Rattle.sim_device.specs.FileEffects.{Lasting}
 use Rattle.action_eval.specs.Answers.{Reply, Go, Return, Halt}
@@ -12,7 +12,7 @@ use Rattle.commit_target.specs.declared.step.Step.{Step}
 use Rattle.commit_target.specs.declared.step.Step.TheVariants.{SendPrepare, ForcePrepare, SendVote, ForceCommit, ForceCommitAgain, SendCommit, ForceOutcome, SendAck, SendAbort, Over}
 use Rattle.commit_target.specs.Work.{Work, wish}
 use Rattle.commit_target.specs.Writes.{Event}
-use Rattle.commit_target.specs.Steps.{Tally, State, number, at_step, with_yes, unacknowledged, with_told, first_of, next_of, begun, commit_to, abort_to, aborted, decided, prepare_to, vote_step, entry, go_write, return_write, with_write, on_go, on_return, stepped, before_all, start_of, laid}
+use Rattle.commit_target.specs.Steps.{Tally, State, number, at_step, with_yes, unacknowledged, first_of, next_of, begun, commit_to, abort_to, aborted, decided, prepare_to, vote_step, entry, go_write, return_write, with_write, on_go, on_return, stepped, before_all, start_of, laid}
 use Rattle.commit_target.proofs.Logged.{holds, is_entry, holds_stays, held}
 use Rattle.commit_target.proofs.Safe.{state, opened}
 
