@@ -1,5 +1,5 @@
 -- What the logs say of a transaction that was decided, and of one that was not, and how each ends after a restart of all.
-use Rattle.std.proofs.Common.{◌≡◌, ◌⊎◌, inl, inr, ℕ, zero, suc, ◌<◌, ◌≤◌, Bool, true, false, cond, List, ◌∷◌, refl, ap, ◌∙◌, arith}
+use Rattle.std.proofs.Common.{◌≡◌, ◌⊎◌, inl, inr, ℕ, zero, suc, ◌<◌, ◌≤◌, Bool, true, false, cond, List, ◌∷◌, refl, ap, sym, ◌∙◌, arith}
 use Rattle.std.proofs.lemmas.Bool.{or_right, or_from, and_left, and_from, not_from_true, not_from_false}
 use Rattle.sim_device.specs.FileEffects.{Live, Lasting}
 use Rattle.target_trait.specs.declared.judgement.Judgement.TheVariants.{Kept}
@@ -8,6 +8,7 @@ use Rattle.commit_target.specs.declared.records.Kind.TheVariants.{Prepare, Commi
 use Rattle.commit_target.specs.declared.records.Write.{Write}
 use Rattle.commit_target.specs.Writes.{Event, Written}
 use Rattle.commit_target.specs.Judgement.{is_committed, answers_commit, some_ends, judged_ends, was_told, known, own, judged_one, or_then, judged}
+use Rattle.commit_target.specs.Protocol.{BearsOut}
 use Rattle.commit_target.proofs.Logged.{is_it, decides, holds, entry_of, decides_never, holds_never, decides_stays, decides_spared, holds_stays, holds_spared}
 
 -- a record of this kind lasts in each participant's log
@@ -25,10 +26,11 @@ pub record Committed (p : ℕ) (es : List Event) (k : ℕ) : Type 0 where
   pub unaborted : NoneHolds es k Abort
   pub ended : (decides es Live k End ≡ false) ⊎ AllHold p es k Commit
 
--- without the coordinator's commit record no participant has one
+-- without the coordinator's commit record no participant has one, and there is no end record
 pub record Undecided (es : List Event) (k : ℕ) : Type 0 where
   pub undecided : decides es Live k Commit ≡ false
   pub uncommitted : NoneHolds es k Commit
+  pub unended : decides es Live k End ≡ false
 
 -- a transaction ends so, where the client was told of its commit, and where not
 abbrev pub Settled : ℕ → List Event → ℕ → Bool → Type 0
@@ -38,7 +40,6 @@ Settled p es k false = Undecided es k
 -- a transaction of which there are prepare records at most
 pub record Open (es : List Event) (k : ℕ) : Type 0 where
   pub undecided : Undecided es k
-  pub unended : decides es Live k End ≡ false
   pub unaborted : NoneHolds es k Abort
 
 -- ---- what writes leave
@@ -46,7 +47,8 @@ pub record Open (es : List Event) (k : ℕ) : Type 0 where
 pub all_stay : (w : Write) (p : ℕ) (es : List Event) (k : ℕ) (kind : Kind) → AllHold p es k kind → AllHold p (Written w ∷ es) k kind
 all_stay w p es k kind h = λ n below. holds_stays w es n k kind (h n below)
 
-pub none_stay : (w : Write) (es : List Event) (k : ℕ) (kind : Kind) → is_it (entry_of w) k kind ≡ false → NoneHolds es k kind → NoneHolds (Written w ∷ es) k kind
+pub none_stay : (w : Write) (es : List Event) (k : ℕ) (kind : Kind) → is_it (entry_of w) k kind ≡ false → NoneHolds es k kind
+    → NoneHolds (Written w ∷ es) k kind
 none_stay w es k kind other h = λ n. holds_spared w es n k kind other (h n)
 
 ended_stay : (w : Write) (p : ℕ) (es : List Event) (k : ℕ) → is_it (entry_of w) k End ≡ false → ((decides es Live k End ≡ false) ⊎ AllHold p es k Commit)
@@ -54,7 +56,8 @@ ended_stay : (w : Write) (p : ℕ) (es : List Event) (k : ℕ) → is_it (entry_
 ended_stay w p es k other (inl h) = inl (decides_spared w es k End other h)
 ended_stay w p es k other (inr h) = inr (all_stay w p es k Commit h)
 
-pub committed_stay : (w : Write) (p : ℕ) (es : List Event) (k : ℕ) → is_it (entry_of w) k Abort ≡ false → is_it (entry_of w) k End ≡ false → Committed p es k → Committed p (Written w ∷ es) k
+pub committed_stay : (w : Write) (p : ℕ) (es : List Event) (k : ℕ) → is_it (entry_of w) k Abort ≡ false → is_it (entry_of w) k End ≡ false
+    → Committed p es k → Committed p (Written w ∷ es) k
 committed_stay w p es k no_abort no_end h = record {
   decided = decides_stays w es k Commit h.decided;
   prepared = all_stay w p es k Prepare h.prepared;
@@ -62,27 +65,60 @@ committed_stay w p es k no_abort no_end h = record {
   ended = ended_stay w p es k no_end h.ended;
 }
 
-pub undecided_stay : (w : Write) (es : List Event) (k : ℕ) → is_it (entry_of w) k Commit ≡ false → Undecided es k → Undecided (Written w ∷ es) k
-undecided_stay w es k no_commit h = record {
+pub undecided_stay : (w : Write) (es : List Event) (k : ℕ) → is_it (entry_of w) k Commit ≡ false → is_it (entry_of w) k End ≡ false → Undecided es k
+    → Undecided (Written w ∷ es) k
+undecided_stay w es k no_commit no_end h = record {
   undecided = decides_spared w es k Commit no_commit h.undecided;
   uncommitted = none_stay w es k Commit no_commit h.uncommitted;
+  unended = decides_spared w es k End no_end h.unended;
 }
 
-pub open_stay : (w : Write) (es : List Event) (k : ℕ) → is_it (entry_of w) k Commit ≡ false → is_it (entry_of w) k End ≡ false → is_it (entry_of w) k Abort ≡ false → Open es k → Open (Written w ∷ es) k
+pub open_stay : (w : Write) (es : List Event) (k : ℕ) → is_it (entry_of w) k Commit ≡ false → is_it (entry_of w) k End ≡ false
+    → is_it (entry_of w) k Abort ≡ false → Open es k → Open (Written w ∷ es) k
 open_stay w es k no_commit no_end no_abort h = record {
-  undecided = undecided_stay w es k no_commit h.undecided;
-  unended = decides_spared w es k End no_end h.unended;
+  undecided = undecided_stay w es k no_commit no_end h.undecided;
   unaborted = none_stay w es k Abort no_abort h.unaborted;
 }
 
 -- another transaction's write
-pub settled_stay : (b : Bool) (w : Write) (p : ℕ) (es : List Event) (k : ℕ) → ((kind : Kind) → is_it (entry_of w) k kind ≡ false) → Settled p es k b → Settled p (Written w ∷ es) k b
+pub settled_stay : (b : Bool) (w : Write) (p : ℕ) (es : List Event) (k : ℕ) → ((kind : Kind) → is_it (entry_of w) k kind ≡ false) → Settled p es k b
+    → Settled p (Written w ∷ es) k b
 settled_stay true w p es k other h = committed_stay w p es k (other Abort) (other End) h
-settled_stay false w p es k other h = undecided_stay w es k (other Commit) h
+settled_stay false w p es k other h = undecided_stay w es k (other Commit) (other End) h
+
+-- ---- what the protocol rests on
+
+not_both : (b : Bool) → b ≡ true → b ≡ false → ⊥
+not_both b p q = cc
+
+true_or_false : true ≡ false → ⊥
+true_or_false e = cc
+
+all_committed : (p : ℕ) (es : List Event) (k : ℕ) → decides es Live k End ≡ true → ((decides es Live k End ≡ false) ⊎ AllHold p es k Commit)
+    → AllHold p es k Commit
+all_committed p es k is (inl e) = absurd (not_both _ is e)
+all_committed p es k is (inr all) = all
+
+pub bears_out : (b : Bool) (p : ℕ) (es : List Event) (k : ℕ) → Settled p es k b → BearsOut p es k b
+bears_out true p es k h = record {
+  decided = h.decided;
+  prepared = λ e. h.prepared;
+  unaborted = λ e. h.unaborted;
+  uncommitted = λ e. absurd (true_or_false e);
+  ended = λ is. all_committed p es k is h.ended;
+}
+bears_out false p es k h = record {
+  decided = decides_never es k Commit h.undecided;
+  prepared = λ e. absurd (true_or_false (sym e));
+  unaborted = λ e. absurd (true_or_false (sym e));
+  uncommitted = λ e. h.uncommitted;
+  ended = λ is. absurd (not_both _ is h.unended);
+}
 
 -- ---- how each ends
 
-by_own : (commit abort prepare answer : Bool) → abort ≡ false → prepare ≡ true → (commit ≡ false → answer ≡ true) → cond commit true (cond abort false (cond prepare answer false)) ≡ true
+by_own : (commit abort prepare answer : Bool) → abort ≡ false → prepare ≡ true → (commit ≡ false → answer ≡ true)
+    → cond commit true (cond abort false (cond prepare answer false)) ≡ true
 by_own true abort prepare answer a p h = refl
 by_own false true prepare answer a p h = cc
 by_own false false true answer a p h = h refl
@@ -93,9 +129,6 @@ by_none true abort prepare answer c a = cc
 by_none false true prepare answer c a = refl
 by_none false false true answer c a = a
 by_none false false false answer c a = refl
-
-not_both : (b : Bool) → b ≡ true → b ≡ false → ⊥
-not_both b p q = cc
 
 -- one that prepared and doesn't know of the commit inquires: there is no end record then
 inquires : (p : ℕ) (es : List Event) (k n : ℕ) → n < p → Committed p es k → holds es n Lasting k Commit ≡ false → answers_commit (known es) k ≡ true
@@ -128,13 +161,17 @@ one_commits f zero some all = absurd (omega arith)
 one_commits f (suc n) some all = or_right _ _ (all n (omega arith))
 
 kept_by : (b : Bool) (p : ℕ) → 1 ≤ p → (f : ℕ → Bool) → ((n : ℕ) → n < p → f n ≡ b) → judged_ends (some_ends f true p) (some_ends f false p) b ≡ Kept
-kept_by true p some f all = ap (λ c. judged_ends c (some_ends f false p) true) (one_commits f p some all) ∙ ap (λ a. judged_ends true a true) (none_aborts f p all)
+kept_by true p some f all =
+    ap (λ c. judged_ends c (some_ends f false p) true) (one_commits f p some all)
+    ∙ ap (λ a. judged_ends true a true) (none_aborts f p all)
 kept_by false p some f all = ap (λ c. judged_ends c (some_ends f false p) false) (none_commits f p all)
 
 pub one_kept : (p : ℕ) → 1 ≤ p → (told : List ℕ) (es : List Event) (k : ℕ) → Settled p es k (was_told told k) → judged_one p told es k ≡ Kept
-one_kept p some told es k h = kept_by (was_told told k) p some (λ n. is_committed (known es) (own es n) k) (λ n below. ends_alike (was_told told k) p es k n below h)
+one_kept p some told es k h =
+    kept_by (was_told told k) p some (λ n. is_committed (known es) (own es n) k) (λ n below. ends_alike (was_told told k) p es k n below h)
 
-pub all_kept : (p : ℕ) → 1 ≤ p → (told : List ℕ) (es : List Event) (begun : ℕ) → ((k : ℕ) → k < begun → Settled p es k (was_told told k)) → judged p told es begun ≡ Kept
+pub all_kept : (p : ℕ) → 1 ≤ p → (told : List ℕ) (es : List Event) (begun : ℕ) → ((k : ℕ) → k < begun → Settled p es k (was_told told k))
+    → judged p told es begun ≡ Kept
 all_kept p some told es zero all = refl
 all_kept p some told es (suc k) all =
     ap (λ j. or_then j (judged_one p told es k)) (all_kept p some told es k (λ i below. all i (omega arith)))

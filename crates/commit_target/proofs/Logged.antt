@@ -76,17 +76,20 @@ decides_stays (write.Append (Participant m) r) es k kind h = h
 decides_stays (write.Force Coordinator r) es k kind h = stays (records (on_coordinator es) Live) r k kind (lasting_live (on_coordinator es) k kind h)
 decides_stays (write.Force (Participant m) r) es k kind h = h
 
-pub decides_spared : (w : Write) (es : List Event) (k : ℕ) (kind : Kind) → is_it (entry_of w) k kind ≡ false → decides es Live k kind ≡ false → decides (Written w ∷ es) Live k kind ≡ false
+pub decides_spared : (w : Write) (es : List Event) (k : ℕ) (kind : Kind) → is_it (entry_of w) k kind ≡ false → decides es Live k kind ≡ false
+    → decides (Written w ∷ es) Live k kind ≡ false
 decides_spared (write.Append Coordinator r) es k kind other h = spared (records (on_coordinator es) Live) r k kind other h
 decides_spared (write.Append (Participant m) r) es k kind other h = h
 decides_spared (write.Force Coordinator r) es k kind other h = spared (records (on_coordinator es) Live) r k kind other h
 decides_spared (write.Force (Participant m) r) es k kind other h = h
 
-append_stays : (b : Bool) (es : List (LogEffect Record)) (r : Record) (k : ℕ) (kind : Kind) → has (records es Lasting) k kind ≡ true → has (records (cond b (Append r ∷ es) es) Lasting) k kind ≡ true
+append_stays : (b : Bool) (es : List (LogEffect Record)) (r : Record) (k : ℕ) (kind : Kind) → has (records es Lasting) k kind ≡ true
+    → has (records (cond b (Append r ∷ es) es) Lasting) k kind ≡ true
 append_stays true es r k kind h = h
 append_stays false es r k kind h = h
 
-force_stays : (b : Bool) (es : List (LogEffect Record)) (r : Record) (k : ℕ) (kind : Kind) → has (records es Lasting) k kind ≡ true → has (records (cond b (Force r ∷ es) es) Lasting) k kind ≡ true
+force_stays : (b : Bool) (es : List (LogEffect Record)) (r : Record) (k : ℕ) (kind : Kind) → has (records es Lasting) k kind ≡ true
+    → has (records (cond b (Force r ∷ es) es) Lasting) k kind ≡ true
 force_stays true es r k kind h = stays (records es Live) r k kind (lasting_live es k kind h)
 force_stays false es r k kind h = h
 
@@ -96,15 +99,18 @@ holds_stays (write.Append (Participant m) r) es n k kind h = append_stays (n == 
 holds_stays (write.Force Coordinator r) es n k kind h = h
 holds_stays (write.Force (Participant m) r) es n k kind h = force_stays (n == m) (on_participant es n) r k kind h
 
-append_spared : (b : Bool) (es : List (LogEffect Record)) (r : Record) (k : ℕ) (kind : Kind) → is_it r k kind ≡ false → has (records es Live) k kind ≡ false → has (records (cond b (Append r ∷ es) es) Live) k kind ≡ false
+append_spared : (b : Bool) (es : List (LogEffect Record)) (r : Record) (k : ℕ) (kind : Kind) → is_it r k kind ≡ false
+    → has (records es Live) k kind ≡ false → has (records (cond b (Append r ∷ es) es) Live) k kind ≡ false
 append_spared true es r k kind other h = spared (records es Live) r k kind other h
 append_spared false es r k kind other h = h
 
-force_spared : (b : Bool) (es : List (LogEffect Record)) (r : Record) (k : ℕ) (kind : Kind) → is_it r k kind ≡ false → has (records es Live) k kind ≡ false → has (records (cond b (Force r ∷ es) es) Live) k kind ≡ false
+force_spared : (b : Bool) (es : List (LogEffect Record)) (r : Record) (k : ℕ) (kind : Kind) → is_it r k kind ≡ false
+    → has (records es Live) k kind ≡ false → has (records (cond b (Force r ∷ es) es) Live) k kind ≡ false
 force_spared true es r k kind other h = spared (records es Live) r k kind other h
 force_spared false es r k kind other h = h
 
-pub holds_spared : (w : Write) (es : List Event) (n k : ℕ) (kind : Kind) → is_it (entry_of w) k kind ≡ false → holds es n Live k kind ≡ false → holds (Written w ∷ es) n Live k kind ≡ false
+pub holds_spared : (w : Write) (es : List Event) (n k : ℕ) (kind : Kind) → is_it (entry_of w) k kind ≡ false → holds es n Live k kind ≡ false
+    → holds (Written w ∷ es) n Live k kind ≡ false
 holds_spared (write.Append Coordinator r) es n k kind other h = h
 holds_spared (write.Append (Participant m) r) es n k kind other h = append_spared (n == m) (on_participant es n) r k kind other h
 holds_spared (write.Force Coordinator r) es n k kind other h = h
@@ -112,10 +118,12 @@ holds_spared (write.Force (Participant m) r) es n k kind other h = force_spared 
 
 -- ---- a forced record lasts
 
-pub decided : (r : Record) (es : List Event) (k : ℕ) (kind : Kind) → is_it r k kind ≡ true → decides (Written (write.Force Coordinator r) ∷ es) Lasting k kind ≡ true
+pub decided : (r : Record) (es : List Event) (k : ℕ) (kind : Kind) → is_it r k kind ≡ true
+    → decides (Written (write.Force Coordinator r) ∷ es) Lasting k kind ≡ true
 decided r es k kind h = added (records (on_coordinator es) Live) r k kind h
 
-pub held : (r : Record) (es : List Event) (n k : ℕ) (kind : Kind) → is_it r k kind ≡ true → holds (Written (write.Force (Participant n) r) ∷ es) n Lasting k kind ≡ true
+pub held : (r : Record) (es : List Event) (n k : ℕ) (kind : Kind) → is_it r k kind ≡ true
+    → holds (Written (write.Force (Participant n) r) ∷ es) n Lasting k kind ≡ true
 held r es n k kind h =
     let log : List (LogEffect Record) = on_participant es n in
     subst (λ (b : Bool). has (records (cond b (Force r ∷ log) log) Lasting) k kind ≡ true) (sym (eq-eqb n n refl)) (added (records log Live) r k kind h)

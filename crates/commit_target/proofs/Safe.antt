@@ -20,8 +20,8 @@ use Rattle.commit_target.specs.declared.step.Step.{Step}
 use Rattle.commit_target.specs.declared.step.Step.TheVariants.{SendPrepare, ForcePrepare, SendVote, ForceCommit, ForceCommitAgain, SendCommit, ForceOutcome, SendAck, SendAbort, Over}
 use Rattle.commit_target.specs.Work.{Work, wish}
 use Rattle.commit_target.specs.Writes.{Event, Written}
-use Rattle.commit_target.specs.Judgement.{was_told, judged}
-use Rattle.commit_target.specs.Steps.{Tally, State, number, at_step, with_yes, unacknowledged, with_told, first_of, next_of, begun, commit_to, abort_to, aborted, decided, prepare_to, after_vote, vote_step, entry, end_if, end_unless, go_write, return_write, with_write, on_go, on_return, stepped, before_all, start_of, laid, point_at, move_by, asks_of}
+use Rattle.commit_target.specs.Judgement.{was_told}
+use Rattle.commit_target.specs.Steps.{Tally, State, number, at_step, with_yes, unacknowledged, with_told, first_of, next_of, begun, commit_to, abort_to, aborted, decided, prepare_to, after_vote, vote_step, entry, end_if, end_unless, go_write, return_write, with_write, on_go, on_return, stepped, before_all, start_of, laid, point_at, judged_at, move_by, asks_of}
 use Rattle.commit_target.proofs.Logged.{decides, holds, entry_of, is_entry, other_transaction, other_kind, decides_stays, decides_spared, decided as forced_decision, held}
 use Rattle.commit_target.proofs.Agreeing.{AllHold, NoneHolds, Committed, Undecided, Settled, Open, all_stay, none_stay, undecided_stay, open_stay, settled_stay, all_kept}
 
@@ -73,7 +73,7 @@ pub record Safe (w : Work) (s : State) : Type 0 where
   pub base : Base w.participants s.tally.told s.tally.begun s.events
   pub step : StepSafe s.tally.step w.participants (number s.tally) s.tally.told s.tally.yes s.tally.acknowledged s.events
 
-abbrev state : Tally → List Event → State
+abbrev pub state : Tally → List Event → State
 state t es = record { tally = t; events = es }
 
 -- ---- a write in the transaction under way
@@ -84,10 +84,13 @@ not_earlier k x count same before e = omega arith
 not_later : (k x count : ℕ) → x ≡ count - 1 → 1 ≤ count → count ≤ k → k ≡ x → ⊥
 not_later k x count same some after e = omega arith
 
-base_stay : (w : Write) (p : ℕ) (told : List ℕ) (count : ℕ) (es : List Event) → (entry_of w).transaction ≡ count - 1 → Base p told count es → Base p told count (Written w ∷ es)
+base_stay : (w : Write) (p : ℕ) (told : List ℕ) (count : ℕ) (es : List Event) → (entry_of w).transaction ≡ count - 1 → Base p told count es
+    → Base p told count (Written w ∷ es)
 base_stay w p told count es same b = record {
   some = b.some;
-  earlier = λ k before. settled_stay (was_told told k) w p es k (other_transaction (entry_of w) k (not_earlier k (entry_of w).transaction count same before)) (b.earlier k before);
+  earlier = λ k before.
+      let other = other_transaction (entry_of w) k (not_earlier k (entry_of w).transaction count same before) in
+      settled_stay (was_told told k) w p es k other (b.earlier k before);
   later = λ k after.
       let other = other_transaction (entry_of w) k (not_later k (entry_of w).transaction count same b.some after) in
       let was = b.later k after in
@@ -122,7 +125,8 @@ none_below n h = omega arith
 earlier_one : (k count : ℕ) → k < count → (k ≡ count - 1 → ⊥) → k + 1 < count
 earlier_one k count below apart = omega arith
 
-settled_all : (p : ℕ) (told : List ℕ) (count : ℕ) (es : List Event) → Base p told count es → Settled p es (count - 1) (was_told told (count - 1)) → (k : ℕ) → k < count → Settled p es k (was_told told k)
+settled_all : (p : ℕ) (told : List ℕ) (count : ℕ) (es : List Event) → Base p told count es → Settled p es (count - 1) (was_told told (count - 1))
+    → (k : ℕ) → k < count → Settled p es k (was_told told k)
 settled_all p told count es b now k below = in_case (k == count - 1) refl
   where
     in_case : (same : Bool) → (k == count - 1) ≡ same → Settled p es k (was_told told k)
@@ -132,10 +136,11 @@ settled_all p told count es b now k below = in_case (k == count - 1) refl
 one_later : (n : ℕ) → n ≡ n + 1 - 1
 one_later n = omega arith
 
-abbrev opened : Tally → Tally
+abbrev pub opened : Tally → Tally
 opened t = record { step = SendPrepare 0; begun = t.begun + 1; yes = []; acknowledged = true; told = t.told }
 
-begun_safe : (w : Work) → 1 ≤ w.participants → (t : Tally) (es : List Event) → ((k : ℕ) → k < t.begun → Settled w.participants es k (was_told t.told k)) → ((k : ℕ) → t.begun ≤ k → Open es k × (was_told t.told k ≡ false)) → Safe w (state (opened t) es)
+begun_safe : (w : Work) → 1 ≤ w.participants → (t : Tally) (es : List Event) → ((k : ℕ) → k < t.begun → Settled w.participants es k (was_told t.told k))
+    → ((k : ℕ) → t.begun ≤ k → Open es k × (was_told t.told k ≡ false)) → Safe w (state (opened t) es)
 begun_safe w some t es before after = record {
   base = record { some = omega arith; earlier = λ k h. before k (omega arith); later = λ k h. after k (omega arith) };
   step = (
@@ -149,7 +154,8 @@ begun_safe w some t es before after = record {
   );
 }
 
-next_safe : (w : Work) → 1 ≤ w.participants → (t : Tally) (es : List Event) → Base w.participants t.told t.begun es → Settled w.participants es (number t) (was_told t.told (number t)) → Safe w (state (begun w t) es)
+next_safe : (w : Work) → 1 ≤ w.participants → (t : Tally) (es : List Event) → Base w.participants t.told t.begun es
+    → Settled w.participants es (number t) (was_told t.told (number t)) → Safe w (state (begun w t) es)
 next_safe w some t es b now = in_case (nat_lt t.begun (length w.transactions))
   where
     in_case : (more : Bool) → Safe w (state (cond more (opened t) (at_step t Over)) es)
@@ -164,13 +170,15 @@ told_settled p c told es told_so h = subst (Settled p es c) (sym told_so) h
 
 -- ---- aborts
 
-abort_safe : (w : Work) → 1 ≤ w.participants → (t : Tally) (es : List Event) (next : Option ℕ) → Base w.participants t.told t.begun es → Undecided es (number t) → was_told t.told (number t) ≡ false → Safe w (state (abort_to w t next) es)
+abort_safe : (w : Work) → 1 ≤ w.participants → (t : Tally) (es : List Event) (next : Option ℕ) → Base w.participants t.told t.begun es
+    → Undecided es (number t) → was_told t.told (number t) ≡ false → Safe w (state (abort_to w t next) es)
 abort_safe w some t es (Some k) b h untold = record { base = b; step = (h, untold) }
 abort_safe w some t es None b h untold = next_safe w some t es b (untold_settled w.participants (number t) t.told es untold h)
 
 -- ---- votes
 
-decided_safe : (w : Work) → 1 ≤ w.participants → (t : Tally) (es : List Event) → Base w.participants t.told t.begun es → Open es (number t) → was_told t.told (number t) ≡ false
+decided_safe : (w : Work) → 1 ≤ w.participants → (t : Tally) (es : List Event) → Base w.participants t.told t.begun es → Open es (number t)
+    → was_told t.told (number t) ≡ false
     → (length t.yes ≡ w.participants → AllHold w.participants es (number t) kind.Prepare) → Safe w (state (decided w t) es)
 decided_safe w some t es b fresh untold voted = in_case (length t.yes == w.participants) refl
   where
@@ -181,7 +189,8 @@ decided_safe w some t es b fresh untold voted = in_case (length t.yes == w.parti
 voted_all : (p i c : ℕ) (es : List Event) → i < p → p ≤ i + 1 → (n : ℕ) → (n ≡ i + 1 → AllHold (i + 1) es c kind.Prepare) → n ≡ p → AllHold p es c kind.Prepare
 voted_all p i c es below last n voted all = λ m h. voted (omega arith) m (omega arith)
 
-vote_safe : (w : Work) → 1 ≤ w.participants → (t : Tally) (es : List Event) (i : ℕ) → i < w.participants → Base w.participants t.told t.begun es → Polled (number t) t.told t.yes (i + 1) es → Safe w (state (after_vote w t i) es)
+vote_safe : (w : Work) → 1 ≤ w.participants → (t : Tally) (es : List Event) (i : ℕ) → i < w.participants → Base w.participants t.told t.begun es
+    → Polled (number t) t.told t.yes (i + 1) es → Safe w (state (after_vote w t i) es)
 vote_safe w some t es i below b k = in_case (nat_lt (i + 1) w.participants) refl
   where
     in_case : (more : Bool) → nat_lt (i + 1) w.participants ≡ more → Safe w (state (prepare_to w t (cond more (Some (i + 1)) None)) es)
@@ -216,7 +225,8 @@ hold_more i es c which all this n below = in_case (n == i) refl
     in_case false e = all n (other_below n i below (eqb-false n i e))
 
 -- a yes arrives, on the forced prepare record
-polled_yes : (c : ℕ) (told votes : List ℕ) (i : ℕ) (es : List Event) → Polled c told votes i es → holds es i Lasting c kind.Prepare ≡ true → Polled c told (votes ++ i ∷ []) (i + 1) es
+polled_yes : (c : ℕ) (told votes : List ℕ) (i : ℕ) (es : List Event) → Polled c told votes i es → holds es i Lasting c kind.Prepare ≡ true
+    → Polled c told (votes ++ i ∷ []) (i + 1) es
 polled_yes c told votes i es k prepared = record {
   fresh = k.fresh;
   untold = k.untold;
@@ -229,7 +239,8 @@ polled_yes c told votes i es k prepared = record {
 telling_committed : (p c : ℕ) (told : List ℕ) (all : Bool) (i : ℕ) (es : List Event) → Telling p c told all i es → Committed p es c
 telling_committed p c told all i es k = record { decided = k.is_decided; prepared = k.prepared; unaborted = k.unaborted; ended = inl k.unended }
 
-end_safe : (w : Work) → 1 ≤ w.participants → (t : Tally) (es : List Event) (all : Bool) (i : ℕ) → w.participants ≤ i → Base w.participants t.told t.begun es → Telling w.participants (number t) t.told all i es
+end_safe : (w : Work) → 1 ≤ w.participants → (t : Tally) (es : List Event) (all : Bool) (i : ℕ) → w.participants ≤ i
+    → Base w.participants t.told t.begun es → Telling w.participants (number t) t.told all i es
     → Safe w (state (begun w t) (with_write (end_if all t) es))
 end_safe w some t es true i over b k =
     let end : Write = Append Coordinator (entry t kind.End) in
@@ -243,11 +254,13 @@ end_safe w some t es true i over b k =
 end_safe w some t es false i over b k =
     next_safe w some t es b (told_settled w.participants (number t) t.told es k.told_so (telling_committed w.participants (number t) t.told false i es k))
 
-commit_safe : (w : Work) → 1 ≤ w.participants → (t : Tally) (es : List Event) (i : ℕ) → Base w.participants t.told t.begun es → Telling w.participants (number t) t.told t.acknowledged (i + 1) es
+commit_safe : (w : Work) → 1 ≤ w.participants → (t : Tally) (es : List Event) (i : ℕ) → Base w.participants t.told t.begun es
+    → Telling w.participants (number t) t.told t.acknowledged (i + 1) es
     → Safe w (state (commit_to w t (next_of i w.participants)) (with_write (end_unless Sound t t.acknowledged (next_of i w.participants)) es))
 commit_safe w some t es i b k = in_case (nat_lt (i + 1) w.participants) refl
   where
-    in_case : (more : Bool) → nat_lt (i + 1) w.participants ≡ more → Safe w (state (commit_to w t (cond more (Some (i + 1)) None)) (with_write (end_unless Sound t t.acknowledged (cond more (Some (i + 1)) None)) es))
+    in_case : (more : Bool) → nat_lt (i + 1) w.participants ≡ more
+        → Safe w (state (commit_to w t (cond more (Some (i + 1)) None)) (with_write (end_unless Sound t t.acknowledged (cond more (Some (i + 1)) None)) es))
     in_case true e = record { base = b; step = (ltb-true (i + 1) w.participants e, k) }
     in_case false e = end_safe w some t es t.acknowledged (i + 1) (ltb-false (i + 1) w.participants e) b k
 
@@ -266,7 +279,8 @@ telling_lost p c told all i es k = record {
 }
 
 -- it arrives, on the participant's forced commit record
-telling_more : (p c : ℕ) (told : List ℕ) (all : Bool) (i : ℕ) (es : List Event) → Telling p c told all i es → holds es i Lasting c kind.Commit ≡ true → Telling p c told all (i + 1) es
+telling_more : (p c : ℕ) (told : List ℕ) (all : Bool) (i : ℕ) (es : List Event) → Telling p c told all i es → holds es i Lasting c kind.Commit ≡ true
+    → Telling p c told all (i + 1) es
 telling_more p c told all i es k this = record {
   told_so = k.told_so;
   is_decided = k.is_decided;
@@ -276,17 +290,20 @@ telling_more p c told all i es k this = record {
   acknowledged = λ e. hold_more i es c kind.Commit (k.acknowledged e) this;
 }
 
-lost_safe : (w : Work) → 1 ≤ w.participants → (t : Tally) (es : List Event) (i : ℕ) → Base w.participants t.told t.begun es → Telling w.participants (number t) t.told t.acknowledged i es
+lost_safe : (w : Work) → 1 ≤ w.participants → (t : Tally) (es : List Event) (i : ℕ) → Base w.participants t.told t.begun es
+    → Telling w.participants (number t) t.told t.acknowledged i es
     → Safe w (state (commit_to w (unacknowledged t) (next_of i w.participants)) (with_write (end_unless Sound t false (next_of i w.participants)) es))
 lost_safe w some t es i b k = commit_safe w some (unacknowledged t) es i b (telling_lost w.participants (number t) t.told t.acknowledged i es k)
 
 -- ---- step by step
 
-wish_safe : (w : Work) (vote : Vote) (t : Tally) (es : List Event) (i : ℕ) → i < w.participants → Base w.participants t.told t.begun es → Polled (number t) t.told t.yes i es → Safe w (state (at_step t (vote_step vote i)) es)
+wish_safe : (w : Work) (vote : Vote) (t : Tally) (es : List Event) (i : ℕ) → i < w.participants → Base w.participants t.told t.begun es
+    → Polled (number t) t.told t.yes i es → Safe w (state (at_step t (vote_step vote i)) es)
 wish_safe w Yes t es i below b k = record { base = b; step = (below, k) }
 wish_safe w No t es i below b k = record { base = b; step = (below, k) }
 
-prepared_safe : (w : Work) (t : Tally) (es : List Event) (i : ℕ) → i < w.participants → Base w.participants t.told t.begun es → Polled (number t) t.told t.yes i es
+prepared_safe : (w : Work) (t : Tally) (es : List Event) (i : ℕ) → i < w.participants → Base w.participants t.told t.begun es
+    → Polled (number t) t.told t.yes i es
     → Safe w (state (at_step t (SendVote i Yes)) (Written (Force (Participant i) (entry t kind.Prepare)) ∷ es))
 prepared_safe w t es i below b k =
     let prepare : Write = Force (Participant i) (entry t kind.Prepare) in
@@ -309,7 +326,8 @@ prepared_safe w t es i below b k =
     }
 
 -- the decision
-committed_safe : (w : Work) → 1 ≤ w.participants → (t : Tally) (es : List Event) → Base w.participants t.told t.begun es → Ready w.participants (number t) t.told es
+committed_safe : (w : Work) → 1 ≤ w.participants → (t : Tally) (es : List Event) → Base w.participants t.told t.begun es
+    → Ready w.participants (number t) t.told es
     → Safe w (state (at_step (with_told t) (SendCommit 0)) (Written (Force Coordinator (entry t kind.Commit)) ∷ es))
 committed_safe w some t es b k =
     let commit : Write = Force Coordinator (entry t kind.Commit) in
@@ -324,13 +342,14 @@ committed_safe w some t es b k =
           is_decided = forced_decision (entry t kind.Commit) es c kind.Commit (is_entry c kind.Commit refl);
           prepared = all_stay commit w.participants es c kind.Prepare k.prepared;
           unaborted = none_stay commit es c kind.Abort (other kind.Abort refl) k.fresh.unaborted;
-          unended = decides_spared commit es c kind.End (other kind.End refl) k.fresh.unended;
+          unended = decides_spared commit es c kind.End (other kind.End refl) k.fresh.undecided.unended;
           acknowledged = λ all n below. absurd (none_below n below);
         },
       );
     }
 
-outcome_safe : (w : Work) (t : Tally) (es : List Event) (i : ℕ) → i < w.participants → Base w.participants t.told t.begun es → Telling w.participants (number t) t.told t.acknowledged i es
+outcome_safe : (w : Work) (t : Tally) (es : List Event) (i : ℕ) → i < w.participants → Base w.participants t.told t.begun es
+    → Telling w.participants (number t) t.told t.acknowledged i es
     → Safe w (state (at_step t (SendAck i)) (Written (Force (Participant i) (entry t kind.Commit)) ∷ es))
 outcome_safe w t es i below b k =
     let commit : Write = Force (Participant i) (entry t kind.Commit) in
@@ -354,15 +373,18 @@ outcome_safe w t es i below b k =
       );
     }
 
-abort_record_safe : (w : Work) → 1 ≤ w.participants → (t : Tally) (es : List Event) (n : ℕ) (next : Option ℕ) → Base w.participants t.told t.begun es → Undecided es (number t) → was_told t.told (number t) ≡ false
+abort_record_safe : (w : Work) → 1 ≤ w.participants → (t : Tally) (es : List Event) (n : ℕ) (next : Option ℕ) → Base w.participants t.told t.begun es
+    → Undecided es (number t) → was_told t.told (number t) ≡ false
     → Safe w (state (abort_to w t next) (Written (Append (Participant n) (entry t kind.Abort)) ∷ es))
 abort_record_safe w some t es n next b h untold =
     let abort : Write = Append (Participant n) (entry t kind.Abort) in
+    let other = other_kind (entry t kind.Abort) (number t) in
     abort_safe w some t (Written abort ∷ es) next (base_stay abort w.participants t.told t.begun es refl b)
-    (undecided_stay abort es (number t) (other_kind (entry t kind.Abort) (number t) kind.Commit refl) h) untold
+    (undecided_stay abort es (number t) (other kind.Commit refl) (other kind.End refl) h) untold
 
 -- what stands before a step says how the transaction under way ends
-settled_now : (p c : ℕ) (told votes : List ℕ) (all : Bool) (es : List Event) (step : Step) → StepSafe step p c told votes all es → Settled p es c (was_told told c)
+settled_now : (p c : ℕ) (told votes : List ℕ) (all : Bool) (es : List Event) (step : Step) → StepSafe step p c told votes all es
+    → Settled p es c (was_told told c)
 settled_now p c told votes all es (SendPrepare i) r = untold_settled p c told es r.1.untold r.1.fresh.undecided
 settled_now p c told votes all es (ForcePrepare i) r = untold_settled p c told es r.1.untold r.1.fresh.undecided
 settled_now p c told votes all es (SendVote i Yes) r = untold_settled p c told es r.1.0.untold r.1.0.fresh.undecided
@@ -381,7 +403,8 @@ Stands w t es = Base w.participants t.told t.begun es
 abbrev Before : Step → Work → Tally → List Event → Type 0
 Before step w t es = StepSafe step w.participants (number t) t.told t.yes t.acknowledged es
 
-go_safe : (w : Work) → 1 ≤ w.participants → (t : Tally) (es : List Event) (step : Step) → Stands w t es → Before step w t es → Safe w (state (on_go Sound w t step) (with_write (go_write Sound w t step) es))
+go_safe : (w : Work) → 1 ≤ w.participants → (t : Tally) (es : List Event) (step : Step) → Stands w t es → Before step w t es
+    → Safe w (state (on_go Sound w t step) (with_write (go_write Sound w t step) es))
 go_safe w some t es (SendPrepare i) b r = wish_safe w (wish w (number t) i) t es i r.0 b r.1
 go_safe w some t es (ForcePrepare i) b r = prepared_safe w t es i r.0 b r.1
 go_safe w some t es (SendVote i Yes) b r = vote_safe w some (with_yes t i) es i r.0 b (polled_yes (number t) t.told t.yes i es r.1.0 r.1.1)
@@ -394,7 +417,8 @@ go_safe w some t es (SendAck i) b r = commit_safe w some t es i b (telling_more 
 go_safe w some t es (SendAbort k) b r = abort_record_safe w some t es _ (next_of k (length t.yes)) b r.0 r.1
 go_safe w some t es Over b r = record { base = b; step = r }
 
-return_safe : (w : Work) → 1 ≤ w.participants → (t : Tally) (es : List Event) (step : Step) → Stands w t es → Before step w t es → Safe w (state (on_return Sound w t step) (with_write (return_write Sound w t step) es))
+return_safe : (w : Work) → 1 ≤ w.participants → (t : Tally) (es : List Event) (step : Step) → Stands w t es → Before step w t es
+    → Safe w (state (on_return Sound w t step) (with_write (return_write Sound w t step) es))
 return_safe w some t es (SendPrepare i) b r = vote_safe w some t es i r.0 b (polled_lost (number t) t.told t.yes i es r.1)
 return_safe w some t es (ForcePrepare i) b r = record { base = b; step = r }
 return_safe w some t es (SendVote i Yes) b r = vote_safe w some t es i r.0 b (polled_lost (number t) t.told t.yes i es r.1.0)
@@ -428,26 +452,38 @@ laid_none w (Go ∷ answers) = laid_none w answers
 laid_none w (Return text ∷ answers) = laid_none w answers
 laid_none w (Halt ∷ answers) = laid_none w answers
 
-abbrev judged_so : Work → State → Judgement
-judged_so w s = judged w.participants s.tally.told s.events s.tally.begun
-
-safe_kept : (w : Work) → 1 ≤ w.participants → (s : State) → Safe w s → judged_so w s ≡ Kept
-safe_kept w some s k =
-    all_kept w.participants some s.tally.told s.events s.tally.begun
-    (settled_all w.participants s.tally.told s.tally.begun s.events k.base
-    (settled_now w.participants (number s.tally) s.tally.told s.tally.yes s.tally.acknowledged s.events s.tally.step k.step))
-
 nothing_open : (k : ℕ) → Open [] k × (was_told [] k ≡ false)
-nothing_open k = (record { undecided = record { undecided = refl; uncommitted = λ n. refl }; unended = refl; unaborted = λ n. refl }, refl)
+nothing_open k = (record { undecided = record { undecided = refl; uncommitted = λ n. refl; unended = refl }; unaborted = λ n. refl }, refl)
 
-laid_kept : (w : Work) → 1 ≤ w.participants → (answers : List Reply) → judged_so w (laid Sound w (start_of w) answers) ≡ Kept
-laid_kept w some answers = in_case (nat_lt 0 (length w.transactions))
+abbrev SettledAt : Work → ℕ → State → Type 0
+SettledAt w k s = Settled w.participants s.events k (was_told s.tally.told k)
+
+safe_settled : (w : Work) (s : State) (k : ℕ) → Safe w s → SettledAt w k s
+safe_settled w s k safe = in_case (nat_lt k s.tally.begun) refl
   where
-    in_case : (more : Bool) → judged_so w (laid Sound w (state (cond more (opened before_all) (at_step before_all Over)) []) answers) ≡ Kept
+    in_case : (before : Bool) → nat_lt k s.tally.begun ≡ before → SettledAt w k s
+    in_case true e =
+        let now = settled_now w.participants (number s.tally) s.tally.told s.tally.yes s.tally.acknowledged s.events s.tally.step safe.step in
+        settled_all w.participants s.tally.told s.tally.begun s.events safe.base now k (ltb-true k s.tally.begun e)
+    in_case false e =
+        let is = safe.base.later k (ltb-false k s.tally.begun e) in
+        untold_settled w.participants k s.tally.told s.events is.1 is.0.undecided
+
+-- whatever is answered, each transaction is settled
+pub all_settled : (w : Work) → 1 ≤ w.participants → (answers : List Reply) (k : ℕ) → SettledAt w k (laid Sound w (start_of w) answers)
+all_settled w some answers k = in_case (nat_lt 0 (length w.transactions))
+  where
+    in_case : (more : Bool) → SettledAt w k (laid Sound w (state (cond more (opened before_all) (at_step before_all Over)) []) answers)
     in_case true =
         let first = state (opened before_all) [] in
-        safe_kept w some (laid Sound w first answers) (laid_safe w some first answers (begun_safe w some before_all [] (λ k h. absurd (none_below k h)) (λ k h. nothing_open k)))
-    in_case false = ap (judged_so w) (laid_none w answers)
+        let begins = begun_safe w some before_all [] (λ i h. absurd (none_below i h)) (λ i h. nothing_open i) in
+        safe_settled w (laid Sound w first answers) k (laid_safe w some first answers begins)
+    in_case false = subst (SettledAt w k) (sym (laid_none w answers)) (nothing_open k).0.undecided
+
+laid_kept : (w : Work) → 1 ≤ w.participants → (answers : List Reply) → judged_at w (laid Sound w (start_of w) answers) ≡ Kept
+laid_kept w some answers =
+    let s = laid Sound w (start_of w) answers in
+    all_kept w.participants some s.tally.told s.events s.tally.begun (λ k h. all_settled w some answers k)
 
 done_kept : (point : Option ℕ) (i j : Judgement) → i ≡ Kept → move_by i point ≡ Done j → j ≡ Kept
 done_kept (Some p) i j k e = cc

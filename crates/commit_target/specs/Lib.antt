@@ -5,3 +5,4 @@ pub mod Judgement
 pub mod Steps
 pub mod Seen
 pub mod Flaws
+pub mod Protocol

@@ -15,8 +15,8 @@ mod work;
 pub use commit::Commit;
 pub use judge::{LOST, PHANTOM, SPLIT, judge as judge_logs};
 pub use laws::{
-    early_end_is_split, lazy_prepare_is_lost, lazy_prepare_is_split, sound_never_fails,
-    two_tries_is_split,
+    early_end_is_split, lazy_prepare_is_lost, lazy_prepare_is_split, sound_bears_out,
+    sound_never_fails, two_tries_is_split, yes_is_prepared,
 };
 pub use logs::Logs;
 pub use records::{Kind, Party, Record, Write};
