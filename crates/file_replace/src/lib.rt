@@ -14,9 +14,7 @@ mod variant;
 mod work;
 
 pub use judge::{STALE, TORN};
-pub use laws::{
-    ignore_sync_is_stale, late_sync_is_torn, retry_write_is_torn, sound_never_fails,
-};
+pub use laws::{ignore_sync_is_stale, late_sync_is_torn, retry_write_is_torn, sound_never_fails};
 pub use play::play as play_on;
 pub use replace::Replace;
 pub use variant::Variant;
