@@ -1,9 +1,15 @@
 -- Workloads and scenarios that a flawed replacement fails. They are the least that a campaign finds and reduces.
-use Rattle.std.specs.Prelude.{ℕ, List, [], ◌∷◌, Some, None, codes}
+use Rattle.std.specs.Prelude.{ℕ, suc, List, [], ◌∷◌, Option, Some, None, codes}
 use Rattle.scenario_values.specs.Scenario.{Entries}
 use Rattle.scenario_values.specs.declared.term.Term.{Term}
 use Rattle.scenario_values.specs.declared.term.Task.TheVariants.{Return}
+use Rattle.sim_device.specs.FileEffects.{PowerCut, Live, held}
+use Rattle.action_eval.specs.Answers.{Given, replies, start}
+use Rattle.target_trait.specs.Outcomes.{play}
+use Rattle.file_replace.specs.declared.variant.Variant.{Variant}
+use Rattle.file_replace.specs.Words.{target}
 use Rattle.file_replace.specs.Work.{Work}
+use Rattle.file_replace.specs.Steps.{start_of, laid, asks_of}
 
 -- these contents, replaced once by the chunks `ne` and `w`
 abbrev pub replaced_by_new : List ℕ → Work
@@ -24,3 +30,7 @@ sync_fails = fails_once (codes "replace::sync") ∷ []
 
 abbrev pub write_fails : Entries
 write_fails = fails_once (codes "replace::write") ∷ []
+
+-- what `target` holds after the power cut at the end of a run
+abbrev pub left_by : Variant → Work → Given → Option (List ℕ)
+left_by v w g = held (PowerCut ∷ (laid v (start_of w) (replies (play (suc g.limit) (asks_of v w) (start g)))).effects) Live target

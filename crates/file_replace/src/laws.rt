@@ -1,12 +1,12 @@
 //! What holds of every run.
-ghost use Rattle.std.specs.Prelude.{◌≡◌, ℕ};
+ghost use Rattle.std.specs.Prelude.{◌≡◌, ℕ, [], Some, codes};
 ghost use Rattle.action_eval.specs.Answers.{given_of};
 ghost use Rattle.target_trait.specs.Outcomes.{outcome};
 ghost use Rattle.target_trait.specs.declared.judgement.Verdict.TheVariants.{Fail};
 ghost use Rattle.file_replace.specs.declared.variant.Variant.TheVariants.{Sound, LateSync, IgnoreSync, RetryWrite};
 ghost use Rattle.file_replace.specs.Words.{point_names, torn, stale};
 ghost use Rattle.file_replace.specs.Steps.{asks_of};
-ghost use Rattle.file_replace.specs.Flaws.{old_to_new, empty_to_new, sync_fails, write_fails};
+ghost use Rattle.file_replace.specs.Flaws.{old_to_new, empty_to_new, sync_fails, write_fails, left_by};
 
 use crate::work::Replacements;
 use scenario_values::Scenario;
@@ -24,19 +24,22 @@ pub fn sound_never_fails(
 {}
 
 /// late_sync fails: under `replace::sync=1*return` the replacement of `old` by `ne` and `w` is torn, whatever the seed and the number of
-/// the stream. `target` leads to the new file before that is synced, and its sync fails.
+/// the stream. `target` leads to the new file before that is synced, and then its sync fails: nothing of it lasts.
 pub fn late_sync_is_torn()
-    ensures { (seed stream : ℕ) → (outcome (asks_of LateSync old_to_new) (given_of sync_fails point_names seed stream 1000)).verdict ≡ Fail torn }
+    ensures verdict { (seed stream : ℕ) → (outcome (asks_of LateSync old_to_new) (given_of sync_fails point_names seed stream 1000)).verdict ≡ Fail torn }
+    ensures contents { (seed stream : ℕ) → left_by LateSync old_to_new (given_of sync_fails point_names seed stream 1000) ≡ Some [] }
 {}
 
 /// retry_write fails: under `replace::write=1*return` the replacement of `old` by `ne` and `w` is torn, since `ne` is written once more
-/// after its half: `target` holds `nnew`.
+/// after its half.
 pub fn retry_write_is_torn()
-    ensures { (seed stream : ℕ) → (outcome (asks_of RetryWrite old_to_new) (given_of write_fails point_names seed stream 1000)).verdict ≡ Fail torn }
+    ensures verdict { (seed stream : ℕ) → (outcome (asks_of RetryWrite old_to_new) (given_of write_fails point_names seed stream 1000)).verdict ≡ Fail torn }
+    ensures contents { (seed stream : ℕ) → left_by RetryWrite old_to_new (given_of write_fails point_names seed stream 1000) ≡ Some (codes "nnew") }
 {}
 
 /// ignore_sync fails: under `replace::sync=1*return` the replacement of empty contents by `ne` and `w` is stale. It is acknowledged, and
 /// of the new file, which was never synced, nothing lasts: `target` is as empty as before.
 pub fn ignore_sync_is_stale()
-    ensures { (seed stream : ℕ) → (outcome (asks_of IgnoreSync empty_to_new) (given_of sync_fails point_names seed stream 1000)).verdict ≡ Fail stale }
+    ensures verdict { (seed stream : ℕ) → (outcome (asks_of IgnoreSync empty_to_new) (given_of sync_fails point_names seed stream 1000)).verdict ≡ Fail stale }
+    ensures contents { (seed stream : ℕ) → left_by IgnoreSync empty_to_new (given_of sync_fails point_names seed stream 1000) ≡ Some [] }
 {}

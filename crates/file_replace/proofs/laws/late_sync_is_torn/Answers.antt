@@ -1,5 +1,5 @@
-use Rattle.file_replace.proofs.Flawed.{late_sync_is_torn}
+use Rattle.file_replace.proofs.Flawed.{late_sync_is_torn, late_sync_leaves}
 use Rattle.file_replace.proofs.laws.late_sync_is_torn.Goals as goal
 
 pub returns : goal.returns
-returns c = late_sync_is_torn
+returns c = record { verdict = late_sync_is_torn; contents = late_sync_leaves }

@@ -1,5 +1,5 @@
-use Rattle.file_replace.proofs.Flawed.{retry_write_is_torn}
+use Rattle.file_replace.proofs.Flawed.{retry_write_is_torn, retry_write_leaves}
 use Rattle.file_replace.proofs.laws.retry_write_is_torn.Goals as goal
 
 pub returns : goal.returns
-returns c = retry_write_is_torn
+returns c = record { verdict = retry_write_is_torn; contents = retry_write_leaves }
