@@ -14,6 +14,7 @@ pub mod Renumbered
 pub mod Histories
 pub mod Rests
 pub mod Steps
+pub mod Heads
 pub mod CallerLemmas
 pub mod RunLaws
 pub mod LeftFaults

@@ -25,8 +25,8 @@ same_row : (a b : ℕ → ℕ) (i : ℕ) (ts : List Term) → ((k : ℕ) → i �
 same_row a b i [] h = refl
 same_row a b i (t ∷ ts) h = let head = h i (omega arith) in let tail = same_row a b (i + 1) ts (λ k le. h k (omega arith)) in cc
 
-left_of-suc : (o : Option ℕ) (n : ℕ) → option_map_or (λ c. c - (n + 1)) o 0 ≡ option_map_or (λ c. c - n) o 0 - 1
-left_of-suc None n = refl
+left_of-suc : (o : Option ℕ) (n : ℕ) → option_map_or (λ c. c - (n + 1)) o (4294967295 - (n + 1)) ≡ option_map_or (λ c. c - n) o (4294967295 - n) - 1
+left_of-suc None n = omega arith
 left_of-suc (Some c) n = omega arith
 
 at_next : (i k : ℕ) → (i + 1) + k ≡ i + suc k

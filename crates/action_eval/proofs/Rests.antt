@@ -112,10 +112,6 @@ within_further : (k n m : ℕ) (place : Option ℕ) → m ≡ k + n → IfSome p
 within_further k n m None e h = tt
 within_further k n m (Some i) e h = omega arith
 
-pub place_within : (start n m : ℕ) (place : Option ℕ) → start + n ≤ m → IfSome place (λ i. i < n) → (i : ℕ) → place ≡ Some i → start + i < m
-place_within start n m None le h i e = absurd (cc)
-place_within start n m (Some j) le h i e = let same : j ≡ i = cc in omega arith
-
 pub length_of_rest : (left : List ℕ) (whole rest : List Term × ℕ) (r : Rest left whole rest) → length whole.0 ≡ length r.before + length rest.0
 length_of_rest left whole rest r = ap length r.chain_is ∙ length-append r.before rest.0
 

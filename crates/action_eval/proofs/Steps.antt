@@ -195,7 +195,7 @@ many s (n ∷ ns) (suc p) h = omega (arith, many s ns p (omega arith))
 known_by : (r now : Run) (p : ℕ) → r ≡ now → p < length now.given.catalogue → p < length r.given.catalogue
 known_by r now p e h = subst (λ (x : Run). p < length x.given.catalogue) (sym e) h
 
-point_found : (r now : Run) (found : List (Option Found)) (left : List ℕ) (taken : ℕ) (notes : List Note) (millis : ℕ) (halt : Option Stop) → Keeps r (map seen found) left taken notes millis halt
+pub point_found : (r now : Run) (found : List (Option Found)) (left : List ℕ) (taken : ℕ) (notes : List Note) (millis : ℕ) (halt : Option Stop) → Keeps r (map seen found) left taken notes millis halt
     → r ≡ now → (p : ℕ) → p < length now.given.catalogue → (d o : Option Found) → o ≡ get_or found p d → IsRest left (found_of r.given.scenario (name_of r.given p)) (seen o)
 point_found r now found left taken notes millis halt k same p h d o e =
     let s = r.given.scenario in

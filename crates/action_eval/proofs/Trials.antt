@@ -10,7 +10,7 @@ use Rattle.action_eval.specs.Session.{left_row}
 zero_test : (a b : ℕ) → eqb (a - b) 0 ≡ leb a b
 zero_test a b = grind (arith, nat_tests)
 
-count_case : (o : Option ℕ) (l n : ℕ) → l ≡ option_map_or (λ c. c - n) o 0 → (is_some o && eqb l 0) ≡ option_map_or (λ c. leb c n) o false
+count_case : (o : Option ℕ) (l n : ℕ) → l ≡ option_map_or (λ c. c - n) o (4294967295 - n) → (is_some o && eqb l 0) ≡ option_map_or (λ c. leb c n) o false
 count_case None l n h = refl
 count_case (Some c) l n h = ap (λ x. eqb x 0) h ∙ zero_test c n
 

@@ -1,11 +1,13 @@
 -- How a session keeps its run: the chain of each point, what is left of the counts, and what the hits came to.
-use Rattle.std.specs.Prelude.{◌≡◌, ℕ, zero, suc, ◌+◌, ◌-◌, ◌*◌, ◌^◌, ◌≤◌, List, [], ◌∷◌, ◌++◌, length, map, Option, Some, None, option_map, slice_index, slice_set, Bool, true, false}
+use Rattle.std.specs.Prelude.{◌≡◌, ℕ, zero, suc, ◌+◌, ◌-◌, ◌*◌, ◌^◌, ◌≤◌, List, [], ◌∷◌, ◌++◌, length, map, Option, Some, None, option_map, slice_index, slice_set, Bool, true, false, ◌==◌, ◌&&◌, if◌then◌else◌}
 use Rattle.std.specs.Option.{option_map_or}
 use Rattle.scenario_values.specs.declared.term.Term.{Term}
-use Rattle.scenario_values.specs.Scenario.{Entries, IsScenario, entry_of, chain_at}
+use Rattle.scenario_values.specs.Scenario.{Entries, IsScenario, entry_of, chain_at, is_off}
 use Rattle.action_eval.specs.declared.answer.Stop.{Stop}
 use Rattle.action_eval.specs.declared.answer.Note.{Note}
 use Rattle.action_eval.specs.declared.found.Found.{Found}
+use Rattle.action_eval.specs.declared.found.Head.{Head}
+use Rattle.action_eval.specs.declared.found.Head.TheVariants as head
 use Rattle.action_eval.specs.Trial.{is_spent}
 use Rattle.action_eval.specs.Answers.{Hit, Run, acted, words_of, history_of, notes_of, total_millis, stopped}
 
@@ -26,9 +28,9 @@ seen found = option_map (λ f. (f.chain.now, f.start)) found
 
 -- ---- what is left of the counts
 
--- what is left of a term's count; of none, nothing
+-- what is left of a term's count; without one, of more than there are hits in a run
 abbrev pub left_of : ℕ → Term → ℕ
-left_of times t = option_map_or (λ count. count - times) t.count 0
+left_of times t = option_map_or (λ count. count - times) t.count (4294967295 - times)
 
 -- what is left of the counts of terms, from place i on
 abbrev pub left_row : (ℕ → ℕ) → ℕ → List Term → List ℕ
@@ -81,6 +83,19 @@ AreRests left [] [] = Unit {0}
 AreRests left [] (r ∷ rs) = ⊥
 AreRests left (w ∷ ws) [] = ⊥
 AreRests left (w ∷ ws) (r ∷ rs) = IsRest left w r × AreRests left ws rs
+
+-- ---- hits that come to nothing
+
+-- what the next hit meets, by what is left of the chain from a start on: no term; an `off` that acts wherever it is reached, whose count
+-- stands at the start; or terms to try
+abbrev pub first_head : List Term → ℕ → Head
+first_head [] start = head.Nothing
+first_head (t ∷ ts) start = if is_off t.task && (t.share == 1000000) then head.Off start else head.Terms
+
+-- the same of a point; without a chain, no term
+abbrev pub head_of : Option (List Term × ℕ) → Head
+head_of None = head.Nothing
+head_of (Some rest) = first_head rest.0 rest.1
 
 -- ---- the fields of a session keep a run
 

@@ -8,12 +8,12 @@ use crate::found::start_of;
 use scenario_values::{Scenario, Term};
 use std::alloc::{AllocError, Global};
 
-/// Adds the counts of a chain; a term without one has 0.
+/// Adds the counts of a chain; a term without one has more than a session answers hits.
 fn push_counts(left: &mut Vec<u32>, terms: &[Term]) -> Result<(), AllocError>
     ensures { OnOk result (left.new.items ≡ left.old.items ++ left_row (λ _. 0) 0 terms.now) }
 {
     for term in terms {
-        left.push(term.count.unwrap_or(0))?;
+        left.push(term.count.unwrap_or(u32::MAX))?;
     }
     Ok(())
 }

@@ -28,17 +28,32 @@ fn generator_at(seed: u64, stream: u64, number: u64) -> ChaCha8Rng
     generator
 }
 
-/// The words of a run. Most runs take none, so the generator is made for the first one.
+/// How many words a generator is made to pass over. Where they are more, a new one costs less.
+const FEW_WORDS: u64 = 64;
+
+/// Passes over so many words.
+fn pass_over(generator: &mut ChaCha8Rng, words: u64)
+    requires { generator.old.word_pos + words < 2 ^ 68 }
+    ensures { generator.new ≡ record generator.old { word_pos = generator.old.word_pos + words } }
+{
+    for _ in 0..words {
+        generator.next_word();
+    }
+}
+
+/// The words of a run. Most runs look at none, so the generator is made for the first one that is looked at.
 #[derive(Drop)]
 pub struct Draws {
     seed: u64,
     stream: u64,
     taken: u64,
+    /// The number of the word that the generator gives next. It lags behind: words that nobody looks at aren't made.
+    at: u64,
     generator: Option<ChaCha8Rng>,
 }
 
 impl Model for Draws {
-    ghost use Rattle.std.specs.Prelude.{◌≡◌};
+    ghost use Rattle.std.specs.Prelude.{◌≡◌, ◌≤◌};
     ghost use Rattle.std.specs.Option.{ForSome};
     ghost use Rattle.action_eval.specs.Words.{Drawn, at_word};
 
@@ -50,7 +65,7 @@ impl Model for Draws {
       taken = d.taken;
     } };
 
-    ghost invariant = { λ d. ForSome d.generator (λ g. g ≡ at_word d.seed d.stream d.taken) };
+    ghost invariant = { λ d. (d.at ≤ d.taken) × ForSome d.generator (λ g. g ≡ at_word d.seed d.stream d.at) };
 }
 
 impl Draws {
@@ -61,6 +76,7 @@ impl Draws {
             seed,
             stream,
             taken: 0,
+            at: 0,
             generator: None,
         }
     }
@@ -72,6 +88,14 @@ impl Draws {
         self.taken
     }
 
+    /// Takes so many words, at which nobody looks.
+    pub fn skip(&mut self, words: u64)
+        requires { self.old.taken + words < 2 ^ 64 }
+        ensures { self.new ≡ record self.old { taken = self.old.taken + words } }
+    {
+        self.taken += words;
+    }
+
     /// Takes the next word.
     #[tactic(auto, unfolding(crate::specs::Words::at_word, crate::specs::Words::word))]
     pub fn take(&mut self) -> u32
@@ -79,8 +103,14 @@ impl Draws {
         ensures value { result ≡ word self.old.seed self.old.stream self.old.taken }
         ensures moved { self.new ≡ record self.old { taken = self.old.taken + 1 } }
     {
+        if self.taken - self.at > FEW_WORDS {
+            self.generator = None;
+        }
         let word = match &mut self.generator {
-            Some(generator) => generator.next_word(),
+            Some(generator) => {
+                pass_over(generator, self.taken - self.at);
+                generator.next_word()
+            }
             None => {
                 let mut generator = generator_at(self.seed, self.stream, self.taken);
                 let word = generator.next_word();
@@ -89,6 +119,7 @@ impl Draws {
             }
         };
         self.taken += 1;
+        self.at = self.taken;
         word
     }
 
@@ -97,6 +128,7 @@ impl Draws {
         ensures { self.new ≡ record self.old { taken = taken } }
     {
         self.taken = taken;
+        self.at = taken;
         self.generator = None;
     }
 }

@@ -2,10 +2,11 @@
 ghost use Rattle.std.specs.Prelude.{◌≡◌, ◌+◌, ◌<◌, ◌≤◌, length, map, IfOk};
 ghost use Rattle.scenario_values.specs.Scenario.{IsScenario};
 ghost use Rattle.action_eval.specs.Answers.{texts};
-ghost use Rattle.action_eval.specs.Session.{seen, found_of, start_of, Rest, StartsUnspent};
+ghost use Rattle.action_eval.specs.Session.{seen, found_of, start_of, head_of, Rest, StartsUnspent};
 ghost use Rattle.action_eval.specs.Trial.{is_spent};
 
-use scenario_values::{Scenario, Term};
+use crate::terms::FULL_SHARE;
+use scenario_values::{Scenario, Task, Term};
 use std::alloc::{AllocError, Global};
 
 /// A chain, and where its counts begin among those of all chains. Terms at its head that are spent may be left out: a count never grows,
@@ -16,8 +17,45 @@ pub struct Found<'a> {
     pub start: usize,
 }
 
+/// What the next hit of a point meets.
+#[derive(Clone, Copy)]
+pub enum Head {
+    /// No term: the hit comes to nothing.
+    Nothing,
+    /// An `off` that acts wherever it is reached. As long as anything is left of its count, which stands here, the hit comes to nothing.
+    Off(usize),
+    /// Terms that have to be tried.
+    Terms,
+}
+
+/// What the next hit of a point meets, by what is left of its chain.
+pub fn head_of(found: Option<Found<'_>>) -> Head
+    ensures { result ≡ head_of (seen found.entry) }
+{
+    let Some(found) = found else {
+        return Head::Nothing;
+    };
+    match found.chain.first() {
+        None => Head::Nothing,
+        Some(first) => match first.task {
+            Task::Off if first.share == FULL_SHARE => Head::Off(found.start),
+            _ => Head::Terms,
+        },
+    }
+}
+
+/// The same of all points.
+pub fn heads_of(alloc: Global, found: &[Option<Found<'_>>]) -> Result<Vec<Head>, AllocError>
+    ensures { IfOk result (λ heads. heads.items ≡ map head_of (map seen found.now)) }
+{
+    let mut heads = Vec::with_capacity(alloc, found.len())?;
+    for point in found {
+        heads.push(head_of(*point))?;
+    }
+    Ok(heads)
+}
+
 /// A chain without the terms at its head that are spent.
-#[inline(always)]
 pub fn without_spent<'a>(found: Found<'a>, left: &[u32]) -> Found<'a>
     requires { found.start + length found.chain.now ≤ length left.now }
     ensures rest { Rest left.now (found.entry.chain.now, found.entry.start) (result.chain.now, result.start) }

@@ -7,8 +7,8 @@ ghost use Rattle.action_eval.specs.Session.{found_of, seen, left_counts, IsRest}
 use crate::answer::{Answer, Note, Stop, answer_of, millis_of, push_note, stop_of};
 use crate::counts::{full_counts, spend};
 use crate::draws::Draws;
-use crate::found::{Found, find_all, without_spent};
-use crate::terms::{idle_place, try_terms};
+use crate::found::{Found, Head, find_all, head_of, heads_of, without_spent};
+use crate::terms::try_terms;
 use scenario_values::{Scenario, Task, Term};
 use std::alloc::{AllocError, Global};
 use std::marker::Model;
@@ -60,6 +60,7 @@ pub struct Session<'a> {
     max_hits: u32,
     hits: Vec<u32>,
     found: Vec<Option<Found<'a>>>,
+    heads: Vec<Head>,
     left: Vec<u32>,
     draws: Draws,
     notes: Vec<Note>,
@@ -68,9 +69,9 @@ pub struct Session<'a> {
 }
 
 impl<'a> Model for Session<'a> {
-    ghost use Rattle.std.specs.Prelude.{map};
+    ghost use Rattle.std.specs.Prelude.{◌≡◌, map};
     ghost use Rattle.action_eval.specs.Answers.{Run};
-    ghost use Rattle.action_eval.specs.Session.{Keeps, seen};
+    ghost use Rattle.action_eval.specs.Session.{Keeps, seen, head_of};
 
     ghost Value = { Run };
 
@@ -94,7 +95,8 @@ impl<'a> Model for Session<'a> {
         limit = s.max_hits;
       };
       hits = s.hits.items;
-    }) (map seen s.found.items) s.left.items s.draws.taken s.notes.items s.millis s.stopped };
+    }) (map seen s.found.items) s.left.items s.draws.taken s.notes.items s.millis s.stopped
+        × (s.heads.items ≡ map head_of (map seen s.found.items)) };
 }
 
 impl<'a> Session<'a> {
@@ -113,12 +115,14 @@ impl<'a> Session<'a> {
     {
         let left = full_counts(alloc, scenario)?;
         let found = find_all(alloc, scenario, catalogue)?;
+        let heads = heads_of(alloc, &found)?;
         Ok(Session {
             scenario,
             catalogue,
             max_hits,
             hits: Vec::with_capacity(alloc, first_room(max_hits))?,
             found,
+            heads,
             left,
             draws: Draws::new(seed, stream),
             notes: Vec::new(alloc),
@@ -147,22 +151,42 @@ impl<'a> Session<'a> {
             self.stopped = Some(Stop::Limit);
             return Ok(Answer::Halt);
         }
+        match self.heads[point as usize] {
+            Head::Nothing => {
+                self.hits.push(point)?;
+                Ok(Answer::Go)
+            }
+            Head::Off(at) if self.left[at] > 0 => {
+                self.hits.push(point)?;
+                self.left[at] -= 1;
+                Ok(Answer::Go)
+            }
+            _ => self.hit_terms(point),
+        }
+    }
+
+    /// Hits a point, where nothing is known of what the hit comes to.
+    #[inline(never)]
+    fn hit_terms(&mut self, point: u32) -> Result<Answer<'a>, AllocError>
+        requires room { length self.old.hits < self.old.given.limit }
+        requires limit { self.old.given.limit < 2 ^ 32 }
+        requires known { point < length self.old.given.catalogue }
+        requires running { stopped self.old ≡ None }
+        ensures answer { IfOk result (λ a. reply_of_answer a ≡ reply_to self.old point) }
+        ensures ok { OnOk result (self.new ≡ hit self.old point) }
+        ensures told { IfOk result (λ a. replies self.new ≡ replies self.old ++ reply_of_answer a ∷ []) }
+        ensures goes_on { IfOk result (λ a. GoesOn (reply_of_answer a) self.new) }
+        ensures err { OnErr result (self.new ≡ self.old) }
+    {
         let Some(found) = self.found[point as usize] else {
             self.hits.push(point)?;
             return Ok(Answer::Go);
         };
         let found = without_spent(found, &self.left);
-        let Some(idle) = idle_place(found.chain) else {
-            return self.hit_chain(point, found);
-        };
-        self.hits.push(point)?;
-        spend(&mut self.left, found.start, idle);
-        self.found[point as usize] = Some(found);
-        Ok(Answer::Go)
+        self.hit_chain(point, found)
     }
 
     /// Hits a point with a chain, of which this is what is left.
-    #[inline(never)]
     fn hit_chain(&mut self, point: u32, found: Found<'a>) -> Result<Answer<'a>, AllocError>
         requires room { length self.old.hits < self.old.given.limit }
         requires limit { self.old.given.limit < 2 ^ 32 }
@@ -185,6 +209,7 @@ impl<'a> Session<'a> {
         }
         spend(&mut self.left, found.start, place);
         self.found[point as usize] = Some(found);
+        self.heads[point as usize] = head_of(Some(found));
         self.millis += u64::from(millis_of(task));
         self.stopped = stop_of(task);
         Ok(answer_of(task))

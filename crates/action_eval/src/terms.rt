@@ -11,9 +11,10 @@ use crate::draws::Draws;
 use scenario_values::{Task, Term};
 
 /// The share of a term that acts at each hit that reaches it: a million millionths.
-const FULL_SHARE: u32 = 1_000_000;
+pub const FULL_SHARE: u32 = 1_000_000;
 
-/// The place of the term that acts, if one does, by what is left of the counts. The terms that draw take their words.
+/// The place of the term that acts, if one does, by what is left of the counts. The terms that draw take their words; nobody looks at
+/// the word of a term of share 0.
 pub fn try_terms(terms: &[Term], left: &[u32], draws: &mut Draws) -> Option<usize>
     requires rows { length left.now ≡ length terms.now }
     requires room { draws.old.taken + length terms.now < 2 ^ 64 }
@@ -21,30 +22,21 @@ pub fn try_terms(terms: &[Term], left: &[u32], draws: &mut Draws) -> Option<usiz
     ensures place { result ≡ (tried (word draws.old.seed draws.old.stream) (is_spent left.now) 0 terms.now draws.old.taken).place }
     ensures next { draws.new ≡ record draws.old { taken = (tried (word draws.old.seed draws.old.stream) (is_spent left.now) 0 terms.now draws.old.taken).next } }
 {
+    let mut unseen = 0;
     for (place, term) in terms.iter().enumerate() {
-        if term.count.is_some() && left[place] == 0 {
+        if left[place] == 0 && term.count.is_some() {
             continue;
         }
+        if term.share == 0 {
+            unseen += 1;
+            continue;
+        }
+        draws.skip(unseen);
+        unseen = 0;
         if term.share == FULL_SHARE || draws.take() % FULL_SHARE < term.share {
             return Some(place);
         }
     }
+    draws.skip(unseen);
     None
-}
-
-/// The place of the term that acts, if one does, where the hit comes to nothing and the first term isn't spent: no word is drawn, and what
-/// acts is `off`. `None` where that term has to draw, or does something.
-#[inline(always)]
-pub fn idle_place(terms: &[Term]) -> Option<Option<usize>>
-    ensures within { IfSome result (λ place. IfSome place (λ i. i < length terms.now)) }
-    ensures off { IfSome result (λ place. task_at terms.now place ≡ Off) }
-    ensures idle { IfSome result (λ place. (word : ℕ → ℕ) (spent : ℕ → Term → Bool) (next : ℕ) → StartsUnspent spent 0 terms.now → tried word spent 0 terms.now next ≡ record { place = place; next = next }) }
-{
-    let Some(first) = terms.first() else {
-        return Some(None);
-    };
-    match first.task {
-        Task::Off if first.share == FULL_SHARE => Some(Some(0)),
-        _ => None,
-    }
 }

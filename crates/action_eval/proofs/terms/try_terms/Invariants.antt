@@ -8,6 +8,6 @@ abbrev pub invariant-loop-place : goal.invariant-loop-place
 invariant-loop-place l = record {
   seed : l.draws.seed ≡ l.fn.draws.seed;
   stream : l.draws.stream ≡ l.fn.draws.stream;
-  few : l.draws.taken ≤ l.fn.draws.taken + l.place;
-  same : tried (word l.fn.draws.seed l.fn.draws.stream) (is_spent l.left) 0 l.terms l.fn.draws.taken ≡ tried (word l.fn.draws.seed l.fn.draws.stream) (is_spent l.left) l.place (drop l.place l.terms) l.draws.taken;
+  few : l.draws.taken + l.unseen ≤ l.fn.draws.taken + l.place;
+  same : tried (word l.fn.draws.seed l.fn.draws.stream) (is_spent l.left) 0 l.terms l.fn.draws.taken ≡ tried (word l.fn.draws.seed l.fn.draws.stream) (is_spent l.left) l.place (drop l.place l.terms) (l.draws.taken + l.unseen);
 }

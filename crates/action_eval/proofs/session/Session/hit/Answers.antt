@@ -1,74 +1,72 @@
-use Rattle.std.proofs.Common.{Some, ap, ◌∙◌, arith}
+use Rattle.std.proofs.Common.{length, refl, slice_set, ◌-◌, ap, ◌∙◌, arith}
 use Rattle.action_eval.specs.Answers.{stopped, reply_to}
-use Rattle.action_eval.proofs.Steps.{point_none, point_some, point_rest, known_found, rests_after, rest_by_point, finds_none, keeps_idle, finds_off, keeps_off, reply_found, found_within}
+use Rattle.action_eval.proofs.Steps.{known_found, keeps_off, reply_found}
+use Rattle.action_eval.proofs.Heads.{heads_length, value_at, nothing_by, off_by}
 use Rattle.action_eval.proofs.CallerLemmas.{told_by, goes_by}
-use Rattle.action_eval.proofs.Rests.{place_within}
 use Rattle.action_eval.proofs.session.Session.hit.Goals as goal
 
 pub index-requires : goal.index-requires
-index-requires c = omega (arith, known_found _ _ _ _ _ _ _ _ c.self.invariant c.self.view_is c.args.point c.requires.known)
+index-requires c = omega (arith, known_found _ _ _ _ _ _ _ _ c.self.invariant.0 c.self.view_is c.args.point c.requires.known, heads_length c.self.inside.found.items, ap length c.self.invariant.1)
 
--- ---- a point without a chain
+-- ---- a point without a term that is left
 
-pub invariant_of-self-in_default : goal.invariant_of-self-in_default
-invariant_of-self-in_default c =
-    let k = c.self.invariant in
-    let at = point_none _ _ _ _ _ _ _ _ k c.self.view_is c.args.point c.requires.known _ _ c.index.ensures c.in_default.is in
-    keeps_idle _ c.args.point _ _ _ _ _ _ k (omega arith) (ap stopped c.self.view_is ∙ c.requires.running) at _ c.in_ok-push-2.ensures.items
+pub invariant_of-self-in-Nothing-1 : goal.invariant_of-self-in-Nothing-1
+invariant_of-self-in-Nothing-1 c =
+    let k = c.self.invariant.0 in
+    let f = nothing_by _ _ _ _ _ _ _ _ k _ c.self.invariant.1 c.self.view_is c.args.point c.requires.known _ _ c.index.ensures c.in-Nothing.is in
+    (keeps_off _ c.args.point _ _ _ _ _ _ k (omega arith) (ap stopped c.self.view_is ∙ c.requires.running) _ f _ c.in_ok-push-in-Nothing.ensures.items _ refl _ k.found_is, c.self.invariant.1)
 
-pub returns-in_default-clause-answer : goal.returns-in_default-clause-answer
-returns-in_default-clause-answer c =
-    let k = c.self.invariant in
-    let at = point_none _ _ _ _ _ _ _ _ k c.self.view_is c.args.point c.requires.known _ _ c.index.ensures c.in_default.is in
-    reply_found _ c.args.point _ _ _ (finds_none _ c.args.point _ _ _ _ _ _ k at) (omega arith) ∙ ap (λ r. reply_to r c.args.point) c.self.view_is
-
-pub returns-in_default-clause-told : goal.returns-in_default-clause-told
-returns-in_default-clause-told c = told_by _ _ c.args.point _ _ c.self.view_is c.requires.running c.in_ok-push-2.ensures.items (returns-in_default-clause-answer c)
-
-pub returns-in_default-clause-goes_on : goal.returns-in_default-clause-goes_on
-returns-in_default-clause-goes_on c = goes_by _ _ c.args.point _ _ c.self.view_is c.requires.running c.in_ok-push-2.ensures.items (returns-in_default-clause-answer c)
-
--- ---- a point with one
-
-pub without_spent-found-requires : goal.without_spent-found-requires
-without_spent-found-requires c =
-    let k = c.self.invariant in
-    let had = point_some _ _ _ _ _ _ _ _ k c.self.view_is c.args.point c.requires.known _ _ c.index.ensures c.in-Some.found c.in-Some.is in
-    let f = found_within _ _ _ _ _ _ _ k _ _ _ had in
-    omega (arith, f.0, c.deref.ensures.len)
-
-pub spend-requires : goal.spend-requires
-spend-requires c =
-    let k = c.self.invariant in
-    let rest = point_rest _ _ _ _ _ _ _ _ k c.self.view_is c.args.point c.requires.known _ _ c.index.ensures c.in-Some.found c.in-Some.is _ c.deref.ensures.value c.without_spent-found.result c.without_spent-found.ensures.rest in
-    place_within _ _ _ _ (found_within _ _ _ _ _ _ _ k _ _ _ rest).0 c.in-Some-idle_place.ensures.within
-
-pub index_mut-requires : goal.index_mut-requires
-index_mut-requires c = omega (arith, known_found _ _ _ _ _ _ _ _ c.self.invariant c.self.view_is c.args.point c.requires.known)
-
-pub invariant_of-self-2 : goal.invariant_of-self-2
-invariant_of-self-2 c =
-    let k = c.self.invariant in
-    let rest = point_rest _ _ _ _ _ _ _ _ k c.self.view_is c.args.point c.requires.known _ _ c.index.ensures c.in-Some.found c.in-Some.is _ c.deref.ensures.value c.without_spent-found.result c.without_spent-found.ensures.rest in
-    let f = finds_off _ c.args.point _ _ _ _ _ _ k _ c.deref.ensures.value _ _ rest c.without_spent-found.ensures.head _ c.in-Some-idle_place.ensures.idle c.in-Some-idle_place.ensures.within c.in-Some-idle_place.ensures.off in
-    let rests = rests_after _ _ _ _ _ _ _ _ k c.self.view_is c.args.point c.requires.known (Some c.without_spent-found.result) rest in
-    keeps_off _ c.args.point _ _ _ _ _ _ k (omega arith) (ap stopped c.self.view_is ∙ c.requires.running) _ f _ c.in_ok-push-3.ensures.items _ c.spend.ensures _ rests
-
-pub returns-clause-answer : goal.returns-clause-answer
-returns-clause-answer c =
-    let k = c.self.invariant in
-    let rest = point_rest _ _ _ _ _ _ _ _ k c.self.view_is c.args.point c.requires.known _ _ c.index.ensures c.in-Some.found c.in-Some.is _ c.deref.ensures.value c.without_spent-found.result c.without_spent-found.ensures.rest in
-    let f = finds_off _ c.args.point _ _ _ _ _ _ k _ c.deref.ensures.value _ _ rest c.without_spent-found.ensures.head _ c.in-Some-idle_place.ensures.idle c.in-Some-idle_place.ensures.within c.in-Some-idle_place.ensures.off in
+pub returns-in_ok-push-in-Nothing-clause-answer : goal.returns-in_ok-push-in-Nothing-clause-answer
+returns-in_ok-push-in-Nothing-clause-answer c =
+    let k = c.self.invariant.0 in
+    let f = nothing_by _ _ _ _ _ _ _ _ k _ c.self.invariant.1 c.self.view_is c.args.point c.requires.known _ _ c.index.ensures c.in-Nothing.is in
     reply_found _ c.args.point _ _ _ f (omega arith) ∙ ap (λ r. reply_to r c.args.point) c.self.view_is
 
-pub returns-clause-told : goal.returns-clause-told
-returns-clause-told c = told_by _ _ c.args.point _ _ c.self.view_is c.requires.running c.in_ok-push-3.ensures.items (returns-clause-answer c)
+pub returns-in_ok-push-in-Nothing-clause-told : goal.returns-in_ok-push-in-Nothing-clause-told
+returns-in_ok-push-in-Nothing-clause-told c = told_by _ _ c.args.point _ _ c.self.view_is c.requires.running c.in_ok-push-in-Nothing.ensures.items (returns-in_ok-push-in-Nothing-clause-answer c)
 
-pub returns-clause-goes_on : goal.returns-clause-goes_on
-returns-clause-goes_on c = goes_by _ _ c.args.point _ _ c.self.view_is c.requires.running c.in_ok-push-3.ensures.items (returns-clause-answer c)
+pub returns-in_ok-push-in-Nothing-clause-goes_on : goal.returns-in_ok-push-in-Nothing-clause-goes_on
+returns-in_ok-push-in-Nothing-clause-goes_on c = goes_by _ _ c.args.point _ _ c.self.view_is c.requires.running c.in_ok-push-in-Nothing.ensures.items (returns-in_ok-push-in-Nothing-clause-answer c)
 
-pub hit_chain-requires-clause-chain : goal.hit_chain-requires-clause-chain
-hit_chain-requires-clause-chain c =
-    let k = c.self.invariant in
-    let rest = point_rest _ _ _ _ _ _ _ _ k c.self.view_is c.args.point c.requires.known _ _ c.index.ensures c.in-Some.found c.in-Some.is _ c.deref.ensures.value c.without_spent-found.result c.without_spent-found.ensures.rest in
-    rest_by_point _ _ _ _ _ _ _ _ k c.self.view_is c.args.point _ rest
+-- ---- a point with an `off` that acts wherever it is reached
+
+pub index-requires-in-Off-1 : goal.index-requires-in-Off-1
+index-requires-in-Off-1 c =
+    let o = off_by _ _ _ _ _ _ _ _ c.self.invariant.0 _ c.self.invariant.1 c.self.view_is c.args.point c.requires.known _ _ c.index.ensures c.in-Off.at c.in-Off.is in
+    omega (arith, o.within)
+
+pub index_mut-requires : goal.index_mut-requires
+index_mut-requires c =
+    let o = off_by _ _ _ _ _ _ _ _ c.self.invariant.0 _ c.self.invariant.1 c.self.view_is c.args.point c.requires.known _ _ c.index.ensures c.in-Off.at c.in-Off.is in
+    omega (arith, o.within)
+
+pub overflow_sub-index_mut : goal.overflow_sub-index_mut
+overflow_sub-index_mut c =
+    let o = off_by _ _ _ _ _ _ _ _ c.self.invariant.0 _ c.self.invariant.1 c.self.view_is c.args.point c.requires.known _ _ c.index.ensures c.in-Off.at c.in-Off.is in
+    let read = value_at c.self.inside.left.items c.in-Off.at _ o.within _ c.index-in-Off-1.ensures in
+    let value = value_at c.self.inside.left.items c.in-Off.at _ o.within _ c.index_mut.ensures.value in
+    omega (arith, c.if-index-gt0.true, read, value)
+
+pub invariant_of-self-then-index-gt0 : goal.invariant_of-self-then-index-gt0
+invariant_of-self-then-index-gt0 c =
+    let k = c.self.invariant.0 in
+    let o = off_by _ _ _ _ _ _ _ _ k _ c.self.invariant.1 c.self.view_is c.args.point c.requires.known _ _ c.index.ensures c.in-Off.at c.in-Off.is in
+    let read = value_at c.self.inside.left.items c.in-Off.at _ o.within _ c.index-in-Off-1.ensures in
+    let value = value_at c.self.inside.left.items c.in-Off.at _ o.within _ c.index_mut.ensures.value in (
+      keeps_off _ c.args.point _ _ _ _ _ _ k (omega arith) (ap stopped c.self.view_is ∙ c.requires.running) _ (o.finds (omega (arith, c.if-index-gt0.true, read))) _ c.in_ok-push-in-Off.ensures.items _
+          (ap (λ v. slice_set c.self.inside.left.items c.in-Off.at (v - 1)) value) _ k.found_is,
+      c.self.invariant.1,
+    )
+
+pub returns-in_ok-push-in-Off-clause-answer : goal.returns-in_ok-push-in-Off-clause-answer
+returns-in_ok-push-in-Off-clause-answer c =
+    let k = c.self.invariant.0 in
+    let o = off_by _ _ _ _ _ _ _ _ k _ c.self.invariant.1 c.self.view_is c.args.point c.requires.known _ _ c.index.ensures c.in-Off.at c.in-Off.is in
+    let read = value_at c.self.inside.left.items c.in-Off.at _ o.within _ c.index-in-Off-1.ensures in
+    reply_found _ c.args.point _ _ _ (o.finds (omega (arith, c.if-index-gt0.true, read))) (omega arith) ∙ ap (λ r. reply_to r c.args.point) c.self.view_is
+
+pub returns-in_ok-push-in-Off-clause-told : goal.returns-in_ok-push-in-Off-clause-told
+returns-in_ok-push-in-Off-clause-told c = told_by _ _ c.args.point _ _ c.self.view_is c.requires.running c.in_ok-push-in-Off.ensures.items (returns-in_ok-push-in-Off-clause-answer c)
+
+pub returns-in_ok-push-in-Off-clause-goes_on : goal.returns-in_ok-push-in-Off-clause-goes_on
+returns-in_ok-push-in-Off-clause-goes_on c = goes_by _ _ c.args.point _ _ c.self.view_is c.requires.running c.in_ok-push-in-Off.ensures.items (returns-in_ok-push-in-Off-clause-answer c)

@@ -1,0 +1,43 @@
+use Rattle.std.proofs.Common.{ap, ◌∙◌, arith}
+use Rattle.action_eval.specs.Answers.{stopped, reply_to}
+use Rattle.action_eval.proofs.Steps.{point_none, point_some, point_rest, known_found, rest_by_point, finds_none, keeps_idle, reply_found, found_within, room_of}
+use Rattle.action_eval.proofs.CallerLemmas.{told_by, goes_by}
+use Rattle.action_eval.proofs.session.Session.hit_terms.Goals as goal
+
+pub index-requires : goal.index-requires
+index-requires c = omega (arith, known_found _ _ _ _ _ _ _ _ c.self.invariant.0 c.self.view_is c.args.point c.requires.known)
+
+-- ---- a point without a chain
+
+pub invariant_of-self-in_default : goal.invariant_of-self-in_default
+invariant_of-self-in_default c =
+    let k = c.self.invariant.0 in
+    let at = point_none _ _ _ _ _ _ _ _ k c.self.view_is c.args.point c.requires.known _ _ c.index.ensures c.in_default.is in
+    (keeps_idle _ c.args.point _ _ _ _ _ _ k (room_of _ _ c.self.view_is c.requires.room) (ap stopped c.self.view_is ∙ c.requires.running) at _ c.in_ok-push.ensures.items, c.self.invariant.1)
+
+pub returns-in_default-clause-answer : goal.returns-in_default-clause-answer
+returns-in_default-clause-answer c =
+    let k = c.self.invariant.0 in
+    let at = point_none _ _ _ _ _ _ _ _ k c.self.view_is c.args.point c.requires.known _ _ c.index.ensures c.in_default.is in
+    reply_found _ c.args.point _ _ _ (finds_none _ c.args.point _ _ _ _ _ _ k at) (room_of _ _ c.self.view_is c.requires.room) ∙ ap (λ r. reply_to r c.args.point) c.self.view_is
+
+pub returns-in_default-clause-told : goal.returns-in_default-clause-told
+returns-in_default-clause-told c = told_by _ _ c.args.point _ _ c.self.view_is c.requires.running c.in_ok-push.ensures.items (returns-in_default-clause-answer c)
+
+pub returns-in_default-clause-goes_on : goal.returns-in_default-clause-goes_on
+returns-in_default-clause-goes_on c = goes_by _ _ c.args.point _ _ c.self.view_is c.requires.running c.in_ok-push.ensures.items (returns-in_default-clause-answer c)
+
+-- ---- a point with one
+
+pub without_spent-found-requires : goal.without_spent-found-requires
+without_spent-found-requires c =
+    let k = c.self.invariant.0 in
+    let had = point_some _ _ _ _ _ _ _ _ k c.self.view_is c.args.point c.requires.known _ _ c.index.ensures c.in-Some.found c.in-Some.is in
+    let f = found_within _ _ _ _ _ _ _ k _ _ _ had in
+    omega (arith, f.0, c.deref.ensures.len)
+
+pub hit_chain-requires-clause-chain : goal.hit_chain-requires-clause-chain
+hit_chain-requires-clause-chain c =
+    let k = c.self.invariant.0 in
+    let rest = point_rest _ _ _ _ _ _ _ _ k c.self.view_is c.args.point c.requires.known _ _ c.index.ensures c.in-Some.found c.in-Some.is _ c.deref.ensures.value c.without_spent-found.result c.without_spent-found.ensures.rest in
+    rest_by_point _ _ _ _ _ _ _ _ k c.self.view_is c.args.point _ rest
