@@ -1,22 +1,20 @@
 -- A run, told as far as the steps have come.
-use Rattle.std.proofs.Common.{◌≡◌, ℕ, ◌+◌, ◌-◌, ◌<◌, ◌≤◌, Bool, true, false, cond, List, [], ◌∷◌, ◌++◌, length, Option, None, Some, Bor, refl, ap, sym, ◌∙◌, subst, arith, length-append}
-use Rattle.std.proofs.lemmas.Bool.Decides.{nat_tests}
-use Rattle.action_eval.specs.Answers.{Run, Reply, Go, Halt, GoesOn, hit, stopped, replies, is_over, reply_of_answer}
+use Rattle.std.proofs.Common.{◌≡◌, ℕ, List, [], ◌∷◌, ◌++◌, Option, None, Some, Bor, refl, ap, sym, ◌∙◌, subst}
+use Rattle.action_eval.specs.Answers.{Run, Reply, Go, Halt, GoesOn, hit, replies, reply_of_answer}
 use Rattle.action_eval.specs.declared.answer.Answer.{Answer}
 use Rattle.action_eval.specs.declared.answer.Answer.TheVariants as answer
-use Rattle.action_eval.specs.declared.answer.Stop.{Stop}
-use Rattle.action_eval.specs.declared.answer.Stop.TheVariants as stop
 use Rattle.target_trait.specs.declared.judgement.Judgement.{Judgement}
-use Rattle.target_trait.specs.Play.{Ask, Done, Follows, IsPlay}
+use Rattle.target_trait.specs.Play.{Ask, Done, Follows, IsPlay, IsRunning, move_by}
 use Rattle.target_trait.proofs.Plays.{follows_more}
+use Rattle.target_trait.proofs.Running.{runs_go, runs_return, running_at}
 use Rattle.commit_target.specs.declared.variant.Variant.{Variant}
 use Rattle.commit_target.specs.declared.records.Write.{Write}
 use Rattle.commit_target.specs.declared.step.Step.TheVariants.{Over}
 use Rattle.commit_target.specs.Work.{Work}
 use Rattle.commit_target.specs.Writes.{Event, AllLogs, LogsStandFor}
 use Rattle.commit_target.specs.Judgement.{judged}
-use Rattle.commit_target.specs.Steps.{Tally, State, on_go, on_return, go_write, return_write, with_write, stepped, at_step, start_of, laid, point_at, judged_at, move_by, move_of, asks_of}
-use Rattle.commit_target.specs.Seen.{IsRunning, Shows, Played}
+use Rattle.commit_target.specs.Steps.{Tally, State, on_go, on_return, go_write, return_write, with_write, stepped, at_step, start_of, laid, point_at, judged_at, move_of, asks_of}
+use Rattle.commit_target.specs.Seen.{Shows, Played}
 
 laid_more : (v : Variant) (w : Work) (s : State) (as' : List Reply) (a : Reply) → laid v w s (as' ++ a ∷ []) ≡ stepped v w (laid v w s as') a
 laid_more v w s [] a = refl
@@ -40,20 +38,6 @@ asked_more v w r t l p k at r' same =
 -- one answer more
 told_more : (v : Variant) (w : Work) (r r' : Run) (a : Reply) → replies r' ≡ replies r ++ a ∷ [] → stepped v w (now v w r) a ≡ now v w r'
 told_more v w r r' a more = sym (laid_more v w (start_of w) (replies r) a) ∙ ap (laid v w (start_of w)) (sym more)
-
-runs_go : (a : Answer) (r : Run) → a ≡ answer.Go → GoesOn (reply_of_answer a) r → stopped r ≡ None
-runs_go a r is goes = let P : Answer → Type 0 = λ x. GoesOn (reply_of_answer x) r in subst P is goes
-
-return_runs : (text : Option (Bor (List ℕ))) (r : Run) → GoesOn (reply_of_answer (answer.Return text)) r → stopped r ≡ None
-return_runs None r h = h
-return_runs (Some text) r h = h
-
-runs_return : (a : Answer) (text : Option (Bor (List ℕ))) (r : Run) → a ≡ answer.Return text → GoesOn (reply_of_answer a) r → stopped r ≡ None
-runs_return a text r is goes = let P : Answer → Type 0 = λ x. GoesOn (reply_of_answer x) r in return_runs text r (subst P is goes)
-
-pub running_at : (next : Option ℕ) (r : Run) → stopped r ≡ None → IsRunning next r
-running_at None r h = tt
-running_at (Some p) r h = h
 
 -- the logs, with what was written
 abbrev pub Writes : AllLogs → AllLogs → Option Write → Type 0
@@ -116,18 +100,3 @@ played_over v w r t l k at j judges = record {
       let j_is : j ≡ judged_at w (now v w r) = judges (now v w r).events k.shows.written ∙ judged_same w t (now v w r) k.shows.tally in
       asks_none w (now v w r) (sym (ap (λ (x : Tally). point_at x.step) k.shows.tally) ∙ at) ∙ ap Done (sym j_is);
 }
-
--- what goes on has answered within the limit, so that each hit comes nearer to its end
-not_over : (b : Bool) (s : Option Stop) → cond b (Some stop.Limit) s ≡ None → b ≡ false
-not_over true s e = cc
-not_over false s e = refl
-
-few_hits : (r : Run) → is_over r ≡ false → length r.hits ≤ r.given.limit
-few_hits r e = grind (arith, nat_tests)
-
-pub nearer : (r : Run) (p : ℕ) (next : Option ℕ) → next ≡ Some p → IsRunning next r → (r' : Run) → r' ≡ hit r p → r'.given.limit + 1 - length r'.hits < r.given.limit + 1 - length r.hits
-nearer r p next is running r' same =
-    let goes : stopped r ≡ None = subst (λ o. IsRunning o r) is running in
-    let few : length r.hits ≤ r.given.limit = few_hits r (not_over (is_over r) _ goes) in
-    let P : Run → Type 0 = λ x. x.given.limit + 1 - length x.hits < r.given.limit + 1 - length r.hits in
-    subst P (sym same) (omega (arith, length-append r.hits (p ∷ [])))

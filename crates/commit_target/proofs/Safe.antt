@@ -8,6 +8,7 @@ use Rattle.action_eval.specs.Answers.{Reply, Go, Return, Halt}
 use Rattle.target_trait.specs.declared.judgement.Judgement.{Judgement}
 use Rattle.target_trait.specs.declared.judgement.Judgement.TheVariants.{Kept}
 use Rattle.target_trait.specs.Play.{Done}
+use Rattle.target_trait.proofs.Never.{done_kept}
 use Rattle.commit_target.specs.declared.variant.Variant.TheVariants.{Sound}
 use Rattle.commit_target.specs.declared.work.Vote.{Vote}
 use Rattle.commit_target.specs.declared.work.Vote.TheVariants.{Yes, No}
@@ -21,7 +22,7 @@ use Rattle.commit_target.specs.declared.step.Step.TheVariants.{SendPrepare, Forc
 use Rattle.commit_target.specs.Work.{Work, wish}
 use Rattle.commit_target.specs.Writes.{Event, Written}
 use Rattle.commit_target.specs.Judgement.{was_told}
-use Rattle.commit_target.specs.Steps.{Tally, State, number, at_step, with_yes, unacknowledged, with_told, first_of, next_of, begun, commit_to, abort_to, aborted, decided, prepare_to, after_vote, vote_step, entry, end_if, end_unless, go_write, return_write, with_write, on_go, on_return, stepped, before_all, start_of, laid, point_at, judged_at, move_by, asks_of}
+use Rattle.commit_target.specs.Steps.{Tally, State, number, at_step, with_yes, unacknowledged, with_told, first_of, next_of, begun, commit_to, abort_to, aborted, decided, prepare_to, after_vote, vote_step, entry, end_if, end_unless, go_write, return_write, with_write, on_go, on_return, stepped, before_all, start_of, laid, point_at, judged_at, asks_of}
 use Rattle.commit_target.proofs.Logged.{decides, holds, entry_of, is_entry, other_transaction, other_kind, decides_stays, decides_spared, decided as forced_decision, held}
 use Rattle.commit_target.proofs.Agreeing.{AllHold, NoneHolds, Committed, Undecided, Settled, Open, all_stay, none_stay, undecided_stay, open_stay, settled_stay, all_kept}
 
@@ -484,10 +485,6 @@ laid_kept : (w : Work) → 1 ≤ w.participants → (answers : List Reply) → j
 laid_kept w some answers =
     let s = laid Sound w (start_of w) answers in
     all_kept w.participants some s.tally.told s.events s.tally.begun (λ k h. all_settled w some answers k)
-
-done_kept : (point : Option ℕ) (i j : Judgement) → i ≡ Kept → move_by i point ≡ Done j → j ≡ Kept
-done_kept (Some p) i j k e = cc
-done_kept None i j k e = cc
 
 -- whatever is answered, the sound variant keeps its word
 pub sound_kept : (w : Work) → 1 ≤ w.participants → (answers : List Reply) (j : Judgement) → asks_of Sound w answers ≡ Done j → j ≡ Kept

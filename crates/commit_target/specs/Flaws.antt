@@ -1,8 +1,7 @@
 -- The workload and the scenarios that a flawed commit fails. They are the least that a campaign finds and reduces.
-use Rattle.std.specs.Prelude.{ℕ, List, [], ◌∷◌, Option, Some, None, codes}
+use Rattle.std.specs.Prelude.{[], ◌∷◌, Some, None, codes}
 use Rattle.scenario_values.specs.Scenario.{Entries}
-use Rattle.scenario_values.specs.declared.term.Term.{Term}
-use Rattle.scenario_values.specs.declared.term.Task.TheVariants.{Return}
+use Rattle.target_trait.specs.Failing.{fails, fails_once}
 use Rattle.commit_target.specs.declared.work.Vote.TheVariants.{Yes}
 use Rattle.commit_target.specs.Work.{Work}
 
@@ -10,13 +9,9 @@ use Rattle.commit_target.specs.Work.{Work}
 abbrev pub both_wish_yes : Work
 both_wish_yes = record { participants = 2; transactions = (Yes ∷ Yes ∷ []) ∷ [] }
 
--- `NAME=COUNT*return`: the first hits of the point fail, so many of them, and without a count all
-abbrev pub fails : List ℕ → Option ℕ → List ℕ × List Term
-fails name count = (name, record { share = 1000000; count = count; task = Return None } ∷ [])
-
 -- the outcome is lost on its way to the first participant
 abbrev pub first_outcome_is_lost : Entries
-first_outcome_is_lost = fails (codes "commit::send_outcome") (Some 1) ∷ []
+first_outcome_is_lost = fails_once (codes "commit::send_outcome") ∷ []
 
 -- it is lost on its way to each
 abbrev pub each_outcome_is_lost : Entries

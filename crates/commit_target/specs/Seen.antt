@@ -1,7 +1,7 @@
 -- What the values of a run say.
-use Rattle.std.specs.Prelude.{◌≡◌, ℕ, [], Option, Some, None}
-use Rattle.action_eval.specs.Answers.{Run, replies, stopped}
-use Rattle.target_trait.specs.Play.{Follows}
+use Rattle.std.specs.Prelude.{◌≡◌, []}
+use Rattle.action_eval.specs.Answers.{Run, replies}
+use Rattle.target_trait.specs.Play.{Follows, IsRunning}
 use Rattle.commit_target.specs.declared.variant.Variant.{Variant}
 use Rattle.commit_target.specs.Work.{Work}
 use Rattle.commit_target.specs.Writes.{AllLogs, LogsStandFor}
@@ -11,11 +11,6 @@ use Rattle.commit_target.specs.Steps.{Tally, State, laid, start_of, asks_of, poi
 pub record Shows (w : Work) (s : State) (t : Tally) (logs : AllLogs) : Type 0 where
   pub tally : t ≡ s.tally
   pub written : LogsStandFor w.participants logs s.events
-
--- nothing has stopped a run that has a question left
-abbrev pub IsRunning : Option ℕ → Run → Type 0
-IsRunning None r = Unit {0}
-IsRunning (Some p) r = stopped r ≡ None
 
 -- the steps laid against the answers of a run have come this far
 pub record Played (v : Variant) (w : Work) (r : Run) (t : Tally) (logs : AllLogs) : Type 0 where

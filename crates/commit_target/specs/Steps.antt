@@ -4,7 +4,7 @@
 use Rattle.std.specs.Prelude.{ℕ, ◌+◌, ◌-◌, ◌==◌, nat_lt, if◌then◌else◌, Bool, true, false, List, [], ◌∷◌, ◌++◌, Option, Some, None, length, slice_index_or}
 use Rattle.action_eval.specs.Answers.{Reply, Go, Return, Halt}
 use Rattle.target_trait.specs.declared.judgement.Judgement.{Judgement}
-use Rattle.target_trait.specs.Play.{Move, Ask, Done, IsWithin, IsDone}
+use Rattle.target_trait.specs.Play.{Move, move_by, IsWithin, IsDone}
 use Rattle.std.proofs.Common.{arith}
 use Rattle.commit_target.specs.declared.variant.Variant.{Variant}
 use Rattle.commit_target.specs.declared.variant.Variant.TheVariants.{Sound, LazyPrepare, EarlyEnd, TwoTries}
@@ -243,11 +243,6 @@ point_at (ForceOutcome i) = Some force_outcome_point
 point_at (SendAck i) = Some send_ack_point
 point_at (SendAbort k) = Some send_outcome_point
 point_at Over = None
-
--- a point is asked; without one the run is over, with this judgement
-abbrev pub move_by : Judgement → Option ℕ → Move
-move_by j (Some p) = Ask p
-move_by j None = Done j
 
 abbrev pub judged_at : Work → State → Judgement
 judged_at w s = judged w.participants s.tally.told s.events s.tally.begun

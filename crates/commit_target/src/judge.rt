@@ -1,6 +1,6 @@
 ghost use Rattle.std.specs.Prelude.{◌≡◌, ◌<◌, ◌∷◌, ℕ, List};
 ghost use Rattle.commit_target.specs.Judgement.{has, answers_commit, is_committed, judged_ends, judged_one, or_then, judged};
-ghost use Rattle.commit_target.specs.Writes.{Event, AllRestart, LogsStandFor, on_coordinator, on_participant};
+ghost use Rattle.commit_target.specs.Writes.{Event, AllRestart, LogsStandFor, AddsEvent, on_coordinator, on_participant};
 ghost use Rattle.sim_device.specs.FileEffects.{Live};
 ghost use Rattle.sim_device.specs.LogEffects.{records};
 
@@ -100,7 +100,8 @@ fn judged_next(
 
 /// Restarts all parties, and judges the transactions that were begun, the first to the last.
 pub fn judge(logs: &mut Logs, participants: usize, told: &[usize], begun: usize) -> Judgement
-    ensures { (es : List Event) → LogsStandFor participants logs.old es → result ≡ judged participants told.now es begun }
+    ensures judged { (es : List Event) → LogsStandFor participants logs.old es → result ≡ judged participants told.now es begun }
+    ensures restarted { AddsEvent logs.old logs.new AllRestart }
 {
     logs.restart();
     let mut judgement = Judgement::Kept;

@@ -1,4 +1,4 @@
-ghost use Rattle.std.specs.Prelude.{◌≡◌, ◌<◌, ◌≤◌, ℕ, List, [], OnOk, length};
+ghost use Rattle.std.specs.Prelude.{◌≡◌, ◌<◌, ◌≤◌, ℕ, List, [], OnOk, OnErr, length};
 ghost use Rattle.sim_device.specs.FileEffects.{Live};
 ghost use Rattle.sim_device.specs.LogEffects.{Restart, LogStandsFor, AddsLogEffect, records};
 ghost use Rattle.commit_target.specs.declared.records.Write.TheVariants as write;
@@ -33,6 +33,7 @@ fn clear_first(
 ) -> Result<(), AllocError>
     ensures enough { OnOk result (count ≤ length logs.new.items) }
     ensures empty { OnOk result ((n : ℕ) → n < count → LogStandsFor (log_at logs.new.items n) []) }
+    ensures err { OnErr result ((n : ℕ) → n < length logs.new.items → LogStandsFor (log_at logs.new.items n) []) }
 {
     for number in 0..count {
         if number < logs.len() {
@@ -67,8 +68,11 @@ impl Logs {
     }
 
     /// Empty logs for the coordinator and so many participants. What was there is forgotten; its memory is used again.
+    ///
+    /// An error means that memory was refused: the logs that are there are empty, and those of some participants are missing.
     pub fn clear(&mut self, participants: usize) -> Result<(), AllocError>
-        ensures { OnOk result (LogsStandFor participants self.new []) }
+        ensures ok { OnOk result (LogsStandFor participants self.new []) }
+        ensures err { OnErr result (LogsStandFor (length self.new.participants) self.new []) }
     {
         self.coordinator.clear();
         clear_first(self.alloc, &mut self.participants, participants)
@@ -76,7 +80,8 @@ impl Logs {
 
     /// Adds a record to the log of a party, which does not last yet. A participant without a log writes nothing.
     fn append(&mut self, party: Party, entry: Record) -> Result<(), AllocError>
-        ensures { OnOk result (AddsEvent self.old self.new (Written (write.Append party entry))) }
+        ensures ok { OnOk result (AddsEvent self.old self.new (Written (write.Append party entry))) }
+        ensures err { OnErr result (self.new ≡ self.old) }
     {
         match party {
             Party::Coordinator => self.coordinator.append(entry),
@@ -89,7 +94,8 @@ impl Logs {
 
     /// Adds a record to the log of a party, and all there lasts. A participant without a log writes nothing.
     fn force(&mut self, party: Party, entry: Record) -> Result<(), AllocError>
-        ensures { OnOk result (AddsEvent self.old self.new (Written (write.Force party entry))) }
+        ensures ok { OnOk result (AddsEvent self.old self.new (Written (write.Force party entry))) }
+        ensures err { OnErr result (self.new ≡ self.old) }
     {
         match party {
             Party::Coordinator => self.coordinator.force(entry),
@@ -100,9 +106,12 @@ impl Logs {
         }
     }
 
-    /// Does a write.
+    /// Does a write. A participant without a log writes nothing.
+    ///
+    /// An error means that memory was refused. The logs are as they were.
     pub fn write(&mut self, write: Write) -> Result<(), AllocError>
-        ensures { OnOk result (AddsEvent self.old self.new (Written write)) }
+        ensures ok { OnOk result (AddsEvent self.old self.new (Written write)) }
+        ensures err { OnErr result (self.new ≡ self.old) }
     {
         match write {
             Write::Append(party, entry) => self.append(party, entry),

@@ -1,7 +1,7 @@
 use crate::work::Vote;
 
 /// The step whose question comes next. Participants are numbered from 0.
-#[derive(Clone, Copy, Debug, PartialEq, Eq)]
+#[derive(Clone, Copy)]
 pub enum Step {
     /// The coordinator asks the participant to prepare.
     SendPrepare(usize),

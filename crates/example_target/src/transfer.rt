@@ -1,6 +1,6 @@
 ghost use Rattle.std.specs.Prelude.{◌≡◌, codes};
 ghost use Rattle.std.proofs.Common.{rules};
-ghost use Rattle.example_target.specs.Steps.{point_names, label_of, judged, asks_of, asks-within, asks-halts};
+ghost use Rattle.example_target.specs.Steps.{point_names, label_of, judged, put_back, asks_of, asks-within, asks-halts};
 
 use std::alloc::AllocError;
 use std::marker::Model;
@@ -46,6 +46,16 @@ impl Transfer {
             payer: 0,
             payee: 0,
         }
+    }
+}
+
+/// What the payer has where giving was refused.
+fn put_back(care: Care, cents: u32) -> u32
+    ensures { result ≡ put_back care cents }
+{
+    match care {
+        Care::Careful => cents,
+        Care::Careless => 0,
     }
 }
 
@@ -102,8 +112,8 @@ impl Target for Transfer {
             self.payer = 0;
             match session.hit(1)? {
                 Answer::Go => self.payee = cents,
-                Answer::Return(_) if self.care == Care::Careful => self.payer = cents,
-                Answer::Return(_) | Answer::Halt => {}
+                Answer::Return(_) => self.payer = put_back(self.care, cents),
+                Answer::Halt => {}
             }
         }
         Ok(judgement(cents, self.payer, self.payee))

@@ -1,13 +1,12 @@
 -- The sound variant never fails.
-use Rattle.std.proofs.Common.{◌≡◌, ℕ, suc, refl, Option, None, Some, Result, Ok, Err, IfOk, ap, sym, ◌∙◌}
-use Rattle.action_eval.specs.declared.answer.Stop.{Stop}
-use Rattle.action_eval.specs.declared.answer.Stop.TheVariants as stop
-use Rattle.action_eval.specs.Answers.{Given, Run, replies, start}
+use Rattle.std.proofs.Common.{◌≡◌, ℕ, Result, IfOk, ap, sym, ◌∙◌}
+use Rattle.action_eval.specs.Answers.{Given, Run, replies}
 use Rattle.target_trait.specs.declared.judgement.Judgement.{Judgement}
-use Rattle.target_trait.specs.declared.judgement.Judgement.TheVariants.{Kept, Broken}
+use Rattle.target_trait.specs.declared.judgement.Judgement.TheVariants.{Kept}
 use Rattle.target_trait.specs.declared.judgement.Verdict.TheVariants as verdict
-use Rattle.target_trait.specs.Play.{Move, Ask, Done, IsPlay}
-use Rattle.target_trait.specs.Outcomes.{judged, verdict_of, play, outcome}
+use Rattle.target_trait.specs.Play.{IsPlay}
+use Rattle.target_trait.specs.Outcomes.{outcome}
+use Rattle.target_trait.proofs.Never.{kept_run, never_fails}
 use Rattle.file_replace.specs.declared.variant.Variant.{Variant}
 use Rattle.file_replace.specs.declared.variant.Variant.TheVariants.{Sound}
 use Rattle.file_replace.specs.Work.{Work}
@@ -15,21 +14,7 @@ use Rattle.file_replace.specs.Steps.{asks_of}
 use Rattle.file_replace.proofs.Safe.{sound_kept}
 
 pub sound_run : {E : Type 0} (v : Variant) (w : Work) (r : Run) (result : Result Judgement E) → v ≡ Sound → IfOk result (IsPlay (asks_of v w) r) → IfOk result (λ j. j ≡ Kept)
-sound_run v w r (Ok j) e h = sound_kept w (replies r) j (ap (λ (x : Variant). asks_of x w (replies r)) (sym e) ∙ h.ended)
-sound_run v w r (Err x) e h = tt
-
-never_judged : (move : Move) (code : ℕ) → ((j : Judgement) → move ≡ Done j → j ≡ Kept) → judged move ≡ verdict.Fail code → ⊥
-never_judged (Ask p) code kept e = cc
-never_judged (Done Kept) code kept e = cc
-never_judged (Done (Broken n)) code kept e = let bad : Broken n ≡ Kept = kept (Broken n) refl in cc
-
-never_verdict : (s : Option Stop) (move : Move) (code : ℕ) → ((j : Judgement) → move ≡ Done j → j ≡ Kept) → verdict_of s move ≡ verdict.Fail code → ⊥
-never_verdict None move code kept e = never_judged move code kept e
-never_verdict (Some stop.Panic) move code kept e = never_judged move code kept e
-never_verdict (Some stop.Paused) move code kept e = cc
-never_verdict (Some stop.Limit) move code kept e = cc
+sound_run v w r result e = kept_run (asks_of v w) r result (λ j d. sound_kept w (replies r) j (ap (λ (x : Variant). asks_of x w (replies r)) (sym e) ∙ d))
 
 pub sound_never_fails : (w : Work) (g : Given) (code : ℕ) → (outcome (asks_of Sound w) g).verdict ≡ verdict.Fail code → ⊥
-sound_never_fails w g code e =
-    let r : Run = play (suc g.limit) (asks_of Sound w) (start g) in
-    never_verdict _ (asks_of Sound w (replies r)) code (sound_kept w (replies r)) e
+sound_never_fails w = never_fails (asks_of Sound w) (sound_kept w)

@@ -10,11 +10,12 @@ use Rattle.action_eval.specs.Answers.{Reply, Go, Return, Halt}
 use Rattle.target_trait.specs.declared.judgement.Judgement.{Judgement}
 use Rattle.target_trait.specs.declared.judgement.Judgement.TheVariants.{Kept, Broken}
 use Rattle.target_trait.specs.Play.{Done}
+use Rattle.target_trait.proofs.Never.{done_kept}
 use Rattle.file_replace.specs.declared.variant.Variant.TheVariants.{Sound}
 use Rattle.file_replace.specs.Work.{Work, joined}
 use Rattle.file_replace.specs.Words.{torn, stale}
 use Rattle.file_replace.specs.Judgement.{Past, judged_by, judged}
-use Rattle.file_replace.specs.Steps.{Step, Clearing, Creating, Writing, WritingAgain, Syncing, Renaming, SyncingDir, SyncingLate, Cleaning, Over, Tally, State, state, first_step, begun_of, is_there, acknowledged, write_step, on_go, on_return, stepped, half, prepared, before_all, start_of, laid, point_at, move_by, asks_of}
+use Rattle.file_replace.specs.Steps.{Step, Clearing, Creating, Writing, WritingAgain, Syncing, Renaming, SyncingDir, SyncingLate, Cleaning, Over, Tally, State, state, first_step, begun_of, is_there, acknowledged, write_step, on_go, on_return, stepped, half, prepared, before_all, start_of, laid, point_at, asks_of}
 
 abbrev among : List ℕ → List (List ℕ) → Bool
 among x xs = list_any (bytes_eq x) xs
@@ -280,10 +281,6 @@ judged_kept : (past : Past) (es : List Effect) → Solid es past.allowed → jud
 judged_kept past es k =
     ap (λ o. judged_by past (option_map (contents (PowerCut ∷ es) Live) o)) k.lasting
     ∙ ap (λ b. cond b Kept (cond (among (contents es Lasting k.g) past.known) (Broken stale) (Broken torn))) k.good_g
-
-done_kept : (point : Option ℕ) (i j : Judgement) → i ≡ Kept → move_by i point ≡ Done j → j ≡ Kept
-done_kept (Some p) i j k e = cc
-done_kept None i j k e = cc
 
 -- whatever is answered, the sound variant keeps its word
 pub sound_kept : (w : Work) (answers : List Reply) (j : Judgement) → asks_of Sound w answers ≡ Done j → j ≡ Kept

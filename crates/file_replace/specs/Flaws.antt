@@ -1,15 +1,14 @@
 -- Workloads and scenarios that a flawed replacement fails. They are the least that a campaign finds and reduces.
-use Rattle.std.specs.Prelude.{ℕ, suc, List, [], ◌∷◌, Option, Some, None, codes}
+use Rattle.std.specs.Prelude.{ℕ, suc, List, [], ◌∷◌, Option, codes}
 use Rattle.scenario_values.specs.Scenario.{Entries}
-use Rattle.scenario_values.specs.declared.term.Term.{Term}
-use Rattle.scenario_values.specs.declared.term.Task.TheVariants.{Return}
-use Rattle.sim_device.specs.FileEffects.{PowerCut, Live, held}
+use Rattle.sim_device.specs.FileEffects.{Live, held}
 use Rattle.action_eval.specs.Answers.{Given, replies, start}
 use Rattle.target_trait.specs.Outcomes.{play}
+use Rattle.target_trait.specs.Failing.{fails_once}
 use Rattle.file_replace.specs.declared.variant.Variant.{Variant}
 use Rattle.file_replace.specs.Words.{target}
 use Rattle.file_replace.specs.Work.{Work}
-use Rattle.file_replace.specs.Steps.{start_of, laid, asks_of}
+use Rattle.file_replace.specs.Steps.{effects_of, asks_of}
 
 -- these contents, replaced once by the chunks `ne` and `w`
 abbrev pub replaced_by_new : List ℕ → Work
@@ -21,10 +20,6 @@ old_to_new = replaced_by_new (codes "old")
 abbrev pub empty_to_new : Work
 empty_to_new = replaced_by_new []
 
--- `NAME=1*return`: the first hit of the point fails, and no other
-abbrev pub fails_once : List ℕ → List ℕ × List Term
-fails_once name = (name, record { share = 1000000; count = Some 1; task = Return None } ∷ [])
-
 abbrev pub sync_fails : Entries
 sync_fails = fails_once (codes "replace::sync") ∷ []
 
@@ -33,4 +28,4 @@ write_fails = fails_once (codes "replace::write") ∷ []
 
 -- what `target` holds after the power cut at the end of a run
 abbrev pub left_by : Variant → Work → Given → Option (List ℕ)
-left_by v w g = held (PowerCut ∷ (laid v (start_of w) (replies (play (suc g.limit) (asks_of v w) (start g)))).effects) Live target
+left_by v w g = held (effects_of v w (replies (play (suc g.limit) (asks_of v w) (start g)))) Live target

@@ -1,8 +1,8 @@
 -- What the values of a run say.
-use Rattle.std.specs.Prelude.{◌≡◌, ℕ, ◌+◌, List, [], ◌∷◌, map, take, drop, Option, Some, None}
+use Rattle.std.specs.Prelude.{◌≡◌, ℕ, ◌+◌, List, [], ◌∷◌, map, take, drop}
 use Rattle.sim_device.specs.Disk.{Disk, StandsFor}
-use Rattle.action_eval.specs.Answers.{Run, replies, stopped}
-use Rattle.target_trait.specs.Play.{Follows}
+use Rattle.action_eval.specs.Answers.{Run, replies}
+use Rattle.target_trait.specs.Play.{Follows, IsRunning}
 use Rattle.file_replace.specs.declared.variant.Variant.{Variant}
 use Rattle.file_replace.specs.declared.stage.Stage.{Stage}
 use Rattle.file_replace.specs.declared.stage.Stage.TheVariants as stage
@@ -38,11 +38,6 @@ past_of contents acknowledged begun = record { allowed = contents_between acknow
 pub record Shows (s : State) (t : Tally) (d : Disk) : Type 0 where
   pub tally : t ≡ s.tally
   pub device : StandsFor d s.effects
-
--- nothing has stopped a run that has a question left
-abbrev pub IsRunning : Option ℕ → Run → Type 0
-IsRunning None r = Unit {0}
-IsRunning (Some p) r = stopped r ≡ None
 
 -- the steps laid against the answers of a run have come this far
 pub record Played (v : Variant) (w : Work) (r : Run) (t : Tally) (d : Disk) : Type 0 where

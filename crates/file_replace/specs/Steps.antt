@@ -1,9 +1,9 @@
 -- The steps of a run, laid against the list of answers: what is asked, what each answer does, and what comes next.
 use Rattle.std.specs.Prelude.{ℕ, ◌/◌, Bool, true, false, List, [], ◌∷◌, ◌++◌, Option, Some, None, is_some, take, length}
-use Rattle.sim_device.specs.FileEffects.{Effect, Create, Append, Sync, Rename, Unlink, SyncDir, Live, leads}
+use Rattle.sim_device.specs.FileEffects.{Effect, Create, Append, Sync, Rename, Unlink, SyncDir, PowerCut, Live, leads}
 use Rattle.action_eval.specs.Answers.{Reply, Go, Return, Halt}
 use Rattle.target_trait.specs.declared.judgement.Judgement.{Judgement}
-use Rattle.target_trait.specs.Play.{Move, Ask, Done, IsWithin, IsDone}
+use Rattle.target_trait.specs.Play.{Move, move_by, IsWithin, IsDone}
 use Rattle.std.proofs.Common.{arith}
 use Rattle.file_replace.specs.declared.variant.Variant.{Variant}
 use Rattle.file_replace.specs.declared.variant.Variant.TheVariants.{Sound, LateSync, IgnoreSync, RetryWrite}
@@ -162,6 +162,10 @@ abbrev pub laid : Variant → State → List Reply → State
 laid v s [] = s
 laid v s (a ∷ as') = laid v (stepped v s a) as'
 
+-- what the device accepted in a run of these answers, with the power cut at its end
+abbrev pub effects_of : Variant → Work → List Reply → List Effect
+effects_of v w answers = PowerCut ∷ (laid v (start_of w) answers).effects
+
 -- the point that a step asks
 abbrev pub point_at : Step → Option ℕ
 point_at (Clearing chunks) = Some clear_point
@@ -174,11 +178,6 @@ point_at SyncingDir = Some sync_dir_point
 point_at SyncingLate = Some sync_point
 point_at Cleaning = Some unlink_point
 point_at Over = None
-
--- a point is asked; without one the run is over, with this judgement
-abbrev pub move_by : Judgement → Option ℕ → Move
-move_by j (Some p) = Ask p
-move_by j None = Done j
 
 abbrev pub move_of : State → Move
 move_of s = move_by (judged s.tally.past s.effects) (point_at s.tally.step)

@@ -1,6 +1,6 @@
 ghost use Rattle.std.specs.Prelude.{◌≡◌, ◌∷◌, ℕ, List, Some};
-ghost use Rattle.sim_device.specs.FileEffects.{Effect};
-ghost use Rattle.sim_device.specs.Disk.{StandsFor};
+ghost use Rattle.sim_device.specs.FileEffects.{Effect, PowerCut};
+ghost use Rattle.sim_device.specs.Disk.{StandsFor, AddsEffect};
 ghost use Rattle.file_replace.specs.Judgement.{judged_by, judged};
 
 use crate::disk::target_contents;
@@ -28,7 +28,8 @@ fn judgement(progress: &Progress<'_>, bytes: &[u8]) -> Judgement
 
 /// Cuts the power, and judges what `target` then holds.
 pub fn judge(device: &mut FileDevice, progress: &Progress<'_>) -> Judgement
-    ensures { (es : List Effect) → StandsFor device.old es → result ≡ judged progress.now.past es }
+    ensures judged { (es : List Effect) → StandsFor device.old es → result ≡ judged progress.now.past es }
+    ensures cut { AddsEffect device.old device.new PowerCut }
 {
     device.power_cut();
     match target_contents(device) {

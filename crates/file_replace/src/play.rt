@@ -1,9 +1,10 @@
 //! A run: question after question, up to the judgement.
-ghost use Rattle.std.specs.Prelude.{◌≡◌, ◌+◌, ◌-◌, ◌<◌, ◌≤◌, length, IfOk, OnOk, Some};
-ghost use Rattle.action_eval.specs.Answers.{start};
+ghost use Rattle.std.specs.Prelude.{◌≡◌, ◌+◌, ◌-◌, ◌<◌, ◌≤◌, [], length, IfOk, OnOk, OnErr, Some};
+ghost use Rattle.sim_device.specs.Disk.{StandsFor};
+ghost use Rattle.action_eval.specs.Answers.{start, replies};
 ghost use Rattle.target_trait.specs.Play.{IsPlay};
 ghost use Rattle.file_replace.specs.Words.{point_names};
-ghost use Rattle.file_replace.specs.Steps.{asks_of, point_at};
+ghost use Rattle.file_replace.specs.Steps.{asks_of, effects_of, point_at};
 ghost use Rattle.file_replace.specs.Seen.{step_of, Played};
 
 use crate::disk::{Name, append};
@@ -106,7 +107,32 @@ fn write_on(
     Ok(())
 }
 
-/// Plays a run on a device, which is cleared first. Its end is a power cut: what the device holds after it is what was judged.
+/// Plays a run on a device, which is cleared first.
+fn play_through(
+    variant: Variant,
+    workload: &Replacements,
+    device: &mut FileDevice,
+    session: &mut Session<'_>,
+) -> Result<Judgement, AllocError>
+    requires new { session.old ≡ start session.old.given }
+    requires points { session.old.given.catalogue ≡ point_names }
+    ensures play { IfOk result (IsPlay (asks_of variant workload.now) session.new) }
+    ensures given { session.new.given ≡ session.old.given }
+    ensures left { OnOk result (StandsFor device.new (effects_of variant workload.now (replies session.new))) }
+{
+    prepare(device, workload.old())?;
+    let mut progress = Progress::new(workload);
+    progress.begin(false);
+    while let Some(point) = point_of(progress.stage()) {
+        ask(variant, workload, point, &mut progress, device, session)?;
+        write_on(variant, workload, &mut progress, device, session)?;
+    }
+    Ok(judge(device, &progress))
+}
+
+/// Plays a run on a device, whatever that held before. The run's end is a power cut: what the device holds after it is what was judged.
+///
+/// An error means that memory was refused. The device then holds nothing, and the session has the hits up to there.
 pub fn play(
     variant: Variant,
     workload: &Replacements,
@@ -117,13 +143,12 @@ pub fn play(
     requires points { session.old.given.catalogue ≡ point_names }
     ensures play { IfOk result (IsPlay (asks_of variant workload.now) session.new) }
     ensures given { session.new.given ≡ session.old.given }
+    ensures left { OnOk result (StandsFor device.new (effects_of variant workload.now (replies session.new))) }
+    ensures err { OnErr result (StandsFor device.new []) }
 {
-    prepare(device, workload.old())?;
-    let mut progress = Progress::new(workload);
-    progress.begin(false);
-    while let Some(point) = point_of(progress.stage()) {
-        ask(variant, workload, point, &mut progress, device, session)?;
-        write_on(variant, workload, &mut progress, device, session)?;
+    let played = play_through(variant, workload, device, session);
+    if played.is_err() {
+        device.clear();
     }
-    Ok(judge(device, &progress))
+    played
 }

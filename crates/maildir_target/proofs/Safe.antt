@@ -10,6 +10,7 @@ use Rattle.action_eval.specs.Answers.{Reply, Go, Return, Halt}
 use Rattle.target_trait.specs.declared.judgement.Judgement.{Judgement}
 use Rattle.target_trait.specs.declared.judgement.Judgement.TheVariants.{Kept}
 use Rattle.target_trait.specs.Play.{Done}
+use Rattle.target_trait.proofs.Never.{done_kept}
 use Rattle.file_replace.specs.Work.{joined}
 use Rattle.file_replace.specs.Steps.{half}
 use Rattle.maildir_target.specs.declared.variant.Variant.TheVariants.{Sound}
@@ -19,7 +20,7 @@ use Rattle.maildir_target.specs.declared.name.Name.{Name}
 use Rattle.maildir_target.specs.declared.name.Folder.TheVariants as folder
 use Rattle.maildir_target.specs.Words.{tmp_name, new_name}
 use Rattle.maildir_target.specs.Judgement.{differs, has_torn, is_delivered, has_lost, judged_by, judged}
-use Rattle.maildir_target.specs.Steps.{Step, Looking, Creating, Writing, Syncing, Linking, Unlinking, SyncingDir, Cleaning, Over, Tally, State, state, begun_of, acknowledged, failed_of, looked, linked, is_there, write_step, on_go, on_return, stepped, before_all, start_of, laid, point_at, move_by, asks_of}
+use Rattle.maildir_target.specs.Steps.{Step, Looking, Creating, Writing, Syncing, Linking, Unlinking, SyncingDir, Cleaning, Over, Tally, State, state, begun_of, acknowledged, failed_of, looked, linked, is_there, write_step, on_go, on_return, stepped, before_all, start_of, laid, point_at, asks_of}
 use Rattle.maildir_target.proofs.Numbers.{apart, named}
 
 -- ---- what is claimed
@@ -373,10 +374,6 @@ none_lost es (m ∷ ms) k = or_none _ _ (let at = k.0 Lasting in ap not (there_d
 
 judged_kept : (messages : List (List (List ℕ))) (done : List ℕ) (es : List Effect) → has_torn (PowerCut ∷ es) 1 messages ≡ false → has_lost (PowerCut ∷ es) done ≡ false → judged messages done es ≡ Kept
 judged_kept messages done es whole there = ap (λ b. judged_by b (has_lost (PowerCut ∷ es) done)) whole ∙ ap (judged_by false) there
-
-done_kept : (point : Option ℕ) (i j : Judgement) → i ≡ Kept → move_by i point ≡ Done j → j ≡ Kept
-done_kept (Some p) i j k e = cc
-done_kept None i j k e = cc
 
 -- whatever is answered, the sound variant keeps its word
 pub sound_kept : (messages : List (List (List ℕ))) (answers : List Reply) (j : Judgement) → asks_of Sound messages answers ≡ Done j → j ≡ Kept

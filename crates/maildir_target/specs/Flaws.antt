@@ -1,16 +1,11 @@
 -- Workloads and scenarios that a flawed delivery fails. They are the least that a campaign finds and reduces.
-use Rattle.std.specs.Prelude.{ℕ, List, [], ◌∷◌, Some, None, codes}
+use Rattle.std.specs.Prelude.{ℕ, List, [], ◌∷◌, codes}
 use Rattle.scenario_values.specs.Scenario.{Entries}
-use Rattle.scenario_values.specs.declared.term.Term.{Term}
-use Rattle.scenario_values.specs.declared.term.Task.TheVariants.{Return}
+use Rattle.target_trait.specs.Failing.{fails_once}
 
 -- one message of this one chunk
 abbrev pub one_message : List ℕ → List (List (List ℕ))
 one_message chunk = (chunk ∷ []) ∷ []
-
--- `NAME=1*return`: the first hit of the point fails, and no other
-abbrev pub fails_once : List ℕ → List ℕ × List Term
-fails_once name = (name, record { share = 1000000; count = Some 1; task = Return None } ∷ [])
 
 abbrev pub hi : List (List (List ℕ))
 hi = one_message (codes "hi")

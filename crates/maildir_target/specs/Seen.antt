@@ -1,8 +1,8 @@
 -- What the values of a run say.
-use Rattle.std.specs.Prelude.{◌≡◌, ℕ, List, [], Option, Some, None}
+use Rattle.std.specs.Prelude.{◌≡◌, ℕ, List, []}
 use Rattle.sim_device.specs.Disk.{Disk, StandsFor}
-use Rattle.action_eval.specs.Answers.{Run, replies, stopped}
-use Rattle.target_trait.specs.Play.{Follows}
+use Rattle.action_eval.specs.Answers.{Run, replies}
+use Rattle.target_trait.specs.Play.{Follows, IsRunning}
 use Rattle.maildir_target.specs.declared.variant.Variant.{Variant}
 use Rattle.maildir_target.specs.declared.stage.Stage.{Stage}
 use Rattle.maildir_target.specs.declared.stage.Stage.TheVariants as stage
@@ -23,11 +23,6 @@ step_of stage.Over = Over
 pub record Shows (s : State) (t : Tally) (d : Disk) : Type 0 where
   pub tally : t ≡ s.tally
   pub device : StandsFor d s.effects
-
--- nothing has stopped a run that has a question left
-abbrev pub IsRunning : Option ℕ → Run → Type 0
-IsRunning None r = Unit {0}
-IsRunning (Some p) r = stopped r ≡ None
 
 -- the steps laid against the answers of a run have come this far
 pub record Played (v : Variant) (messages : List (List (List ℕ))) (r : Run) (t : Tally) (d : Disk) : Type 0 where

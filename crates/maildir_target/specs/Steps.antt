@@ -4,7 +4,7 @@ use Rattle.std.specs.Prelude.{ℕ, ◌+◌, Bool, true, false, List, [], ◌∷�
 use Rattle.sim_device.specs.FileEffects.{Effect, Create, Append, Sync, Link, Unlink, SyncDir, Live, leads}
 use Rattle.action_eval.specs.Answers.{Reply, Go, Return, Halt}
 use Rattle.target_trait.specs.declared.judgement.Judgement.{Judgement}
-use Rattle.target_trait.specs.Play.{Move, Ask, Done, IsWithin, IsDone}
+use Rattle.target_trait.specs.Play.{Move, move_by, IsWithin, IsDone}
 use Rattle.file_replace.specs.Steps.{half}
 use Rattle.std.proofs.Common.{arith}
 use Rattle.maildir_target.specs.declared.variant.Variant.{Variant}
@@ -205,11 +205,6 @@ point_at Unlinking = Some unlink_point
 point_at SyncingDir = Some sync_dir_point
 point_at Cleaning = Some unlink_point
 point_at Over = None
-
--- a point is asked; without one the run is over, with this judgement
-abbrev pub move_by : Judgement → Option ℕ → Move
-move_by j (Some p) = Ask p
-move_by j None = Done j
 
 abbrev pub move_of : List (List (List ℕ)) → State → Move
 move_of messages s = move_by (judged messages s.tally.acknowledged s.effects) (point_at s.tally.step)

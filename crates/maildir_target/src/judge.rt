@@ -1,8 +1,8 @@
 //! The judgement: what the names under `new/` hold after a power cut.
 ghost use Rattle.std.specs.Prelude.{◌≡◌, ◌≤◌, ◌∷◌, ℕ, List, length, not};
 ghost use Rattle.std.specs.Str.{bytes_eq};
-ghost use Rattle.sim_device.specs.FileEffects.{Effect, Live, held};
-ghost use Rattle.sim_device.specs.Disk.{StandsFor};
+ghost use Rattle.sim_device.specs.FileEffects.{Effect, PowerCut, Live, held};
+ghost use Rattle.sim_device.specs.Disk.{StandsFor, AddsEffect};
 ghost use Rattle.file_replace.specs.Work.{joined};
 ghost use Rattle.maildir_target.specs.Words.{new_name};
 ghost use Rattle.maildir_target.specs.Judgement.{differs, is_torn, has_torn, is_delivered, has_lost, judged_by, judged};
@@ -113,7 +113,8 @@ fn judgement(is_one_torn: bool, is_one_lost: bool) -> Judgement
 /// Cuts the power, and judges what the device then holds of these messages, of which these numbers were acknowledged.
 pub fn judge(device: &mut FileDevice, messages: &[Chunks], acknowledged: &[u16]) -> Judgement
     requires { length messages.now ≤ 1000 }
-    ensures { (es : List Effect) → StandsFor device.old es → result ≡ judged messages.now acknowledged.now es }
+    ensures judged { (es : List Effect) → StandsFor device.old es → result ≡ judged messages.now acknowledged.now es }
+    ensures cut { AddsEffect device.old device.new PowerCut }
 {
     device.power_cut();
     judgement(has_torn(device, messages), has_lost(device, acknowledged))

@@ -1,5 +1,5 @@
--- When a call of a file device is refused.
-use Rattle.std.specs.Prelude.{◌≡◌, ℕ, Bool, true, false, Option, Some, None, Result, Err, IfErr, IsOk}
+-- When a call of a file device is refused, and how its fault is told.
+use Rattle.std.specs.Prelude.{◌≡◌, ℕ, Bool, true, false, List, Option, Some, None, Result, Err, IfErr, IsOk, codes}
 use Rattle.sim_device.specs.declared.fault.DeviceFault.{DeviceFault}
 use Rattle.sim_device.specs.declared.fault.DeviceFault.TheVariants.{Exists, NotFound, Memory}
 
@@ -18,3 +18,9 @@ abbrev pub RefusesLink : Option ℕ → Option ℕ → Result (Unit {0}) DeviceF
 RefusesLink None to r = r ≡ Err NotFound
 RefusesLink (Some f) (Some g) r = r ≡ Err Exists
 RefusesLink (Some f) None r = IfErr r (λ e. e ≡ Memory)
+
+-- the text of a fault
+abbrev pub fault_text : DeviceFault → List ℕ
+fault_text Exists = codes "the name exists"
+fault_text NotFound = codes "no such name"
+fault_text Memory = codes "out of memory"

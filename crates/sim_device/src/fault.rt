@@ -1,5 +1,6 @@
-ghost use Rattle.std.specs.Prelude.{◌≡◌};
+ghost use Rattle.std.specs.Prelude.{◌≡◌, Some};
 ghost use Rattle.sim_device.specs.declared.fault.DeviceFault.TheVariants.{Memory};
+ghost use Rattle.sim_device.specs.Refusals.{fault_text};
 
 use std::alloc::AllocError;
 use std::error::Error;
@@ -17,12 +18,14 @@ pub enum DeviceFault {
 }
 
 impl fmt::Display for DeviceFault {
+    ghost output = { λ fault. Some (fault_text fault) };
+
     fn fmt<W: fmt::Write>(&self, f: &mut fmt::Formatter<W>) -> fmt::Result {
-        match self {
-            DeviceFault::Exists => write!(f, "the name exists"),
-            DeviceFault::NotFound => write!(f, "no such name"),
-            DeviceFault::Memory => write!(f, "out of memory"),
-        }
+        f.write_str(match self {
+            DeviceFault::Exists => "the name exists",
+            DeviceFault::NotFound => "no such name",
+            DeviceFault::Memory => "out of memory",
+        })
     }
 }
 

@@ -1,2 +1,4 @@
 pub mod Plays
 pub mod Verdicts
+pub mod Never
+pub mod Running

@@ -1,12 +1,22 @@
 -- What a target asks, and the runs that ask just that.
-use Rattle.std.specs.Prelude.{◌≡◌, ℕ, ◌<◌, List, [], ◌∷◌, ◌++◌}
+use Rattle.std.specs.Prelude.{◌≡◌, ℕ, ◌<◌, List, [], ◌∷◌, ◌++◌, Option, Some, None}
 use Rattle.target_trait.specs.declared.judgement.Judgement.{Judgement}
-use Rattle.action_eval.specs.Answers.{Given, Run, Reply, replies}
+use Rattle.action_eval.specs.Answers.{Given, Run, Reply, replies, stopped}
 
 -- what comes next: a question, or the end with a judgement
 pub data Move : Type 0 where
   Ask : ℕ → Move
   Done : Judgement → Move
+
+-- a point is asked; without one the run is over, with this judgement
+abbrev pub move_by : Judgement → Option ℕ → Move
+move_by j (Some p) = Ask p
+move_by j None = Done j
+
+-- nothing has stopped a run that has a question left
+abbrev pub IsRunning : Option ℕ → Run → Type 0
+IsRunning None r = Unit {0}
+IsRunning (Some p) r = stopped r ≡ None
 
 -- from these hits on, each further hit is of the point that is asked after the answers so far
 abbrev pub Follows : (List Reply → Move) → Given → List ℕ → List ℕ → Type 0

@@ -4,6 +4,7 @@ ghost use Rattle.std.specs.Io.KnownBytes.{WriteAppends};
 ghost use Rattle.target_trait.specs.Output.{fails};
 
 use std::io::Write;
+use std::marker::Model;
 
 /// Where the bytes of a text go, a prefix at a time.
 ///
@@ -39,6 +40,14 @@ pub struct Out<W: Write> {
     has_failed: bool,
 }
 
+impl<W: Write> Model for Out<W> {
+    ghost use Rattle.target_trait.specs.Output.{Taken};
+
+    ghost Value = { Taken };
+
+    ghost view = { λ out. record { bytes = W.contents out.writer; has_failed = out.has_failed } };
+}
+
 impl<W: Write> Out<W> {
     /// The sink over a writer. It tells the bytes that the writer holds, and hasn't failed.
     pub fn new(writer: W) -> Self
@@ -60,7 +69,7 @@ impl<W: Write> Out<W> {
 }
 
 impl<W: Write> Sink for Out<W> {
-    ghost told = { λ out. W.contents out.writer };
+    ghost told = { λ out. out.bytes };
 
     ghost has_failed = { λ out. out.has_failed };
 

@@ -6,4 +6,4 @@ use Rattle.commit_target.proofs.play.write.Goals as goal
 
 pub returns-in-Some : goal.returns-in-Some
 returns-in-Some c =
-    subst (λ (o : Option Write). OnOk c.write.result ((count : ℕ) (es : List Event) → LogsStandFor count c.args.logs.now es → LogsStandFor count c.write.new.self (with_write o es))) (sym c.in-Some.is) c.write.ensures
+    subst (λ (o : Option Write). OnOk c.write.result ((count : ℕ) (es : List Event) → LogsStandFor count c.args.logs.now es → LogsStandFor count c.write.new.self (with_write o es))) (sym c.in-Some.is) c.write.ensures.ok

@@ -1,3 +1,4 @@
+use Rattle.std.proofs.Common.{rules}
 use Rattle.std.proofs.Common.{sym, subst, ◌∷◌}
 use Rattle.sim_device.specs.FileEffects.{SyncDir}
 use Rattle.file_replace.specs.declared.variant.Variant.{Variant}
@@ -16,3 +17,6 @@ returns-in-IgnoreSync c = λ es h.
 pub returns-in-RetryWrite : goal.returns-in-RetryWrite
 returns-in-RetryWrite c = λ es h.
     subst (λ (v : Variant). Shows (after_sync_dir v c.args.progress.now (SyncDir ∷ es)) c.finish-in-RetryWrite.new.progress c.sync_dir.new.self) (sym c.in-RetryWrite.is) (c.finish-in-RetryWrite.ensures _ (c.sync_dir.ensures es h))
+
+pub returns-in-LateSync : goal.returns-in-LateSync
+returns-in-LateSync c = search rules

@@ -1,6 +1,6 @@
 use Rattle.std.proofs.Common.{◌≡◌, None, rules, refl}
 use Rattle.action_eval.specs.Answers.{stopped}
-use Rattle.maildir_target.proofs.Playing.{running_at}
+use Rattle.target_trait.proofs.Running.{running_at}
 use Rattle.maildir_target.proofs.play.play.Goals as goal
 
 pub loop-point-init : goal.loop-point-init

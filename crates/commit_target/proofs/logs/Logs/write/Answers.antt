@@ -3,8 +3,8 @@ use Rattle.commit_target.specs.declared.records.Write.{Write}
 use Rattle.commit_target.specs.Writes.{Written, AddsEvent}
 use Rattle.commit_target.proofs.logs.Logs.write.Goals as goal
 
-pub returns-in-Append : goal.returns-in-Append
-returns-in-Append c = subst (λ (w : Write). OnOk c.append.result (AddsEvent c.args.self.now c.append.new.self (Written w))) (sym c.in-Append.is) c.append.ensures
+pub returns-in-Append-clause-ok : goal.returns-in-Append-clause-ok
+returns-in-Append-clause-ok c = subst (λ (w : Write). OnOk c.append.result (AddsEvent c.args.self.now c.append.new.self (Written w))) (sym c.in-Append.is) c.append.ensures.ok
 
-pub returns-in-Force : goal.returns-in-Force
-returns-in-Force c = subst (λ (w : Write). OnOk c.force.result (AddsEvent c.args.self.now c.force.new.self (Written w))) (sym c.in-Force.is) c.force.ensures
+pub returns-in-Force-clause-ok : goal.returns-in-Force-clause-ok
+returns-in-Force-clause-ok c = subst (λ (w : Write). OnOk c.force.result (AddsEvent c.args.self.now c.force.new.self (Written w))) (sym c.in-Force.is) c.force.ensures.ok

@@ -1,7 +1,7 @@
 use Rattle.std.proofs.Common.{◌≡◌, None, rules, refl}
 use Rattle.action_eval.specs.Answers.{stopped}
-use Rattle.file_replace.proofs.Playing.{running_at}
-use Rattle.file_replace.proofs.play.play.Goals as goal
+use Rattle.target_trait.proofs.Running.{running_at}
+use Rattle.file_replace.proofs.play.play_through.Goals as goal
 
 pub loop-point-init : goal.loop-point-init
 loop-point-init c =

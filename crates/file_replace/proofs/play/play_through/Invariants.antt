@@ -1,6 +1,6 @@
 use Rattle.std.proofs.Common.{◌≡◌, ◌+◌, ◌-◌, length}
 use Rattle.file_replace.specs.Seen.{Played}
-use Rattle.file_replace.proofs.play.play.Given as goal
+use Rattle.file_replace.proofs.play.play_through.Given as goal
 
 abbrev pub invariant-loop-point : goal.invariant-loop-point
 invariant-loop-point l = record {
