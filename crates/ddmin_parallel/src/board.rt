@@ -1,4 +1,4 @@
-ghost use Rattle.std.specs.Prelude.{◌≡◌, ℕ, ◌≤◌, List, [], ◌∷◌, ◌++◌, Bool, false, ◌&&◌, not, IsTrue, IfOk, OnOk, OnErr, IfErr, map, option_copied};
+ghost use Rattle.std.specs.Prelude.{◌≡◌, ℕ, ◌+◌, ◌<◌, ◌≤◌, List, [], ◌∷◌, ◌++◌, vec_len, vec_capacity, Bool, false, ◌&&◌, not, IsTrue, IfOk, OnOk, OnErr, IfErr, map, option_copied};
 ghost use Rattle.ddmin_parallel.specs.CoreEvents.{position, is_out, Put, GiveBack, Recall};
 ghost use Rattle.ddmin_parallel.specs.Cards.{IsFinished, IsPutFault};
 ghost use Rattle.std.specs.List.{list_any, list_all};
@@ -97,6 +97,16 @@ fn are_backed(events: &[Event], pairs: &[Vec<(Vec<u32>, bool)>]) -> bool
     true
 }
 
+/// Adds an event, in the place that was reserved for it.
+fn note(events: &mut Vec<Event>, event: Event)
+    requires { vec_len events.old < vec_capacity events.old }
+    ensures items { events.new.items ≡ events.old.items ++ event ∷ [] }
+    ensures len { vec_len events.new ≡ vec_len events.old + 1 }
+    ensures capacity { vec_capacity events.new ≡ vec_capacity events.old }
+{
+    events.push_reserved(event);
+}
+
 impl Board {
     /// Begins the reduction of the faults `0 .. faults`, with no event yet. Up to 4,096 faults. Takes no memory.
     pub fn start(alloc: Global, faults: u32) -> Board
@@ -136,7 +146,7 @@ impl Board {
         match self.core.take_two(alloc, ahead)? {
             None => Ok(None),
             Some((card, copy)) => {
-                self.events.push_reserved(Event::Take(copy));
+                note(&mut self.events, Event::Take(copy));
                 Ok(Some(card))
             }
         }
@@ -158,7 +168,7 @@ impl Board {
         };
         match self.core.put(alloc, card, fails) {
             Ok(()) => {
-                self.events.push_reserved(Event::Put(copy, fails));
+                note(&mut self.events, Event::Put(copy, fails));
                 Ok(())
             }
             Err(fault) => Err(fault),
@@ -171,7 +181,7 @@ impl Board {
     {
         let set = card.into_set();
         if self.core.end_card(set.as_slice()) {
-            self.events.push_reserved(Event::GiveBack(set));
+            note(&mut self.events, Event::GiveBack(set));
         }
     }
 
@@ -181,7 +191,7 @@ impl Board {
     {
         if self.core.out_len() > 0 {
             self.core.recall();
-            self.events.push_reserved(Event::Recall);
+            note(&mut self.events, Event::Recall);
         }
     }
 

@@ -1,4 +1,4 @@
-ghost use Rattle.std.specs.Prelude.{◌≡◌, ℕ, ◌≤◌, IfOk};
+ghost use Rattle.std.specs.Prelude.{◌≡◌, ℕ, ◌≤◌, IfOk, IsTrue};
 ghost use Rattle.ddmin_parallel.specs.Ddmin.{ddmin};
 ghost use Rattle.ddmin_parallel.specs.Logs.{Tells};
 
@@ -14,6 +14,22 @@ fn copied(alloc: Global, reduction: &Reduction) -> Result<Reduction, AllocError>
     let tests = reduction.tests;
     let kept = Vec::from_slice(alloc, reduction.kept.as_slice())?;
     Ok(Reduction { kept, tests })
+}
+
+/// Answers the next card by the probe. False where there is none.
+fn answer_next<P: Probe>(alloc: Global, core: &mut Core, probe: &mut P) -> Result<bool, AllocError>
+    ensures tells { (faults : ℕ) → Tells faults (P.answers probe.old) core.old → IfOk result (λ more. IsTrue more → Tells faults (P.answers probe.old) core.new) }
+    ensures setup { P.answers probe.new ≡ P.answers probe.old }
+{
+    let Some(card) = core.take(alloc, false)? else {
+        return Ok(false);
+    };
+    let fails = probe.test(card.set())?;
+    match core.put(alloc, card, fails) {
+        Ok(()) => Ok(true),
+        Err(CardFault::Stranger(_)) => Ok(false),
+        Err(CardFault::Memory(_)) => Err(AllocError),
+    }
 }
 
 /// Goes on from a core that knows nothing but the probe's own answers.
@@ -33,15 +49,8 @@ pub(crate) fn finish<P: Probe>(
         if let Some(reduction) = core.finished() {
             return copied(alloc, reduction);
         }
-        let card = match core.take(alloc, false)? {
-            None => break,
-            Some(card) => card,
-        };
-        let fails = probe.test(card.set())?;
-        match core.put(alloc, card, fails) {
-            Ok(()) => {}
-            Err(CardFault::Stranger(_)) => break,
-            Err(CardFault::Memory(_)) => return Err(AllocError),
+        if !answer_next(alloc, &mut core, probe)? {
+            break;
         }
     }
     reduce_plain(alloc, probe, faults)

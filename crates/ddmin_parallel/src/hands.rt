@@ -1,4 +1,4 @@
-ghost use Rattle.std.specs.Prelude.{◌≡◌, ℕ, ◌<◌, ◌≤◌, List, All, IfOk, vec_len, length, Bool, map};
+ghost use Rattle.std.specs.Prelude.{◌≡◌, ℕ, ◌<◌, ◌≤◌, List, [], ◌∷◌, ◌++◌, All, IfOk, OnOk, vec_len, length, Bool, map};
 ghost use Rattle.ddmin_parallel.specs.Ddmin.{ddmin};
 ghost use Rattle.ddmin_parallel.specs.Logs.{AreAnswers, AllAnswers};
 
@@ -59,6 +59,19 @@ impl Desk {
 }
 
 impl Shared {
+    fn start(alloc: Global, faults: u32) -> Shared
+        requires { faults ≤ 4096 }
+    {
+        Shared {
+            desk: Mutex::new(Desk {
+                board: Board::start(alloc, faults),
+                moves: 0,
+                cards: 0,
+            }),
+            moved: Condvar::new(),
+        }
+    }
+
     /// The next card with its number, or none where there will be none or memory ran out.
     fn next_card<R: Wait>(&self, rt: &R, alloc: Global) -> Option<(Card, u32)> {
         for _ in rt.forever() {
@@ -92,14 +105,55 @@ impl Shared {
     }
 }
 
-fn copied(alloc: Global, card: &Card) -> Result<Vec<u32>, AllocError>
-    ensures { IfOk result (λ set. set.items ≡ card.now) }
+/// What the probe says of a card, with a copy of its set, which is made before the probe is asked.
+fn asked<P: Probe, G: Gate>(
+    alloc: Global,
+    gate: &G,
+    probe: &mut P,
+    card: &Card,
+    number: u32,
+) -> Result<(Vec<u32>, bool), AllocError>
+    ensures setup { P.answers probe.new ≡ P.answers probe.old }
+    ensures told { IfOk result (λ t. t.1 ≡ P.answers probe.old t.0.items) }
 {
-    Vec::from_slice(alloc, card.set())
+    let set = Vec::from_slice(alloc, card.set())?;
+    gate.arrive(Phase::Cards, number);
+    let fails = probe.test(card.set())?;
+    Ok((set, fails))
 }
 
-/// Answers cards until there are none, and says what it answered. Room for an answer is made before the
-/// probe is asked, and it is asked outside the lock. Where memory runs out the card goes back.
+/// Answers one card, and says what it answered. Room for an answer is made before the probe is asked, and it
+/// is asked outside the lock. False where there is no card, or where memory ran out: then the card goes back.
+fn turn<R: Wait, P: Probe, G: Gate>(
+    rt: &R,
+    alloc: Global,
+    gate: &G,
+    shared: &Shared,
+    probe: &mut P,
+    told: &mut Told,
+) -> bool
+    ensures setup { P.answers probe.new ≡ P.answers probe.old }
+    ensures told { AreAnswers (P.answers probe.old) told.old.items → AreAnswers (P.answers probe.old) told.new.items }
+{
+    if told.reserve(1).is_err() {
+        return false;
+    }
+    let Some((card, number)) = shared.next_card(rt, alloc) else {
+        return false;
+    };
+    match asked(alloc, gate, probe, &card, number) {
+        Ok((set, fails)) => {
+            told.push_reserved((set, fails));
+            shared.put(rt, alloc, card, fails)
+        }
+        Err(_) => {
+            shared.give_back(rt, card);
+            false
+        }
+    }
+}
+
+/// Answers cards until there are none or memory runs out, and says what it answered.
 fn work<R: Wait, P: Probe, G: Gate>(
     rt: &R,
     alloc: Global,
@@ -113,28 +167,8 @@ fn work<R: Wait, P: Probe, G: Gate>(
     let mut probe = probe;
     let mut told = Vec::new(alloc);
     for _ in rt.forever() {
-        if told.reserve(1).is_err() {
+        if !turn(rt, alloc, gate, shared, &mut probe, &mut told) {
             break;
-        }
-        let Some((card, number)) = shared.next_card(rt, alloc) else {
-            break;
-        };
-        let Ok(set) = copied(alloc, &card) else {
-            shared.give_back(rt, card);
-            break;
-        };
-        gate.arrive(Phase::Cards, number);
-        match probe.test(card.set()) {
-            Ok(fails) => {
-                told.push_reserved((set, fails));
-                if !shared.put(rt, alloc, card, fails) {
-                    break;
-                }
-            }
-            Err(_) => {
-                shared.give_back(rt, card);
-                break;
-            }
         }
     }
     (probe, told)
@@ -159,6 +193,21 @@ fn left_on(shared: Shared) -> Board {
     shared.desk.into_inner().board
 }
 
+/// Adds a probe, and apart from it what it answered.
+fn part_one<P: Probe>(
+    probes: &mut Vec<P>,
+    pairs: &mut Vec<Told>,
+    probe: P,
+    told: Told,
+) -> Result<(), AllocError>
+    ensures probes { OnOk result (probes.new.items ≡ probes.old.items ++ probe ∷ []) }
+    ensures pairs { OnOk result (pairs.new.items ≡ pairs.old.items ++ told ∷ []) }
+{
+    probes.push(probe)?;
+    pairs.push(told)?;
+    Ok(())
+}
+
 /// The probes, and apart from them what they answered.
 fn parted<P: Probe>(alloc: Global, all: Vec<(P, Told)>) -> Result<(Vec<P>, Vec<Told>), AllocError>
     ensures { IfOk result (λ r. (r.0.items ≡ map (λ x. x.0) all.items) × (r.1.items ≡ map (λ x. x.1) all.items)) }
@@ -166,8 +215,7 @@ fn parted<P: Probe>(alloc: Global, all: Vec<(P, Told)>) -> Result<(Vec<P>, Vec<T
     let mut probes = Vec::new(alloc);
     let mut pairs = Vec::new(alloc);
     for (probe, told) in all {
-        probes.push(probe)?;
-        pairs.push(told)?;
+        part_one(&mut probes, &mut pairs, probe, told)?;
     }
     Ok((probes, pairs))
 }
@@ -214,14 +262,7 @@ pub fn reduce<R: Threads + Wait + Sync, P: Probe, G: Gate>(
     requires one_setup { All (λ p. All (λ q. P.answers p ≡ P.answers q) hands.items) hands.items }
     ensures { IfOk result (λ r. All (λ p. r ≡ ddmin (P.answers p) faults) hands.items) }
 {
-    let shared = Shared {
-        desk: Mutex::new(Desk {
-            board: Board::start(alloc, faults),
-            moves: 0,
-            cards: 0,
-        }),
-        moved: Condvar::new(),
-    };
+    let shared = Shared::start(alloc, faults);
     let all = all_told(rt, alloc, gate, &shared, hands)?;
     let board = left_on(shared);
     let (mut probes, pairs) = parted(alloc, all)?;

@@ -100,6 +100,18 @@ fn go_on(stage: &mut Stage, next: Option<Stage>)
     }
 }
 
+/// Adds an answer to what is known. An `Err` changes nothing.
+fn learn(alloc: Global, known: &mut Known, set: &[u32], fails: bool) -> Result<(), AllocError>
+    ensures ok { OnOk result (known.new ≡ known_map.insert known.old set.now fails) }
+    ensures err { OnErr result (known.new ≡ known.old) }
+{
+    let copy = Vec::from_slice(alloc, set)?;
+    match known.insert(copy, fails) {
+        Ok(()) => Ok(()),
+        Err(_) => Err(AllocError),
+    }
+}
+
 /// Puts an answer among what is known, and moves the stage on. An `Err` changes nothing.
 fn settle(
     alloc: Global,
@@ -133,11 +145,7 @@ fn settle(
         Ok(advance) => advance,
         Err(_) => return Err(CardFault::Memory(card)),
     };
-    let copy = match Vec::from_slice(alloc, card.set.as_slice()) {
-        Ok(copy) => copy,
-        Err(_) => return Err(CardFault::Memory(card)),
-    };
-    match known.insert(copy, fails) {
+    match learn(alloc, known, card.set.as_slice(), fails) {
         Ok(()) => {}
         Err(_) => return Err(CardFault::Memory(card)),
     }
@@ -146,6 +154,19 @@ fn settle(
     *cursor = moved_cursor(*cursor, place, is_anew);
     go_on(stage, next);
     Ok(())
+}
+
+/// Adds a copy of a set to those that are out, and gives another. An `Err` changes none of them.
+fn add_out(alloc: Global, out: &mut Vec<Vec<u32>>, set: &[u32]) -> Result<Vec<u32>, AllocError>
+    ensures copy { IfOk result (λ other. other.items ≡ set.now) }
+    ensures out { OnOk result (map (λ s. s.items) out.new.items ≡ map (λ s. s.items) out.old.items ++ set.now ∷ []) }
+    ensures err { OnErr result (out.new.items ≡ out.old.items) }
+{
+    let other = Vec::from_slice(alloc, set)?;
+    let copy = Vec::from_slice(alloc, set)?;
+    out.reserve(1)?;
+    out.push_reserved(copy);
+    Ok(other)
 }
 
 /// Hands out the next card, with a copy of its set. An `Err` hands out none.
@@ -175,10 +196,7 @@ fn hand_out(
         }
         Some(set) => set,
     };
-    let other = Vec::from_slice(alloc, set.as_slice())?;
-    let copy = Vec::from_slice(alloc, set.as_slice())?;
-    out.reserve(1)?;
-    out.push_reserved(copy);
+    let other = add_out(alloc, out, set.as_slice())?;
     *cursor = next;
     Ok(Some((Card { set }, other)))
 }

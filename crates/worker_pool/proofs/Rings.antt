@@ -5,7 +5,8 @@ use native.Mathlib.Decide.{ℕ_discrete}
 use Rattle.std.proofs.lemmas.Bool.Decides.{nat_tests}
 use Rattle.std.proofs.lemmas.List.{get_or-set_same, get_or-set_other}
 use Rattle.std.proofs.Math.ListN.{length-set}
-use Rattle.crossbeam_deque.specs.Handles.{view, worker_deque, worker_view}
+use Rattle.crossbeam_deque.specs.Handles.{view, stealer_deque, worker_deque, worker_view}
+use Rattle.worker_pool.specs.declared.rule.Seat.{Seat}
 use Rattle.worker_pool.specs.declared.desk.Next.{Next}
 use Rattle.worker_pool.specs.declared.desk.Desk.{Desk}
 use Rattle.worker_pool.specs.Ring.{next_of, Link, IsRing, stolen_by, stolen_from}
@@ -86,6 +87,33 @@ pub at_any : {A : Type 0} (xs : List A) (k : ℕ) (d e : A) → k < length xs �
 at_any [] k d e within = absurd (omega arith)
 at_any (x ∷ xs) zero d e within = refl
 at_any (x ∷ xs) (suc k) d e within = at_any xs k d e (omega arith)
+
+-- a seat at the deque of the next desk is given to desk k
+pub ring_linked : (ds : List Desk) (k next : ℕ) (old mid there new : Desk) (n : Next) → k < length ds → next ≡ next_of (length ds) k
+    → old ≡ get_or ds next old → mid.next ≡ old.next → worker_deque mid.own ≡ worker_deque old.own
+    → there ≡ get_or (set ds next mid) k there → new.next ≡ Some n → worker_view new.own ≡ worker_view there.own → worker_deque new.own ≡ worker_deque there.own
+    → stealer_deque n.from ≡ worker_deque old.own
+    → IsRing ds → IsRing (set (set ds next mid) k new)
+ring_linked ds k next old mid there new n in_k is old_is mid_next mid_deque there_is new_next new_view new_deque from ring =
+    let es = set (set ds next mid) k new in
+    let m = next_of (length ds) k in
+    let in_k' : k < length (set ds next mid) = omega (arith, length-set ds next mid) in
+    let in_m : m < length ds = next_of-within (length ds) k in_k in
+    let deques : (t : ℕ) (d : Desk) → worker_deque (get_or es t d).own ≡ worker_deque (get_or ds t d).own =
+    λ t d. kept_at_set (λ (x : Desk). worker_deque x.own) (set ds next mid) k t new d there (new_deque ∙ ap (λ (x : Desk). worker_deque x.own) there_is)
+    ∙ kept_at_set (λ (x : Desk). worker_deque x.own) ds next t mid d old (mid_deque ∙ ap (λ (x : Desk). worker_deque x.own) old_is) in
+    ring_changed ds es k (omega (arith, length-set ds next mid, length-set (set ds next mid) k new)) in_k
+    (λ j d ne. ap (λ (x : Desk). x.next) (get_or-set_other (set ds next mid) k j new d ne) ∙ kept_at_set (λ (x : Desk). x.next) ds next j mid d old (mid_next ∙ ap (λ (x : Desk). x.next) old_is))
+    (λ t d ne. kept_at_set right_of (set ds next mid) k t new d there (ap (λ (v : Seat). v.steal_right) new_view ∙ ap right_of there_is)
+    ∙ ap right_of (get_or-set_other ds next t mid d (λ e. ne (e ∙ is))))
+    deques
+    (λ d.
+    let some : (get_or es k d).next ≡ Some n = ap (λ (x : Desk). x.next) (get_or-set_same (set ds next mid) k new d in_k') ∙ new_next in
+    let here : old ≡ get_or ds m d = old_is ∙ ap (λ (i : ℕ). get_or ds i old) is ∙ at_any ds m old d in_m in
+    let link : stealer_deque n.from ≡ worker_deque (get_or es m d).own = from ∙ ap (λ (x : Desk). worker_deque x.own) here ∙ sym (deques m d) in
+    let R : Option Next → Type 0 = λ o. Link o (get_or es m d) in
+    subst R (sym some) link)
+    ring
 
 pub absorbed_stolen : (test : ℕ → Bool) (ds : List Desk) (k next : ℕ) (old mid new : Desk) (n : Next) (d : Desk) → k < length ds → next < length ds → old ≡ get_or ds k old → old.next ≡ Some n
     → (worker_view new.own).stolen ≡ (view n.seat).stolen → stolen_by test (get_or (set (set ds k mid) next new) next d) ≡ stolen_from test (get_or ds k d).next (get_or ds next d)

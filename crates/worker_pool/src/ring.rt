@@ -55,13 +55,21 @@ pub fn absorb_all(desks: &mut Vec<Desk>)
     }
 }
 
+/// Learns of one deque what it holds.
+fn settle_one(mut desk: Desk)
+    requires { TakenIn desk }
+    ensures { IsSettled desk }
+{
+    desk.settle();
+}
+
 /// Learns of all deques what they hold.
 pub fn settle_all(desks: Vec<Desk>)
     requires { All TakenIn desks.items }
     ensures { All IsSettled desks.items }
 {
-    for mut desk in desks {
-        desk.settle();
+    for desk in desks {
+        settle_one(desk);
     }
 }
 
@@ -109,6 +117,11 @@ pub fn link_all(desks: &mut Vec<Desk>, count: u32) -> Result<(), AllocError>
 /// bytes in pairs.
 const GAP: usize = 128;
 
+fn leave_gap(alloc: Global, gaps: &mut Vec<Vec<u8>>) -> Result<(), AllocError> {
+    gaps.push(Vec::with_capacity(alloc, GAP)?)?;
+    Ok(())
+}
+
 /// So many desks with empty deques, each with that much room.
 fn empty_desks(alloc: Global, n: usize, room: usize, count: u32) -> Result<Vec<Desk>, AllocError>
     ensures len { IfOk result (λ v. vec_len v ≡ n) }
@@ -119,8 +132,9 @@ fn empty_desks(alloc: Global, n: usize, room: usize, count: u32) -> Result<Vec<D
     let mut desks = Vec::new(alloc);
     let mut gaps = Vec::new(alloc);
     for _made in 0..n {
-        desks.push(Desk::new(alloc, room)?)?;
-        gaps.push(Vec::<u8>::with_capacity(alloc, GAP)?)?;
+        let desk = Desk::new(alloc, room)?;
+        desks.push(desk)?;
+        leave_gap(alloc, &mut gaps)?;
     }
     Ok(desks)
 }

@@ -74,6 +74,17 @@ pub fn lend<J: Job>(stations: &mut Vec<Station<J>>, mut desks: Vec<Desk>)
     }
 }
 
+fn take_one<J: Job>(station: &mut Station<J>) -> Desk
+    requires { IsSome station.old.desk }
+    ensures desk { station.old.desk ≡ Some result }
+    ensures same { SameWork station.old station.new }
+{
+    let Some(desk) = station.desk.take() else {
+        unreachable!()
+    };
+    desk
+}
+
 /// Takes each station's desk back.
 pub fn take_back<J: Job>(stations: &mut Vec<Station<J>>, mut desks: Vec<Desk>) -> Vec<Desk>
     requires empty { desks.items ≡ [] }
@@ -85,10 +96,7 @@ pub fn take_back<J: Job>(stations: &mut Vec<Station<J>>, mut desks: Vec<Desk>) -
     ensures same { (k : ℕ) (s : _) → SameWork (slice_index_or stations.old.items k s) (slice_index_or stations.new.items k s) }
 {
     for k in 0..stations.len() {
-        let Some(desk) = stations[k].desk.take() else {
-            unreachable!()
-        };
-        desks.push_reserved(desk);
+        desks.push_reserved(take_one(&mut stations[k]));
     }
     desks
 }

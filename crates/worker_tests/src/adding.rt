@@ -93,7 +93,7 @@ pub fn performed<J: Job>(hands: &[Hand<J>]) -> u64 {
 }
 
 /// Over all their runs the hands performed so many tickets, and their jobs did.
-pub fn have_performed(rt: &impl Abort, hands: &[Hand<Adder<'_>>], calls: &AtomicU64, count: u64) {
+pub fn have_performed<J: Job>(rt: &impl Abort, hands: &[Hand<J>], calls: &AtomicU64, count: u64) {
     assert_eq!(rt; performed(hands), count);
     assert_eq!(rt; calls.load(Ordering::SeqCst), count);
 }

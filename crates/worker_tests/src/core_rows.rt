@@ -1,16 +1,31 @@
+ghost use Rattle.std.specs.Prelude.{◌≤◌};
+
 use crate::plain_rows::{is_found, needs_both};
 use ddmin_parallel::{Board, Card, CardFault, Core, Event, Probe};
 use std::alloc::{AllocError, Global};
+use std::process::Abort;
 
-fn is_card(card: &Option<Card>, set: &[u32]) -> bool {
-    match card {
-        Some(card) => card.set() == set,
-        None => false,
-    }
+/// The next card of a core, which is of this set.
+fn taken(
+    rt: &impl Abort,
+    alloc: Global,
+    core: &mut Core,
+    ahead: bool,
+    set: &[u32],
+) -> Result<Card, AllocError> {
+    let card = core.take(alloc, ahead)?.expect(rt, "a card of the core");
+    assert!(rt; card.set() == set);
+    Ok(card)
 }
 
-fn has_put(answer: &Result<(), CardFault>) -> bool {
-    answer.is_ok()
+/// Puts an answer, which a core takes.
+fn put(rt: &impl Abort, alloc: Global, core: &mut Core, card: Card, fails: bool) {
+    assert!(rt; core.put(alloc, card, fails).is_ok());
+}
+
+/// Whether a core has no card now.
+fn is_out_of_cards(alloc: Global, core: &mut Core, ahead: bool) -> Result<bool, AllocError> {
+    Ok(core.take(alloc, ahead)?.is_none())
 }
 
 /// Whether a core is finished with this result.
@@ -25,9 +40,8 @@ fn is_end(core: &Core, kept: &[u32], tests: u64) -> bool {
 fn cards_of<P: Probe>(alloc: Global, probe: &mut P, core: &mut Core) -> Result<u64, AllocError> {
     let mut cards = 0u64;
     for _ in 0..1000 {
-        let card = match core.take(alloc, false)? {
-            None => return Ok(cards),
-            Some(card) => card,
+        let Some(card) = core.take(alloc, false)? else {
+            break;
         };
         cards = cards.saturating_add(1);
         let fails = probe.test(card.set())?;
@@ -38,82 +52,137 @@ fn cards_of<P: Probe>(alloc: Global, probe: &mut P, core: &mut Core) -> Result<u
     Ok(cards)
 }
 
-#[test]
-fn cards_one_by_one(rt: HostRuntime) -> Result<(), AllocError> {
-    let alloc = rt.alloc();
-    let mut core = Core::start(alloc, 8);
-    assert!(&rt; cards_of(alloc, &mut needs_both(2, 6), &mut core)? == 17);
-    assert!(&rt; is_end(&core, &[2, 6], 29));
-    let mut core = Core::start(alloc, 3);
-    assert!(&rt; cards_of(alloc, &mut needs_both(0, 2), &mut core)? == 6);
-    assert!(&rt; is_end(&core, &[0, 2], 10));
+/// A core hands out so many cards until it is finished, and has counted so many tests.
+fn has_cards(
+    rt: &impl Abort,
+    alloc: Global,
+    faults: u32,
+    culprits: [u32; 2],
+    cards: u64,
+    tests: u64,
+) -> Result<(), AllocError>
+    requires { faults ≤ 4096 }
+{
+    let mut core = Core::start(alloc, faults);
+    let mut probe = needs_both(culprits[0], culprits[1]);
+    assert_eq!(rt; cards_of(alloc, &mut probe, &mut core)?, cards);
+    assert!(rt; is_end(&core, &culprits, tests));
     Ok(())
 }
 
 #[test]
-fn no_fault_and_one(rt: HostRuntime) -> Result<(), AllocError> {
-    let alloc = rt.alloc();
-    let mut core = Core::start(alloc, 0);
+fn cards_one_by_one(rt: HostRuntime) -> Result<(), AllocError> {
+    has_cards(&rt, rt.alloc(), 8, [2, 6], 17, 29)?;
+    has_cards(&rt, rt.alloc(), 3, [0, 2], 6, 10)
+}
+
+#[test]
+fn no_fault(rt: HostRuntime) -> Result<(), AllocError> {
+    let mut core = Core::start(rt.alloc(), 0);
     assert!(&rt; is_end(&core, &[], 0));
-    assert!(&rt; core.take(alloc, false)?.is_none() && core.take(alloc, true)?.is_none());
-    let mut core = Core::start(alloc, 1);
+    for ahead in [false, true] {
+        assert!(&rt; is_out_of_cards(rt.alloc(), &mut core, ahead)?);
+    }
+    Ok(())
+}
+
+#[test]
+fn one_fault(rt: HostRuntime) -> Result<(), AllocError> {
+    let mut core = Core::start(rt.alloc(), 1);
     assert!(&rt; core.finished().is_none());
-    let card = core.take(alloc, false)?.expect(&rt, "the empty set");
-    assert!(&rt; card.set().is_empty());
-    assert!(&rt; has_put(&core.put(alloc, card, false)));
+    let card = taken(&rt, rt.alloc(), &mut core, false, &[])?;
+    put(&rt, rt.alloc(), &mut core, card, false);
     assert!(&rt; is_end(&core, &[0], 1));
     Ok(())
 }
 
+/// The empty set as a core's answer to a stranger hands it back.
+fn is_stranger(answer: Result<(), CardFault>) -> bool {
+    match answer {
+        Err(CardFault::Stranger(card)) => card.set().is_empty(),
+        Err(CardFault::Memory(_)) | Ok(()) => false,
+    }
+}
+
+/// The empty set's card, once it came back and was taken again.
+fn taken_again(rt: &impl Abort, alloc: Global, core: &mut Core) -> Result<Card, AllocError> {
+    let card = taken(rt, alloc, core, false, &[])?;
+    assert!(rt; is_out_of_cards(alloc, core, false)?);
+    core.give_back(card);
+    taken(rt, alloc, core, false, &[])
+}
+
 #[test]
 fn cards_that_come_back(rt: HostRuntime) -> Result<(), AllocError> {
-    let alloc = rt.alloc();
-    let mut core = Core::start(alloc, 2);
-    let card = core.take(alloc, false)?.expect(&rt, "the empty set");
-    assert!(&rt; core.take(alloc, false)?.is_none());
-    core.give_back(card);
-    let card = core.take(alloc, false)?.expect(&rt, "the empty set again");
-    assert!(&rt; card.set().is_empty());
+    let mut core = Core::start(rt.alloc(), 2);
+    let card = taken_again(&rt, rt.alloc(), &mut core)?;
     core.recall();
-    match core.put(alloc, card, true) {
-        Err(CardFault::Stranger(card)) => assert!(&rt; card.set().is_empty()),
-        Err(CardFault::Memory(_)) => return Err(AllocError),
-        Ok(()) => panic!(&rt; "an answer to a card that was recalled"),
-    }
-    assert!(&rt; core.finished().is_none() && is_card(&core.take(alloc, false)?, &[]));
+    assert!(&rt; is_stranger(core.put(rt.alloc(), card, true)));
+    assert!(&rt; core.finished().is_none());
+    let _card = taken(&rt, rt.alloc(), &mut core, false, &[])?;
     Ok(())
+}
+
+/// A core past the empty set, which passes.
+fn past_the_empty_set(rt: &impl Abort, alloc: Global, faults: u32) -> Result<Core, AllocError>
+    requires { faults ≤ 4096 }
+{
+    let mut core = Core::start(alloc, faults);
+    let card = taken(rt, alloc, &mut core, false, &[])?;
+    put(rt, alloc, &mut core, card, false);
+    Ok(core)
 }
 
 /// The candidate that was answered first does not decide: the first one of the round does.
 #[test]
 fn the_second_is_answered_first(rt: HostRuntime) -> Result<(), AllocError> {
     let alloc = rt.alloc();
-    let mut core = Core::start(alloc, 2);
-    let card = core.take(alloc, false)?.expect(&rt, "the empty set");
-    assert!(&rt; has_put(&core.put(alloc, card, false)));
-    let first = core.take(alloc, false)?.expect(&rt, "the first fault");
-    let second = core.take(alloc, false)?.expect(&rt, "the second fault");
-    assert!(&rt; first.set() == [0].as_slice() && second.set() == [1].as_slice());
-    assert!(&rt; has_put(&core.put(alloc, second, true)));
+    let mut core = past_the_empty_set(&rt, alloc, 2)?;
+    let first = taken(&rt, alloc, &mut core, false, &[0])?;
+    let second = taken(&rt, alloc, &mut core, false, &[1])?;
+    put(&rt, alloc, &mut core, second, true);
     assert!(&rt; core.finished().is_none());
-    assert!(&rt; has_put(&core.put(alloc, first, true)));
+    put(&rt, alloc, &mut core, first, true);
     assert!(&rt; is_end(&core, &[0], 2));
     Ok(())
 }
 
-#[test]
-fn cards_ahead(rt: HostRuntime) -> Result<(), AllocError> {
-    let alloc = rt.alloc();
-    let mut board = Board::start(alloc, 8);
-    let empty = board.take(alloc, true)?.expect(&rt, "the empty set");
-    let first = board.take(alloc, true)?.expect(&rt, "the first half");
-    let second = board.take(alloc, true)?.expect(&rt, "the second half");
-    assert!(&rt; empty.set().is_empty());
-    assert!(&rt; first.set() == [0, 1, 2, 3].as_slice());
-    assert!(&rt; second.set() == [4, 5, 6, 7].as_slice());
-    assert!(&rt; board.take(alloc, true)?.is_none());
-    assert!(&rt; board.events().len() == 3);
-    assert!(&rt; has_put(&board.put(alloc, empty, false)));
+/// The next card of a board, which is of this set.
+fn taken_of(
+    rt: &impl Abort,
+    alloc: Global,
+    board: &mut Board,
+    ahead: bool,
+    set: &[u32],
+) -> Result<Card, AllocError> {
+    let card = board.take(alloc, ahead)?.expect(rt, "a card of the board");
+    assert!(rt; card.set() == set);
+    Ok(card)
+}
+
+/// The board has no card now, also ahead, and so many events.
+fn has_no_card(
+    rt: &impl Abort,
+    alloc: Global,
+    board: &mut Board,
+    events: usize,
+) -> Result<(), AllocError> {
+    assert!(rt; board.take(alloc, true)?.is_none());
+    assert_eq!(rt; board.events().len(), events);
+    Ok(())
+}
+
+/// Takes the empty set and, ahead of its answer, the two halves.
+fn halves_ahead(rt: &impl Abort, alloc: Global, board: &mut Board) -> Result<Card, AllocError> {
+    let empty = taken_of(rt, alloc, board, true, &[])?;
+    let _first = taken_of(rt, alloc, board, true, &[0, 1, 2, 3])?;
+    let _second = taken_of(rt, alloc, board, true, &[4, 5, 6, 7])?;
+    has_no_card(rt, alloc, board, 3)?;
+    Ok(empty)
+}
+
+/// Takes the round one further than the halves.
+fn quarters_ahead(rt: &impl Abort, alloc: Global, board: &mut Board) -> Result<(), AllocError> {
     let quarters: [&[u32]; 8] = [
         &[0, 1],
         &[2, 3],
@@ -125,68 +194,113 @@ fn cards_ahead(rt: HostRuntime) -> Result<(), AllocError> {
         &[0, 1, 2, 3, 4, 5],
     ];
     for set in quarters {
-        assert!(&rt; is_card(&board.take(alloc, true)?, set));
+        let _card = taken_of(rt, alloc, board, true, set)?;
     }
-    assert!(&rt; board.take(alloc, true)?.is_none());
-    assert!(&rt; board.events().len() == 12);
-    Ok(())
+    has_no_card(rt, alloc, board, 12)
+}
+
+#[test]
+fn cards_ahead(rt: HostRuntime) -> Result<(), AllocError> {
+    let mut board = Board::start(rt.alloc(), 8);
+    let empty = halves_ahead(&rt, rt.alloc(), &mut board)?;
+    assert!(&rt; board.put(rt.alloc(), empty, false).is_ok());
+    quarters_ahead(&rt, rt.alloc(), &mut board)
+}
+
+/// Takes the two halves ahead of the empty set, which fails then.
+fn ends_before_halves(
+    rt: &impl Abort,
+    alloc: Global,
+    core: &mut Core,
+) -> Result<(Card, Card), AllocError> {
+    let empty = taken(rt, alloc, core, true, &[])?;
+    let first = taken(rt, alloc, core, true, &[0, 1, 2, 3])?;
+    let second = taken(rt, alloc, core, true, &[4, 5, 6, 7])?;
+    put(rt, alloc, core, empty, true);
+    assert!(rt; is_end(core, &[], 1));
+    Ok((first, second))
 }
 
 /// The cards ahead are of use to nobody, and still end.
 #[test]
 fn cards_ahead_of_a_failing_empty_set(rt: HostRuntime) -> Result<(), AllocError> {
-    let alloc = rt.alloc();
-    let mut core = Core::start(alloc, 8);
-    let empty = core.take(alloc, true)?.expect(&rt, "the empty set");
-    let first = core.take(alloc, true)?.expect(&rt, "the first half");
-    let second = core.take(alloc, true)?.expect(&rt, "the second half");
-    assert!(&rt; has_put(&core.put(alloc, empty, true)));
-    assert!(&rt; is_end(&core, &[], 1));
-    assert!(&rt; has_put(&core.put(alloc, first, true)));
+    let mut core = Core::start(rt.alloc(), 8);
+    let (first, second) = ends_before_halves(&rt, rt.alloc(), &mut core)?;
+    put(&rt, rt.alloc(), &mut core, first, true);
     core.give_back(second);
-    assert!(&rt; is_end(&core, &[], 1) && core.take(alloc, true)?.is_none());
+    assert!(&rt; is_end(&core, &[], 1));
+    assert!(&rt; is_out_of_cards(rt.alloc(), &mut core, true)?);
     Ok(())
 }
 
-#[test]
-fn a_board_and_what_backs_it(rt: HostRuntime) -> Result<(), AllocError> {
-    let alloc = rt.alloc();
+/// Takes the empty set, which passes, and the first half, which comes back before that.
+fn pass_the_empty_set(rt: &impl Abort, alloc: Global, board: &mut Board) -> Result<(), AllocError> {
+    let empty = taken_of(rt, alloc, board, true, &[])?;
+    let half = taken_of(rt, alloc, board, true, &[0, 1, 2, 3])?;
+    board.give_back(half);
+    assert!(rt; board.put(alloc, empty, false).is_ok());
+    Ok(())
+}
+
+/// A board of eight faults of which one card came back and one was recalled, and the empty set passes.
+fn board_of_events(rt: &impl Abort, alloc: Global) -> Result<Board, AllocError> {
     let mut board = Board::start(alloc, 8);
-    let empty = board.take(alloc, true)?.expect(&rt, "the empty set");
-    let half = board.take(alloc, true)?.expect(&rt, "the first half");
-    board.give_back(half);
-    assert!(&rt; has_put(&board.put(alloc, empty, false)));
+    pass_the_empty_set(rt, alloc, &mut board)?;
     board.recall();
-    let half = board
-        .take(alloc, false)?
-        .expect(&rt, "the first half again");
+    let half = taken_of(rt, alloc, &mut board, false, &[0, 1, 2, 3])?;
     board.recall();
     board.give_back(half);
-    match board.events() {
+    Ok(board)
+}
+
+/// Whether these are the events of that board.
+fn are_its_events(events: &[Event]) -> bool {
+    let half = [0, 1, 2, 3].as_slice();
+    match events {
         [
             Event::Take(empty),
-            Event::Take(half),
+            Event::Take(first),
             Event::GiveBack(back),
             Event::Put(put, fails),
             Event::Take(again),
             Event::Recall,
         ] => {
-            assert!(&rt; empty.is_empty() && put.is_empty() && !*fails);
-            assert!(&rt; half.as_slice() == [0, 1, 2, 3].as_slice());
-            assert!(&rt; back.as_slice() == half.as_slice() && again.as_slice() == half.as_slice());
+            empty.is_empty()
+                && first.as_slice() == half
+                && back.as_slice() == half
+                && put.is_empty()
+                && !*fails
+                && again.as_slice() == half
         }
-        _ => panic!(&rt; "other events"),
+        _ => false,
     }
+}
+
+/// One hand, which was told of the empty set alone.
+fn told_of_the_empty_set(
+    alloc: Global,
+    fails: bool,
+) -> Result<Vec<Vec<(Vec<u32>, bool)>>, AllocError> {
     let mut told = Vec::new(alloc);
-    told.push((Vec::new(alloc), false))?;
-    let mut pairs = Vec::new(alloc);
-    assert!(&rt; !board.backed(8, pairs.as_slice()));
-    pairs.push(told)?;
-    assert!(&rt; board.backed(8, pairs.as_slice()) && !board.backed(7, pairs.as_slice()));
-    let mut told = Vec::new(alloc);
-    told.push((Vec::new(alloc), true))?;
+    told.push((Vec::new(alloc), fails))?;
     let mut pairs = Vec::new(alloc);
     pairs.push(told)?;
-    assert!(&rt; !board.backed(8, pairs.as_slice()));
+    Ok(pairs)
+}
+
+/// Whether a hand's answer to the empty set backs a board.
+fn is_backed(alloc: Global, board: &Board, faults: u32, fails: bool) -> Result<bool, AllocError> {
+    let pairs = told_of_the_empty_set(alloc, fails)?;
+    Ok(board.backed(faults, pairs.as_slice()))
+}
+
+#[test]
+fn a_board_and_what_backs_it(rt: HostRuntime) -> Result<(), AllocError> {
+    let board = board_of_events(&rt, rt.alloc())?;
+    assert!(&rt; are_its_events(board.events()));
+    assert!(&rt; !board.backed(8, &[]));
+    for (faults, fails, backed) in [(8, false, true), (7, false, false), (8, true, false)] {
+        assert_eq!(&rt; is_backed(rt.alloc(), &board, faults, fails)?, backed);
+    }
     Ok(())
 }

@@ -10,8 +10,8 @@ use std::thread::Threads;
 use target_trait::FreeGate;
 use worker_pool::Hand;
 
-/// One run of three hands, after which they have performed so many tickets over all their runs.
-fn ran<'a, R: Abort + Threads + Wait + Sync>(
+/// One run of three hands that isn't refused, after which they have performed so many tickets over all their runs.
+pub fn ran<'a, R: Abort + Threads + Wait + Sync>(
     rt: &R,
     alloc: Global,
     hands: Vec<Hand<Adder<'a>>>,

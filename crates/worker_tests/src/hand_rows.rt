@@ -5,7 +5,7 @@ use crate::hands::{Twin, reduced_by};
 use crate::made::{Counts, Culprits};
 use crate::plain_rows::{is_found, needs_both};
 use crate::probes::has;
-use ddmin_parallel::{Probe, reduce_by_core, reduce_plain};
+use ddmin_parallel::{Probe, Reduction, reduce_by_core, reduce_plain};
 use std::alloc::{AllocError, Global};
 use std::rt::Clock;
 use std::sync::Wait;
@@ -139,14 +139,28 @@ impl<'a, R: Clock + Sync> Twin for Meets<'a, R> {
     }
 }
 
+fn counters(alloc: Global, count: usize) -> Result<Vec<AtomicU64>, AllocError> {
+    let mut counters = Vec::new(alloc);
+    for _ in 0..count {
+        counters.push(AtomicU64::new(0))?;
+    }
+    Ok(counters)
+}
+
+fn are_at_most_one(counters: &[AtomicU64]) -> bool {
+    for counter in counters {
+        if counter.load(Ordering::SeqCst) > 1 {
+            return false;
+        }
+    }
+    true
+}
+
 // Wrong bodies: all_work_on_one_thread, every_hand_leaves_at_once, probe_asked_under_the_lock. Each waits in vain, or asks a set twice.
 #[test]
 fn two_cards_meet_in_the_test(rt: HostRuntime) -> Result<(), AllocError> {
     let meeting = Meeting::new();
-    let mut asked = Vec::new(rt.alloc());
-    for _ in 0..256 {
-        asked.push(AtomicU64::new(0))?;
-    }
+    let asked = counters(rt.alloc(), 256)?;
     let probe = Meets {
         rt: &rt,
         meeting: &meeting,
@@ -155,9 +169,7 @@ fn two_cards_meet_in_the_test(rt: HostRuntime) -> Result<(), AllocError> {
     let found = reduced_by(&rt, rt.alloc(), &FreeGate, &probe, 2, 8)?;
     assert!(&rt; is_found(&found, &[2, 6], 29));
     assert!(&rt; meeting.was_held());
-    for count in &asked {
-        assert!(&rt; count.load(Ordering::SeqCst) <= 1);
-    }
+    assert!(&rt; are_at_most_one(asked.as_slice()));
     Ok(())
 }
 
@@ -200,6 +212,25 @@ fn hands_that_leave(rt: HostRuntime) -> Result<(), AllocError> {
     Ok(())
 }
 
+/// The reductions by 1, 2 and 8 hands are this one.
+fn is_by_hands<R: Threads + Wait + Sync, P: Twin>(
+    rt: &R,
+    alloc: Global,
+    probe: &P,
+    faults: u32,
+    plain: &Reduction,
+) -> Result<bool, AllocError>
+    requires { faults ≤ 4096 }
+{
+    for hands in [1, 2, 8] {
+        let found = reduced_by(rt, alloc, &FreeGate, probe, hands, faults)?;
+        if !is_found(&found, plain.kept.as_slice(), plain.tests) {
+            return Ok(false);
+        }
+    }
+    Ok(true)
+}
+
 /// The reductions by the plain recursion, by a core and by 1, 2 and 8 hands are the same.
 fn is_the_same<R: Threads + Wait + Sync, P: Twin>(
     rt: &R,
@@ -211,12 +242,10 @@ fn is_the_same<R: Threads + Wait + Sync, P: Twin>(
 {
     let plain = reduce_plain(alloc, probe, faults)?;
     let by_core = reduce_by_core(alloc, probe, faults)?;
-    let mut same = is_found(&by_core, plain.kept.as_slice(), plain.tests);
-    for hands in [1, 2, 8] {
-        let found = reduced_by(rt, alloc, &FreeGate, probe, hands, faults)?;
-        same = same && is_found(&found, plain.kept.as_slice(), plain.tests);
+    if !is_found(&by_core, plain.kept.as_slice(), plain.tests) {
+        return Ok(false);
     }
-    Ok(same)
+    is_by_hands(rt, alloc, probe, faults, &plain)
 }
 
 /// Numbers that look random, one after the other: Knuth's multiplier for 64 bits, and its upper half.
@@ -235,21 +264,40 @@ impl Numbers {
     }
 }
 
+/// Of the faults about one in eight is a culprit.
+fn made_culprits(
+    alloc: Global,
+    numbers: &mut Numbers,
+    faults: u32,
+) -> Result<Culprits, AllocError> {
+    let mut all = Vec::new(alloc);
+    for fault in 0..faults {
+        if numbers.next() % 8 == 0 {
+            all.push(fault)?;
+        }
+    }
+    Ok(Culprits { all })
+}
+
 #[test]
 fn made_sets_of_culprits(rt: HostRuntime) -> Result<(), AllocError> {
     let alloc = rt.alloc();
     let mut numbers = Numbers { state: 20261122 };
     for _ in 0..500 {
         let faults = numbers.next() % 40;
-        let mut all = Vec::new(alloc);
-        for fault in 0..faults {
-            if numbers.next() % 8 == 0 {
-                all.push(fault)?;
-            }
-        }
-        assert!(&rt; is_the_same(&rt, alloc, &mut Culprits { all }, faults)?);
+        let mut probe = made_culprits(alloc, &mut numbers, faults)?;
+        assert!(&rt; is_the_same(&rt, alloc, &mut probe, faults)?);
     }
     Ok(())
+}
+
+fn made_counts(numbers: &mut Numbers) -> Counts {
+    Counts {
+        step: numbers.next() % 4 + 1,
+        rest: numbers.next() % 4,
+        divisor: numbers.next() % 4 + 2,
+        wanted: numbers.next() % 4,
+    }
 }
 
 #[test]
@@ -258,12 +306,7 @@ fn made_tests_of_no_shape(rt: HostRuntime) -> Result<(), AllocError> {
     let mut numbers = Numbers { state: 1126 };
     for _ in 0..500 {
         let faults = numbers.next() % 40;
-        let mut probe = Counts {
-            step: numbers.next() % 4 + 1,
-            rest: numbers.next() % 4,
-            divisor: numbers.next() % 4 + 2,
-            wanted: numbers.next() % 4,
-        };
+        let mut probe = made_counts(&mut numbers);
         assert!(&rt; is_the_same(&rt, alloc, &mut probe, faults)?);
     }
     Ok(())

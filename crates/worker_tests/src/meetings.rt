@@ -3,6 +3,7 @@ ghost use Rattle.std.specs.Prelude.{◌≡◌, ◌+◌, ◌^◌};
 
 use crate::adding::{Setup, adders, finished, is_each_once, performed};
 use std::alloc::{AllocError, Global};
+use std::process::Abort;
 use std::rt::Clock;
 use std::sync::Wait;
 use std::sync::atomic::{AtomicU64, Ordering};
@@ -46,6 +47,13 @@ impl<'a, C: Clock + Sync> Gate for Meeting<'a, C> {
     }
 }
 
+/// Both came once, and neither waited in vain.
+fn have_met(rt: &impl Abort, one: &AtomicU64, two: &AtomicU64, limits: &AtomicU64) {
+    assert_eq!(rt; one.load(Ordering::SeqCst), 1);
+    assert_eq!(rt; two.load(Ordering::SeqCst), 1);
+    assert_eq!(rt; limits.load(Ordering::SeqCst), 0);
+}
+
 // What the bodies all_work_on_one_thread and every_hand_leaves_at_once fail: nobody else comes to the gate.
 #[test]
 fn two_hands_meet_at_the_gate(rt: HostRuntime) -> Result<(), Fail> {
@@ -59,9 +67,7 @@ fn two_hands_meet_at_the_gate(rt: HostRuntime) -> Result<(), Fail> {
     let hands = adders(rt.alloc(), &calls, 2, 0)?;
     let done = finished(&rt, rt.alloc(), &gate, hands, 19)?;
     assert!(rt; is_each_once(rt.alloc(), &done.answers, 19)?);
-    assert_eq!(rt; gate.one.load(Ordering::SeqCst), 1);
-    assert_eq!(rt; gate.two.load(Ordering::SeqCst), 1);
-    assert_eq!(rt; gate.limits.load(Ordering::SeqCst), 0);
+    have_met(&rt, &gate.one, &gate.two, &gate.limits);
     Ok(())
 }
 
@@ -95,7 +101,28 @@ impl<'a, C: Clock + Sync> Job for Meeter<'a, C> {
     }
 }
 
-/// One run of two hands, each of which meets the other at its first ticket.
+/// Two hands, each of which meets the other at its first ticket.
+fn meeters<'a, C: Clock + Sync>(
+    clock: &'a C,
+    alloc: Global,
+    left: &'a AtomicU64,
+    right: &'a AtomicU64,
+    limits: &'a AtomicU64,
+) -> Result<Vec<Hand<Meeter<'a, C>>>, AllocError> {
+    let mut hands = Vec::new(alloc);
+    for (mine, other) in [(left, right), (right, left)] {
+        hands.push(Hand::new(Meeter {
+            clock,
+            mine,
+            other,
+            limits,
+            met: false,
+        }))?;
+    }
+    Ok(hands)
+}
+
+/// One run of them.
 fn run_meeters<'a, R: Threads + Wait + Clock + Sync>(
     rt: &'a R,
     alloc: Global,
@@ -103,16 +130,7 @@ fn run_meeters<'a, R: Threads + Wait + Clock + Sync>(
     right: &'a AtomicU64,
     limits: &'a AtomicU64,
 ) -> Result<Gathered<Meeter<'a, R>>, AllocError> {
-    let mut hands = Vec::new(alloc);
-    for (mine, other) in [(left, right), (right, left)] {
-        hands.push(Hand::new(Meeter {
-            clock: rt,
-            mine,
-            other,
-            limits,
-            met: false,
-        }))?;
-    }
+    let hands = meeters(rt, alloc, left, right, limits)?;
     if hands.is_empty() {
         return Err(AllocError);
     }
@@ -131,8 +149,6 @@ fn two_jobs_meet_inside_perform(rt: HostRuntime) -> Result<(), Fail> {
     let done = run_meeters(&rt, rt.alloc(), &left, &right, &limits)?;
     assert!(rt; is_each_once(rt.alloc(), &done.answers, 19)?);
     assert_eq!(rt; performed(&done.hands), 19);
-    assert_eq!(rt; left.load(Ordering::SeqCst), 1);
-    assert_eq!(rt; right.load(Ordering::SeqCst), 1);
-    assert_eq!(rt; limits.load(Ordering::SeqCst), 0);
+    have_met(&rt, &left, &right, &limits);
     Ok(())
 }

@@ -1,6 +1,9 @@
+ghost use Rattle.std.specs.Prelude.{◌≤◌};
+
 use crate::probes::{Always, Either, Needs, OddWith};
-use ddmin_parallel::{Reduction, reduce_by_core, reduce_plain};
-use std::alloc::AllocError;
+use ddmin_parallel::{Probe, Reduction, reduce_by_core, reduce_plain};
+use std::alloc::{AllocError, Global};
+use std::process::Abort;
 
 pub(crate) fn is_found(found: &Reduction, kept: &[u32], tests: u64) -> bool {
     found.kept.as_slice() == kept && found.tests == tests
@@ -14,40 +17,81 @@ pub(crate) fn needs_both(first: u32, second: u32) -> Needs {
     }
 }
 
+/// Whether the recursion finds this.
+fn is_by_plain<P: Probe>(
+    alloc: Global,
+    probe: &mut P,
+    faults: u32,
+    kept: &[u32],
+    tests: u64,
+) -> Result<bool, AllocError>
+    requires { faults ≤ 4096 }
+{
+    Ok(is_found(&reduce_plain(alloc, probe, faults)?, kept, tests))
+}
+
+/// Whether a core finds this.
+fn is_by_core<P: Probe>(
+    alloc: Global,
+    probe: &mut P,
+    faults: u32,
+    kept: &[u32],
+    tests: u64,
+) -> Result<bool, AllocError>
+    requires { faults ≤ 4096 }
+{
+    Ok(is_found(&reduce_by_core(alloc, probe, faults)?, kept, tests))
+}
+
+/// Two culprits, or one that is named twice, are found by the recursion, which asks for each test, and by a core, which asks so often.
+fn finds_two(
+    rt: &impl Abort,
+    alloc: Global,
+    culprits: [u32; 2],
+    faults: u32,
+    kept: &[u32],
+    tests: u64,
+    asked_by_core: u64,
+) -> Result<(), AllocError>
+    requires { faults ≤ 4096 }
+{
+    let mut probe = needs_both(culprits[0], culprits[1]);
+    assert!(rt; is_by_plain(alloc, &mut probe, faults, kept, tests)?);
+    assert_eq!(rt; probe.asked, tests);
+    let mut probe = needs_both(culprits[0], culprits[1]);
+    assert!(rt; is_by_core(alloc, &mut probe, faults, kept, tests)?);
+    assert_eq!(rt; probe.asked, asked_by_core);
+    Ok(())
+}
+
 /// By the core each set is asked once: of the 29 tests of eight faults 17 are of sets not met before.
 // Wrong body: core_runs_the_plain_recursion. What it finds is the same, so the questions are counted.
 #[test]
 fn two_culprits(rt: HostRuntime) -> Result<(), AllocError> {
-    let alloc = rt.alloc();
-    let mut probe = needs_both(2, 6);
-    assert!(&rt; is_found(&reduce_plain(alloc, &mut probe, 8)?, &[2, 6], 29));
-    assert!(&rt; probe.asked == 29);
-    let mut probe = needs_both(2, 6);
-    assert!(&rt; is_found(&reduce_by_core(alloc, &mut probe, 8)?, &[2, 6], 29));
-    assert!(&rt; probe.asked == 17);
-    let mut probe = needs_both(0, 2);
-    assert!(&rt; is_found(&reduce_plain(alloc, &mut probe, 3)?, &[0, 2], 10));
-    assert!(&rt; probe.asked == 10);
-    let mut probe = needs_both(0, 2);
-    assert!(&rt; is_found(&reduce_by_core(alloc, &mut probe, 3)?, &[0, 2], 10));
-    assert!(&rt; probe.asked == 6);
+    finds_two(&rt, rt.alloc(), [2, 6], 8, &[2, 6], 29, 17)?;
+    finds_two(&rt, rt.alloc(), [0, 2], 3, &[0, 2], 10, 6)
+}
+
+/// The recursion and a core find this where every set fails.
+fn finds_nothing(rt: &impl Abort, alloc: Global, faults: u32, tests: u64) -> Result<(), AllocError>
+    requires { faults ≤ 4096 }
+{
+    assert!(rt; is_by_plain(alloc, &mut Always, faults, &[], tests)?);
+    assert!(rt; is_by_core(alloc, &mut Always, faults, &[], tests)?);
     Ok(())
 }
 
 #[test]
 fn few_faults(rt: HostRuntime) -> Result<(), AllocError> {
-    let alloc = rt.alloc();
-    assert!(&rt; is_found(&reduce_plain(alloc, &mut Always, 3)?, &[], 1));
-    assert!(&rt; is_found(&reduce_plain(alloc, &mut Always, 0)?, &[], 0));
-    assert!(&rt; is_found(&reduce_by_core(alloc, &mut Always, 3)?, &[], 1));
-    assert!(&rt; is_found(&reduce_by_core(alloc, &mut Always, 0)?, &[], 0));
+    finds_nothing(&rt, rt.alloc(), 3, 1)?;
+    finds_nothing(&rt, rt.alloc(), 0, 0)?;
     let mut each_alone = Either {
         first: 0,
         second: 1,
     };
-    assert!(&rt; is_found(&reduce_plain(alloc, &mut each_alone, 2)?, &[0], 2));
+    assert!(&rt; is_by_plain(rt.alloc(), &mut each_alone, 2, &[0], 2)?);
     // One fault needs no round: only the empty set is tested.
-    assert!(&rt; is_found(&reduce_plain(alloc, &mut needs_both(0, 0), 1)?, &[0], 1));
+    assert!(&rt; is_by_plain(rt.alloc(), &mut needs_both(0, 0), 1, &[0], 1)?);
     Ok(())
 }
 
@@ -55,10 +99,9 @@ fn few_faults(rt: HostRuntime) -> Result<(), AllocError> {
 /// 3 parts and then the complement without 5 and 6, 2 parts, and the second of 3 parts.
 #[test]
 fn a_test_that_is_not_monotone(rt: HostRuntime) -> Result<(), AllocError> {
-    let alloc = rt.alloc();
     let mut probe = OddWith { fault: 3 };
-    assert!(&rt; is_found(&reduce_plain(alloc, &mut probe, 7)?, &[3], 19));
-    assert!(&rt; is_found(&reduce_by_core(alloc, &mut probe, 7)?, &[3], 19));
+    assert!(&rt; is_by_plain(rt.alloc(), &mut probe, 7, &[3], 19)?);
+    assert!(&rt; is_by_core(rt.alloc(), &mut probe, 7, &[3], 19)?);
     Ok(())
 }
 
@@ -66,12 +109,5 @@ fn a_test_that_is_not_monotone(rt: HostRuntime) -> Result<(), AllocError> {
 /// second. 2730 is 101010101010 in binary, so six times it is in the second.
 #[test]
 fn one_culprit_of_the_most_faults(rt: HostRuntime) -> Result<(), AllocError> {
-    let alloc = rt.alloc();
-    let mut probe = needs_both(2730, 2730);
-    assert!(&rt; is_found(&reduce_plain(alloc, &mut probe, 4096)?, &[2730], 19));
-    assert!(&rt; probe.asked == 19);
-    let mut probe = needs_both(2730, 2730);
-    assert!(&rt; is_found(&reduce_by_core(alloc, &mut probe, 4096)?, &[2730], 19));
-    assert!(&rt; probe.asked == 19);
-    Ok(())
+    finds_two(&rt, rt.alloc(), [2730, 2730], 4096, &[2730], 19, 19)
 }

@@ -1,19 +1,22 @@
 //! What is left where memory is refused.
 
-use crate::adding::{adders, finished, have_performed, is_each_once, performed, run};
+use crate::adding::{Adder, adders, have_performed, is_each_once, performed, run};
+use crate::counts::ran;
+use std::alloc::{AllocError, Global};
+use std::process::Abort;
+use std::sync::Wait;
 use std::sync::atomic::AtomicU64;
 use std::test::Fail;
+use std::thread::Threads;
 use target_trait::FreeGate;
-use worker_pool::Gathered;
+use worker_pool::{Gathered, Hand};
 
 // What the body tickets_of_a_leaver_dropped fails: each hand leaves at its first ticket.
 #[test]
 fn first_performs_refused(rt: HostRuntime) -> Result<(), Fail> {
     let calls = AtomicU64::new(0);
     let hands = adders(rt.alloc(), &calls, 3, 1)?;
-    let done = finished(&rt, rt.alloc(), &FreeGate, hands, 19)?;
-    assert!(rt; is_each_once(rt.alloc(), &done.answers, 19)?);
-    have_performed(&rt, &done.hands, &calls, 19);
+    let _hands = ran(&rt, rt.alloc(), hands, &calls, 19, 19)?;
     Ok(())
 }
 
@@ -29,26 +32,32 @@ fn all_performs_refused(rt: HostRuntime) -> Result<(), Fail> {
     Ok(())
 }
 
+/// The hands after a run of 19 tickets, also where it is refused.
+fn after_a_run<'a, R: Abort + Threads + Wait + Sync>(
+    rt: &R,
+    alloc: Global,
+    hands: Vec<Hand<Adder<'a>>>,
+) -> Result<Vec<Hand<Adder<'a>>>, AllocError> {
+    match run(rt, alloc, &FreeGate, hands, 19) {
+        Ok(Gathered { hands, answers }) => {
+            assert!(rt; is_each_once(alloc, &answers, 19)?);
+            assert_eq!(rt; performed(&hands), 19);
+            Ok(hands)
+        }
+        Err(fault) => Ok(fault.hands),
+    }
+}
+
 // Run with any one allocation of the first run refused, this test still passes.
 #[test]
 fn a_refusal_loses_nothing(rt: HostRuntime) -> Result<(), Fail> {
     let alloc = rt.alloc();
     let calls = AtomicU64::new(0);
-    let hands = adders(alloc, &calls, 3, 0)?;
-    let hands = match run(&rt, alloc, &FreeGate, hands, 19) {
-        Ok(Gathered { hands, answers }) => {
-            assert!(rt; is_each_once(alloc, &answers, 19)?);
-            assert_eq!(rt; performed(&hands), 19);
-            hands
-        }
-        Err(fault) => fault.hands,
-    };
+    let hands = after_a_run(&rt, alloc, adders(alloc, &calls, 3, 0)?)?;
     let before = performed(&hands);
     assert!(rt; before <= 19);
     have_performed(&rt, &hands, &calls, before);
     assert_eq!(rt; hands.len(), 3);
-    let again = finished(&rt, alloc, &FreeGate, hands, 19)?;
-    assert!(rt; is_each_once(alloc, &again.answers, 19)?);
-    have_performed(&rt, &again.hands, &calls, before + 19);
+    let _hands = ran(&rt, alloc, hands, &calls, 19, before + 19)?;
     Ok(())
 }

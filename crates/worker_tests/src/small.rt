@@ -1,9 +1,9 @@
 //! Hands that run the plans of the small workload: the contents `old`, replaced by the chunks `ne` and `w`.
 ghost use Rattle.std.specs.Prelude.{◌^◌, ⊤};
 
-use crate::adding::{Setup, performed};
+use crate::adding::{Setup, have_performed};
 use file_replace::{Chunks, Replace, Replacements, Variant};
-use plan_gen::{PlanSettings, by_census, plans};
+use plan_gen::{Plan, PlanSettings, by_census, plans};
 use result_book::{Course, Numbered};
 use scenario_values::Text;
 use std::alloc::{AllocError, Global};
@@ -45,13 +45,40 @@ impl<'a> Job for Runner<'a> {
     }
 }
 
-fn small_work(alloc: Global) -> Result<Replacements, AllocError> {
+fn new_chunks(alloc: Global) -> Result<Chunks, AllocError> {
     let mut chunks = Vec::new(alloc);
     chunks.push(Text::copy_of(alloc, "ne")?)?;
     chunks.push(Text::copy_of(alloc, "w")?)?;
+    Ok(Chunks::new(chunks))
+}
+
+fn small_work(alloc: Global) -> Result<Replacements, AllocError> {
     let mut replacements = Vec::new(alloc);
-    replacements.push(Chunks::new(chunks))?;
+    replacements.push(new_chunks(alloc)?)?;
     Ok(Replacements::new(Text::copy_of(alloc, "old")?, replacements))
+}
+
+/// The plans of the workload, without pairs and storms.
+fn plans_of(alloc: Global, work: &Replacements) -> Result<Vec<Plan<'static>>, Fail> {
+    let mut target = Replace::new(alloc, Variant::Sound);
+    let census = by_census(alloc, &mut target, work, 7, 1000)?;
+    let settings = PlanSettings {
+        pairs: false,
+        storms: 0,
+        rate: 0,
+        listed: &[],
+        seed: 7,
+    };
+    Ok(plans(alloc, &census, Replace::catalogue(), &settings).map_err(|_| "no plans")?)
+}
+
+fn course_of<'a>(workload: &'a Replacements, plans: &'a [Plan<'a>]) -> Course<'a, Replace> {
+    Course {
+        workload,
+        plans,
+        seed: 7,
+        max_hits: 1000,
+    }
 }
 
 /// Three hands, each with a target of its own.
@@ -72,76 +99,79 @@ fn three_hands<'a>(
     Ok(hands)
 }
 
-/// One run, after which the hands have performed so many tickets over all their runs, and their jobs were called as often.
-fn run<'a, R: Threads + Wait + Abort + Sync>(
+/// One run that isn't refused.
+fn run<'a, R: Threads + Wait + Sync>(
+    rt: &R,
+    alloc: Global,
+    hands: Vec<Hand<Runner<'a>>>,
+    count: u32,
+) -> Result<Gathered<Runner<'a>>, Fail> {
+    if hands.is_empty() {
+        return Err("no hands".into());
+    }
+    match run_all(rt, alloc, &FreeGate, hands, count) {
+        Ok(done) => Ok(done),
+        Err(_) => Err("a run is refused".into()),
+    }
+}
+
+fn times_passed(lists: &[Vec<(u32, Verdict)>], number: u32) -> u32 {
+    let mut times = 0u32;
+    for list in lists.iter() {
+        for pair in list.iter() {
+            if pair.0 == number && pair.1 == Verdict::Pass {
+                times = times.saturating_add(1);
+            }
+        }
+    }
+    times
+}
+
+/// Whether each plan below the count passes once, and there are no other answers.
+fn passes_each_once(lists: &[Vec<(u32, Verdict)>], count: u32) -> bool {
+    let mut answers = 0usize;
+    for list in lists.iter() {
+        answers = answers.saturating_add(list.len());
+    }
+    answers == count as usize && (0..count).all(|number| times_passed(lists, number) == 1)
+}
+
+/// One run of three hands, after which they have performed so many tickets over all their runs.
+fn ran<'a, R: Threads + Wait + Abort + Sync>(
     rt: &R,
     alloc: Global,
     hands: Vec<Hand<Runner<'a>>>,
     calls: &AtomicU64,
     count: u32,
-    all: u64,
-) -> Result<Gathered<Runner<'a>>, Fail> {
-    if hands.is_empty() {
-        return Err("no hands".into());
-    }
-    let Ok(done) = run_all(rt, alloc, &FreeGate, hands, count) else {
-        return Err("a run is refused".into());
-    };
-    assert_eq!(rt; performed(&done.hands), all);
-    assert_eq!(rt; calls.load(Ordering::SeqCst), all);
-    Ok(done)
+    performed: u64,
+) -> Result<Vec<Hand<Runner<'a>>>, Fail> {
+    let done = run(rt, alloc, hands, count)?;
+    assert_eq!(rt; done.answers.len(), 3);
+    assert!(rt; passes_each_once(&done.answers, count));
+    have_performed(rt, &done.hands, calls, performed);
+    Ok(done.hands)
 }
 
-/// Whether each plan passes, once.
-fn passes_each_once(lists: &[Vec<(u32, Verdict)>], count: u32) -> bool {
-    for number in 0..count {
-        let mut times = 0u32;
-        for list in lists.iter() {
-            for pair in list.iter() {
-                if pair.0 == number && pair.1 == Verdict::Pass {
-                    times = times.saturating_add(1);
-                }
-            }
-        }
-        if times != 1 {
-            return false;
-        }
+/// Three runs of three hands, with what they have performed by then.
+fn are_run<R: Threads + Wait + Abort + Sync>(
+    rt: &R,
+    alloc: Global,
+    course: &Course<'_, Replace>,
+) -> Result<(), Fail> {
+    let calls = AtomicU64::new(0);
+    let mut hands = three_hands(alloc, course, &calls)?;
+    for (count, performed) in [(19, 19), (19, 38), (0, 38)] {
+        hands = ran(rt, alloc, hands, &calls, count, performed)?;
     }
-    true
+    Ok(())
 }
 
 // What the body every_worker_performs_every_plan fails: each of its workers calls its job for every number.
 #[test]
 fn three_hands_twice_on_the_small_workload(rt: HostRuntime) -> Result<(), Fail> {
     let alloc = rt.alloc();
-    let mut target = Replace::new(alloc, Variant::Sound);
     let work = small_work(alloc)?;
-    let census = by_census(alloc, &mut target, &work, 7, 1000)?;
-    let settings = PlanSettings {
-        pairs: false,
-        storms: 0,
-        rate: 0,
-        listed: &[],
-        seed: 7,
-    };
-    let Ok(list) = plans(alloc, &census, Replace::catalogue(), &settings) else {
-        return Err("no plans".into());
-    };
-    assert_eq!(rt; list.len(), 19);
-    let course = Course {
-        workload: &work,
-        plans: list.as_slice(),
-        seed: 7,
-        max_hits: 1000,
-    };
-    let calls = AtomicU64::new(0);
-    let hands = three_hands(alloc, &course, &calls)?;
-    let first = run(&rt, alloc, hands, &calls, 19, 19)?;
-    assert!(rt; passes_each_once(&first.answers, 19));
-    let second = run(&rt, alloc, first.hands, &calls, 19, 38)?;
-    assert!(rt; passes_each_once(&second.answers, 19));
-    let third = run(&rt, alloc, second.hands, &calls, 0, 38)?;
-    assert_eq!(rt; third.answers.len(), 3);
-    assert!(rt; third.answers.iter().all(|list| list.is_empty()));
-    Ok(())
+    let plans = plans_of(alloc, &work)?;
+    assert_eq!(rt; plans.len(), 19);
+    are_run(&rt, alloc, &course_of(&work, &plans))
 }

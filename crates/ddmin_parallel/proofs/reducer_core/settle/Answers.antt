@@ -38,10 +38,10 @@ reached_then known known' out out' stage stage' s t b anew cursor cursor' o plac
 pub returns-clause-reached : goal.returns-clause-reached
 returns-clause-reached c =
     let s = c.card.inside.set.items in
-    reached_then c.args.known.now c.insert.new.self (sets c.args.out.now.items) (sets c.take_from.new.out.items) c.args.stage.now c.go_on.new.stage s c.as_slice-3.result.now c.args.fails (c.args.fails || c.is_some.result)
+    reached_then c.args.known.now c.learn.new.known (sets c.args.out.now.items) (sets c.take_from.new.out.items) c.args.stage.now c.go_on.new.stage s c.as_slice-3.result.now c.args.fails (c.args.fails || c.is_some.result)
     c.args.cursor.now c.moved_cursor.result c.in-Ok.advance.0 c.in-Ok.advance.1 c.requires.open_sets
     (was_out c.as_slice.result.now s c.as_slice-2.result.now c.args.out.now.items c.place_of.result c.place_of.ensures c.if-is_none.ensures c.as_slice.ensures.value c.as_slice-2.ensures.value)
     c.requires.reached c.in-Ok.ensures c.as_slice-3.ensures.value
-    (c.in-Ok-insert.ensures.ok ∙ ap (λ u. insert c.args.known.now u c.args.fails) (c.in-Ok-from_slice.ensures.items ∙ c.as_slice-4.ensures.value))
+    (c.in-Ok-learn.ensures.ok ∙ ap (λ u. insert c.args.known.now u c.args.fails) c.as_slice-4.ensures.value)
     (c.take_from.ensures.rest ∙ ap (λ u. without u (sets c.args.out.now.items)) c.as_slice-5.ensures.value)
     c.go_on.ensures (ap (λ b. c.args.fails || b) c.is_some.ensures) c.moved_cursor.ensures

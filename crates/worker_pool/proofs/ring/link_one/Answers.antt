@@ -1,13 +1,19 @@
-use Rattle.std.proofs.Common.{◌<◌, List, sym, subst, ap, refl, set, length, vec_len, arith}
+use Rattle.std.proofs.Common.{ℕ, ◌<◌, List, ◌∙◌, sym, subst, ap, refl, set, length, vec_len, arith}
 use Rattle.std.proofs.Math.ListN.{length-set}
 use Rattle.std.proofs.lemmas.List.Elements.{All-set}
 use Rattle.crossbeam_deque.specs.Handles.{worker_view}
 use Rattle.worker_pool.specs.declared.desk.Desk.{Desk}
-use Rattle.worker_pool.specs.Ring.{Fresh}
+use Rattle.worker_pool.specs.Ring.{next_of, Fresh}
 use Rattle.worker_pool.specs.declared.rule.Seat.{Seat}
-use Rattle.worker_pool.proofs.Rings.{next_of-within, same_at}
+use Rattle.worker_pool.proofs.Rings.{next_of-within, ring_linked, same_at}
 use Rattle.worker_pool.proofs.Seated.{fresh_shared, fresh_seated}
 use Rattle.worker_pool.proofs.ring.link_one.Goals as goal
+
+pub returns-clause-ring : goal.returns-clause-ring
+returns-clause-ring c =
+    ring_linked c.args.desks.now.items c.args.k c.args.next c.index_mut.result.now c.share.new.self c.index_mut-2.result.now _ c.in_ok-seat.seat (omega arith)
+    (c.requires.next ∙ ap (λ (n : ℕ). next_of n c.args.k) c.args.desks.now.ok.0) c.index_mut.ensures.value c.in_ok-seat.ensures.same.0 c.in_ok-seat.ensures.same.2
+    c.index_mut-2.ensures.value refl refl refl c.in_ok-seat.ensures.from c.requires.ring
 
 pub returns-clause-fresh : goal.returns-clause-fresh
 returns-clause-fresh c = λ count all.

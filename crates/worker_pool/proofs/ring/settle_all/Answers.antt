@@ -3,4 +3,4 @@ use Rattle.worker_pool.specs.Ring.{IsSettled}
 use Rattle.worker_pool.proofs.ring.settle_all.Goals as goal
 
 pub loop-desk-preserved : goal.loop-desk-preserved
-loop-desk-preserved c = record { settled = All-push IsSettled c.loop-desk.yielded c.in-Some.desk c.loop-desk.invariant.settled c.settle.ensures }
+loop-desk-preserved c = record { settled = All-push IsSettled c.loop-desk.yielded c.in-Some.desk c.loop-desk.invariant.settled c.settle_one.ensures }

@@ -8,7 +8,7 @@ pub invariant_of-self : goal.invariant_of-self
 invariant_of-self c =
     let none = out_recalled c.self.inside.core c.recall.new.self c.recall.ensures in
     record {
-      stands = board_push c.self.inside.core c.recall.new.self c.self.inside.events.items c.push_reserved.new.self.items core.Recall Recall
-          c.self.invariant.stands c.recall.ensures c.push_reserved.ensures.items refl;
-      room = omega (arith, none, c.self.invariant.room, c.out_len.ensures, c.if-out_len-gt0.true, c.push_reserved.ensures.len, c.push_reserved.ensures.capacity);
+      stands = board_push c.self.inside.core c.recall.new.self c.self.inside.events.items c.note.new.events.items core.Recall Recall
+          c.self.invariant.stands c.recall.ensures c.note.ensures.items refl;
+      room = omega (arith, none, c.self.invariant.room, c.out_len.ensures, c.if-out_len-gt0.true, c.note.ensures.len, c.note.ensures.capacity);
     }
