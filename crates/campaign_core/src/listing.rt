@@ -29,8 +29,8 @@ fn write_plan(
     out.push_str("\n")
 }
 
-/// The lines of a list of plans. An error means that memory was refused.
-fn plans_text(alloc: Global, plans: &[Plan<'_>]) -> Result<String, AllocError>
+/// The text of a list of plans, a line for each: its number and its scenario. An error means that memory was refused.
+pub fn plans_text(alloc: Global, plans: &[Plan<'_>]) -> Result<String, AllocError>
     ensures { IfOk result (λ text. string_bytes text ≡ text_of (plan_lines 0 plans.now)) }
 {
     let mut text = String::new(alloc);

@@ -51,7 +51,7 @@ pub struct CaseProbe<'a, T: Target> {
 }
 
 /// Whether a verdict is a failure with this code.
-fn fails_with(code: u32, verdict: Verdict) -> bool
+pub fn fails_with(code: u32, verdict: Verdict) -> bool
     ensures { result ≡ fails_with code verdict }
 {
     match verdict {

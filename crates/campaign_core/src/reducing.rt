@@ -1,9 +1,9 @@
 //! A failing scenario, reduced to what it takes to fail.
-ghost use Rattle.std.specs.Prelude.{◌≡◌, ◌++◌, ◌<◌, true, false, string_bytes, IfOk, IfErr, OnOk};
+ghost use Rattle.std.specs.Prelude.{◌≡◌, ◌++◌, ◌∷◌, [], ◌<◌, true, false, codes, string_bytes, IfOk, IfErr, OnOk};
 ghost use Rattle.std.specs.Fmt.{decimal};
 ghost use Rattle.std.specs.Io.KnownBytes.{Appends};
 ghost use Rattle.target_trait.specs.Outcomes.{verdict_with};
-ghost use Rattle.report.specs.ReportText.{text_of};
+ghost use Rattle.report.specs.ReportText.{scenario_text, text_of};
 ghost use Rattle.campaign_core.specs.FaultTest.{fails_with};
 ghost use Rattle.campaign_core.specs.Findings.{reduction, reduced, IsMinimal};
 ghost use Rattle.campaign_core.specs.Headline.{campaign_on, say};
@@ -67,6 +67,20 @@ fn verdict_of<T: Target>(
     run_verdict(alloc, &mut twin, workload, &case)
 }
 
+/// Appends what is left of a scenario, and how many sets of faults were tested.
+fn write_left(
+    alloc: Global,
+    out: &mut String,
+    left: &Scenario,
+    tests: u64,
+) -> Result<(), AllocError>
+    ensures { OnOk result (string_bytes out.new ≡ string_bytes out.old ++ text_of ((codes "reduced " ++ scenario_text left.now) ∷ (codes "tests " ++ decimal tests) ∷ [])) }
+{
+    out.push_str("reduced ")?;
+    write_scenario(alloc, out, left)?;
+    writeln!(out, "\ntests {tests}")
+}
+
 /// Appends what a scenario that failed with this code is reduced to, and how many tests that took.
 fn write_reduced<T: Target + Send, G: Gate, R: Threads + Wait + Sync>(
     rt: &R,
@@ -85,10 +99,8 @@ where
     ensures minimal { OnOk result (IsMinimal (failure_says T.Target target.now failure.now failure.now.stream) failure.now.code
         (reduced (failure_says T.Target target.now failure.now) failure.now.stream failure.now.code failure.now.scenario.now)) }
 {
-    let (scenario, tests) = reduced_scenario(rt, alloc, gate, target, failure, workers)?;
-    out.push_str("reduced ")?;
-    write_scenario(alloc, out, &scenario)?;
-    writeln!(out, "\ntests {tests}")
+    let (left, tests) = reduced_scenario(rt, alloc, gate, target, failure, workers)?;
+    write_left(alloc, out, &left, tests)
 }
 
 /// The lines of `reduce` for a scenario with this verdict. An error means that memory was refused.
@@ -110,7 +122,7 @@ where
 {
     let mut text = String::new(alloc);
     text.push_str("verdict ")?;
-    write_verdict::<T>(&mut text, verdict)?;
+    write_verdict(&mut text, target, verdict)?;
     text.push_str("\n")?;
     if let Verdict::Fail(code) = verdict {
         let failure = Failure {

@@ -136,7 +136,7 @@ where
         verdicts: verdicts.as_slice(),
         findings,
     };
-    let text = text::<T>(alloc, &report)?;
+    let text = text(alloc, target, &report)?;
     Ok((text, number_of(book.first_failure())))
 }
 

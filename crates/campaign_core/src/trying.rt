@@ -6,19 +6,19 @@ ghost use Rattle.target_trait.specs.Outcomes.{outcome};
 ghost use Rattle.campaign_core.specs.CommandTexts.{try_text, LeavesOnly};
 
 use crate::ending::CampaignFault;
-use report::{write_report, write_verdict};
+use report::{Names, write_report, write_verdict};
 use scenario_values::Scenario;
 use std::alloc::{AllocError, Global};
 use std::fmt::Write;
 use target_trait::{Case, Outcome, Sink, Target, Verdict, run_case};
 
 /// The five lines of an outcome.
-fn try_text<T: Target>(alloc: Global, outcome: &Outcome) -> Result<String, AllocError>
-    ensures { IfOk result (λ text. string_bytes text ≡ try_text T.code_text outcome.now) }
+fn try_text<N: Names>(alloc: Global, names: &N, outcome: &Outcome) -> Result<String, AllocError>
+    ensures { IfOk result (λ text. string_bytes text ≡ try_text (N.code_text names.now) outcome.now) }
 {
     let mut text = String::new(alloc);
     text.push_str("verdict ")?;
-    write_verdict::<T>(&mut text, outcome.verdict)?;
+    write_verdict(&mut text, names, outcome.verdict)?;
     let asked = outcome.asked.as_slice().len();
     let words = outcome.words;
     let millis = outcome.millis;
@@ -59,7 +59,7 @@ pub fn try_one<T: Target, W: Sink>(
         max_hits,
     };
     let outcome = run_case(alloc, target, workload, &case)?;
-    let text = try_text::<T>(alloc, &outcome)?;
+    let text = try_text(alloc, target, &outcome)?;
     write_report(text.as_bytes(), sink)?;
     Ok(outcome.verdict)
 }

@@ -1,2 +1,1 @@
-pub mod CountedRuns
 pub mod OneStep

@@ -1,15 +1,20 @@
-//! A target that counts the runs of another.
+//! Both censuses of the small workload, a file of `old` that is replaced once, by the chunks `ne` and `w`; and how often each runs it.
 ghost use Rattle.std.specs.Prelude.{◌≡◌};
 
-use std::alloc::AllocError;
+use file_replace::{Chunks, Replace, Replacements, Variant};
+use plan_gen::{Census, by_census, by_loop};
+use scenario_values::Text;
+use std::alloc::{AllocError, Global};
 use std::marker::Model;
+use std::process::Abort;
+use std::test::Fail;
 use target_trait::{Judgement, Session, Target};
 
 /// A target, and how often it was run. Its setup is that of the target.
 #[derive(Drop)]
-pub struct Counting<T: Target> {
-    pub target: T,
-    pub runs: u32,
+struct Counting<T: Target> {
+    target: T,
+    runs: u32,
 }
 
 impl<T: Target> Model for Counting<T> {
@@ -60,4 +65,56 @@ impl<T: Target> Target for Counting<T> {
     ghost halts = { T.halts };
 
     ghost lawful = { T.lawful };
+}
+
+/// The small workload.
+fn small_workload(alloc: Global) -> Result<Replacements, Fail> {
+    let mut chunks = Vec::new(alloc);
+    chunks.push(Text::copy_of(alloc, "ne")?)?;
+    chunks.push(Text::copy_of(alloc, "w")?)?;
+    let mut replacements = Vec::new(alloc);
+    replacements.push(Chunks::new(chunks))?;
+    Ok(Replacements::new(Text::copy_of(alloc, "old")?, replacements))
+}
+
+/// How often each point is asked.
+const COUNTS: [u32; 7] = [0, 1, 2, 1, 1, 1, 0];
+
+/// The sound replacement, not run yet.
+fn sound(alloc: Global) -> Counting<Replace> {
+    Counting {
+        target: Replace::new(alloc, Variant::Sound),
+        runs: 0,
+    }
+}
+
+/// These are the counts, after so many runs.
+fn is_census(rt: &impl Abort, census: &Census, target: &Counting<Replace>, runs: u32) {
+    assert_eq!(rt; census.counts.as_slice(), COUNTS.as_slice());
+    assert_eq!(rt; target.runs, runs);
+}
+
+#[test]
+fn a_census_is_one_run(rt: HostRuntime) -> Result<(), Fail> {
+    let workload = small_workload(rt.alloc())?;
+    let mut target = sound(rt.alloc());
+    let census = by_census(rt.alloc(), &mut target, &workload, 7, 1000)?;
+    is_census(&rt, &census, &target, 1);
+    Ok(())
+}
+
+// Wrong body: by_loop_calls_by_census. The answers are the same, so the runs are counted: one for each of six sites, and one more for each
+// of seven points.
+fn is_looped(rt: &impl Abort, alloc: Global, onward: bool) -> Result<(), Fail> {
+    let workload = small_workload(alloc)?;
+    let mut target = sound(alloc);
+    let census = by_loop(alloc, &mut target, &workload, 7, 1000, onward)?;
+    is_census(rt, &census, &target, 13);
+    Ok(())
+}
+
+#[test]
+fn the_small_workload_is_run_13_times(rt: HostRuntime) -> Result<(), Fail> {
+    is_looped(&rt, rt.alloc(), false)?;
+    is_looped(&rt, rt.alloc(), true)
 }

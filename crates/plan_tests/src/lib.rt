@@ -1,30 +1,14 @@
-//! Tests of censuses, lists of plans, numbered results, the book and reports, through their public calls, and of what a failing writer was
-//! given of a report.
+//! Tests of censuses, numbered results, the book and reports, through calls of the library. What the program shows of plans and reports,
+//! the sessions of tests/ and examples/ have.
 #![tactic(auto)]
 
 #[cfg(test)]
 mod books;
 #[cfg(test)]
-mod counted;
-#[cfg(test)]
 mod counting;
-#[cfg(test)]
-mod courses;
-#[cfg(test)]
-mod named;
-#[cfg(test)]
-mod narrow;
 #[cfg(test)]
 mod one_step;
 #[cfg(test)]
-mod plan_lists;
-#[cfg(test)]
-mod replacing;
+mod reports;
 #[cfg(test)]
 mod scenarios;
-#[cfg(test)]
-mod telling;
-#[cfg(test)]
-mod texts;
-#[cfg(test)]
-mod writing;

@@ -1,5 +1,5 @@
 -- Lines that a loop writes.
-use Rattle.std.proofs.Common.{◌≡◌, ℕ, suc, ◌+◌, ◌<◌, List, [], ◌∷◌, ◌++◌, map, drop, length, get_or, refl, ap, sym, ◌∙◌, append_assoc, add-one, drop-cons}
+use Rattle.std.proofs.Common.{◌≡◌, ℕ, ◌+◌, ◌<◌, List, ◌∷◌, ◌++◌, drop, length, get_or, ap, sym, ◌∙◌, append_assoc, add-one, drop-cons}
 use Rattle.std.specs.List.{flat_map}
 use Rattle.std.proofs.lemmas.List.Concat.{flat_map-append}
 use Rattle.report.specs.Reports.{FindingFacts}
@@ -10,10 +10,6 @@ goes_on old new here rest whole h e = ap (λ r. r ++ rest) e ∙ append_assoc ol
 
 pub next_of : {A : Type 0} (xs : List A) (i : ℕ) (d : A) → i < length xs → drop i xs ≡ get_or xs i d ∷ drop (i + 1) xs
 next_of xs i d h = drop-cons xs i d h ∙ ap (λ k. get_or xs i d ∷ drop k xs) (sym (add-one i))
-
-pub map_length : {A B : Type 0} (f : A → B) (xs : List A) → length (map f xs) ≡ length xs
-map_length f [] = refl
-map_length f (x ∷ xs) = ap suc (map_length f xs)
 
 pub census_next : (old new : List ℕ) (name : List ℕ) (n : ℕ) (names rest : List (List ℕ)) (counts left whole : List ℕ) → names ≡ name ∷ rest → counts ≡ n ∷ left → new ≡ old ++ ended (census_line name n) → old ++ text_of (census_lines names counts) ≡ whole → new ++ text_of (census_lines rest left) ≡ whole
 census_next old new name n names rest counts left whole a b added h =

@@ -3,10 +3,12 @@
 
 mod facts;
 mod lines;
+mod names;
 mod verdicts;
 mod writing;
 
 pub use facts::{Finding, Report};
 pub use lines::{text, write_scenario};
+pub use names::Names;
 pub use verdicts::write_verdict;
 pub use writing::{WriteFault, write_report};

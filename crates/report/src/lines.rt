@@ -4,27 +4,29 @@ ghost use Rattle.std.specs.Fmt.{decimal};
 ghost use Rattle.report.specs.ReportText.{verdict_text, scenario_text, census_line, census_lines, count_line, verdict_line, verdict_lines, finding_lines, findings_lines, report_lines, ended, text_of};
 
 use crate::facts::{Finding, Report};
+use crate::names::Names;
 use crate::verdicts::write_verdict;
 use itoa::Buffer;
 use scenario_grammar::print;
 use scenario_values::Scenario;
 use std::alloc::{AllocError, Global};
 use std::fmt::Write;
-use target_trait::{Target, Verdict};
+use target_trait::Verdict;
 
 /// The bytes of the line of a verdict that passes, the line of most plans, with five digits and a few to spare.
 const LINE_ROOM: usize = 20;
 
-fn write_head<T: Target>(
+fn write_head<N: Names>(
     out: &mut String,
+    names: &N,
     label: &str,
     seed: u64,
     clean: Verdict,
 ) -> Result<(), AllocError>
-    ensures { OnOk result (string_bytes out.new ≡ string_bytes out.old ++ text_of ((codes "target " ++ label.now) ∷ (codes "seed " ++ decimal seed) ∷ (codes "clean " ++ verdict_text T.code_text clean) ∷ [])) }
+    ensures { OnOk result (string_bytes out.new ≡ string_bytes out.old ++ text_of ((codes "target " ++ label.now) ∷ (codes "seed " ++ decimal seed) ∷ (codes "clean " ++ verdict_text (N.code_text names.now) clean) ∷ [])) }
 {
     write!(out, "target {label}\nseed {seed}\nclean ")?;
-    write_verdict::<T>(out, clean)?;
+    write_verdict(out, names, clean)?;
     out.push_str("\n")
 }
 
@@ -34,37 +36,41 @@ fn write_point(out: &mut String, name: &str, count: u32) -> Result<(), AllocErro
     writeln!(out, "census {name} {count}")
 }
 
-fn write_census<T: Target>(out: &mut String, counts: &[u32]) -> Result<(), AllocError>
-    requires { length counts.now ≡ length T.names }
-    ensures { OnOk result (string_bytes out.new ≡ string_bytes out.old ++ text_of (census_lines T.names counts.now)) }
+fn write_census<N: Names>(out: &mut String, names: &N, counts: &[u32]) -> Result<(), AllocError>
+    requires { length counts.now ≡ length (N.points names.now) }
+    ensures { OnOk result (string_bytes out.new ≡ string_bytes out.old ++ text_of (census_lines (N.points names.now) counts.now)) }
 {
-    let names = T::catalogue();
-    for (i, count) in counts.iter().enumerate() {
-        write_point(out, names[i], *count)?;
+    for (number, count) in counts.iter().enumerate() {
+        write_point(out, names.point(number), *count)?;
     }
     Ok(())
 }
 
-fn write_numbered<T: Target>(
+fn write_numbered<N: Names>(
     out: &mut String,
+    names: &N,
     number: usize,
     verdict: Verdict,
 ) -> Result<(), AllocError>
-    ensures { OnOk result (string_bytes out.new ≡ string_bytes out.old ++ ended (verdict_line T.code_text number verdict)) }
+    ensures { OnOk result (string_bytes out.new ≡ string_bytes out.old ++ ended (verdict_line (N.code_text names.now) number verdict)) }
 {
     let mut digits = Buffer::new();
     out.push_str("verdict ")?;
     out.push_str(digits.format(number))?;
     out.push_str(" ")?;
-    write_verdict::<T>(out, verdict)?;
+    write_verdict(out, names, verdict)?;
     out.push_str("\n")
 }
 
-fn write_verdicts<T: Target>(out: &mut String, verdicts: &[Verdict]) -> Result<(), AllocError>
-    ensures { OnOk result (string_bytes out.new ≡ string_bytes out.old ++ text_of (verdict_lines T.code_text 0 verdicts.now)) }
+fn write_verdicts<N: Names>(
+    out: &mut String,
+    names: &N,
+    verdicts: &[Verdict],
+) -> Result<(), AllocError>
+    ensures { OnOk result (string_bytes out.new ≡ string_bytes out.old ++ text_of (verdict_lines (N.code_text names.now) 0 verdicts.now)) }
 {
     for (number, verdict) in verdicts.iter().enumerate() {
-        write_numbered::<T>(out, number, *verdict)?;
+        write_numbered(out, names, number, *verdict)?;
     }
     Ok(())
 }
@@ -86,15 +92,16 @@ pub fn write_scenario(
     out.push_str(text.as_str())
 }
 
-fn write_finding<T: Target>(
+fn write_finding<N: Names>(
     alloc: Global,
     out: &mut String,
+    names: &N,
     finding: &Finding,
 ) -> Result<(), AllocError>
-    ensures { OnOk result (string_bytes out.new ≡ string_bytes out.old ++ text_of (finding_lines T.code_text finding.now)) }
+    ensures { OnOk result (string_bytes out.new ≡ string_bytes out.old ++ text_of (finding_lines (N.code_text names.now) finding.now)) }
 {
     let number = finding.number;
-    let name = T::code_name(finding.code);
+    let name = names.code(finding.code);
     write!(out, "first {number} {name}\nscenario ")?;
     write_scenario(alloc, out, &finding.scenario)?;
     out.push_str("\nreduced ")?;
@@ -103,18 +110,19 @@ fn write_finding<T: Target>(
     writeln!(out, "\ntests {tests}")
 }
 
-fn write_findings<T: Target>(
+fn write_findings<N: Names>(
     alloc: Global,
     out: &mut String,
+    names: &N,
     findings: &[Finding],
 ) -> Result<(), AllocError>
-    ensures { OnOk result (string_bytes out.new ≡ string_bytes out.old ++ text_of (findings_lines T.code_text findings.now)) }
+    ensures { OnOk result (string_bytes out.new ≡ string_bytes out.old ++ text_of (findings_lines (N.code_text names.now) findings.now)) }
 {
     if findings.is_empty() {
         return out.push_str("first none\n");
     }
     for finding in findings {
-        write_finding::<T>(alloc, out, finding)?;
+        write_finding(alloc, out, names, finding)?;
     }
     Ok(())
 }
@@ -125,20 +133,20 @@ fn write_count(out: &mut String, plans: usize) -> Result<(), AllocError>
     writeln!(out, "plans {plans}")
 }
 
-/// The text of a report, each line with its line feed, by the target's names of points and codes. The census has to have a count for
-/// each point of the target's catalogue.
+/// The text of a report, each line with its line feed, by these names of points and codes. The census has to have a count for each of the
+/// points.
 ///
 /// An error means that memory was refused.
-pub fn text<T: Target>(alloc: Global, report: &Report<'_>) -> Result<Vec<u8>, AllocError>
-    requires { length report.now.census ≡ length T.names }
-    ensures { IfOk result (λ text. text.items ≡ text_of (report_lines T.names T.code_text report.now)) }
+pub fn text<N: Names>(alloc: Global, names: &N, report: &Report<'_>) -> Result<Vec<u8>, AllocError>
+    requires { length report.now.census ≡ length (N.points names.now) }
+    ensures { IfOk result (λ text. text.items ≡ text_of (report_lines (N.points names.now) (N.code_text names.now) report.now)) }
 {
     let room = report.verdicts.len().saturating_mul(LINE_ROOM);
     let mut out = String::with_capacity(alloc, room)?;
-    write_head::<T>(&mut out, report.label, report.seed, report.clean)?;
-    write_census::<T>(&mut out, report.census)?;
+    write_head(&mut out, names, report.label, report.seed, report.clean)?;
+    write_census(&mut out, names, report.census)?;
     write_count(&mut out, report.verdicts.len())?;
-    write_verdicts::<T>(&mut out, report.verdicts)?;
-    write_findings::<T>(alloc, &mut out, &report.findings)?;
+    write_verdicts(&mut out, names, report.verdicts)?;
+    write_findings(alloc, &mut out, names, &report.findings)?;
     Ok(out.into_bytes())
 }

@@ -2,19 +2,26 @@
 ghost use Rattle.std.specs.Prelude.{◌≡◌, ◌++◌, string_bytes, OnOk};
 ghost use Rattle.report.specs.ReportText.{verdict_text};
 
+use crate::names::Names;
 use std::alloc::AllocError;
-use target_trait::{Target, Verdict};
+use target_trait::Verdict;
 
-/// Appends a verdict as reports say it: `pass`, `unresolved`, or `fail` and the name that the target gives the code.
-pub fn write_verdict<T: Target>(out: &mut String, verdict: Verdict) -> Result<(), AllocError>
-    ensures { OnOk result (string_bytes out.new ≡ string_bytes out.old ++ verdict_text T.code_text verdict) }
+/// Appends a verdict as reports say it: `pass`, `unresolved`, or `fail` and the name of the code.
+///
+/// An error means that memory was refused; the text may then have some of the bytes.
+pub fn write_verdict<N: Names>(
+    out: &mut String,
+    names: &N,
+    verdict: Verdict,
+) -> Result<(), AllocError>
+    ensures { OnOk result (string_bytes out.new ≡ string_bytes out.old ++ verdict_text (N.code_text names.now) verdict) }
 {
     match verdict {
         Verdict::Pass => out.push_str("pass"),
         Verdict::Unresolved => out.push_str("unresolved"),
         Verdict::Fail(code) => {
             out.push_str("fail ")?;
-            out.push_str(T::code_name(code))
+            out.push_str(names.code(code))
         }
     }
 }

@@ -1,11 +1,12 @@
 //! Which plans of a course have their verdict.
-ghost use Rattle.std.specs.Prelude.{◌≡◌, ℕ, ◌+◌, ◌<◌, ◌≤◌, ◌==◌, List, [], length, Option, None, Some, false, IfOk, IfErr, OnOk, OnErr, replicate, slice_set};
-ghost use Rattle.std.specs.List.{list_all, list_any};
+ghost use Rattle.std.specs.Prelude.{◌≡◌, ℕ, ◌+◌, ◌<◌, ◌≤◌, List, [], length, Option, None, Some, false, IfOk, IfErr, OnOk, OnErr, replicate, slice_set};
+ghost use Rattle.std.specs.List.{list_all};
 ghost use Rattle.result_book.specs.Refused.{IsRefused};
 ghost use Rattle.result_book.specs.FirstFailures.{first_failures};
 ghost use Rattle.result_book.specs.Slots.{first_in, in_book, is_full, has, enter, enter_all, enter_lists, present};
 
 use crate::course::Course;
+use crate::failures::first_failures_of;
 use crate::numbered::Numbered;
 use std::alloc::{AllocError, Global};
 use std::marker::Model;
@@ -86,16 +87,7 @@ impl Book {
     pub fn first_failures(&self, alloc: Global) -> Result<Vec<(u32, u32)>, AllocError>
         ensures { IfOk result (λ firsts. firsts.items ≡ first_failures (in_book self.now)) }
     {
-        let mut firsts = Vec::new(alloc);
-        for (number, slot) in self.slots.iter().enumerate() {
-            let Some(Verdict::Fail(code)) = *slot else {
-                continue;
-            };
-            if !has_code(&firsts, code) {
-                firsts.push((number as u32, code))?;
-            }
-        }
-        Ok(firsts)
+        first_failures_of(alloc, &self.slots)
     }
 
     /// The verdicts that are there, in the order of their numbers. An error means that memory was refused.
@@ -117,13 +109,6 @@ impl Book {
     {
         self.slots.iter().all(|slot| slot.is_some())
     }
-}
-
-/// Whether one of these failures has this code. A target has few codes, so there are few failures to look at.
-fn has_code(failures: &[(u32, u32)], code: u32) -> bool
-    ensures { result ≡ list_any (λ f. f.1 == code) failures.now }
-{
-    failures.iter().any(|failure| failure.1 == code)
 }
 
 /// Puts each pair of a list, from its end. One whose number has its verdict already, or has no place, changes nothing.

@@ -3,11 +3,13 @@
 
 mod book;
 mod course;
+mod failures;
 mod laws;
 mod numbered;
 
 pub use book::{Book, PutFault, put_all};
 pub use course::Course;
+pub use failures::first_failures_of;
 pub use laws::{
     books_tell_the_least_failures, first_failures_are_the_least, full_books_tell_their_verdicts,
 };

@@ -1,6 +1,6 @@
 use Rattle.std.proofs.Common.{◌≡◌, ◌∷◌, [], List, ℕ, codes, rules, subst, sym, arith}
 use Rattle.file_replace.specs.Work.{IsChunks}
-use Rattle.plan_tests.proofs.replacing.small_workload.Goals as goal
+use Rattle.plan_tests.proofs.counting.small_workload.Goals as goal
 
 small : IsChunks (codes "ne" ∷ codes "w" ∷ [])
 small = record {

@@ -1,12 +1,12 @@
-use Rattle.std.proofs.Common.{◌≡◌, ◌∙◌, ℕ, ◌+◌, ap, sym, [], ◌∷◌, ◌++◌, drop, Vec, Global, true, false, Some, None, get_or}
+use Rattle.std.proofs.Common.{◌≡◌, ◌∙◌, ℕ, ◌+◌, ap, sym, [], ◌∷◌, ◌++◌, drop, Vec, Global, Some, None, get_or}
 use Rattle.target_trait.specs.declared.judgement.Verdict.TheVariants as verdict
 use Rattle.result_book.proofs.EachCodeLemmas.{collected, failures_from, has_code, collected_in, new_failure, old_failure, at_end}
-use Rattle.result_book.proofs.book.Book.first_failures.Goals as goal
-use Rattle.result_book.proofs.book.Book.first_failures.Goals.{then-not-has_code+in_ok-push, else-not-has_code}
+use Rattle.result_book.proofs.failures.first_failures_of.Goals as goal
+use Rattle.result_book.proofs.failures.first_failures_of.Goals.{then-not-has_code+in_ok-push, else-not-has_code}
 
 pub loop-number-preserved : goal.loop-number-preserved
 loop-number-preserved c =
-    let slots = c.deref-slot-items.result.now in
+    let slots = c.args.slots.now in
     let n = c.loop-number.number in
     let found = c.loop-number.firsts.items in
     let code = c.in-Some-Fail.code in
@@ -22,4 +22,4 @@ loop-number-preserved c =
     ]
 
 pub returns : goal.returns
-returns c = at_end _ _ c.loop-number.number c.deref-slot-items.result.now c.loop-number-test.false c.loop-number.invariant ∙ ap (λ slots. collected [] (failures_from 0 slots)) (c.deref-slot-items.ensures.value ∙ c.self.view_is) ∙ collected_in c.args.self.now
+returns c = at_end _ _ c.loop-number.number c.args.slots.now c.loop-number-test.false c.loop-number.invariant ∙ collected_in c.args.slots.now
