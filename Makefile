@@ -19,6 +19,10 @@ build:
 examples:
 	@cd crates/paklour && rt try --cases ../../examples
 
+# Performs the sessions of tests/ with the program that `make build` makes.
+sessions: build
+	@tools/sessions crates/paklour/out/paklour
+
 # Everything: the house rules, the tests of outside/, every proof from nothing, the must-fail edits, the tests, and the program as its
 # users run it.
 test:
@@ -47,4 +51,4 @@ edits:
 bench:
 	@bench/run
 
-.PHONY: run build install examples test check fmt refuse edits bench
+.PHONY: run build install examples sessions test check fmt refuse edits bench

@@ -1,13 +1,12 @@
-ghost use Rattle.std.specs.Prelude.{◌≤◌};
-
 use crate::meet::{Meet, Meeting, comes_to};
 use crate::running::{reported, settings};
-use file_replace::{Chunks, Replace, Replacements, Variant};
-use scenario_values::Text;
-use std::alloc::{AllocError, Global};
+use std::alloc::Global;
+use std::process::Abort;
 use std::rt::Clock;
+use std::sync::Wait;
 use std::sync::atomic::{AtomicU64, Ordering};
 use std::test::Fail;
+use std::thread::Threads;
 use target_trait::{Gate, Phase};
 
 /// Two that wait for each other, and how many of them waited in vain.
@@ -65,57 +64,41 @@ impl<'a, R: Clock + Sync> Gate for PairGate<'a, R> {
     }
 }
 
-/// The contents `old`, replaced by the chunks `ne` and `w`.
-fn small_work(alloc: Global) -> Result<Replacements, AllocError> {
-    let mut chunks = Vec::new(alloc);
-    chunks.push(Text::copy_of(alloc, "ne")?)?;
-    chunks.push(Text::copy_of(alloc, "w")?)?;
-    let mut replacements = Vec::new(alloc);
-    replacements.push(Chunks::new(chunks))?;
-    Ok(Replacements::new(Text::copy_of(alloc, "old")?, replacements))
+/// Two of a phase meet at the gate, in a campaign of two workers on a target of two points that may not fail together.
+fn meet_at_the_gate<R: Clock + Threads + Wait + Sync + Abort>(
+    rt: &R,
+    alloc: Global,
+    phase: Phase,
+    first: u32,
+    second: u32,
+) -> Result<(), Fail> {
+    let gate = PairGate {
+        rt,
+        phase,
+        first,
+        second,
+        pair: Pair::new(),
+    };
+    let target = Meet { rt };
+    let meeting = Meeting::new(false);
+    let settings = settings(2, true, Vec::new(alloc));
+    let Ok((_, failure)) = reported(rt, alloc, &gate, &target, &meeting, &settings) else {
+        return Err(Fail::from("no report"));
+    };
+    assert_eq!(rt; failure, Some(7));
+    assert!(rt; gate.pair.has_met());
+    Ok(())
 }
 
 // Refuses the wrong bodies all_work_on_one_thread and every_hand_leaves_at_once: the caller's thread arrives at no gate.
 #[test]
 fn two_plans_meet_at_the_gate(rt: HostRuntime) -> Result<(), Fail> {
-    let alloc = rt.alloc();
-    let gate = PairGate {
-        rt: &rt,
-        phase: Phase::Plans,
-        first: 1,
-        second: 2,
-        pair: Pair::new(),
-    };
-    let target = Replace::new(alloc, Variant::Sound);
-    let work = small_work(alloc)?;
-    let settings = settings(2, false, Vec::new(alloc));
-    let Ok((_, first)) = reported(&rt, alloc, &gate, &target, &work, &settings) else {
-        return Err(Fail::from("no report"));
-    };
-    assert_eq!(rt; first, None);
-    assert!(rt; gate.pair.has_met());
-    Ok(())
+    meet_at_the_gate(&rt, rt.alloc(), Phase::Plans, 1, 2)
 }
 
 /// The cards of a reduction of two faults: none of them, and the first one ahead of its answer.
 // Refuses the wrong bodies all_work_on_one_thread and every_hand_leaves_at_once.
 #[test]
 fn two_cards_meet_at_the_gate(rt: HostRuntime) -> Result<(), Fail> {
-    let alloc = rt.alloc();
-    let gate = PairGate {
-        rt: &rt,
-        phase: Phase::Cards,
-        first: 0,
-        second: 1,
-        pair: Pair::new(),
-    };
-    let target = Meet { rt: &rt };
-    let meeting = Meeting::new(false);
-    let settings = settings(2, true, Vec::new(alloc));
-    let Ok((_, first)) = reported(&rt, alloc, &gate, &target, &meeting, &settings) else {
-        return Err(Fail::from("no report"));
-    };
-    assert_eq!(rt; first, Some(7));
-    assert!(rt; gate.pair.has_met());
-    Ok(())
+    meet_at_the_gate(&rt, rt.alloc(), Phase::Cards, 0, 1)
 }

@@ -1,7 +1,7 @@
 //! Readers that give too much, too little at once, or fail.
 
-use crate::answers::{Answered, SMALL, answer};
-use crate::streams::Torn;
+use crate::late_sync::{LATE_SYNC, LATE_SYNC_REPORT};
+use crate::streams::{Answered, Narrow, Torn, answer};
 use campaign_main::{Exit, LIMIT, Order, ReadFault, read_all};
 use std::alloc::{AllocError, Global};
 use std::process::Abort;
@@ -14,101 +14,65 @@ fn letters(alloc: Global, count: usize) -> Result<Vec<u8>, AllocError> {
     vec![in alloc; b'#'; count]
 }
 
-/// What `plans` answers for these bytes, read one at a time, where one read fails.
-fn torn<H: Threads + Wait + Sync>(
-    rt: &H,
-    alloc: Global,
-    bytes: &[u8],
-    fails_at: u32,
-) -> Result<Answered, Fail> {
+/// What a campaign comes to over settings that are read a byte at a time, where one read fails.
+fn torn<H: Threads + Wait + Sync>(rt: &H, alloc: Global, bytes: &[u8], fails_at: u32) -> Answered {
     let mut reader = Torn {
         bytes,
         reads: 0,
         fails_at,
     };
-    answer(rt, alloc, &Order::Plans, &mut reader)
+    answer(
+        rt,
+        alloc,
+        &Order::Run,
+        &mut reader,
+        Narrow::new(alloc, 4096),
+    )
 }
 
-/// What `plans` answers for these bytes.
-fn whole<H: Threads + Wait + Sync>(rt: &H, alloc: Global, bytes: &[u8]) -> Result<Answered, Fail> {
-    let mut reader = bytes;
-    answer(rt, alloc, &Order::Plans, &mut reader)
-}
-
-/// The settings were refused with this line.
+/// The settings are refused with this line.
 fn is_refused(rt: &impl Abort, did: &Answered, line: &str) {
-    assert_eq!(rt; did.fault.as_str(), line);
-    assert_eq!(rt; did.output.as_str(), "", "at {line}");
-    assert_eq!(rt; did.exit, Exit::Refused, "at {line}");
+    assert_eq!(rt; did.fault.as_slice(), line.as_bytes());
+    assert_eq!(rt; did.output.len(), 0);
+    assert_eq!(rt; did.exit, Exit::Refused);
 }
 
 #[test]
-fn refuses_what_is_no_text(rt: HostRuntime) -> Result<(), Fail> {
-    let did = whole(&rt, rt.alloc(), b"\xff".as_slice())?;
-    is_refused(&rt, &did, "settings: not UTF-8\n");
-    Ok(())
-}
-
-#[test]
-fn refuses_what_cannot_be_read(rt: HostRuntime) -> Result<(), Fail> {
-    let alloc = rt.alloc();
+fn refuses_what_cannot_be_read(rt: HostRuntime) {
     for fails_at in 1..=4 {
-        let did = torn(&rt, alloc, b"\xff\xff\xff".as_slice(), fails_at)?;
+        let did = torn(&rt, rt.alloc(), b"\xff\xff\xff", fails_at);
         is_refused(&rt, &did, "settings: not readable\n");
     }
-    Ok(())
 }
 
-/// A byte past the limit is refused before it is seen that the bytes are no text, or no settings.
+/// Past the limit, a read that would fail isn't reached.
 #[test]
-fn refuses_a_byte_too_many(rt: HostRuntime) -> Result<(), Fail> {
-    let alloc = rt.alloc();
-    let mut long = letters(alloc, LIMIT)?;
+fn reads_a_byte_past_the_limit_and_no_more(rt: HostRuntime) -> Result<(), Fail> {
     assert_eq!(rt; LIMIT, 1_048_576);
-    let did = whole(&rt, alloc, long.as_slice())?;
-    is_refused(&rt, &did, "settings: missing target\n");
-    long.push(b'\xff')?;
-    let did = whole(&rt, alloc, long.as_slice())?;
-    is_refused(&rt, &did, "settings: too long\n");
-    // past the limit, a read that would fail isn't reached
-    let did = torn(&rt, alloc, long.as_slice(), 1_048_578)?;
+    let long = letters(rt.alloc(), LIMIT + 1)?;
+    let did = torn(&rt, rt.alloc(), &long, 1_048_578);
     is_refused(&rt, &did, "settings: too long\n");
     Ok(())
 }
 
 #[test]
-fn reads_on_after_short_reads(rt: HostRuntime) -> Result<(), Fail> {
-    let alloc = rt.alloc();
-    let settings = format!(in alloc; "target = \"replace\"\nseed = 7\n{SMALL}")?;
-    let did = torn(&rt, alloc, settings.as_bytes(), 0)?;
-    assert_eq!(rt; did.exit, Exit::Kept);
-    assert_eq!(rt; did.output.lines().count(), 19);
-    assert!(rt;
-        did.output
-            .starts_with("plan 0 none\nplan 1 replace::create=1*return\n")
-    );
-    Ok(())
+fn reads_on_after_short_reads(rt: HostRuntime) {
+    let did = torn(&rt, rt.alloc(), LATE_SYNC.as_bytes(), 0);
+    assert_eq!(rt; did.exit, Exit::Found);
+    assert_eq!(rt; did.output.as_slice(), LATE_SYNC_REPORT.as_bytes());
+}
+
+/// How many bytes a text has that is read from so many.
+fn length(alloc: Global, count: usize) -> Result<Result<usize, ReadFault>, AllocError> {
+    let bytes = letters(alloc, count)?;
+    Ok(read_all(alloc, &mut bytes.as_slice()).map(|text| text.len()))
 }
 
 #[test]
 fn reads_to_the_end_and_up_to_the_limit(rt: HostRuntime) -> Result<(), Fail> {
     let alloc = rt.alloc();
-    let mut short_reads = Torn {
-        bytes: b"a=off",
-        reads: 0,
-        fails_at: 0,
-    };
-    let text = read_all(alloc, &mut short_reads).map_err(|_| "a text in short reads")?;
-    assert_eq!(rt; text.as_str(), "a=off");
-    let full = letters(alloc, LIMIT)?;
-    let text = read_all(alloc, &mut full.as_slice()).map_err(|_| "a text at the limit")?;
-    assert_eq!(rt; text.len(), LIMIT);
-    let long = letters(alloc, LIMIT + 1)?;
-    assert!(rt;
-        matches!(
-            read_all(alloc, &mut long.as_slice()),
-            Err(ReadFault::TooLong)
-        )
-    );
+    assert!(rt; matches!(length(alloc, 0)?, Ok(0)));
+    assert!(rt; matches!(length(alloc, LIMIT)?, Ok(1_048_576)));
+    assert!(rt; matches!(length(alloc, LIMIT + 1)?, Err(ReadFault::TooLong)));
     Ok(())
 }

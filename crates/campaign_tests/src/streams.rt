@@ -1,7 +1,11 @@
-//! Readers and writers that go wrong.
+//! Readers and writers that go wrong, and what a command does with them.
 
+use campaign_main::{Exit, Order, Out, Sink, perform};
+use std::alloc::Global;
 use std::io;
 use std::io::{Read, Write};
+use std::sync::Wait;
+use std::thread::Threads;
 
 /// A reader that gives its bytes one at a time, and fails at one of its reads, counted from 1.
 #[derive(Drop)]
@@ -44,6 +48,19 @@ pub struct Narrow {
     pub trouble: Trouble,
 }
 
+impl Narrow {
+    /// A writer that takes so many bytes a write, and never goes wrong.
+    pub fn new(alloc: Global, at_once: usize) -> Self {
+        Narrow {
+            bytes: Vec::new(alloc),
+            at_once,
+            writes: 0,
+            fails_at: 0,
+            trouble: Trouble::Broken,
+        }
+    }
+}
+
 impl Write for Narrow {
     fn write(&mut self, buf: &[u8]) -> io::Result<usize> {
         self.writes = self.writes.saturating_add(1);
@@ -61,5 +78,34 @@ impl Write for Narrow {
 
     fn flush(&mut self) -> io::Result<()> {
         Ok(())
+    }
+}
+
+/// What a command did: its end, its output, whether the writer of that went wrong, and its line for a fault.
+#[derive(Drop)]
+pub struct Answered {
+    pub exit: Exit,
+    pub output: Vec<u8>,
+    pub has_failed: bool,
+    pub fault: Vec<u8>,
+}
+
+/// Performs a command over a reader and a writer.
+pub fn answer<R: Read, H: Threads + Wait + Sync>(
+    rt: &H,
+    alloc: Global,
+    order: &Order,
+    reader: &mut R,
+    writer: Narrow,
+) -> Answered {
+    let mut output = Out::new(writer);
+    let mut faults = Out::new(Vec::new(alloc));
+    let exit = perform(rt, alloc, order, reader, &mut output, &mut faults);
+    let has_failed = output.failed();
+    Answered {
+        exit,
+        output: output.into_writer().bytes,
+        has_failed,
+        fault: faults.into_writer(),
     }
 }

@@ -1,4 +1,5 @@
-//! Tests of the targets through their runs, and of what they stand on: the devices, the sink, and the judgements.
+//! Tests of what the targets stand on: the devices, the sink, and the judgement of logs that no run leaves. Runs of the targets are in the
+//! sessions of tests/.
 //!
 //! Each expected value was worked out by hand from the documents of the targets.
 #![tactic(auto)]
@@ -6,18 +7,6 @@
 #[cfg(test)]
 mod commit_judgements;
 #[cfg(test)]
-mod commit_runs;
-#[cfg(test)]
 mod devices;
 #[cfg(test)]
-mod maildir_judgements;
-#[cfg(test)]
-mod maildir_runs;
-#[cfg(test)]
-mod replace_runs;
-#[cfg(test)]
-mod runs;
-#[cfg(test)]
 mod sinks;
-#[cfg(test)]
-mod workloads;

@@ -1,0 +1,61 @@
+Help is a text on standard output, and the exit status is 0.
+
+  $ for words in help --help -h 'help run' 'run -h' 'help plans' 'help try' 'try --help' 'help reduce' 'help help'; do
+  >     paklour $words > text || echo "$words: $?"
+  >     grep -q '^Usage: paklour' text || echo "$words: no text"
+  >     awk 'length > 100' text
+  > done
+
+No line of it is longer than 100 letters, as has just been seen. It says what each command does, and what a scenario may hold.
+
+  $ paklour help run
+  Run a campaign and write its report; with no command at all, this is done
+  
+  Usage: paklour run [FILE]
+  
+  Arguments:
+    [FILE]  TOML settings, of which `paklour help` lists the keys; left out, standard input is read
+  
+  Options:
+    -h, --help  Print help
+  $ paklour help try | grep -e ^Usage: -e '--scenario ' -e '^A scenario has '
+  Usage: paklour try --scenario <TEXT> [FILE]
+        --scenario <TEXT>  The scenario, as 'POINT=TERM->TERM;POINT=TERM'
+  A scenario has up to 65536 bytes, 256 entries, 256 terms in an entry, and 4096 terms besides off.
+
+The help of the program names the keys of settings, their ranges and defaults, as settings.t and settings_tables.t show them, and the exit
+statuses.
+
+  $ paklour help | sed -n '/^Settings are TOML/,/^Example:/p;/^Exit status:/,$p'
+  Settings are TOML. Their keys, with ranges and defaults:
+    target     "replace", "maildir" or "commit"; has to be there
+    variant    "sound", or one with a flaw, by the target; default "sound"
+                 replace: "late_sync", "ignore_sync", "retry_write"
+                 maildir: "link_first", "ignore_write", "append_tmp"
+                 commit:  "lazy_prepare", "early_end", "two_tries"
+    seed       the seed of all that is drawn, 0 to 9223372036854775807; default 0
+    workers    how many threads run plans, 1 to 64; default 1
+    max_hits   how many steps a run may take before it counts as unresolved, 1 to 100000; default 1000
+    pairs      true or false: plans of two steps that both fail, or the second panics; default false
+    storms     how many plans of faults drawn at random there are, 0 to 10000; default 0
+    rate       how many steps in a thousand each of these plans draws, 0 to 1000; default 100
+    scenarios  scenarios to run as plans too, up to 1000 texts; default none
+  and the table of the target, with all of its keys:
+    [replace]
+      old           the contents at first, a text of up to 65536 bytes
+      replacements  up to 1000 lists of up to 1000 chunks
+    [maildir]
+      messages      up to 1000 lists of up to 1000 chunks
+    [commit]
+      participants  1 to 8
+      transactions  up to 100 lists of "yes" and "no", one for each participant
+  A chunk is a text of up to 4096 bytes. `paklour help try` says what a scenario may hold.
+  
+  Example:
+  Exit status:
+    0  no verdict is fail
+    1  a verdict is fail
+    2  the words, the settings, a scenario or the number of plans is refused, or the settings can't
+       be read
+    3  memory is refused
+    4  a write failed

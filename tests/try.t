@@ -1,0 +1,88 @@
+`try` runs a target once under a scenario, and writes its verdict, how many points were asked, how many random words were drawn, how many
+milliseconds were slept, and how many notes were taken. What is expected was worked out by hand from docs/TARGETS.md.
+
+  $ cat > small.toml <<'END'
+  > target = "replace"
+  > seed = 7
+  > [replace]
+  > old = "old"
+  > replacements = [["ne", "w"]]
+  > END
+  $ tries() { paklour try --scenario "$1" small.toml | paste -s -d ' ' -; }
+
+Without a fault six points are asked: create, two writes, sync, rename, and a sync of the folder.
+
+  $ paklour try --scenario '' small.toml
+  verdict pass
+  asked 6
+  words 0
+  millis 0
+  notes 0
+
+A step that fails is cleaned up after; one that panics ends the run.
+
+  $ tries 'replace::sync=1*return'
+  verdict pass asked 5 words 0 millis 0 notes 0
+  $ tries 'replace::write=2*return'
+  verdict pass asked 3 words 0 millis 0 notes 0
+  $ tries 'replace::rename=panic'
+  verdict pass asked 5 words 0 millis 0 notes 0
+
+A pause nobody ends, so that nothing is said of what would have followed.
+
+  $ tries 'replace::write=pause'
+  verdict unresolved asked 2 words 0 millis 0 notes 0
+
+Sleeping takes no time, and a note has no text here; both are counted.
+
+  $ tries 'replace::create=3*print(x);replace::sync=sleep(5)'
+  verdict pass asked 6 words 0 millis 5 notes 1
+
+A name that the target doesn't have never acts.
+
+  $ tries 'elsewhere=panic'
+  verdict pass asked 6 words 0 millis 0 notes 0
+
+Each of the two writes draws a word for a term that can't act.
+
+  $ tries 'replace::write=0%panic'
+  verdict pass asked 6 words 2 millis 0 notes 0
+
+The last chain of a name counts.
+
+  $ tries 'replace::write=panic;replace::write=2*off->return'
+  verdict pass asked 6 words 0 millis 0 notes 0
+
+A run that fails ends with 1. Here the sync fails and is ignored; an empty file is what was there before, and the replacement was
+acknowledged.
+
+  $ cat > stale.toml <<'END'
+  > target = "replace"
+  > variant = "ignore_sync"
+  > [replace]
+  > old = ""
+  > replacements = [["ne", "w"]]
+  > END
+  $ paklour try --scenario 'replace::sync=1*return' stale.toml
+  verdict fail stale
+  asked 6
+  words 0
+  millis 0
+  notes 0
+  [1]
+
+The sound commit passes where the variant that tries twice doesn't, in examples/commit_two_tries.toml: without a commit record it aborts,
+and tells so to both participants after seven questions, the first of whom doesn't hear it.
+
+  $ cat > commit.toml <<'END'
+  > target = "commit"
+  > [commit]
+  > participants = 2
+  > transactions = [["yes", "yes"]]
+  > END
+  $ paklour try --scenario 'commit::force_commit=2*return;commit::send_outcome=1*return' commit.toml
+  verdict pass
+  asked 9
+  words 0
+  millis 0
+  notes 0

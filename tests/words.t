@@ -1,0 +1,142 @@
+The words of the command line: a command, its scenario where it takes one, and the file with the settings. Standard input is read where no
+file is named; here it has other settings than the files, and other ones again are in a file whose name is `-`.
+
+  $ printf '%s\n' 'target = "replace"' '[replace]' 'old = "old"' 'replacements = [["ne", "w"]]' > given
+  $ printf '%s\n' 'target = "maildir"' 'variant = "link_first"' '[maildir]' 'messages = [["hi"]]' > f
+  $ printf '%s\n' 'target = "commit"' '[commit]' 'participants = 1' 'transactions = [["no"]]' > ./-
+  $ cp f run
+
+`asks` shows the first two lines that words lead to.
+
+  $ asks() { paklour "$@" < given 2>&1 | head -n 2; }
+
+What words ask for
+------------------
+
+  $ asks
+  target replace sound
+  seed 0
+  $ asks --
+  target replace sound
+  seed 0
+  $ asks run
+  target replace sound
+  seed 0
+  $ asks run f
+  target maildir link_first
+  seed 0
+  $ asks run -
+  target commit sound
+  seed 0
+  $ asks run run
+  target maildir link_first
+  seed 0
+  $ asks plans
+  plan 0 none
+  plan 1 replace::create=1*return
+  $ asks plans f
+  plan 0 none
+  plan 1 maildir::stat=1*return
+  $ asks try --scenario a=off
+  verdict pass
+  asked 6
+  $ asks try --scenario ''
+  verdict pass
+  asked 6
+  $ asks try --scenario=
+  verdict pass
+  asked 6
+  $ asks try --scenario a=off f
+  verdict pass
+  asked 7
+  $ asks try --scenario=-x
+  scenario: NoAction entry 1 term 0
+  $ asks reduce --scenario maildir::write=1*return f
+  verdict fail torn
+  reduced maildir::write=1*return
+
+Words that are refused
+----------------------
+
+What is wrong is told on standard error, and nothing is on standard output.
+
+  $ paklour frobnicate
+  error: unrecognized subcommand 'frobnicate'
+  
+  Usage: paklour [COMMAND]
+  
+  For more information, try '--help'.
+  [2]
+  $ paklour try
+  error: the following required arguments were not provided:
+    --scenario <TEXT>
+  
+  Usage: paklour try --scenario <TEXT> [FILE]
+  
+  For more information, try '--help'.
+  [2]
+  $ paklour try 2> /dev/null
+  [2]
+  $ refused() {
+  >     paklour "$@" < given > out 2> fault
+  >     test $? -eq 2 || echo "another status"
+  >     head -n 1 fault
+  >     cat out
+  > }
+  $ refused try f
+  error: the following required arguments were not provided:
+  $ refused reduce
+  error: the following required arguments were not provided:
+  $ refused reduce f
+  error: the following required arguments were not provided:
+  $ refused help nonsense
+  error: unrecognized subcommand 'nonsense'
+  $ refused -- run
+  error: unexpected argument 'run' found
+  $ refused ''
+  error: unrecognized subcommand ''
+  $ refused run f more
+  error: unexpected argument 'more' found
+  $ refused run --frobnicate
+  error: unexpected argument '--frobnicate' found
+  $ refused run --scenario a
+  error: unexpected argument '--scenario' found
+  $ refused try --scenario
+  error: a value is required for '--scenario <TEXT>' but none was supplied
+  $ refused try --scenario -x
+  error: unexpected argument '-x' found
+  $ refused try --scenario a=off --scenario a=off
+  error: the argument '--scenario <TEXT>' cannot be used multiple times
+
+Words are UTF-8.
+
+  $ refused "$(printf '\377')"
+  error: invalid UTF-8 was detected in one or more arguments
+  $ refused run "$(printf '\377.toml')"
+  error: invalid UTF-8 was detected in one or more arguments
+  $ refused try --scenario "$(printf 'a=return(\377)')"
+  error: invalid UTF-8 was detected in one or more arguments
+
+Settings that can't be read
+---------------------------
+
+The file isn't there, or is a folder. No word stands for standard input, which may be unreadable too, or empty.
+
+  $ rm ./-
+  $ mkdir folder
+  $ for file in missing.toml folder ''; do
+  >     for command in run plans 'try --scenario a' 'reduce --scenario a'; do paklour $command "$file" < given; done
+  > done 2>&1 | uniq -c | tr -s ' '
+   12 settings: not readable
+  $ paklour run missing.toml
+  settings: not readable
+  [2]
+  $ paklour run - < given
+  settings: not readable
+  [2]
+  $ paklour run < folder
+  settings: not readable
+  [2]
+  $ paklour run < /dev/null
+  settings: missing target
+  [2]
