@@ -1,6 +1,6 @@
 Help is a text on standard output, and the exit status is 0.
 
-  $ for words in help --help -h 'help run' 'run -h' 'help plans' 'help try' 'try --help' 'help reduce' 'help help'; do
+  $ for words in help --help -h 'help run' 'run -h' 'help plans' 'help try' 'try --help' 'help reduce' 'help asks' 'help report' 'help help'; do
   >     paklour $words > text || echo "$words: $?"
   >     grep -q '^Usage: paklour' text || echo "$words: no text"
   >     awk 'length > 100' text
@@ -28,7 +28,7 @@ statuses.
 
   $ paklour help | sed -n '/^Settings are TOML/,/^Example:/p;/^Exit status:/,$p'
   Settings are TOML. Their keys, with ranges and defaults:
-    target     "replace", "maildir" or "commit"; has to be there
+    target     "replace", "maildir", "commit" or "outside"; has to be there
     variant    "sound", or one with a flaw, by the target; default "sound"
                  replace: "late_sync", "ignore_sync", "retry_write"
                  maildir: "link_first", "ignore_write", "append_tmp"
@@ -49,13 +49,27 @@ statuses.
     [commit]
       participants  1 to 8
       transactions  up to 100 lists of "yes" and "no", one for each participant
+    [outside]
+      label         what the component is, a text of up to 200 bytes
+      codes         what may follow `fail` in an answer, up to 64 texts of up to 200 bytes
+      points        the names of its points, 1 to 64 texts of up to 200 bytes
+      hits          how often each point is hit without faults, as many numbers from 0 to 100000
+  With "outside" somebody else runs the component: only plans, asks and report take such settings, in
+  which variant, workers and max_hits are unknown keys.
   A chunk is a text of up to 4096 bytes. `paklour help try` says what a scenario may hold.
   
   Example:
   Exit status:
     0  no verdict is fail
     1  a verdict is fail
-    2  the words, the settings, a scenario or the number of plans is refused, or the settings can't
-       be read
+    2  the words, the settings, a scenario, the answers or the number of plans is refused, or the
+       settings or the answers can't be read
     3  memory is refused
     4  a write failed
+
+The help of the commands on a component that somebody else runs says what an answer is.
+
+  $ paklour help asks | grep -e ^Usage: -e VERDICT -e '<FILE>  '
+  Usage: paklour asks <FILE>
+    <FILE>  TOML settings, of which `paklour help` lists the keys; standard input has the answers
+    VERDICT<TAB>SCENARIO

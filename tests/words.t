@@ -55,6 +55,18 @@ What words ask for
   verdict fail torn
   reduced maildir::write=1*return
 
+Two commands take their settings from a file alone, since standard input has the answers of a component that somebody else runs.
+
+  $ printf '%s\n' 'target = "outside"' '[outside]' 'label = "a store"' 'codes = []' 'points = ["a"]' 'hits = [1]' > -f
+  $ paklour asks -- -f < /dev/null
+  none
+  a=1*return
+  a=return
+  a=1*panic
+  $ printf 'pass\t%s\n' none 'a=1*return' 'a=return' 'a=1*panic' | paklour report -- -f | head -n 2
+  target a store
+  seed 0
+
 Words that are refused
 ----------------------
 
@@ -85,6 +97,12 @@ What is wrong is told on standard error, and nothing is on standard output.
   > }
   $ refused try f
   error: the following required arguments were not provided:
+  $ refused asks
+  error: the following required arguments were not provided:
+  $ refused report
+  error: the following required arguments were not provided:
+  $ refused report --scenario a f
+  error: unexpected argument '--scenario' found
   $ refused reduce
   error: the following required arguments were not provided:
   $ refused reduce f

@@ -4,3 +4,4 @@ pub mod Books
 pub mod AnswerLaws
 pub mod TextLaws
 pub mod TidyAgain
+pub mod Agreement

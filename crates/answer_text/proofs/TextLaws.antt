@@ -55,13 +55,13 @@ with_answer_gives before a (Some told) after h = by_test (same_verdict told.verd
     by_test true e k = (sym (fine_is (before ++ a ∷ []) after k), verdict_is told.verdict a.1 e)
     by_test false e k = absurd cc
 
-record Adds (names : List (List ℕ)) (before : List Answer) (line : List ℕ) (after : List Answer) : Type 0 where
-  answer : Answer
-  after_is : after ≡ before ++ answer ∷ []
-  read : IsRead names line answer
-  allows : Allows (told_from 1 before (printed answer.0)) answer.1
+pub record Adds (names : List (List ℕ)) (before : List Answer) (line : List ℕ) (after : List Answer) : Type 0 where
+  pub answer : Answer
+  pub after_is : after ≡ before ++ answer ∷ []
+  pub read : IsRead names line answer
+  pub allows : Allows (told_from 1 before (printed answer.0)) answer.1
 
-with_line_gives : (names : List (List ℕ)) (before : List Answer) (line : List ℕ) (after : List Answer) → with_line names before line ≡ Ok after → Adds names before line after
+pub with_line_gives : (names : List (List ℕ)) (before : List Answer) (line : List ℕ) (after : List Answer) → with_line names before line ≡ Ok after → Adds names before line after
 unfolding with_line
 with_line_gives names before line after h =
     let b = bind_ok (answer_in names line) _ after (on_line_ok (length before + 1) _ after h) in

@@ -12,5 +12,7 @@ mod verdicts;
 
 pub use fault::{AnswersFault, LineFault};
 pub use known::{Known, Told};
-pub use laws::{texts_say_what_is_read, tidying_again_changes_nothing};
+pub use laws::{
+    contradictions_agree_with_no_component, texts_say_what_is_read, tidying_again_changes_nothing,
+};
 pub use reading::{LIMIT, read};

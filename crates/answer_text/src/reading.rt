@@ -4,7 +4,7 @@ ghost use Rattle.scenario_grammar.specs.Words.{cut};
 ghost use Rattle.answer_text.specs.declared.fault.AnswersFault.TheVariants.{Memory};
 ghost use Rattle.answer_text.specs.Answers.{Answer, Says};
 ghost use Rattle.answer_text.specs.FirstFault.{Gives, Tells};
-ghost use Rattle.answer_text.specs.Known.{Knows};
+ghost use Rattle.answer_text.specs.Known.{Knows, verdict_in, known_by};
 ghost use Rattle.answer_text.specs.Books.{Holds, fault_at, read_line};
 
 use crate::fault::{AnswersFault, LineError, LineFault};
@@ -94,6 +94,8 @@ pub fn read(alloc: Global, codes: &[Text], text: &[u8]) -> Result<Known, Answers
     requires { length codes.now < 2 ^ 32 }
     // Just what the text says is known.
     ensures found { IfOk result (λ known. (answers : List Answer) × Says codes.now text.now answers × Knows known answers) }
+    // Of each scenario, what the first line that answers it tells is known.
+    ensures known { IfOk result (λ known. verdict_in known ≡ known_by codes.now text.now) }
     // A fault that is answered is the first one.
     ensures refused { IfErr result (λ fault. Tells fault codes.now text.now) }
     // A text that says answers is refused for want of memory alone.

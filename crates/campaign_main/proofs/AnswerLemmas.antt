@@ -1,40 +1,50 @@
 -- Answers, by what a command did.
-use Rattle.std.proofs.Common.{◌≡◌, ◌≤◌, ◌<◌, ◌∙◌, ℕ, Bool, false, List, Option, Some, None, Result, Ok, Err, IfOk, IsErrAnd, length, refl, sym, ap, is_some, option_map, subst, if◌then◌else◌}
+use Rattle.std.proofs.Common.{◌≡◌, ◌≤◌, ◌<◌, ◌∙◌, ℕ, Bool, true, false, List, Option, Some, None, Result, Ok, Err, IfOk, IsErrAnd, length, refl, sym, ap, is_some, option_map, subst, take, if◌then◌else◌}
 use Rattle.std.proofs.lemmas.Bool.{le-ltb, lt-ltb}
 use Rattle.std.specs.Io.KnownBytes.{Appends}
 use Rattle.scenario_values.specs.Scenario.{Entries}
 use Rattle.scenario_grammar.specs.FirstFault.{Fault}
 use Rattle.plan_gen.specs.PlanList.{most_plans}
 use Rattle.campaign_core.specs.Headline.{Campaign, say, plans, report_text, first_failure}
-use Rattle.campaign_core.specs.CommandTexts.{IsFault, IsReducedToMinimal, LeavesOnly, plans_text, reduce_text, tried, try_text}
+use Rattle.campaign_core.specs.CommandTexts.{IsFault, IsReducedToMinimal, LeavesOnly, plan_lines, plans_text, reduce_text, tried, try_text}
 use Rattle.campaign_core.specs.declared.ending.CampaignFault.{CampaignFault}
 use Rattle.campaign_core.specs.declared.ending.CampaignFault.TheVariants as campaign
+use Rattle.command_words.specs.declared.words.Order.TheVariants as order
+use Rattle.outside_campaign.specs.Campaigns.{IsCut, IsUnwritten}
+use Rattle.report.specs.ReportText.{text_of}
 use Rattle.campaign_main.specs.declared.fault.CommandFault.{CommandFault}
 use Rattle.campaign_main.specs.declared.fault.CommandFault.TheVariants as faults
 use Rattle.campaign_main.specs.Exit.{is_fail}
-use Rattle.campaign_main.specs.Commands.{Answer, of_few_plans, plans_answer, reduce_answer, run_answer, spelled_answer, too_many_plans, try_answer}
-use Rattle.campaign_main.specs.Ends.{ComesTo, FallsShort, IsCutOff, IsWritten}
+use Rattle.campaign_main.specs.Commands.{Answer, of_few_plans, outside_answer, plans_answer, reduce_answer, run_answer, spelled_answer, too_many_plans, try_answer}
+use Rattle.campaign_main.specs.Ends.{ComesTo, FallsShort, IsCutOff, IsUntouched, IsWritten}
 
-module _ (c : Campaign) (a : List ℕ × Bool) where
-  few_plans : length (plans c) ≤ most_plans → of_few_plans c a ≡ Ok a
-  few_plans few = let f : Bool → Answer = λ b. if b then Err too_many_plans else Ok a in ap f (le-ltb most_plans (length (plans c)) few)
+module _ (plans : List Entries) (a : List ℕ × Bool) where
+  few_plans : length plans ≤ most_plans → of_few_plans plans a ≡ Ok a
+  few_plans few = let f : Bool → Answer = λ b. if b then Err too_many_plans else Ok a in ap f (le-ltb most_plans (length plans) few)
 
-  many_plans : most_plans < length (plans c) → of_few_plans c a ≡ Err too_many_plans
-  many_plans many = let f : Bool → Answer = λ b. if b then Err too_many_plans else Ok a in ap f (lt-ltb most_plans (length (plans c)) many)
+  many_plans : most_plans < length plans → of_few_plans plans a ≡ Err too_many_plans
+  many_plans many = let f : Bool → Answer = λ b. if b then Err too_many_plans else Ok a in ap f (lt-ltb most_plans (length plans) many)
 
 -- what comes of a list of plans and of its text, where that is the answer
-module _ (c : Campaign) (answer : Answer) (text : List ℕ) (found : Bool) (is : answer ≡ of_few_plans c (text, found)) (old new : Option (List ℕ)) where
-  of_plans : (failed : Bool) → length (plans c) ≤ most_plans → Appends old new text → failed ≡ false → IsWritten answer old new failed found
+module _ (plans : List Entries) (answer : Answer) (text : List ℕ) (found : Bool) (is : answer ≡ of_few_plans plans (text, found)) (old new : Option (List ℕ)) where
+  of_plans : (failed : Bool) → length plans ≤ most_plans → Appends old new text → failed ≡ false → IsWritten answer old new failed found
   of_plans failed few written sound =
       let P : Answer → Type 0 = λ x. IsWritten x old new failed found in
-      subst P (sym (is ∙ few_plans c (text, found) few)) (written, refl, sound)
+      subst P (sym (is ∙ few_plans plans (text, found) few)) (written, refl, sound)
 
-  short_of_plans : (failed : Bool) (f : CampaignFault) → IsFault c text old new failed f → FallsShort answer old new failed (faults.Campaign f)
-  short_of_plans failed campaign.TooManyPlans h = ((h.0, h.1), is ∙ many_plans c (text, found) h.2)
-  short_of_plans failed campaign.Memory h = h
-  short_of_plans failed (campaign.Write n) h =
+  long_plans : (failed : Bool) → IsUntouched old new failed → most_plans < length plans → FallsShort answer old new failed (faults.Campaign campaign.TooManyPlans)
+  long_plans failed untouched many = (untouched, is ∙ many_plans plans (text, found) many)
+
+  part_of_plans : (failed : Bool) (n : ℕ) → Appends old new (take n text) × (n < length text) × (failed ≡ true) → length plans ≤ most_plans → IsCutOff answer old new failed n
+  part_of_plans failed n part few =
       let P : Answer → Type 0 = λ x. IsCutOff x old new failed n in
-      subst P (sym (is ∙ few_plans c (text, found) h.3)) (h.0, h.1, h.2)
+      subst P (sym (is ∙ few_plans plans (text, found) few)) part
+
+module _ (c : Campaign) (answer : Answer) (text : List ℕ) (found : Bool) (is : answer ≡ of_few_plans (plans c) (text, found)) (old new : Option (List ℕ)) where
+  short_of_plans : (failed : Bool) (f : CampaignFault) → IsFault c text old new failed f → FallsShort answer old new failed (faults.Campaign f)
+  short_of_plans failed campaign.TooManyPlans h = long_plans (plans c) answer text found is old new failed (h.0, h.1) h.2
+  short_of_plans failed campaign.Memory h = h
+  short_of_plans failed (campaign.Write n) h = part_of_plans (plans c) answer text found is old new failed n (h.0, h.1, h.2) h.3
 
 -- what comes of a scenario and of its text, where that is the answer
 module _ (answer : Answer) (text : List ℕ) (found : Bool) (is : answer ≡ Ok (text, found)) (old new : Option (List ℕ)) where
@@ -64,7 +74,7 @@ module _ (c : Campaign) (old new : Option (List ℕ)) where
   run-written failed found first few written sound is first-is =
       let P : Bool → Type 0 = λ b. IsWritten (run_answer c) old new failed b in
       let same : found ≡ is_some (first_failure c) = is ∙ ap is_some first-is ∙ first_found (first_failure c) in
-      subst P (sym same) (of_plans c (run_answer c) (report_text c) (is_some (first_failure c)) refl old new failed few written sound)
+      subst P (sym same) (of_plans (plans c) (run_answer c) (report_text c) (is_some (first_failure c)) refl old new failed few written sound)
 
   pub run-short : (failed : Bool) (f : CampaignFault) → IsFault c (report_text c) old new failed f → FallsShort (run_answer c) old new failed (faults.Campaign f)
   unfolding run_answer
@@ -72,7 +82,7 @@ module _ (c : Campaign) (old new : Option (List ℕ)) where
 
   pub plans-written : (failed : Bool) → length (plans c) ≤ most_plans → Appends old new (plans_text c) → failed ≡ false → IsWritten (plans_answer c) old new failed false
   unfolding plans_answer
-  plans-written failed few written sound = of_plans c (plans_answer c) (plans_text c) false refl old new failed few written sound
+  plans-written failed few written sound = of_plans (plans c) (plans_answer c) (plans_text c) false refl old new failed few written sound
 
   pub plans-short : (failed : Bool) (f : CampaignFault) → IsFault c (plans_text c) old new failed f → FallsShort (plans_answer c) old new failed (faults.Campaign f)
   unfolding plans_answer
@@ -105,6 +115,20 @@ module _ (c : Campaign) (read : Result Entries Fault) (s : Entries) (spelled : r
 
   pub reduce-minimal : IsReducedToMinimal c s → IfOk read (IsReducedToMinimal c)
   reduce-minimal minimal = let P : Result Entries Fault → Type 0 = λ r. IfOk r (IsReducedToMinimal c) in subst P (sym spelled) minimal
+
+-- ---- the plans of a component that somebody else runs
+
+module _ (plans : List Entries) (old new : Option (List ℕ)) where
+  pub outside-written : (failed : Bool) → length plans ≤ most_plans → Appends old new (text_of (plan_lines 0 plans)) → failed ≡ false → IsWritten (outside_answer order.Plans plans) old new failed false
+  unfolding outside_answer
+  outside-written failed few written sound = of_plans plans (outside_answer order.Plans plans) (text_of (plan_lines 0 plans)) false refl old new failed few written sound
+
+  pub outside-short : (failed : Bool) (f : CampaignFault) → IsUnwritten plans (IsCut old new (text_of (plan_lines 0 plans))) old new failed f → FallsShort (outside_answer order.Plans plans) old new failed (faults.Campaign f)
+  unfolding outside_answer
+  outside-short failed campaign.TooManyPlans h = long_plans plans (outside_answer order.Plans plans) (text_of (plan_lines 0 plans)) false refl old new failed (h.0, h.1) h.2
+  outside-short failed campaign.Memory h = h
+  outside-short failed (campaign.Write n) h =
+      part_of_plans plans (outside_answer order.Plans plans) (text_of (plan_lines 0 plans)) false refl old new failed n (h.0.0, h.0.1, h.1) h.2
 
 -- a fault that is passed up
 pub short-up : (answer : Answer) (old new : Option (List ℕ)) (failed : Bool) (result : Result Bool CommandFault) (fault : CommandFault) → IsErrAnd result (λ f. f ≡ fault)

@@ -1,5 +1,5 @@
 -- Ends, by what a command came to and by what was read.
-use Rattle.std.proofs.Common.{◌≡◌, ◌≤◌, ◌<◌, ◌∙◌, ℕ, Bool, true, false, List, Option, Some, None, IfSome, IfOk, Ok, Err, length, refl, sym, ap, inl, inr, subst, if◌then◌else◌}
+use Rattle.std.proofs.Common.{◌≡◌, ◌≤◌, ◌<◌, ◌∙◌, ℕ, Bool, true, false, List, Option, Some, None, IfSome, IfOk, Result, Ok, Err, length, refl, sym, ap, inl, inr, subst, if◌then◌else◌}
 use Rattle.std.proofs.lemmas.Bool.{false_from_ne_true, le-ltb, lt-ltb, true≢false}
 use Rattle.std.proofs.lemmas.Str.{IsUtf8-from_is_utf8, is_utf8-from_IsUtf8}
 use Rattle.std.specs.Str.{IsUtf8, is_utf8}
@@ -19,7 +19,7 @@ use Rattle.campaign_main.specs.declared.exit.Exit.{Exit}
 use Rattle.campaign_main.specs.declared.exit.Exit.TheVariants as exit
 use Rattle.campaign_main.specs.declared.input.ReadFault.{ReadFault}
 use Rattle.campaign_main.specs.declared.input.ReadFault.TheVariants as read
-use Rattle.campaign_main.specs.Commands.{Answer, Refusal, answer_of, bad_scenario, bad_settings, campaign_for, chosen_answer, given_answer, not_text, order_answer, text_answer}
+use Rattle.campaign_main.specs.Commands.{Answer, Refusal, answer_of, bad_scenario, bad_settings, campaign_for, choice_answer, chosen_answer, given_answer, not_text, of_text, text_answer}
 use Rattle.campaign_main.specs.Ends.{EndsAs, FallsShort, IsCutOff, IsEndOf, IsRefused, IsWritten, Leaves, OnWhole, RefusesWith, Tells, TellsARefusal, TellsBy, TellsRefusal}
 use Rattle.campaign_main.specs.Exit.{exit_of}
 use Rattle.campaign_main.specs.Minimal.{ReducesToMinimal, TextReducesToMinimal}
@@ -31,7 +31,7 @@ is_refused exit.Refused = true
 is_refused _ = false
 
 -- want of memory is no refusal
-memory-apart : {P : Type 0} (end : Exit) → end ≡ exit.Memory → end ≡ exit.Refused → P
+pub memory-apart : {P : Type 0} (end : Exit) → end ≡ exit.Memory → end ≡ exit.Refused → P
 memory-apart end m r = absurd (true≢false (ap is_refused (sym r ∙ m)))
 
 -- ---- by what is told
@@ -115,6 +115,7 @@ module _ (answer : Answer) (old new : Option (List ℕ)) (failed : Bool) where
     fault-ends (command.Campaign campaign.TooManyPlans) end short is = let P : Exit → Type 0 = λ e. EndsAs e answer old new failed in subst P (sym is.0) short.0
     fault-ends (command.Campaign campaign.Memory) end short is = let P : Exit → Type 0 = λ e. EndsAs e answer old new failed in subst P (sym is.0) short
     fault-ends (command.Campaign (campaign.Write n)) end short is = let P : Exit → Type 0 = λ e. EndsAs e answer old new failed in subst P (sym is.0) short
+    fault-ends command.Outside end short is = let P : Exit → Type 0 = λ e. EndsAs e answer old new failed in subst P (sym is.0) short.0
 
     pub fault-tells : (fault : CommandFault) (end : Exit) → FallsShort answer old new failed fault → IsEndOf fault end line line' broken → TellsBy (TellsRefusal answer line line' broken) end line line' broken
     fault-tells (command.Scenario scenario.Memory) end short is = let P : Exit → Type 0 = λ e. TellsBy (TellsRefusal answer line line' broken) e line line' broken in subst P (sym is.0) is.1
@@ -127,6 +128,10 @@ module _ (answer : Answer) (old new : Option (List ℕ)) (failed : Bool) where
         subst P (sym is.0) (subst Q (sym short.1) is.1)
     fault-tells (command.Campaign campaign.Memory) end short is = let P : Exit → Type 0 = λ e. TellsBy (TellsRefusal answer line line' broken) e line line' broken in subst P (sym is.0) is.1
     fault-tells (command.Campaign (campaign.Write n)) end short is = let P : Exit → Type 0 = λ e. TellsBy (TellsRefusal answer line line' broken) e line line' broken in subst P (sym is.0) is.1
+    fault-tells command.Outside end short is =
+        let P : Exit → Type 0 = λ e. TellsBy (TellsRefusal answer line line' broken) e line line' broken in
+        let Q : Answer → Type 0 = λ a. TellsRefusal a line line' broken in
+        subst P (sym is.0) (subst Q (sym short.1) is.1)
 
 -- a fault is no end of a text that was written whole
 pub fault-whole : (line line' : Option (List ℕ)) (broken : Bool) (claim : Type 0) (fault : CommandFault) (end : Exit) → IsEndOf fault end line line' broken → OnWhole end claim
@@ -135,6 +140,7 @@ fault-whole line line' broken claim (command.Scenario (scenario.Bad kind entry t
 fault-whole line line' broken claim (command.Campaign campaign.TooManyPlans) end is = let P : Exit → Type 0 = λ e. OnWhole e claim in subst P (sym is.0) tt
 fault-whole line line' broken claim (command.Campaign campaign.Memory) end is = let P : Exit → Type 0 = λ e. OnWhole e claim in subst P (sym is.0) tt
 fault-whole line line' broken claim (command.Campaign (campaign.Write n)) end is = let P : Exit → Type 0 = λ e. OnWhole e claim in subst P (sym is.0) tt
+fault-whole line line' broken claim command.Outside end is = let P : Exit → Type 0 = λ e. OnWhole e claim in subst P (sym is.0) tt
 
 -- what holds of a text that was written whole
 pub found-whole : (found : Bool) (claim : Type 0) → claim → OnWhole (exit_of found) claim
@@ -154,21 +160,31 @@ found-tells refusal true old failed sound = (refl, sound)
 
 -- ---- by what the settings' text gives
 
+-- a refusal of settings is the line of a cause
+module _ (text : List ℕ) (end : Exit) (old new : Option (List ℕ)) (failed : Bool) (refused : end ≡ exit.Refused) where
+  abbrev pub HasCause : Type 0
+  HasCause = (cause : Cause) × (settings_of text ≡ Err cause) × RefusesWith (refusal_line (bad_settings cause)) end old new failed
+
+  pub unset-cause : (f : SettingsFault) → RefusedBy (settings_of text) f → (f ≡ Memory → end ≡ exit.Memory) → RefusesWith (settings_line f) end old new failed → HasCause
+  unset-cause TooLong h m told = (_, h, told)
+  unset-cause NotToml h m told = (_, h, told)
+  unset-cause (UnknownKey place name) h m told = (_, h, told)
+  unset-cause (Missing k) h m told = (_, h, told)
+  unset-cause (WrongType k) h m told = (_, h, told)
+  unset-cause (OutOfRange k) h m told = (_, h, told)
+  unset-cause (Scenario number kind entry term) h m told = (_, h, told)
+  unset-cause Memory h m told = memory-apart end (m refl) refused
+
 module _ (order : Order) (text : List ℕ) where
   refused-answer : (cause : Cause) → settings_of text ≡ Err cause → text_answer order text ≡ Err (bad_settings cause)
   unfolding text_answer
   refused-answer cause is = let f : Read Given → Answer = given_answer order in ap f is
 
-  module _ (end : Exit) (old new : Option (List ℕ)) (failed : Bool) (refused : end ≡ exit.Refused) where
-    pub cause-unset : (f : SettingsFault) → RefusedBy (settings_of text) f → (f ≡ Memory → end ≡ exit.Memory) → RefusesWith (settings_line f) end old new failed → TellsRefusal (text_answer order text) old new failed
-    cause-unset TooLong h m told = tells-refusal _ _ end old new failed (refused-answer _ h) refused told
-    cause-unset NotToml h m told = tells-refusal _ _ end old new failed (refused-answer _ h) refused told
-    cause-unset (UnknownKey place name) h m told = tells-refusal _ _ end old new failed (refused-answer _ h) refused told
-    cause-unset (Missing k) h m told = tells-refusal _ _ end old new failed (refused-answer _ h) refused told
-    cause-unset (WrongType k) h m told = tells-refusal _ _ end old new failed (refused-answer _ h) refused told
-    cause-unset (OutOfRange k) h m told = tells-refusal _ _ end old new failed (refused-answer _ h) refused told
-    cause-unset (Scenario number kind entry term) h m told = tells-refusal _ _ end old new failed (refused-answer _ h) refused told
-    cause-unset Memory h m told = memory-apart end (m refl) refused
+  pub cause-unset : (end : Exit) (old new : Option (List ℕ)) (failed : Bool) → end ≡ exit.Refused → (f : SettingsFault) → RefusedBy (settings_of text) f → (f ≡ Memory → end ≡ exit.Memory)
+      → RefusesWith (settings_line f) end old new failed → TellsRefusal (text_answer order text) old new failed
+  cause-unset end old new failed refused f h m told =
+      let c = unset-cause text end old new failed refused f h m told in
+      tells-refusal (text_answer order text) (bad_settings c.0) end old new failed (refused-answer c.0 c.1) refused c.2
 
   module _ (s : Settings) (is : settings_of text ≡ Ok (given_of s)) where
     pub answer-targetless : s.choice ≡ None → text_answer order text ≡ Err (bad_settings (wrong key.Target fault.Missing))
@@ -178,58 +194,73 @@ module _ (order : Order) (text : List ℕ) where
         let g : Option Choice → Answer = chosen_answer order (given_of s) in
         ap f is ∙ ap g none
 
-    pub answer-chosen : (choice : Choice) → s.choice ≡ Some choice → text_answer order text ≡ order_answer order (campaign_for (given_of s) choice)
+    pub answer-chosen : (choice : Choice) → s.choice ≡ Some choice → text_answer order text ≡ choice_answer order (given_of s) choice
     unfolding text_answer
     answer-chosen choice some =
         let f : Read Given → Answer = given_answer order in
         let g : Option Choice → Answer = chosen_answer order (given_of s) in
         ap f is ∙ ap g some
 
-    pub text-minimal : (choice : Choice) → s.choice ≡ Some choice → ReducesToMinimal order (campaign_for (given_of s) choice) → TextReducesToMinimal order text
+    pub text-minimal : (choice : Choice) → s.choice ≡ Some choice → IfSome (campaign_for (given_of s) choice) (ReducesToMinimal order) → TextReducesToMinimal order text
     text-minimal choice some minimal =
-        let Q : Option Choice → Type 0 = λ o. IfSome o (λ choice. ReducesToMinimal order (campaign_for (given_of s) choice)) in
-        let P : Read Given → Type 0 = λ r. IfOk r (λ given. IfSome given.choice (λ choice. ReducesToMinimal order (campaign_for given choice))) in
+        let Q : Option Choice → Type 0 = λ o. IfSome o (λ choice. IfSome (campaign_for (given_of s) choice) (ReducesToMinimal order)) in
+        let P : Read Given → Type 0 = λ r. IfOk r (λ given. IfSome given.choice (λ choice. IfSome (campaign_for given choice) (ReducesToMinimal order))) in
         subst P (sym is) (subst Q (sym some) minimal)
 
 -- ---- by the bytes
 
+module _ {A : Type 0} (meaning : List ℕ → Result A Refusal) (bytes : List ℕ) where
+  pub text-meaning : length bytes ≤ 1048576 → IsUtf8 bytes → of_text meaning bytes ≡ meaning bytes
+  text-meaning few utf8 =
+      let rest : Result A Refusal = if is_utf8 bytes then meaning bytes else Err not_text in
+      let f : Bool → Result A Refusal = λ b. if b then Err (bad_settings too_long) else rest in
+      let g : Bool → Result A Refusal = λ b. if b then meaning bytes else Err not_text in
+      ap f (le-ltb 1048576 (length bytes) few) ∙ ap g (is_utf8-from_IsUtf8 bytes utf8)
+
+  pub long-meaning : 1048576 < length bytes → of_text meaning bytes ≡ Err (bad_settings too_long)
+  long-meaning many =
+      let rest : Result A Refusal = if is_utf8 bytes then meaning bytes else Err not_text in
+      let f : Bool → Result A Refusal = λ b. if b then Err (bad_settings too_long) else rest in
+      ap f (lt-ltb 1048576 (length bytes) many)
+
+  pub broken-meaning : length bytes ≤ 1048576 → ¬ IsUtf8 bytes → of_text meaning bytes ≡ Err not_text
+  broken-meaning few broken =
+      let rest : Result A Refusal = if is_utf8 bytes then meaning bytes else Err not_text in
+      let f : Bool → Result A Refusal = λ b. if b then Err (bad_settings too_long) else rest in
+      let g : Bool → Result A Refusal = λ b. if b then meaning bytes else Err not_text in
+      ap f (le-ltb 1048576 (length bytes) few) ∙ ap g (false_from_ne_true (is_utf8 bytes) (λ t. broken (IsUtf8-from_is_utf8 bytes t)))
+
 module _ (order : Order) (bytes : List ℕ) where
   pub answer-text : length bytes ≤ 1048576 → IsUtf8 bytes → answer_of order bytes ≡ text_answer order bytes
   unfolding answer_of
-  answer-text few utf8 =
-      let rest : Answer = if is_utf8 bytes then text_answer order bytes else Err not_text in
-      let f : Bool → Answer = λ b. if b then Err (bad_settings too_long) else rest in
-      let g : Bool → Answer = λ b. if b then text_answer order bytes else Err not_text in
-      ap f (le-ltb 1048576 (length bytes) few) ∙ ap g (is_utf8-from_IsUtf8 bytes utf8)
+  answer-text few utf8 = text-meaning (text_answer order) bytes few utf8
 
   answer-long : 1048576 < length bytes → answer_of order bytes ≡ Err (bad_settings too_long)
   unfolding answer_of
-  answer-long many =
-      let rest : Answer = if is_utf8 bytes then text_answer order bytes else Err not_text in
-      let f : Bool → Answer = λ b. if b then Err (bad_settings too_long) else rest in
-      ap f (lt-ltb 1048576 (length bytes) many)
+  answer-long many = long-meaning (text_answer order) bytes many
 
   answer-broken : length bytes ≤ 1048576 → ¬ IsUtf8 bytes → answer_of order bytes ≡ Err not_text
   unfolding answer_of
-  answer-broken few broken =
-      let rest : Answer = if is_utf8 bytes then text_answer order bytes else Err not_text in
-      let f : Bool → Answer = λ b. if b then Err (bad_settings too_long) else rest in
-      let g : Bool → Answer = λ b. if b then text_answer order bytes else Err not_text in
-      ap f (le-ltb 1048576 (length bytes) few) ∙ ap g (false_from_ne_true (is_utf8 bytes) (λ t. broken (IsUtf8-from_is_utf8 bytes t)))
+  answer-broken few broken = broken-meaning (text_answer order) bytes few broken
 
 -- what holds of every byte list of one kind
-if_some : (known : Option (List ℕ)) (P Q : List ℕ → Type 0) → ((bytes : List ℕ) → P bytes → Q bytes) → IfSome known P → IfSome known Q
+pub if_some : (known : Option (List ℕ)) (P Q : List ℕ → Type 0) → ((bytes : List ℕ) → P bytes → Q bytes) → IfSome known P → IfSome known Q
 if_some None P Q f h = tt
 if_some (Some bytes) P Q f h = f bytes h
 
--- what holds of the answer to the text that was read holds of the answer to the bytes that the reader tells
+-- what holds of what the text means that was read holds of what the bytes mean that the reader tells
+pub read-meaning : {A : Type 0} (whole meaning : List ℕ → A) → ((bytes : List ℕ) → length bytes ≤ 1048576 → IsUtf8 bytes → whole bytes ≡ meaning bytes)
+    → (known : Option (List ℕ)) (text shown : List ℕ) (P : A → Type 0) → shown ≡ text → IfSome known (λ bytes. text ≡ bytes)
+    → length text ≤ 1048576 → IsUtf8 shown → P (meaning shown) → IfSome known (λ bytes. P (whole bytes))
+read-meaning whole meaning agree known text shown P same is few utf8 h =
+    let Q : List ℕ → Type 0 = λ t. P (meaning t) in
+    let there : P (whole text) = subst P (sym (agree text few (subst IsUtf8 same utf8))) (subst Q same h) in
+    let R : List ℕ → Type 0 = λ bytes. P (whole bytes) in
+    if_some known (λ bytes. text ≡ bytes) R (λ bytes e. subst R e there) is
+
 pub read-answer : (order : Order) (known : Option (List ℕ)) (text shown : List ℕ) (P : Answer → Type 0) → shown ≡ text → IfSome known (λ bytes. text ≡ bytes)
     → length text ≤ 1048576 → IsUtf8 shown → P (text_answer order shown) → IfSome known (λ bytes. P (answer_of order bytes))
-read-answer order known text shown P same is few utf8 h =
-    let Q : List ℕ → Type 0 = λ t. P (text_answer order t) in
-    let there : P (answer_of order text) = subst P (sym (answer-text order text few (subst IsUtf8 same utf8))) (subst Q same h) in
-    let R : List ℕ → Type 0 = λ bytes. P (answer_of order bytes) in
-    if_some known (λ bytes. text ≡ bytes) R (λ bytes e. subst R e there) is
+read-answer order known text shown P same is few utf8 h = read-meaning (answer_of order) (text_answer order) (answer-text order) known text shown P same is few utf8 h
 
 -- what holds of the text that was read holds of the bytes that the reader tells
 pub read-whole : (known : Option (List ℕ)) (text shown : List ℕ) (P : List ℕ → Type 0) → shown ≡ text → IfSome known (λ bytes. text ≡ bytes) → P shown → IfSome known P

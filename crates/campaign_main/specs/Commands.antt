@@ -11,26 +11,34 @@ use Rattle.maildir_target.specs.Steps.{asks_of as delivering}
 use Rattle.maildir_target.specs.Words.{point_names as maildir_points, code_text as maildir_codes, label as maildir_label}
 use Rattle.commit_target.specs.Steps.{asks_of as committing}
 use Rattle.commit_target.specs.Words.{point_names as commit_points, code_text as commit_codes, label as commit_label}
-use Rattle.plan_gen.specs.PlanList.{most_plans}
+use Rattle.plan_gen.specs.PlanList.{Asked, most_plans, plan_list}
+use Rattle.report.specs.ReportText.{text_of}
+use Rattle.answer_text.specs.declared.fault.AnswersFault.{AnswersFault}
+use Rattle.campaign_settings.specs.Description.{Description}
 use Rattle.campaign_settings.specs.Settings.{Given, Cause, Read, settings_of, too_long, wrong}
 use Rattle.campaign_settings.specs.declared.choice.Choice.{Choice}
 use Rattle.campaign_settings.specs.declared.choice.Choice.TheVariants as choice
 use Rattle.campaign_settings.specs.declared.keys.Key.TheVariants as key
 use Rattle.campaign_settings.specs.declared.keys.KeyFault.TheVariants as fault
 use Rattle.campaign_core.specs.Headline.{Campaign, say, plans, report_text, first_failure}
-use Rattle.campaign_core.specs.CommandTexts.{plans_text, try_text, tried, reduce_text}
+use Rattle.campaign_core.specs.CommandTexts.{plan_lines, plans_text, try_text, tried, reduce_text}
 use Rattle.command_words.specs.declared.words.Order.{Order}
 use Rattle.command_words.specs.declared.words.Order.TheVariants as order
 use Rattle.campaign_main.specs.Exit.{is_fail}
 
 -- ---- answers
 
--- why a command is refused: its settings are no UTF-8 or have a fault, its scenario has one, or there are too many plans
+-- why a command is refused: its settings are no UTF-8 or have a fault, its scenario has one, or there are too many plans; it would run a
+-- component from outside, or asks about a target that isn't from outside; the answers have a fault, or lack this scenario
 pub data Refusal : Type 0 where
   not_text : Refusal
   bad_settings : Cause → Refusal
   bad_scenario : Fault → Refusal
   too_many_plans : Refusal
+  outside_target : Refusal
+  bundled_target : Refusal
+  bad_answers : AnswersFault → Refusal
+  not_answered : Entries → Refusal
 
 -- a command's text and whether a verdict in it is fail, or why the command is refused
 abbrev pub Answer : Type 0
@@ -39,16 +47,16 @@ Answer = Result (List ℕ × Bool) Refusal
 -- ---- a command on what a campaign is given
 
 -- what comes of a list of plans that isn't too long
-abbrev pub of_few_plans : Campaign → List ℕ × Bool → Answer
-of_few_plans c text = if nat_lt most_plans (length (plans c)) then Err too_many_plans else Ok text
+abbrev pub of_few_plans : List Entries → List ℕ × Bool → Answer
+of_few_plans plans text = if nat_lt most_plans (length plans) then Err too_many_plans else Ok text
 
 -- the report, and whether a plan fails
 unfoldable pub run_answer : Campaign → Answer
-run_answer c = of_few_plans c (report_text c, is_some (first_failure c))
+run_answer c = of_few_plans (plans c) (report_text c, is_some (first_failure c))
 
 -- the list of plans
 unfoldable pub plans_answer : Campaign → Answer
-plans_answer c = of_few_plans c (plans_text c, false)
+plans_answer c = of_few_plans (plans c) (plans_text c, false)
 
 -- a scenario tried, and whether it fails
 unfoldable pub try_answer : Campaign → Entries → Answer
@@ -69,7 +77,26 @@ order_answer order.Plans c = plans_answer c
 order_answer (order.Try text) c = spelled_answer (try_answer c) (reading (string_bytes text))
 order_answer (order.Reduce text) c = spelled_answer (reduce_answer c) (reading (string_bytes text))
 
+-- ---- a command on a component that somebody else runs
+
+-- its plans can be listed; what runs it is refused
+unfoldable pub outside_answer : Order → List Entries → Answer
+outside_answer order.Plans plans = of_few_plans plans (text_of (plan_lines 0 plans), false)
+outside_answer order.Run plans = Err outside_target
+outside_answer (order.Try text) plans = Err outside_target
+outside_answer (order.Reduce text) plans = Err outside_target
+
 -- ---- by the settings
+
+-- what they ask of the list of plans
+abbrev pub asked_by : Given → Asked
+asked_by given = record {
+  pairs = given.pairs;
+  storms = given.storms;
+  rate = given.rate;
+  listed = given.scenarios;
+  seed = given.seed;
+}
 
 -- what a campaign is given, by what its target asks, the names of its points and codes, its label, and the settings
 abbrev pub campaign_by : (List Reply → Move) → List (List ℕ) → (ℕ → List ℕ) → List ℕ → Given → Campaign
@@ -79,27 +106,35 @@ campaign_by asks points codes label given = record {
   codes = codes;
   label = label;
   limit = given.max_hits;
-  plans = record {
-    pairs = given.pairs;
-    storms = given.storms;
-    rate = given.rate;
-    listed = given.scenarios;
-    seed = given.seed;
-  };
+  plans = asked_by given;
 }
 
--- the same for a bundled target with its workload
-abbrev pub campaign_for : Given → Choice → Campaign
+-- the same for a bundled target with its workload; a component from outside isn't run here
+abbrev pub campaign_for : Given → Choice → Option Campaign
 campaign_for given (choice.Replace variant work) =
-    campaign_by (replacing variant work) replace_points replace_codes (replace_label variant) given
+    Some (campaign_by (replacing variant work) replace_points replace_codes (replace_label variant) given)
 campaign_for given (choice.Maildir variant messages) =
-    campaign_by (delivering variant messages) maildir_points maildir_codes (maildir_label variant) given
+    Some (campaign_by (delivering variant messages) maildir_points maildir_codes (maildir_label variant) given)
 campaign_for given (choice.Commit variant work) =
-    campaign_by (committing variant work) commit_points commit_codes (commit_label variant) given
+    Some (campaign_by (committing variant work) commit_points commit_codes (commit_label variant) given)
+campaign_for given (choice.Outside outside) = None
+
+-- the plans over the points and the counts that the settings tell of a component from outside
+abbrev pub outside_plans : Given → Description → List Entries
+outside_plans given outside = plan_list outside.points outside.hits (asked_by given)
+
+abbrev pub choice_answer : Order → Given → Choice → Answer
+choice_answer order given (choice.Replace variant work) =
+    order_answer order (campaign_by (replacing variant work) replace_points replace_codes (replace_label variant) given)
+choice_answer order given (choice.Maildir variant messages) =
+    order_answer order (campaign_by (delivering variant messages) maildir_points maildir_codes (maildir_label variant) given)
+choice_answer order given (choice.Commit variant work) =
+    order_answer order (campaign_by (committing variant work) commit_points commit_codes (commit_label variant) given)
+choice_answer order given (choice.Outside outside) = outside_answer order (outside_plans given outside)
 
 abbrev pub chosen_answer : Order → Given → Option Choice → Answer
 chosen_answer order given None = Err (bad_settings (wrong key.Target fault.Missing))
-chosen_answer order given (Some chosen) = order_answer order (campaign_for given chosen)
+chosen_answer order given (Some chosen) = choice_answer order given chosen
 
 abbrev pub given_answer : Order → Read Given → Answer
 given_answer order (Ok given) = chosen_answer order given given.choice
@@ -109,7 +144,11 @@ given_answer order (Err cause) = Err (bad_settings cause)
 unfoldable pub text_answer : Order → List ℕ → Answer
 text_answer order text = given_answer order (settings_of text)
 
--- the answer to bytes, which are no text where they are no UTF-8; that there are too many comes first
+-- what comes of bytes, which are no text where they are no UTF-8; that there are too many comes first
+abbrev pub of_text : {A : Type 0} → (List ℕ → Result A Refusal) → List ℕ → Result A Refusal
+of_text meaning bytes = if nat_lt 1048576 (length bytes) then Err (bad_settings too_long)
+    else (if is_utf8 bytes then meaning bytes else Err not_text)
+
+-- the answer to the bytes of settings
 unfoldable pub answer_of : Order → List ℕ → Answer
-answer_of order bytes = if nat_lt 1048576 (length bytes) then Err (bad_settings too_long)
-    else (if is_utf8 bytes then text_answer order bytes else Err not_text)
+answer_of order bytes = of_text (text_answer order) bytes

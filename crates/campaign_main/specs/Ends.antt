@@ -8,8 +8,8 @@ use Rattle.command_words.specs.declared.words.WordsFault.{WordsFault}
 use Rattle.campaign_main.specs.declared.exit.Exit.{Exit}
 use Rattle.campaign_main.specs.declared.exit.Exit.TheVariants.{Kept, Found, Refused, Memory, Write}
 use Rattle.campaign_main.specs.declared.fault.CommandFault.{CommandFault}
-use Rattle.campaign_main.specs.declared.fault.CommandFault.TheVariants.{Scenario, Campaign}
-use Rattle.campaign_main.specs.Commands.{Answer, Refusal, bad_scenario, too_many_plans}
+use Rattle.campaign_main.specs.declared.fault.CommandFault.TheVariants.{Scenario, Campaign, Outside}
+use Rattle.campaign_main.specs.Commands.{Answer, Refusal, bad_scenario, outside_target, too_many_plans}
 use Rattle.campaign_main.specs.FaultLines.{cut_off_line, memory_line, refusal_line, scenario_line, unreadable_line}
 
 -- nothing was written, and the sink hasn't failed
@@ -59,6 +59,7 @@ FallsShort answer old new failed (Scenario (scenario.Bad kind entry term)) =
 FallsShort answer old new failed (Campaign campaign.TooManyPlans) = IsUntouched old new failed × (answer ≡ Err too_many_plans)
 FallsShort answer old new failed (Campaign campaign.Memory) = IsUntouched old new failed
 FallsShort answer old new failed (Campaign (campaign.Write written)) = IsCutOff answer old new failed written
+FallsShort answer old new failed Outside = IsUntouched old new failed × (answer ≡ Err outside_target)
 
 -- what a command came to: whether a verdict in its text is fail, or a fault
 abbrev pub ComesTo : Answer → Option (List ℕ) → Option (List ℕ) → Bool → Result Bool CommandFault → Type 0
@@ -110,6 +111,7 @@ IsEndOf (Scenario (scenario.Bad kind entry term)) end old new failed =
 IsEndOf (Campaign campaign.TooManyPlans) end old new failed = (end ≡ Refused) × IsTold (refusal_line too_many_plans) old new failed
 IsEndOf (Campaign campaign.Memory) end old new failed = (end ≡ Memory) × IsTold memory_line old new failed
 IsEndOf (Campaign (campaign.Write written)) end old new failed = (end ≡ Write written) × IsTold (cut_off_line written) old new failed
+IsEndOf Outside end old new failed = (end ≡ Refused) × IsTold (refusal_line outside_target) old new failed
 
 -- ---- words
 

@@ -1,7 +1,9 @@
 -- The lines that say why a command failed.
 use Rattle.std.specs.Prelude.{List, ℕ, ◌++◌, codes}
 use Rattle.std.specs.Fmt.{decimal}
-use Rattle.report.specs.ReportText.{ended}
+use Rattle.answer_text.specs.FaultText.{line_of as answers_line_of}
+use Rattle.answer_text.specs.declared.fault.AnswersFault.TheVariants as answers
+use Rattle.report.specs.ReportText.{ended, scenario_text}
 use Rattle.scenario_grammar.specs.FaultText.{fault_text}
 use Rattle.scenario_grammar.specs.declared.fault.ScenarioFault.{ScenarioFault}
 use Rattle.scenario_grammar.specs.declared.fault.ScenarioFault.TheVariants.{Bad}
@@ -13,7 +15,7 @@ use Rattle.campaign_settings.specs.declared.fault.SettingsFault.TheVariants as s
 use Rattle.campaign_settings.specs.declared.keys.KeyFault.TheVariants as fault
 use Rattle.campaign_main.specs.declared.input.ReadFault.{ReadFault}
 use Rattle.campaign_main.specs.declared.input.ReadFault.TheVariants as read
-use Rattle.campaign_main.specs.Commands.{Refusal, not_text, bad_settings, bad_scenario, too_many_plans}
+use Rattle.campaign_main.specs.Commands.{Refusal, not_text, bad_settings, bad_scenario, too_many_plans, outside_target, bundled_target, bad_answers, not_answered}
 
 -- what is wrong with the settings
 abbrev pub settings_line : SettingsFault → List ℕ
@@ -30,6 +32,10 @@ memory_line = codes "no memory\n"
 -- that the settings couldn't be read
 abbrev pub unreadable_line : List ℕ
 unreadable_line = codes "settings: not readable\n"
+
+-- that the answers couldn't be read
+abbrev pub unreadable_answers_line : List ℕ
+unreadable_answers_line = codes "answers: not readable\n"
 
 -- after how many bytes of the text a write failed
 abbrev pub cut_off_line : ℕ → List ℕ
@@ -53,6 +59,10 @@ refusal_line not_text = codes "settings: not UTF-8\n"
 refusal_line (bad_settings cause) = cause_line cause
 refusal_line (bad_scenario f) = scenario_line (Bad f.kind f.entry f.term)
 refusal_line too_many_plans = codes "too many plans\n"
+refusal_line outside_target = codes "settings: target outside: only plans, asks and report\n"
+refusal_line bundled_target = codes "settings: target not outside: only run, plans, try and reduce\n"
+refusal_line (bad_answers f) = ended (answers_line_of f)
+refusal_line (not_answered s) = ended (codes "not answered " ++ scenario_text s)
 
 -- the line of a reader that gave no text
 abbrev pub read_fault_line : ReadFault → List ℕ
@@ -60,3 +70,10 @@ read_fault_line read.TooLong = cause_line too_long
 read_fault_line read.NotUtf8 = refusal_line not_text
 read_fault_line read.NotReadable = unreadable_line
 read_fault_line read.Memory = memory_line
+
+-- the line of answers that couldn't be read
+abbrev pub answers_read_line : ReadFault → List ℕ
+answers_read_line read.TooLong = refusal_line (bad_answers answers.TooLong)
+answers_read_line read.NotUtf8 = unreadable_answers_line
+answers_read_line read.NotReadable = unreadable_answers_line
+answers_read_line read.Memory = memory_line

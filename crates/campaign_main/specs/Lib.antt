@@ -3,3 +3,4 @@ pub mod FaultLines
 pub mod Commands
 pub mod Ends
 pub mod Minimal
+pub mod Questions

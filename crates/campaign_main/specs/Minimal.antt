@@ -16,7 +16,7 @@ ReducesToMinimal order.Plans c = Unit {0}
 ReducesToMinimal (order.Try text) c = Unit {0}
 ReducesToMinimal (order.Reduce text) c = IfOk (reading (string_bytes text)) (IsReducedToMinimal c)
 
--- by the text of the settings, where it gives settings and they choose a target
+-- by the text of the settings, where it gives settings and they choose a bundled target
 abbrev pub TextReducesToMinimal : Order → List ℕ → Type 0
 TextReducesToMinimal order text =
-    IfOk (settings_of text) (λ given. IfSome given.choice (λ choice. ReducesToMinimal order (campaign_for given choice)))
+    IfOk (settings_of text) (λ given. IfSome given.choice (λ choice. IfSome (campaign_for given choice) (ReducesToMinimal order)))

@@ -1,12 +1,13 @@
-//! A command over the bundled target that the settings choose.
-ghost use Rattle.std.specs.Prelude.{◌≡◌, false, OnOk};
+//! A command over the target that the settings choose.
+ghost use Rattle.std.specs.Prelude.{◌≡◌, false, IfSome, OnOk};
 ghost use Rattle.campaign_settings.specs.Settings.{given_of};
-ghost use Rattle.campaign_main.specs.Commands.{campaign_for, order_answer};
+ghost use Rattle.campaign_main.specs.Commands.{campaign_for, choice_answer};
 ghost use Rattle.campaign_main.specs.Ends.{ComesTo};
 ghost use Rattle.campaign_main.specs.Minimal.{ReducesToMinimal};
 
 use crate::command::command;
 use crate::fault::CommandFault;
+use crate::outside::outside_command;
 use campaign_settings::{Choice, Settings};
 use command_words::Order;
 use commit_target::Commit;
@@ -17,7 +18,7 @@ use std::sync::Wait;
 use std::thread::Threads;
 use target_trait::Sink;
 
-/// Does what is ordered with a bundled target and its workload.
+/// Does what is ordered with a bundled target and its workload, or with a component from outside.
 pub fn chosen_command<W: Sink, H: Threads + Wait + Sync>(
     rt: &H,
     alloc: Global,
@@ -27,8 +28,8 @@ pub fn chosen_command<W: Sink, H: Threads + Wait + Sync>(
     output: &mut W,
 ) -> Result<bool, CommandFault>
     requires { W.has_failed output.old ≡ false }
-    ensures text { ComesTo (order_answer order.now (campaign_for (given_of settings.now) choice.now)) (W.told output.old) (W.told output.new) (W.has_failed output.new) result }
-    ensures minimal { OnOk result (ReducesToMinimal order.now (campaign_for (given_of settings.now) choice.now)) }
+    ensures text { ComesTo (choice_answer order.now (given_of settings.now) choice.now) (W.told output.old) (W.told output.new) (W.has_failed output.new) result }
+    ensures minimal { OnOk result (IfSome (campaign_for (given_of settings.now) choice.now) (ReducesToMinimal order.now)) }
 {
     match choice {
         Choice::Replace(variant, work) => {
@@ -43,5 +44,6 @@ pub fn chosen_command<W: Sink, H: Threads + Wait + Sync>(
             let mut target = Commit::new(alloc, *variant);
             command(rt, alloc, order, &mut target, work, settings, output)
         }
+        Choice::Outside(outside) => outside_command(alloc, order, outside, settings, output),
     }
 }

@@ -12,6 +12,8 @@ pub enum CommandFault {
     Scenario(ScenarioFault),
     /// What it does with the target came to no text, or the text wasn't written whole.
     Campaign(CampaignFault),
+    /// Somebody else runs the component, and the command would run it. Nothing was written.
+    Outside,
 }
 
 impl From<ScenarioFault> for CommandFault {

@@ -8,18 +8,23 @@ mod exit;
 mod fault;
 mod input;
 mod lines;
+mod outside;
 mod performing;
+mod questions;
 mod refusals;
 
 pub use campaign_core::{CampaignFault, Ending, campaign, plan_list, reduce_one, try_one};
-pub use campaign_settings::{Choice, Key, LIMIT, Place, Settings, SettingsFault, TargetName};
-pub use command_words::{Line, Order, WordsFault, read_words};
+pub use campaign_settings::{
+    Choice, Key, LIMIT, Outside, Place, Settings, SettingsFault, TargetName,
+};
+pub use command_words::{Line, Order, Question, WordsFault, read_words};
 pub use commit_target::{Transactions, Variant as CommitVariant, Vote, Votes};
 pub use exit::{Exit, status};
 pub use file_replace::{Chunks, Replacements, Variant as ReplaceVariant};
 pub use input::{ReadFault, read_all};
 pub use maildir_target::{Messages, Variant as MaildirVariant};
 pub use performing::perform;
+pub use questions::perform_outside;
 pub use refusals::{refuse_words, unreadable_settings, unreadable_words};
 pub use scenario_grammar::{Kind, Scenario, ScenarioFault, Text, parse};
 pub use target_trait::{FreeGate, Gate, Judgement, Out, Session, Sink, Stop, Target, Verdict};

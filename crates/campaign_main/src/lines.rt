@@ -1,17 +1,21 @@
 //! The ends of a command that failed, and the line that says why. A line that can't be written changes no end.
-ghost use Rattle.std.specs.Prelude.{◌≡◌, false, IfOk, string_bytes};
+ghost use Rattle.std.specs.Prelude.{◌≡◌, ℕ, List, false, IfOk, string_bytes};
 ghost use Rattle.campaign_settings.specs.declared.fault.SettingsFault.TheVariants as settings;
+ghost use Rattle.campaign_main.specs.Commands.{bad_answers, bundled_target, not_answered};
 ghost use Rattle.campaign_main.specs.Ends.{IsEndOf, IsTold, RefusesWith};
-ghost use Rattle.campaign_main.specs.FaultLines.{cut_off_line, memory_line, scenario_line, settings_line, read_fault_line};
+ghost use Rattle.campaign_main.specs.FaultLines.{answers_read_line, cut_off_line, memory_line, read_fault_line, refusal_line, scenario_line, settings_line};
+ghost use Rattle.campaign_main.specs.Questions.{IsEndOfQuestion};
 
 use crate::exit::Exit;
 use crate::fault::CommandFault;
 use crate::input::ReadFault;
+use answer_text::AnswersFault;
 use campaign_core::CampaignFault;
 use campaign_settings::SettingsFault;
 use itoa::Buffer;
-use report::{WriteFault, write_report};
-use scenario_grammar::ScenarioFault;
+use outside_campaign::OutsideFault;
+use report::{WriteFault, write_report, write_scenario};
+use scenario_grammar::{Scenario, ScenarioFault};
 use std::alloc::{AllocError, Global};
 use target_trait::Sink;
 
@@ -41,6 +45,17 @@ pub fn no_memory<E: Sink>(faults: &mut E) -> Exit
 {
     tell(b"no memory\n", faults);
     Exit::Memory
+}
+
+/// Ends as refused with a line, or for want of the memory that it takes.
+fn refused_by<E: Sink>(line: Result<String, AllocError>, faults: &mut E) -> Exit
+    requires { E.has_failed faults.old ≡ false }
+    ensures { (text : List ℕ) → IfOk line (λ l. string_bytes l ≡ text) → RefusesWith text result (E.told faults.old) (E.told faults.new) (E.has_failed faults.new) }
+{
+    match line {
+        Ok(line) => refused(line.as_str(), faults),
+        Err(AllocError) => no_memory(faults),
+    }
 }
 
 /// Ends where the settings couldn't be read.
@@ -73,10 +88,7 @@ pub fn unset<E: Sink>(alloc: Global, fault: &SettingsFault, faults: &mut E) -> E
     if let SettingsFault::Memory = fault {
         return no_memory(faults);
     }
-    match settings_line(alloc, fault) {
-        Ok(line) => refused(line.as_str(), faults),
-        Err(AllocError) => no_memory(faults),
-    }
+    refused_by(settings_line(alloc, fault), faults)
 }
 
 /// The line for a scenario's fault.
@@ -94,10 +106,7 @@ fn unspelled<E: Sink>(alloc: Global, fault: &ScenarioFault, faults: &mut E) -> E
     if let ScenarioFault::Memory = fault {
         return no_memory(faults);
     }
-    match scenario_line(alloc, fault) {
-        Ok(line) => refused(line.as_str(), faults),
-        Err(AllocError) => no_memory(faults),
-    }
+    refused_by(scenario_line(alloc, fault), faults)
 }
 
 /// Writes the line for a write that failed after so many bytes, or as much of it as the sink takes. It takes no memory.
@@ -141,5 +150,64 @@ pub fn unanswered<E: Sink>(alloc: Global, fault: &CommandFault, faults: &mut E) 
     match fault {
         CommandFault::Scenario(cause) => unspelled(alloc, cause, faults),
         CommandFault::Campaign(cause) => unwritten(*cause, faults),
+        CommandFault::Outside => refused(
+            "settings: target outside: only plans, asks and report\n",
+            faults,
+        ),
+    }
+}
+
+/// Ends where a question is about a bundled target.
+pub fn bundled<E: Sink>(faults: &mut E) -> Exit
+    requires { E.has_failed faults.old ≡ false }
+    ensures end { result ≡ Exit.Refused }
+    ensures told { IsTold (refusal_line bundled_target) (E.told faults.old) (E.told faults.new) (E.has_failed faults.new) }
+{
+    refused(
+        "settings: target not outside: only run, plans, try and reduce\n",
+        faults,
+    )
+}
+
+/// Ends where the answers couldn't be read.
+pub fn unread_answers<E: Sink>(fault: ReadFault, faults: &mut E) -> Exit
+    requires { E.has_failed faults.old ≡ false }
+    ensures end { RefusesWith (answers_read_line fault) result (E.told faults.old) (E.told faults.new) (E.has_failed faults.new) }
+    ensures memory { fault ≡ ReadFault.Memory → result ≡ Exit.Memory }
+{
+    match fault {
+        ReadFault::TooLong => refused("answers: too long\n", faults),
+        ReadFault::NotUtf8 => refused("answers: not readable\n", faults),
+        ReadFault::NotReadable => refused("answers: not readable\n", faults),
+        ReadFault::Memory => no_memory(faults),
+    }
+}
+
+/// The line for a fault of the answers.
+fn answers_line(alloc: Global, fault: &AnswersFault) -> Result<String, AllocError>
+    ensures { IfOk result (λ line. string_bytes line ≡ refusal_line (bad_answers fault.now)) }
+{
+    format!(in alloc; "{fault}\n")
+}
+
+/// The line for a scenario that is still to be tried.
+fn waiting_line(alloc: Global, scenario: &Scenario) -> Result<String, AllocError>
+    ensures { IfOk result (λ line. string_bytes line ≡ refusal_line (not_answered scenario.now)) }
+{
+    let mut line = String::from_str(alloc, "not answered ")?;
+    write_scenario(alloc, &mut line, scenario)?;
+    line.push_str("\n")?;
+    Ok(line)
+}
+
+/// Ends where a question came to no whole text.
+pub fn untold<E: Sink>(alloc: Global, fault: &OutsideFault, faults: &mut E) -> Exit
+    requires { E.has_failed faults.old ≡ false }
+    ensures { IsEndOfQuestion fault.now result (E.told faults.old) (E.told faults.new) (E.has_failed faults.new) }
+{
+    match fault {
+        OutsideFault::Answers(cause) => refused_by(answers_line(alloc, cause), faults),
+        OutsideFault::NotAnswered(scenario) => refused_by(waiting_line(alloc, scenario), faults),
+        OutsideFault::Campaign(cause) => unwritten(*cause, faults),
     }
 }

@@ -1,7 +1,7 @@
 //! What the program does, over any reader and any sinks.
 ghost use Rattle.std.specs.Prelude.{◌≡◌, false, IfSome};
 ghost use Rattle.campaign_settings.specs.Settings.{given_of};
-ghost use Rattle.campaign_main.specs.Commands.{answer_of, campaign_for, order_answer, text_answer};
+ghost use Rattle.campaign_main.specs.Commands.{answer_of, campaign_for, choice_answer, text_answer};
 ghost use Rattle.campaign_main.specs.Ends.{EndsAs, IsRefused, Leaves, OnWhole, Tells, TellsBy, TellsRefusal};
 ghost use Rattle.campaign_main.specs.Minimal.{ReducesToMinimal, TextReducesToMinimal};
 
@@ -29,10 +29,10 @@ fn perform_chosen<W: Sink, E: Sink, H: Threads + Wait + Sync>(
 ) -> Exit
     requires output { W.has_failed output.old ≡ false }
     requires faults { E.has_failed faults.old ≡ false }
-    ensures end { EndsAs result (order_answer order.now (campaign_for (given_of settings.now) choice.now)) (W.told output.old) (W.told output.new) (W.has_failed output.new) }
-    ensures told { TellsBy (TellsRefusal (order_answer order.now (campaign_for (given_of settings.now) choice.now)) (E.told faults.old) (E.told faults.new) (E.has_failed faults.new))
+    ensures end { EndsAs result (choice_answer order.now (given_of settings.now) choice.now) (W.told output.old) (W.told output.new) (W.has_failed output.new) }
+    ensures told { TellsBy (TellsRefusal (choice_answer order.now (given_of settings.now) choice.now) (E.told faults.old) (E.told faults.new) (E.has_failed faults.new))
         result (E.told faults.old) (E.told faults.new) (E.has_failed faults.new) }
-    ensures minimal { OnWhole result (ReducesToMinimal order.now (campaign_for (given_of settings.now) choice.now)) }
+    ensures minimal { OnWhole result (IfSome (campaign_for (given_of settings.now) choice.now) (ReducesToMinimal order.now)) }
 {
     match chosen_command(rt, alloc, order, choice, settings, output) {
         Ok(found) => exit_of(found),
@@ -69,8 +69,8 @@ fn perform_text<W: Sink, E: Sink, H: Threads + Wait + Sync>(
 /// Reads settings, does what is ordered with the target that they choose, and writes the command's text to the output.
 ///
 /// It answers Kept, or Found where a verdict in the text is fail, where the whole text stands in the output. Else one line on the
-/// sink of faults says why there is none: Refused for settings that can't be read or have a fault, for a scenario with a fault and
-/// for more than 65536 plans, and Memory where memory was refused, both with the output unchanged; or Write, which tells how many
+/// sink of faults says why there is none: Refused for settings that can't be read or have a fault, for a scenario with a fault, for
+/// more than 65536 plans, and where a component that somebody else runs isn't only to have its plans listed; and Memory where memory was refused, both with the output unchanged; or Write, which tells how many
 /// bytes of the text, fewer than all, went out before the output failed. Where that line can't be written whole the answer stays. The
 /// line of a refusal names the first fault in the order in which faults are looked for.
 ///

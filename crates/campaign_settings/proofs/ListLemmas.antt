@@ -1,4 +1,4 @@
-use Rattle.std.proofs.Common.{◌≡◌, ◌<◌, ◌≤◌, ◌+◌, ℕ, List, [], ◌∷◌, ◌++◌, Option, Some, None, Ok, Err, All, ◌∙◌, ap, subst, sym, false, if◌then◌else◌, drop, get_or, is_some, length, map, nat_le, option_and_then, option_map, refl, true, ◌==◌, ◌&&◌}
+use Rattle.std.proofs.Common.{◌≡◌, ◌<◌, ◌≤◌, ◌+◌, ℕ, List, [], ◌∷◌, ◌++◌, Option, Some, None, Result, Ok, Err, All, ◌∙◌, ap, subst, sym, false, if◌then◌else◌, drop, get_or, is_some, length, map, nat_le, option_and_then, option_map, refl, true, ◌==◌, ◌&&◌}
 use Rattle.std.proofs.lemmas.List.{append_assoc, length-map}
 use Rattle.std.proofs.lemmas.Bool.{and_parts, eqb-true, leb-true, le-leb, lt-leb}
 use Rattle.std.proofs.lemmas.List.Elements.{All-from_recursion}
@@ -14,6 +14,7 @@ use Rattle.toml.proofs.Views.{items_view-drop}
 use Rattle.campaign_settings.specs.Keys.{Text}
 use Rattle.campaign_settings.specs.Lists.{all_in, before, each, is_chunk, is_chunk_list, is_wish, is_wish_list, list_in, lists_in, wish_of, wishes_of}
 use Rattle.campaign_settings.specs.Values.{at_most, in_ranges, typed}
+use Rattle.campaign_settings.specs.declared.keys.KeyFault.{KeyFault}
 use Rattle.campaign_settings.specs.declared.keys.KeyFault.TheVariants.{OutOfRange}
 
 module _ {X : Type 0} where
@@ -45,43 +46,6 @@ module _ {X : Type 0} where
   all-some f [] = refl
   all-some f (v ∷ vs) = rw (some-before (f (view v)) (all_in f (items_view vs)), ← all-some f vs)
 
-  -- ---- lists in two steps
-
-  step-before : (f : List Text → Option X) (a : Option (List Text)) (o : Option (List (List Text))) → before (option_and_then f a) (option_and_then (each f) o) ≡ option_and_then (each f) (before a o)
-  step-before f None o = refl
-  step-before f (Some ts) (Some ls) = refl
-  step-before f (Some ts) None = none (f ts)
-    where
-      none : (x : Option X) → before x None ≡ None
-      none None = refl
-      none (Some x) = refl
-
-  -- what all items come to: first their texts, then what these give
-  pub two-steps : (f : List Text → Option X) (ds : Items) → all_in (λ d. option_and_then f (list_in d)) ds ≡ option_and_then (each f) (lists_in ds)
-  two-steps f no_items = refl
-  two-steps f (item d ds) = rw (two-steps f ds) (step-before f (list_in d) (lists_in ds))
-
-  typed-lists : (f : List Text → Option X) (most : ℕ) (o : Option (List (List Text))) → is_some o ≡ true → typed (in_ranges f most) o ≡ option_map_or (at_most most) (option_and_then (each f) o) (Err OutOfRange)
-  typed-lists f most None h = cc
-  typed-lists f most (Some ls) h = refl
-
-  -- what lists of texts give is what their items give
-  lists-read : (f : List Text → Option X) (most : ℕ) (ds : Items) → is_some (lists_in ds) ≡ true → typed (in_ranges f most) (lists_in ds) ≡ option_map_or (at_most most) (all_in (λ d. option_and_then f (list_in d)) ds) (Err OutOfRange)
-  lists-read f most ds h = rw (two-steps f ds) (typed-lists f most (lists_in ds) h)
-
-  pub lists-none : (f : List Text → Option X) (most : ℕ) (ds : Items) → is_some (lists_in ds) ≡ true → all_in (λ d. option_and_then f (list_in d)) ds ≡ None → typed (in_ranges f most) (lists_in ds) ≡ Err OutOfRange
-  lists-none f most ds h e = lists-read f most ds h ∙ ap (λ o. option_map_or (at_most most) o (Err OutOfRange)) e
-
-  pub lists-many : (f : List Text → Option X) (most : ℕ) (ds : Items) (xs : List X) → is_some (lists_in ds) ≡ true → all_in (λ d. option_and_then f (list_in d)) ds ≡ Some xs → most < length xs → typed (in_ranges f most) (lists_in ds) ≡ Err OutOfRange
-  lists-many f most ds xs h e many =
-      lists-read f most ds h ∙ ap (λ o. option_map_or (at_most most) o (Err OutOfRange)) e
-      ∙ ap (λ b. if b then Ok xs else Err OutOfRange) (lt-leb (length xs) most many)
-
-  pub lists-some : (f : List Text → Option X) (most : ℕ) (ds : Items) (xs : List X) → is_some (lists_in ds) ≡ true → all_in (λ d. option_and_then f (list_in d)) ds ≡ Some xs → length xs ≤ most → typed (in_ranges f most) (lists_in ds) ≡ Ok xs
-  lists-some f most ds xs h e few =
-      lists-read f most ds h ∙ ap (λ o. option_map_or (at_most most) o (Err OutOfRange)) e
-      ∙ ap (λ b. if b then Ok xs else Err OutOfRange) (le-leb (length xs) most few)
-
   -- what each item gives has a property where all that it may give has
   before-fits : (P : X → Type 0) (a : Option X) (o : Option (List X)) (xs : List X) → ((x : X) → a ≡ Some x → P x) → ((ys : List X) → o ≡ Some ys → AllByRecursion P ys) → before a o ≡ Some xs → AllByRecursion P xs
   before-fits P None o xs p q e = cc
@@ -91,6 +55,50 @@ module _ {X : Type 0} where
   pub all-fit : (P : X → Type 0) (f : Data → Option X) → ((d : Data) (x : X) → f d ≡ Some x → P x) → (ds : Items) (xs : List X) → all_in f ds ≡ Some xs → AllByRecursion P xs
   all-fit P f p no_items xs e = subst (AllByRecursion P) (same_Some _ _ e) tt
   all-fit P f p (item d ds) xs e = before-fits P (f d) (all_in f ds) xs (p d) (λ ys h. all-fit P f p ds ys h) e
+
+-- ---- values in two steps: of their types, and then in their ranges
+
+module _ {X Y : Type 0} (f : Y → Option X) where
+  step-before : (a : Option Y) (o : Option (List Y)) → before (option_and_then f a) (option_and_then (each f) o) ≡ option_and_then (each f) (before a o)
+  step-before None o = refl
+  step-before (Some y) (Some ys) = refl
+  step-before (Some y) None = none (f y)
+    where
+      none : (x : Option X) → before x None ≡ None
+      none None = refl
+      none (Some x) = refl
+
+  module _ (g : Data → Option Y) (together : List X → Result (List X) KeyFault) where
+    -- what all items come to: first their values, then what these give
+    two-steps : (ds : Items) → all_in (λ d. option_and_then f (g d)) ds ≡ option_and_then (each f) (all_in g ds)
+    two-steps no_items = refl
+    two-steps (item d ds) = rw (two-steps ds) (step-before (g d) (all_in g ds))
+
+    typed-some : (o : Option (List Y)) → is_some o ≡ true → typed (in_ranges f together) o ≡ option_map_or together (option_and_then (each f) o) (Err OutOfRange)
+    typed-some None h = cc
+    typed-some (Some ys) h = refl
+
+    -- what values give is what their items give
+    values-read : (ds : Items) → is_some (all_in g ds) ≡ true → typed (in_ranges f together) (all_in g ds) ≡ option_map_or together (all_in (λ d. option_and_then f (g d)) ds) (Err OutOfRange)
+    values-read ds h = rw (two-steps ds) (typed-some (all_in g ds) h)
+
+    pub values-none : (ds : Items) → is_some (all_in g ds) ≡ true → all_in (λ d. option_and_then f (g d)) ds ≡ None → typed (in_ranges f together) (all_in g ds) ≡ Err OutOfRange
+    values-none ds h e = values-read ds h ∙ ap (λ o. option_map_or together o (Err OutOfRange)) e
+
+    pub values-some : (ds : Items) (xs : List X) → is_some (all_in g ds) ≡ true → all_in (λ d. option_and_then f (g d)) ds ≡ Some xs → typed (in_ranges f together) (all_in g ds) ≡ together xs
+    values-some ds xs h e = values-read ds h ∙ ap (λ o. option_map_or together o (Err OutOfRange)) e
+
+-- ---- lists
+
+module _ {X : Type 0} (f : List Text → Option X) (most : ℕ) (ds : Items) (lists : is_some (lists_in ds) ≡ true) where
+  pub lists-none : all_in (λ d. option_and_then f (list_in d)) ds ≡ None → typed (in_ranges f (at_most most)) (lists_in ds) ≡ Err OutOfRange
+  lists-none e = values-none f list_in (at_most most) ds lists e
+
+  pub lists-many : (xs : List X) → all_in (λ d. option_and_then f (list_in d)) ds ≡ Some xs → most < length xs → typed (in_ranges f (at_most most)) (lists_in ds) ≡ Err OutOfRange
+  lists-many xs e many = values-some f list_in (at_most most) ds xs lists e ∙ ap (λ b. if b then Ok xs else Err OutOfRange) (lt-leb (length xs) most many)
+
+  pub lists-some : (xs : List X) → all_in (λ d. option_and_then f (list_in d)) ds ≡ Some xs → length xs ≤ most → typed (in_ranges f (at_most most)) (lists_in ds) ≡ Ok xs
+  lists-some xs e few = values-some f list_in (at_most most) ds xs lists e ∙ ap (λ b. if b then Ok xs else Err OutOfRange) (le-leb (length xs) most few)
 
 -- ---- ranges
 

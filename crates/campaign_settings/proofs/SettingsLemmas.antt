@@ -1,4 +1,4 @@
-use Rattle.std.proofs.Common.{◌≡◌, ◌<◌, ◌+◌, ◌++◌, ℕ, drop, get_or, length, subst, List, [], ◌∷◌, Option, Some, None, String, Global, Ok, Err, ap, cond, find, not, option_map, refl, string_bytes, sym, true, false, if◌then◌else◌}
+use Rattle.std.proofs.Common.{◌≡◌, ◌<◌, ◌+◌, ◌++◌, ℕ, drop, get_or, length, subst, List, [], ◌∷◌, Option, Some, None, String, Global, Ok, Err, ap, ◌∙◌, cond, find, not, option_map, refl, string_bytes, sym, true, false, if◌then◌else◌}
 use Rattle.std.proofs.lemmas.List.{append_assoc, drop_more}
 use Rattle.std.specs.Cmp.Lexicographic.{slice_cmp}
 use Rattle.std.specs.List.{AllByRecursion}
@@ -10,9 +10,9 @@ use Rattle.std.specs.declared.cmp.Ordering.TheVariants.{Less, Equal, Greater}
 use Rattle.toml.specs.View.{members_view}
 use Rattle.toml.specs.declared.value.Value.{Value}
 use Rattle.campaign_settings.specs.Keys.{Text, is_known}
-use Rattle.scenario_grammar.specs.FirstFault.{Fault, reading}
+use Rattle.scenario_grammar.specs.FirstFault.{reading}
 use Rattle.scenario_values.specs.Scenario.{Entries}
-use Rattle.campaign_settings.specs.Settings.{Read, RefusedBy, after, and_spelled, listed, spelled_from, least_unknown, lesser}
+use Rattle.campaign_settings.specs.Settings.{Read, RefusedBy, after, listed_as, spelled_from, least_unknown, lesser}
 use Rattle.campaign_settings.specs.declared.keys.Place.{Place}
 use Rattle.campaign_settings.specs.declared.fault.SettingsFault.{SettingsFault}
 use Rattle.campaign_settings.specs.declared.fault.SettingsFault.TheVariants.{TooLong, NotToml, UnknownKey, Missing, WrongType, OutOfRange, Scenario, Memory}
@@ -79,16 +79,29 @@ abbrev pub glued : List Entries → Read (List Entries) → Read (List Entries)
 glued ss (Ok rest) = Ok (ss ++ rest)
 glued ss (Err cause) = Err cause
 
-glued-and : (ss : List Entries) (n : ℕ) (s : Entries) (r : Read (List Entries)) → glued ss (and_spelled n (Ok s) r) ≡ glued (ss ++ s ∷ []) r
-glued-and ss n s (Ok rest) = rw (append_assoc ss (s ∷ []) rest)
-glued-and ss n s (Err cause) = refl
+glued-and : (ss : List Entries) (s : Entries) (r : Read (List Entries)) → glued ss (after r (λ rest. Ok (s ∷ rest))) ≡ glued (ss ++ s ∷ []) r
+glued-and ss s (Ok rest) = rw (append_assoc ss (s ∷ []) rest)
+glued-and ss s (Err cause) = refl
 
 -- one more text that spells a scenario
-pub spelled-more : (ss : List Entries) (n : ℕ) (ts : List Text) (i : ℕ) (d : Text) (s : Entries) → i < length ts → reading (get_or ts i d) ≡ Ok s
+pub spelled-more : (ss : List Entries) (n : ℕ) (ts : List Text) (i : ℕ) (d : Text) (s : Entries) → i < length ts → listed_as n (reading (get_or ts i d)) ≡ Ok s
     → glued ss (spelled_from n (drop i ts)) ≡ glued (ss ++ s ∷ []) (spelled_from (n + 1) (drop (i + 1) ts))
-spelled-more ss n ts i d s h e = rw (drop_more ts i d h, e) (glued-and ss n s _)
+spelled-more ss n ts i d s h e = rw (drop_more ts i d h, e) (glued-and ss s _)
+
+refused-glued : (ss : List Entries) (r : Read (List Entries)) (fault : SettingsFault) → RefusedBy r fault → RefusedBy (glued ss r) fault
+refused-glued ss r TooLong h = ap (glued ss) h
+refused-glued ss r NotToml h = ap (glued ss) h
+refused-glued ss r (UnknownKey place name) h = ap (glued ss) h
+refused-glued ss r (Missing k) h = ap (glued ss) h
+refused-glued ss r (WrongType k) h = ap (glued ss) h
+refused-glued ss r (OutOfRange k) h = ap (glued ss) h
+refused-glued ss r (Scenario number kind entry term) h = ap (glued ss) h
+refused-glued ss r Memory h = tt
 
 -- a text that spells nothing
-pub spelled-bad : (ss : List Entries) (n : ℕ) (ts : List Text) (i : ℕ) (d : Text) (f : Fault) → i < length ts → reading (get_or ts i d) ≡ Err f
-    → glued ss (spelled_from n (drop i ts)) ≡ Err (listed n f)
-spelled-bad ss n ts i d f h e = rw (drop_more ts i d h, e)
+pub spelled-bad : (ss : List Entries) (n : ℕ) (ts : List Text) (i : ℕ) (d : Text) (all : Read (List Entries)) (fault : SettingsFault) → i < length ts
+    → RefusedBy (listed_as n (reading (get_or ts i d))) fault → glued ss (spelled_from n (drop i ts)) ≡ all → RefusedBy all fault
+spelled-bad ss n ts i d all fault h bad e =
+    let Refuses : Read (List Entries) → Type 0 = λ r. RefusedBy r fault in
+    let here : RefusedBy (glued ss (spelled_from n (get_or ts i d ∷ drop (i + 1) ts))) fault = refused-glued ss _ fault (refused-after _ _ fault bad) in
+    subst Refuses (ap (λ rest. glued ss (spelled_from n rest)) (sym (drop_more ts i d h)) ∙ e) here

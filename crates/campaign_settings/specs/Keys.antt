@@ -7,7 +7,7 @@ use Rattle.campaign_settings.specs.declared.keys.Key.TheVariants as key
 use Rattle.campaign_settings.specs.declared.keys.Place.{Place}
 use Rattle.campaign_settings.specs.declared.keys.Place.TheVariants.{Top, Within}
 use Rattle.campaign_settings.specs.declared.keys.TargetName.{TargetName}
-use Rattle.campaign_settings.specs.declared.keys.TargetName.TheVariants.{Replace, Maildir, Commit}
+use Rattle.campaign_settings.specs.declared.keys.TargetName.TheVariants.{Replace, Maildir, Commit, Outside}
 
 abbrev pub Text : Type 0
 Text = List ℕ
@@ -16,6 +16,7 @@ abbrev pub target_name : TargetName → Text
 target_name Replace = codes "replace"
 target_name Maildir = codes "maildir"
 target_name Commit = codes "commit"
+target_name Outside = codes "outside"
 
 -- a key, with its table in front where it stands in a target's table
 abbrev pub key_name : Key → Text
@@ -34,19 +35,32 @@ key_name key.Replacements = codes "replace.replacements"
 key_name key.Messages = codes "maildir.messages"
 key_name key.Participants = codes "commit.participants"
 key_name key.Transactions = codes "commit.transactions"
+key_name key.Label = codes "outside.label"
+key_name key.Codes = codes "outside.codes"
+key_name key.Points = codes "outside.points"
+key_name key.Hits = codes "outside.hits"
 
-abbrev pub is_top_key : Text → Bool
-is_top_key name = list_any (bytes_eq name) (codes "target" ∷ codes "variant" ∷ codes "seed"
-    ∷ codes "workers" ∷ codes "max_hits" ∷ codes "pairs" ∷ codes "storms" ∷ codes "rate"
+-- the keys of every target
+abbrev pub is_shared_key : Text → Bool
+is_shared_key name = list_any (bytes_eq name) (codes "target" ∷ codes "seed" ∷ codes "pairs" ∷ codes "storms" ∷ codes "rate"
     ∷ codes "scenarios" ∷ [])
 
--- whether the table has this key: the table of another target is unknown, and all are where the target is none of the three
+-- what the program is told of a target that it runs itself; a target from outside has no variant, and somebody else runs it
+abbrev pub is_bundled_key : Text → Bool
+is_bundled_key name = list_any (bytes_eq name) (codes "variant" ∷ codes "workers" ∷ codes "max_hits" ∷ [])
+
+abbrev pub is_key_of : TargetName → Text → Bool
+is_key_of Outside name = is_shared_key name
+is_key_of target name = is_shared_key name || is_bundled_key name
+
+-- whether the table has this key: the table of another target is unknown, and all are where the target is none of the four
 abbrev pub is_known : Place → Text → Bool
-is_known (Top None) name = is_top_key name
-is_known (Top (Some target)) name = is_top_key name || bytes_eq name (target_name target)
+is_known (Top None) name = is_shared_key name || is_bundled_key name
+is_known (Top (Some target)) name = is_key_of target name || bytes_eq name (target_name target)
 is_known (Within Replace) name = list_any (bytes_eq name) (codes "old" ∷ codes "replacements" ∷ [])
 is_known (Within Maildir) name = list_any (bytes_eq name) (codes "messages" ∷ [])
 is_known (Within Commit) name = list_any (bytes_eq name) (codes "participants" ∷ codes "transactions" ∷ [])
+is_known (Within Outside) name = list_any (bytes_eq name) (codes "label" ∷ codes "codes" ∷ codes "points" ∷ codes "hits" ∷ [])
 
 -- a key of a table, with the table in front
 abbrev pub full_name : Place → Text → Text

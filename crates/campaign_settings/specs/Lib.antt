@@ -1,5 +1,7 @@
 pub mod Keys
 pub mod Values
 pub mod Lists
+pub mod Description
+pub mod Outside
 pub mod Settings
 pub mod Lines

@@ -1,6 +1,7 @@
 -- What the settings' text means: one definition, with the order in which its faults are looked for.
-use Rattle.std.specs.Prelude.{◌≡◌, ◌+◌, ℕ, Bool, List, [], ◌∷◌, length, Option, Some, None, Result, Ok, Err, codes, nat_lt, string_bytes, if◌then◌else◌}
+use Rattle.std.specs.Prelude.{◌≡◌, ◌+◌, ◌≤◌, ℕ, Bool, List, [], ◌∷◌, length, Option, Some, None, Result, Ok, Err, codes, nat_lt, string_bytes, if◌then◌else◌}
 use Rattle.std.specs.Cmp.Lexicographic.{slice_cmp}
+use Rattle.std.specs.List.{list_all}
 use Rattle.std.specs.Ordering.{match_ordering, nat_cmp}
 use Rattle.toml.specs.Data.{Data, Members, get_member, member, no_members}
 use Rattle.toml.specs.Parse.{parse_document}
@@ -9,9 +10,11 @@ use Rattle.scenario_values.specs.Scenario.{Entries}
 use Rattle.file_replace.specs.declared.variant.Variant.{Variant as ReplaceVariant}
 use Rattle.maildir_target.specs.declared.variant.Variant.{Variant as MaildirVariant}
 use Rattle.commit_target.specs.declared.variant.Variant.{Variant as CommitVariant}
-use Rattle.campaign_settings.specs.Keys.{Text, is_known}
+use Rattle.campaign_settings.specs.Keys.{Text, is_known, target_name}
 use Rattle.campaign_settings.specs.Values.{boolean_at, number_at, lists_at, setup_at, table_at, target_at, text_at, texts_at}
 use Rattle.campaign_settings.specs.Lists.{chunks_of, wishes_of}
+use Rattle.campaign_settings.specs.Description.{are_codes, are_points}
+use Rattle.campaign_settings.specs.Outside.{can_be_handed, counts_at, label_at, names_at}
 use Rattle.campaign_settings.specs.declared.keys.Key.{Key}
 use Rattle.campaign_settings.specs.declared.keys.Key.TheVariants as key
 use Rattle.campaign_settings.specs.declared.keys.KeyFault.{KeyFault}
@@ -19,11 +22,12 @@ use Rattle.campaign_settings.specs.declared.keys.KeyFault.TheVariants as fault
 use Rattle.campaign_settings.specs.declared.keys.Place.{Place}
 use Rattle.campaign_settings.specs.declared.keys.Place.TheVariants.{Top, Within}
 use Rattle.campaign_settings.specs.declared.keys.TargetName.{TargetName}
-use Rattle.campaign_settings.specs.declared.keys.TargetName.TheVariants as target
 use Rattle.campaign_settings.specs.declared.choice.Choice.{Choice}
 use Rattle.campaign_settings.specs.declared.choice.Choice.TheVariants as choice
 use Rattle.campaign_settings.specs.declared.choice.Setup.{Setup}
 use Rattle.campaign_settings.specs.declared.choice.Setup.TheVariants as setup
+use Rattle.campaign_settings.specs.declared.numbers.Planning.{Planning}
+use Rattle.campaign_settings.specs.declared.numbers.Running.{Running}
 use Rattle.campaign_settings.specs.declared.settings.Settings.{Settings}
 use Rattle.campaign_settings.specs.declared.fault.SettingsFault.{SettingsFault}
 use Rattle.campaign_settings.specs.declared.fault.SettingsFault.TheVariants.{TooLong, NotToml, UnknownKey, Missing, WrongType, OutOfRange, Scenario, Memory}
@@ -87,75 +91,126 @@ top_of (Err f) = Top None
 
 -- ---- listed scenarios
 
-abbrev pub and_spelled : ℕ → Result Entries Fault → Read (List Entries) → Read (List Entries)
-and_spelled i (Err f) rest = Err (listed i f)
-and_spelled i (Ok s) (Ok rest) = Ok (s ∷ rest)
-and_spelled i (Ok s) (Err cause) = Err cause
+-- what the text of this number spells by the grammar of scenarios
+abbrev pub listed_as : ℕ → Result Entries Fault → Read Entries
+listed_as i (Ok s) = Ok s
+listed_as i (Err f) = Err (listed i f)
 
--- what the texts spell by the grammar of scenarios, or the first that spells nothing, numbered from i
+-- what the texts spell, or the first that spells nothing, numbered from i
 abbrev pub spelled_from : ℕ → List Text → Read (List Entries)
 spelled_from i [] = Ok []
-spelled_from i (t ∷ ts) = and_spelled i (reading t) (spelled_from (i + 1) ts)
+spelled_from i (t ∷ ts) =
+    after (listed_as i (reading t)) (λ s.
+    after (spelled_from (i + 1) ts) (λ rest. Ok (s ∷ rest)))
 
-abbrev pub scenarios_at : Option Data → Read (List Entries)
-scenarios_at o = after (keyed key.Scenarios (texts_at 1000 o)) (spelled_from 0)
+-- those that the target may be given
+abbrev pub allowed_for : Setup → List Entries → Read (List Entries)
+allowed_for setup.Outside scenarios =
+    if list_all can_be_handed scenarios then Ok scenarios else Err (wrong key.Scenarios fault.OutOfRange)
+allowed_for s scenarios = Ok scenarios
+
+abbrev pub scenarios_at : Setup → Option Data → Read (List Entries)
+scenarios_at s o =
+    after (keyed key.Scenarios (texts_at 1000 o)) (λ texts.
+    after (spelled_from 0 texts) (allowed_for s))
 
 -- ---- a target's table
 
 abbrev pub replacing_in : ReplaceVariant → Members → Read Choice
 replacing_in v ms =
-    after (known_in (Within target.Replace) ms) (λ _.
     after (keyed key.Old (text_at 65536 (get_member (codes "old") ms))) (λ old.
     after (keyed key.Replacements (lists_at chunks_of 1000 (get_member (codes "replacements") ms))) (λ lists.
-    Ok (choice.Replace v (record { old = old; replacements = lists })))))
+    Ok (choice.Replace v (record { old = old; replacements = lists }))))
 
 abbrev pub delivering_in : MaildirVariant → Members → Read Choice
 delivering_in v ms =
-    after (known_in (Within target.Maildir) ms) (λ _.
     after (keyed key.Messages (lists_at chunks_of 1000 (get_member (codes "messages") ms))) (λ lists.
-    Ok (choice.Maildir v lists)))
+    Ok (choice.Maildir v lists))
 
 abbrev pub committing_in : CommitVariant → Members → Read Choice
 committing_in v ms =
-    after (known_in (Within target.Commit) ms) (λ _.
     after (keyed key.Participants (number_at (Err fault.Missing) 1 8 (get_member (codes "participants") ms))) (λ n.
     after (keyed key.Transactions (lists_at (wishes_of n) 100 (get_member (codes "transactions") ms))) (λ lists.
-    Ok (choice.Commit v (record { participants = n; transactions = lists })))))
+    Ok (choice.Commit v (record { participants = n; transactions = lists }))))
 
-abbrev pub choice_in : Setup → Members → Read Choice
-choice_in (setup.Replace v) ms =
-    after (keyed (key.Table target.Replace) (table_at (get_member (codes "replace") ms))) (replacing_in v)
-choice_in (setup.Maildir v) ms =
-    after (keyed (key.Table target.Maildir) (table_at (get_member (codes "maildir") ms))) (delivering_in v)
-choice_in (setup.Commit v) ms =
-    after (keyed (key.Table target.Commit) (table_at (get_member (codes "commit") ms))) (committing_in v)
+abbrev pub described_by : Text → Members → Read Choice
+described_by label ms =
+    after (keyed key.Codes (names_at are_codes (get_member (codes "codes") ms))) (λ names.
+    after (keyed key.Points (names_at are_points (get_member (codes "points") ms))) (λ points.
+    after (keyed key.Hits (counts_at (length points) (get_member (codes "hits") ms))) (λ hits.
+    Ok (choice.Outside (record { label = label; codes = names; points = points; hits = hits })))))
 
--- ---- the whole
+abbrev pub describing_in : Members → Read Choice
+describing_in ms = after (keyed key.Label (label_at (get_member (codes "label") ms))) (λ label. described_by label ms)
 
--- the members' settings, or their first fault in the order in which faults are looked for
-abbrev pub settings_in : Members → Read Given
-settings_in ms =
-    after (known_in (top_of (target_at (get_member (codes "target") ms))) ms) (λ _.
-    after (keyed key.Target (target_at (get_member (codes "target") ms))) (λ t.
-    after (keyed key.Variant (setup_at t (get_member (codes "variant") ms))) (λ s.
+abbrev pub work_in : Setup → Members → Read Choice
+work_in (setup.Replace v) ms = replacing_in v ms
+work_in (setup.Maildir v) ms = delivering_in v ms
+work_in (setup.Commit v) ms = committing_in v ms
+work_in setup.Outside ms = describing_in ms
+
+-- in the table of the target's name, after its unknown keys
+abbrev pub choice_in : TargetName → Setup → Members → Read Choice
+choice_in t s ms =
+    after (keyed (key.Table t) (table_at (get_member (target_name t) ms))) (λ own.
+    after (known_in (Within t) own) (λ _. work_in s own))
+
+-- ---- numbers
+
+-- how runs are made. Of a target from outside `workers` and `max_hits` are unknown keys: they are 1 and 1000 then, and mean nothing.
+abbrev pub running_in : Members → Read Running
+running_in ms =
     after (keyed key.Seed (number_at (Ok 0) 0 9223372036854775807 (get_member (codes "seed") ms))) (λ seed.
     after (keyed key.Workers (number_at (Ok 1) 1 64 (get_member (codes "workers") ms))) (λ workers.
     after (keyed key.MaxHits (number_at (Ok 1000) 1 100000 (get_member (codes "max_hits") ms))) (λ max_hits.
+    Ok (record { seed = seed; workers = workers; max_hits = max_hits }))))
+
+-- which plans are made, besides those of one fault
+abbrev pub planning_in : Members → Read Planning
+planning_in ms =
     after (keyed key.Pairs (boolean_at (get_member (codes "pairs") ms))) (λ pairs.
     after (keyed key.Storms (number_at (Ok 0) 0 10000 (get_member (codes "storms") ms))) (λ storms.
     after (keyed key.Rate (number_at (Ok 100) 0 1000 (get_member (codes "rate") ms))) (λ rate.
-    after (scenarios_at (get_member (codes "scenarios") ms)) (λ scenarios.
-    after (choice_in s ms) (λ work.
+    Ok (record { pairs = pairs; storms = storms; rate = rate }))))
+
+-- the ranges of these numbers
+pub record IsRunning (r : Running) : Type 0 where
+  pub seed : r.seed ≤ 9223372036854775807
+  pub some_workers : 1 ≤ r.workers
+  pub few_workers : r.workers ≤ 64
+  pub some_hits : 1 ≤ r.max_hits
+  pub few_hits : r.max_hits ≤ 100000
+
+pub record IsPlanning (p : Planning) : Type 0 where
+  pub storms : p.storms ≤ 10000
+  pub rate : p.rate ≤ 1000
+
+-- ---- the whole
+
+-- the settings of a target, or their first fault in the order in which faults are looked for
+abbrev pub settings_for : TargetName → Members → Read Given
+settings_for t ms =
+    after (keyed key.Variant (setup_at t (get_member (codes "variant") ms))) (λ s.
+    after (running_in ms) (λ running.
+    after (planning_in ms) (λ planning.
+    after (scenarios_at s (get_member (codes "scenarios") ms)) (λ scenarios.
+    after (choice_in t s ms) (λ choice.
     Ok (record {
-      choice = Some work;
-      seed = seed;
-      workers = workers;
-      max_hits = max_hits;
-      pairs = pairs;
-      storms = storms;
-      rate = rate;
+      choice = Some choice;
+      seed = running.seed;
+      workers = running.workers;
+      max_hits = running.max_hits;
+      pairs = planning.pairs;
+      storms = planning.storms;
+      rate = planning.rate;
       scenarios = scenarios;
-    }))))))))))))
+    }))))))
+
+-- the same of the target that is named, after the unknown keys
+abbrev pub settings_in : Members → Read Given
+settings_in ms =
+    after (known_in (top_of (target_at (get_member (codes "target") ms))) ms) (λ _.
+    after (keyed key.Target (target_at (get_member (codes "target") ms))) (λ t. settings_for t ms))
 
 abbrev pub settings_from : Option Members → Read Given
 settings_from None = Err not_toml

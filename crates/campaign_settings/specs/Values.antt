@@ -8,7 +8,7 @@ use Rattle.campaign_settings.specs.Lists.{each, lists_in, texts_in}
 use Rattle.campaign_settings.specs.declared.keys.KeyFault.{KeyFault}
 use Rattle.campaign_settings.specs.declared.keys.KeyFault.TheVariants.{Missing, WrongType, OutOfRange}
 use Rattle.campaign_settings.specs.declared.keys.TargetName.{TargetName}
-use Rattle.campaign_settings.specs.declared.keys.TargetName.TheVariants.{Replace, Maildir, Commit}
+use Rattle.campaign_settings.specs.declared.keys.TargetName.TheVariants.{Replace, Maildir, Commit, Outside}
 use Rattle.file_replace.specs.declared.variant.Variant.TheVariants as replace
 use Rattle.maildir_target.specs.declared.variant.Variant.TheVariants as maildir
 use Rattle.commit_target.specs.declared.variant.Variant.TheVariants as commit
@@ -39,7 +39,8 @@ boolean_at (Some d) = typed (λ b. Ok b) (as_bool d)
 abbrev pub target_named : Text → Result TargetName KeyFault
 target_named name = if bytes_eq name (codes "replace") then Ok Replace
     else (if bytes_eq name (codes "maildir") then Ok Maildir
-    else (if bytes_eq name (codes "commit") then Ok Commit else Err OutOfRange))
+    else (if bytes_eq name (codes "commit") then Ok Commit
+    else (if bytes_eq name (codes "outside") then Ok Outside else Err OutOfRange)))
 
 abbrev pub target_at : Option Data → Result TargetName KeyFault
 target_at None = Err Missing
@@ -64,14 +65,20 @@ commit_named name = if bytes_eq name (codes "sound") then Ok (setup.Commit commi
     else (if bytes_eq name (codes "early_end") then Ok (setup.Commit commit.EarlyEnd)
     else (if bytes_eq name (codes "two_tries") then Ok (setup.Commit commit.TwoTries) else Err OutOfRange)))
 
+-- a target from outside has none: its settings have no such key
 abbrev pub setup_named : TargetName → Text → Result Setup KeyFault
 setup_named Replace name = replace_named name
 setup_named Maildir name = maildir_named name
 setup_named Commit name = commit_named name
+setup_named Outside name = Ok setup.Outside
 
 abbrev pub setup_at : TargetName → Option Data → Result Setup KeyFault
 setup_at target None = setup_named target (codes "sound")
 setup_at target (Some d) = typed (setup_named target) (as_str d)
+
+-- what is in its range
+abbrev pub ranged : {X : Type 0} → (X → Bool) → X → Result X KeyFault
+ranged fits x = if fits x then Ok x else Err OutOfRange
 
 -- up to `most` of something
 abbrev pub at_most : {X : Type 0} → ℕ → List X → Result (List X) KeyFault
@@ -87,13 +94,15 @@ abbrev pub text_at : ℕ → Option Data → Result Text KeyFault
 text_at most None = Err Missing
 text_at most (Some d) = typed (at_most most) (as_str d)
 
+-- values that are each in their range, and all together
+abbrev pub in_ranges : {X Y : Type 0} → (Y → Option X) → (List X → Result (List X) KeyFault) → List Y → Result (List X) KeyFault
+in_ranges f together ys = option_map_or together (each f ys) (Err OutOfRange)
+
 -- up to `most` lists of texts, which have to be there, each in its range. The types of all are looked at before any range.
-abbrev pub in_ranges : {X : Type 0} → (List Text → Option X) → ℕ → List (List Text) → Result (List X) KeyFault
-in_ranges f most lists = option_map_or (at_most most) (each f lists) (Err OutOfRange)
 
 abbrev pub lists_at : {X : Type 0} → (List Text → Option X) → ℕ → Option Data → Result (List X) KeyFault
 lists_at f most None = Err Missing
-lists_at f most (Some d) = typed (λ ds. typed (in_ranges f most) (lists_in ds)) (as_array d)
+lists_at f most (Some d) = typed (λ ds. typed (in_ranges f (at_most most)) (lists_in ds)) (as_array d)
 
 -- a table, which has to be there
 abbrev pub table_at : Option Data → Result Members KeyFault

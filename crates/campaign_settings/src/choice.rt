@@ -1,17 +1,19 @@
+use crate::outside::Outside;
 use commit_target::Transactions;
 use file_replace::Replacements;
 use maildir_target::Messages;
 
-/// A bundled target with its variant.
-#[derive(Clone, Copy, Debug, PartialEq, Eq)]
+/// A bundled target with its variant, or one from outside, which has none.
+#[derive(Clone, Copy)]
 pub enum Setup {
     Replace(file_replace::Variant),
     Maildir(maildir_target::Variant),
     Commit(commit_target::Variant),
+    Outside,
 }
 
-/// A bundled target with its variant and its workload.
-#[derive(Debug, Drop)]
+/// A bundled target with its variant and its workload, or one from outside.
+#[derive(Drop)]
 pub enum Choice {
     /// Atomic replacement of a file.
     Replace(file_replace::Variant, Replacements),
@@ -19,4 +21,6 @@ pub enum Choice {
     Maildir(maildir_target::Variant, Messages),
     /// Two-phase commit with presumed abort.
     Commit(commit_target::Variant, Transactions),
+    /// A component that somebody else runs.
+    Outside(Outside),
 }

@@ -1,6 +1,9 @@
 //! The keys of the settings, and which table has which.
 ghost use Rattle.std.specs.Prelude.{◌≡◌, Some};
-ghost use Rattle.campaign_settings.specs.Keys.{is_known, is_top_key, key_name, target_name};
+ghost use Rattle.std.specs.List.{list_any};
+ghost use Rattle.std.specs.Str.{bytes_eq};
+ghost use Rattle.campaign_settings.specs.Keys.{is_bundled_key, is_key_of, is_known, is_shared_key, key_name, target_name};
+ghost use Rattle.campaign_settings.specs.declared.keys.Place.TheVariants.{Within};
 
 use std::fmt;
 
@@ -22,22 +25,27 @@ pub enum Key {
     Messages,
     Participants,
     Transactions,
+    Label,
+    Codes,
+    Points,
+    Hits,
 }
 
 /// What is wrong with the value at a key.
-#[derive(Clone, Copy, Debug, PartialEq, Eq)]
+#[derive(Clone, Copy)]
 pub enum KeyFault {
     Missing,
     WrongType,
     OutOfRange,
 }
 
-/// A bundled target, as the settings name it.
+/// A target, as the settings name it: a bundled one, or one that somebody else runs.
 #[derive(Clone, Copy, Debug, PartialEq, Eq)]
 pub enum TargetName {
     Replace,
     Maildir,
     Commit,
+    Outside,
 }
 
 /// A table of the settings: the whole, with the target that it names, or the table of a target.
@@ -56,6 +64,7 @@ impl TargetName {
             TargetName::Replace => "replace",
             TargetName::Maildir => "maildir",
             TargetName::Commit => "commit",
+            TargetName::Outside => "outside",
         }
     }
 }
@@ -81,6 +90,10 @@ impl Key {
             Key::Messages => "maildir.messages",
             Key::Participants => "commit.participants",
             Key::Transactions => "commit.transactions",
+            Key::Label => "outside.label",
+            Key::Codes => "outside.codes",
+            Key::Points => "outside.points",
+            Key::Hits => "outside.hits",
         }
     }
 }
@@ -107,25 +120,50 @@ impl Place {
         ensures { result ≡ is_known self name.now }
     {
         match self {
-            Place::Top(None) => is_top_key(name),
-            Place::Top(Some(target)) => is_top_key(name) || name == target.name(),
-            Place::Within(TargetName::Replace) => name == "old" || name == "replacements",
-            Place::Within(TargetName::Maildir) => name == "messages",
-            Place::Within(TargetName::Commit) => name == "participants" || name == "transactions",
+            Place::Top(None) => is_shared_key(name) || is_bundled_key(name),
+            Place::Top(Some(target)) => is_key_of(target, name) || name == target.name(),
+            Place::Within(target) => is_key_within(target, name),
         }
     }
 }
 
-fn is_top_key(name: &str) -> bool
-    ensures { result ≡ is_top_key name.now }
+fn stands_in(name: &str, names: &[&str]) -> bool
+    ensures { result ≡ list_any (λ other. bytes_eq name.now other.now) names.now }
 {
-    name == "target"
-        || name == "variant"
-        || name == "seed"
-        || name == "workers"
-        || name == "max_hits"
-        || name == "pairs"
-        || name == "storms"
-        || name == "rate"
-        || name == "scenarios"
+    names.iter().any(|other| name == *other)
+}
+
+fn is_shared_key(name: &str) -> bool
+    ensures { result ≡ is_shared_key name.now }
+{
+    stands_in(
+        name,
+        &["target", "seed", "pairs", "storms", "rate", "scenarios"],
+    )
+}
+
+fn is_bundled_key(name: &str) -> bool
+    ensures { result ≡ is_bundled_key name.now }
+{
+    stands_in(name, &["variant", "workers", "max_hits"])
+}
+
+fn is_key_of(target: TargetName, name: &str) -> bool
+    ensures { result ≡ is_key_of target name.now }
+{
+    match target {
+        TargetName::Outside => is_shared_key(name),
+        _ => is_shared_key(name) || is_bundled_key(name),
+    }
+}
+
+fn is_key_within(target: TargetName, name: &str) -> bool
+    ensures { result ≡ is_known (Within target) name.now }
+{
+    match target {
+        TargetName::Replace => stands_in(name, &["old", "replacements"]),
+        TargetName::Maildir => stands_in(name, &["messages"]),
+        TargetName::Commit => stands_in(name, &["participants", "transactions"]),
+        TargetName::Outside => stands_in(name, &["label", "codes", "points", "hits"]),
+    }
 }

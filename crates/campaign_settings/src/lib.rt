@@ -2,10 +2,15 @@
 #![tactic(auto)]
 
 mod choice;
+mod described;
 mod fault;
 mod keys;
 mod lists;
+mod names;
+mod numbers;
+mod outside;
 mod reading;
+mod scenarios;
 mod settings;
 mod tables;
 mod values;
@@ -13,5 +18,6 @@ mod values;
 pub use choice::Choice;
 pub use fault::SettingsFault;
 pub use keys::{Key, Place, TargetName};
+pub use outside::Outside;
 pub use reading::LIMIT;
 pub use settings::Settings;

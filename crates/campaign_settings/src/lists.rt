@@ -60,7 +60,7 @@ fn are_text_lists(items: &Array) -> bool
 // ---- texts
 
 // The texts of a list, or none where an item is no text.
-fn copy_texts(alloc: Global, items: &Array) -> Result<Option<Vec<Text>>, AllocError>
+pub fn copy_texts(alloc: Global, items: &Array) -> Result<Option<Vec<Text>>, AllocError>
     ensures { IfOk result (λ r. option_map (λ texts. texts.items) r ≡ texts_in (array_view items.now)) }
 {
     let mut texts = Vec::new(alloc);

@@ -1,17 +1,17 @@
 //! Settings read from TOML text.
-ghost use Rattle.std.specs.Prelude.{◌≡◌, ◌≤◌, Ok, Err, IfOk, IfErr, Some, option_map, length};
-ghost use Rattle.toml.specs.View.{table_view, view};
-ghost use Rattle.campaign_settings.specs.Settings.{RefusedBy, given_of, scenarios_at, settings_in, settings_of, spelled_from};
+ghost use Rattle.std.specs.Prelude.{◌≡◌, Ok, IfOk, IfErr};
+ghost use Rattle.toml.specs.View.{table_view};
+ghost use Rattle.campaign_settings.specs.Settings.{RefusedBy, given_of, settings_for, settings_in, settings_of};
 
 use crate::fault::SettingsFault;
-use crate::keys::{Key, Place};
-use crate::lists::read_texts;
+use crate::keys::{Key, Place, TargetName};
+use crate::numbers::{read_planning, read_running};
+use crate::scenarios::read_scenarios;
 use crate::settings::Settings;
 use crate::tables::{keyed, read_choice, refuse_unknown};
-use crate::values::{read_boolean, read_number, read_setup, read_target, value_at};
-use scenario_grammar::{Scenario, ScenarioFault, Text, parse};
+use crate::values::{read_setup, read_target, value_at};
 use std::alloc::Global;
-use toml::{Table, Value};
+use toml::Table;
 
 /// The longest text of settings, in bytes.
 pub const LIMIT: usize = 1048576;
@@ -42,63 +42,27 @@ fn read_members(alloc: Global, table: &Table) -> Result<Settings, SettingsFault>
     let target = read_target(value_at(table, "target"));
     refuse_unknown(alloc, Place::Top(target.ok()), table)?;
     let target = keyed(Key::Target, target)?;
+    read_for(alloc, target, table)
+}
+
+// The settings of this target.
+fn read_for(alloc: Global, target: TargetName, table: &Table) -> Result<Settings, SettingsFault>
+    ensures ok { IfOk result (λ settings. settings_for target (table_view table.now) ≡ Ok (given_of settings)) }
+    ensures refused { IfErr result (RefusedBy (settings_for target (table_view table.now))) }
+{
     let setup = keyed(Key::Variant, read_setup(target, value_at(table, "variant")))?;
-    let seed = read_number(value_at(table, "seed"), Ok(0), 0, 9223372036854775807);
-    let seed = keyed(Key::Seed, seed)?;
-    let workers = read_number(value_at(table, "workers"), Ok(1), 1, 64);
-    let workers = keyed(Key::Workers, workers)?;
-    let max_hits = read_number(value_at(table, "max_hits"), Ok(1000), 1, 100000);
-    let max_hits = keyed(Key::MaxHits, max_hits)?;
-    let pairs = keyed(Key::Pairs, read_boolean(value_at(table, "pairs")))?;
-    let storms = read_number(value_at(table, "storms"), Ok(0), 0, 10000);
-    let storms = keyed(Key::Storms, storms)?;
-    let rate = read_number(value_at(table, "rate"), Ok(100), 0, 1000);
-    let rate = keyed(Key::Rate, rate)?;
-    let scenarios = read_scenarios(alloc, value_at(table, "scenarios"))?;
-    let choice = read_choice(alloc, setup, table)?;
+    let running = read_running(table)?;
+    let planning = read_planning(table)?;
+    let scenarios = read_scenarios(alloc, setup, value_at(table, "scenarios"))?;
+    let choice = read_choice(alloc, target, setup, table)?;
     Ok(Settings {
         choice: Some(choice),
-        seed,
-        workers: workers as u32,
-        max_hits: max_hits as u32,
-        pairs,
-        storms: storms as u32,
-        rate: rate as u32,
+        seed: running.seed,
+        workers: running.workers,
+        max_hits: running.max_hits,
+        pairs: planning.pairs,
+        storms: planning.storms,
+        rate: planning.rate,
         scenarios,
     })
-}
-
-fn read_scenarios(alloc: Global, value: Option<&Value>) -> Result<Vec<Scenario>, SettingsFault>
-    ensures ok { IfOk result (λ scenarios. scenarios_at (option_map (λ v. view v.now) value.entry) ≡ Ok scenarios.items) }
-    ensures few { IfOk result (λ scenarios. length scenarios.items ≤ 1000) }
-    ensures refused { IfErr result (RefusedBy (scenarios_at (option_map (λ v. view v.now) value.entry))) }
-{
-    let texts = read_texts(alloc, Key::Scenarios, 1000, value)?;
-    parse_all(alloc, texts.as_slice())
-}
-
-fn parse_all(alloc: Global, texts: &[Text]) -> Result<Vec<Scenario>, SettingsFault>
-    requires { length texts.now ≤ 1000 }
-    ensures ok { IfOk result (λ scenarios. spelled_from 0 texts.now ≡ Ok scenarios.items) }
-    ensures few { IfOk result (λ scenarios. length scenarios.items ≤ 1000) }
-    ensures refused { IfErr result (RefusedBy (spelled_from 0 texts.now)) }
-{
-    let mut scenarios = Vec::new(alloc);
-    let mut number = 0u32;
-    for text in texts {
-        match parse(alloc, text.as_str()) {
-            Ok(scenario) => scenarios.push(scenario)?,
-            Err(ScenarioFault::Bad { kind, entry, term }) => {
-                return Err(SettingsFault::Scenario {
-                    number,
-                    kind,
-                    entry,
-                    term,
-                });
-            }
-            Err(ScenarioFault::Memory) => return Err(SettingsFault::Memory),
-        }
-        number += 1;
-    }
-    Ok(scenarios)
 }

@@ -5,13 +5,13 @@ use crate::choice::Choice;
 use scenario_grammar::Scenario;
 
 /// What a campaign runs, and how. Each value keeps the ranges that stand at its fields.
-#[derive(Debug, Drop)]
+#[derive(Drop)]
 pub struct Settings {
-    /// The bundled target with its variant and its workload; `None` where the target comes from outside.
+    /// The target that the settings name; `None` where a program brings its own.
     pub choice: Option<Choice>,
     /// The seed of every draw, 0 to 9223372036854775807, which is the greatest integer of TOML.
     pub seed: u64,
-    /// How many workers there are, 1 to 64.
+    /// How many workers there are, 1 to 64. Of a target from outside this and `max_hits` mean nothing: they are 1 and 1000.
     pub workers: u32,
     /// How many hits of a run are answered, 1 to 100000.
     pub max_hits: u32,

@@ -5,9 +5,10 @@ ghost use Rattle.std.specs.Map.{keys_of};
 ghost use Rattle.std.specs.String.{string_cmp};
 ghost use Rattle.toml.specs.View.{table_view};
 ghost use Rattle.campaign_settings.specs.Keys.{is_known};
-ghost use Rattle.campaign_settings.specs.Settings.{RefusedBy, choice_in, committing_in, delivering_in, keyed, known_in, replacing_in};
+ghost use Rattle.campaign_settings.specs.Settings.{RefusedBy, choice_in, committing_in, delivering_in, keyed, known_in, replacing_in, work_in};
 
 use crate::choice::{Choice, Setup};
+use crate::described::read_outside;
 use crate::fault::SettingsFault;
 use crate::keys::{Key, KeyFault, Place, TargetName};
 use crate::lists::{read_chunks, read_votes};
@@ -59,7 +60,6 @@ fn read_replace(
     ensures ok { IfOk result (λ choice. replacing_in variant (table_view table.now) ≡ Ok choice) }
     ensures refused { IfErr result (RefusedBy (replacing_in variant (table_view table.now))) }
 {
-    refuse_unknown(alloc, Place::Within(TargetName::Replace), table)?;
     let old = keyed(Key::Old, read_text(value_at(table, "old"), 65536))?;
     let replacements = read_chunks(alloc, Key::Replacements, value_at(table, "replacements"))?;
     let old = Text::copy_of(alloc, old)?;
@@ -74,7 +74,6 @@ fn read_maildir(
     ensures ok { IfOk result (λ choice. delivering_in variant (table_view table.now) ≡ Ok choice) }
     ensures refused { IfErr result (RefusedBy (delivering_in variant (table_view table.now))) }
 {
-    refuse_unknown(alloc, Place::Within(TargetName::Maildir), table)?;
     let messages = read_chunks(alloc, Key::Messages, value_at(table, "messages"))?;
     Ok(Choice::Maildir(variant, Messages::new(messages)))
 }
@@ -87,7 +86,6 @@ fn read_commit(
     ensures ok { IfOk result (λ choice. committing_in variant (table_view table.now) ≡ Ok choice) }
     ensures refused { IfErr result (RefusedBy (committing_in variant (table_view table.now))) }
 {
-    refuse_unknown(alloc, Place::Within(TargetName::Commit), table)?;
     let value = value_at(table, "participants");
     let participants = keyed(
         Key::Participants,
@@ -98,35 +96,33 @@ fn read_commit(
     Ok(Choice::Commit(variant, Transactions::new(participants, transactions)))
 }
 
-// The target's table.
-pub fn read_choice(alloc: Global, setup: Setup, table: &Table) -> Result<Choice, SettingsFault>
-    ensures ok { IfOk result (λ choice. choice_in setup (table_view table.now) ≡ Ok choice) }
-    ensures refused { IfErr result (RefusedBy (choice_in setup (table_view table.now))) }
+// What the target's table says, where it has no unknown key.
+fn read_work(alloc: Global, setup: Setup, table: &Table) -> Result<Choice, SettingsFault>
+    ensures ok { IfOk result (λ choice. work_in setup (table_view table.now) ≡ Ok choice) }
+    ensures refused { IfErr result (RefusedBy (work_in setup (table_view table.now))) }
 {
     match setup {
-        Setup::Replace(variant) => {
-            let value = read_table(value_at(table, "replace"));
-            read_replace(
-                alloc,
-                variant,
-                keyed(Key::Table(TargetName::Replace), value)?,
-            )
-        }
-        Setup::Maildir(variant) => {
-            let value = read_table(value_at(table, "maildir"));
-            read_maildir(
-                alloc,
-                variant,
-                keyed(Key::Table(TargetName::Maildir), value)?,
-            )
-        }
-        Setup::Commit(variant) => {
-            let value = read_table(value_at(table, "commit"));
-            read_commit(
-                alloc,
-                variant,
-                keyed(Key::Table(TargetName::Commit), value)?,
-            )
-        }
+        Setup::Replace(variant) => read_replace(alloc, variant, table),
+        Setup::Maildir(variant) => read_maildir(alloc, variant, table),
+        Setup::Commit(variant) => read_commit(alloc, variant, table),
+        Setup::Outside => read_outside(alloc, table),
     }
+}
+
+// In the table of the target's name.
+pub fn read_choice(
+    alloc: Global,
+    target: TargetName,
+    setup: Setup,
+    table: &Table,
+) -> Result<Choice, SettingsFault>
+    ensures ok { IfOk result (λ choice. choice_in target setup (table_view table.now) ≡ Ok choice) }
+    ensures refused { IfErr result (RefusedBy (choice_in target setup (table_view table.now))) }
+{
+    let own = keyed(
+        Key::Table(target),
+        read_table(value_at(table, target.name())),
+    )?;
+    refuse_unknown(alloc, Place::Within(target), own)?;
+    read_work(alloc, setup, own)
 }

@@ -87,6 +87,7 @@ fn target_named(name: &str) -> Result<TargetName, KeyFault>
         "replace" => Ok(TargetName::Replace),
         "maildir" => Ok(TargetName::Maildir),
         "commit" => Ok(TargetName::Commit),
+        "outside" => Ok(TargetName::Outside),
         _ => Err(KeyFault::OutOfRange),
     }
 }
@@ -110,6 +111,7 @@ fn setup_named(target: TargetName, name: &str) -> Result<Setup, KeyFault>
         TargetName::Replace => replace_named(name),
         TargetName::Maildir => maildir_named(name),
         TargetName::Commit => commit_named(name),
+        TargetName::Outside => Ok(Setup::Outside),
     }
 }
 

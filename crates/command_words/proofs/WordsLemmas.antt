@@ -26,7 +26,7 @@ use Rattle.clap.specs.declared.parser.matches.SubCommand.{SubCommand}
 use Rattle.clap.proofs.OnLiterals.{clap_on_literals}
 use Rattle.command_words.proofs.HelpLemmas.{NotHelp, no_faults, not-help}
 use Rattle.command_words.proofs.ValueLemmas.{all_have, first-there, level-has}
-use Rattle.command_words.specs.Words.{TakesText, IsFaultOf, IsLine, IsLineOf, IsName, IsRefusedFor, paklour}
+use Rattle.command_words.specs.Words.{HasNeeded, IsFaultOf, IsLine, IsLineOf, IsName, IsRefusedFor, needs_file, needs_text, paklour}
 use Rattle.command_words.specs.declared.words.WordsFault.{WordsFault}
 use Rattle.command_words.specs.declared.words.WordsFault.TheVariants.{Refused, Memory}
 
@@ -66,16 +66,22 @@ unfolding paklour
 entered-name None name rows n e = cc
 entered-name (Some p) name rows n e =
     elim (entered-named (λ s. answers_to p.0 (label_of s)) (built paklour).subs p.1 name rows e) [
-      | inl is ↦ inl is.0
-      | inr other ↦ elim other [
-        | inl is ↦ inr (inl is.0)
-        | inr other' ↦ elim other' [
-          | inl is ↦ inr (inr (inl is.0))
-          | inr last ↦ elim last [
-            | inl is ↦ inr (inr (inr is.0))
-            | inr help ↦ elim help [
-              | inl is ↦ absurd (help-only p.0 n is.1)
-              | inr none ↦ absurd none
+      | inl is ↦ inl (inl is.0)
+      | inr plans ↦ elim plans [
+        | inl is ↦ inl (inr (inl is.0))
+        | inr try ↦ elim try [
+          | inl is ↦ inl (inr (inr (inl is.0)))
+          | inr reduce ↦ elim reduce [
+            | inl is ↦ inl (inr (inr (inr is.0)))
+            | inr asks ↦ elim asks [
+              | inl is ↦ inr (inl is.0)
+              | inr report ↦ elim report [
+                | inl is ↦ inr (inr is.0)
+                | inr help ↦ elim help [
+                  | inl is ↦ absurd (help-only p.0 n is.1)
+                  | inr none ↦ absurd none
+                ]
+              ]
             ]
           ]
         ]
@@ -160,54 +166,63 @@ level-given s words none =
     let after_settle = no_faults (settle_fault s.rules s.args_override_self end) _ after_walk.1 in
     (no_faults (defaults_fault (settled s.rules end).rows s.rules) _ after_settle.1).1
 
--- a scenario that is required is there where the checks find no fault
-scenario-first : (rows : List Row) → all_have rows ≡ true → (if not (is_given (codes "scenario") rows) || false then MissingRequiredArgument ∷ [] else []) ≡ [] → is_some (first_of (codes "scenario") rows) ≡ true
-scenario-first rows have none = first-there (codes "scenario") rows have (given-row (codes "scenario") rows (given (is_given (codes "scenario") rows) none))
+-- what is required is there where the checks find no fault
+needed-first : (id : Text) (rows : List Row) → all_have rows ≡ true → (if not (is_given id rows) || false then MissingRequiredArgument ∷ [] else []) ≡ [] → is_some (first_of id rows) ≡ true
+needed-first id rows have none = first-there id rows have (given-row id rows (given (is_given id rows) none))
   where
     given : (b : Bool) → (if not b || false then MissingRequiredArgument ∷ [] else []) ≡ [] → b ≡ true
     given true none = refl
     given false none = cc
 
-differ : (a b : Text) → bytes_eq a a ≡ true → bytes_eq a b ≡ false → a ≡ b → ⊥
-differ a b t f e = false≢true (sym f ∙ ap (bytes_eq a) (sym e) ∙ t)
+-- what the command of the name needs is among the rows
+abbrev NeededIn : Text → List Row → Type 0
+NeededIn name rows = HasNeeded name (first_of (codes "scenario") rows) (first_of (codes "file") rows)
 
-told-at : (stop : Option (Text × List Text)) (name : Text) (rows : List Row) → entered (built paklour) stop ≡ Some (name, rows) → entered_fault (built paklour) stop ≡ [] → TakesText name → is_some (first_of (codes "scenario") rows) ≡ true
+module _ (name word : Text) (is : name ≡ word) (rows : List Row) where
+  nothing-needed : needs_text word ≡ false → needs_file word ≡ false → NeededIn name rows
+  nothing-needed no_text no_file =
+      rw is ((λ t. absurd (false≢true (sym no_text ∙ t))), (λ t. absurd (false≢true (sym no_file ∙ t))))
+
+  text-needed : needs_file word ≡ false → is_some (first_of (codes "scenario") rows) ≡ true → NeededIn name rows
+  text-needed no_file here = rw is ((λ t. here), (λ t. absurd (false≢true (sym no_file ∙ t))))
+
+  file-needed : needs_text word ≡ false → is_some (first_of (codes "file") rows) ≡ true → NeededIn name rows
+  file-needed no_text here = rw is ((λ t. absurd (false≢true (sym no_text ∙ t))), (λ t. here))
+
+needed-at : (stop : Option (Text × List Text)) (name : Text) (rows : List Row) → entered (built paklour) stop ≡ Some (name, rows) → entered_fault (built paklour) stop ≡ [] → NeededIn name rows
 unfolding paklour
-told-at None name rows e t n = cc
-told-at (Some p) name rows e t n =
+needed-at None name rows e t = cc
+needed-at (Some p) name rows e t =
     elim (passed-in (λ s. answers_to p.0 (label_of s)) (built paklour).subs p.1 name rows e t) [
-      | inl run ↦ elim n [
-        | inl try ↦ absurd (differ (codes "run") (codes "try") refl refl (sym run.0 ∙ try))
-        | inr reduce ↦ absurd (differ (codes "run") (codes "reduce") refl refl (sym run.0 ∙ reduce))
-      ]
+      | inl run ↦ nothing-needed name (codes "run") run.0 rows refl refl
       | inr a ↦ elim a [
-        | inl plans ↦ elim n [
-          | inl try ↦ absurd (differ (codes "plans") (codes "try") refl refl (sym plans.0 ∙ try))
-          | inr reduce ↦ absurd (differ (codes "plans") (codes "reduce") refl refl (sym plans.0 ∙ reduce))
-        ]
+        | inl plans ↦ nothing-needed name (codes "plans") plans.0 rows refl refl
         | inr b ↦ elim b [
-          | inl try ↦ scenario-first rows (rw try.1 (level-has _ p.1 refl try.2)) (rw try.1 (level-given _ p.1 try.2))
+          | inl try ↦ text-needed name (codes "try") try.0 rows refl (needed-first _ rows (rw try.1 (level-has _ p.1 refl try.2)) (rw try.1 (level-given _ p.1 try.2)))
           | inr c ↦ elim c [
-            | inl reduce ↦ scenario-first rows (rw reduce.1 (level-has _ p.1 refl reduce.2)) (rw reduce.1 (level-given _ p.1 reduce.2))
+            | inl reduce ↦ text-needed name (codes "reduce") reduce.0 rows refl (needed-first _ rows (rw reduce.1 (level-has _ p.1 refl reduce.2)) (rw reduce.1 (level-given _ p.1 reduce.2)))
             | inr d ↦ elim d [
-              | inl help ↦ elim n [
-                | inl try ↦ absurd (differ (codes "help") (codes "try") refl refl (sym help.0 ∙ try))
-                | inr reduce ↦ absurd (differ (codes "help") (codes "reduce") refl refl (sym help.0 ∙ reduce))
+              | inl asks ↦ file-needed name (codes "asks") asks.0 rows refl (needed-first _ rows (rw asks.1 (level-has _ p.1 refl asks.2)) (rw asks.1 (level-given _ p.1 asks.2)))
+              | inr e ↦ elim e [
+                | inl report ↦ file-needed name (codes "report") report.0 rows refl (needed-first _ rows (rw report.1 (level-has _ p.1 refl report.2)) (rw report.1 (level-given _ p.1 report.2)))
+                | inr f ↦ elim f [
+                  | inl help ↦ nothing-needed name (codes "help") help.0 rows refl refl
+                  | inr none ↦ absurd none
+                ]
               ]
-              | inr none ↦ absurd none
             ]
           ]
         ]
       ]
     ]
 
-pub text-given : (words : List Text) (name : Text) (f : Found) → fault_of paklour words ≡ [] → subcommand_of paklour words ≡ Some (name, rows_of f) → TakesText name → is_some (first_value f (codes "scenario")) ≡ true
-text-given words name f none e n =
+pub needed-given : (words : List Text) (name : Text) (f : Found) → fault_of paklour words ≡ [] → subcommand_of paklour words ≡ Some (name, rows_of f) → HasNeeded name (first_value f (codes "scenario")) (first_value f (codes "file"))
+needed-given words name f none e =
     let top = built paklour in
     let given = argument_words paklour words in
     let after_walk = no_faults (walk_fault top.top (names_of top) (walk_from nothing_held) given) _ none in
-    rw (first_value-rows f (codes "scenario"))
-    (told-at (stop_after top.top.rules (names_of top) given) name (rows_of f) e (no_faults (entered_fault top (stop_after top.top.rules (names_of top) given)) _ after_walk.1).0 n)
+    rw (first_value-rows f (codes "scenario"), first_value-rows f (codes "file"))
+    (needed-at (stop_after top.top.rules (names_of top) given) name (rows_of f) e (no_faults (entered_fault top (stop_after top.top.rules (names_of top) given)) _ after_walk.1).0)
 
 pub taken : (command : Command) (words : List Text) → app_of command ≡ paklour → takes paklour words ≡ true → takes (app_of command) words ≡ true
 taken command words a t = ap (λ (x : App). takes x words) a ∙ t

@@ -12,8 +12,15 @@ pub const TRY: &str = "Try one scenario and write its verdict";
 
 pub const REDUCE: &str = "Reduce a scenario that fails to the faults that it needs to fail";
 
+pub const ASKS: &str = "Write which scenarios are still to be tried on a component of your own";
+
+pub const REPORT: &str = "Write the report of a campaign on a component of your own";
+
 pub const FILE: &str =
     "TOML settings, of which `paklour help` lists the keys; left out, standard input is read";
+
+pub const NEEDED_FILE: &str =
+    "TOML settings, of which `paklour help` lists the keys; standard input has the answers";
 
 pub const SCENARIO: &str = "The scenario, as 'POINT=TERM->TERM;POINT=TERM'";
 
@@ -39,10 +46,34 @@ Examples:
   replace::write=2*off->1*panic     the component stops at the third write
   replace::create=20%return;replace::unlink=return";
 
+/// What answers are, for the commands that read them.
+pub const ANSWERS: &str = "\
+Somebody else runs the component, as a loop in a shell does, and the settings say so. Standard input
+has the answers so far, up to 268435456 bytes, a line for each run:
+  VERDICT<TAB>SCENARIO
+The verdict is `pass`, `unresolved`, or `fail` and one of the settings' codes. The scenario is
+`none`, the one without faults, or a text as in `paklour help try`. Answers may come in any order,
+and again; two that contradict each other are refused.
+
+`asks` writes scenarios that have no answer, one a line and each once, and nothing where all is
+known; its exit status is 0. `report` writes the report, or that a scenario is `not answered`.
+
+Example:
+  paklour asks my.toml < answers | xargs -d '\\n' -n 1 ./try.sh >> answers
+  paklour report my.toml < answers
+with settings as
+  target = \"outside\"
+  seed = 7
+  [outside]
+  label = \"my store\"
+  codes = [\"lost\", \"torn\"]
+  points = [\"libc::write\", \"libc::fsync\"]
+  hits = [4, 2]";
+
 /// The settings, an example of them, and the exit statuses.
 pub const SETTINGS: &str = "\
 Settings are TOML. Their keys, with ranges and defaults:
-  target     \"replace\", \"maildir\" or \"commit\"; has to be there
+  target     \"replace\", \"maildir\", \"commit\" or \"outside\"; has to be there
   variant    \"sound\", or one with a flaw, by the target; default \"sound\"
                replace: \"late_sync\", \"ignore_sync\", \"retry_write\"
                maildir: \"link_first\", \"ignore_write\", \"append_tmp\"
@@ -63,6 +94,13 @@ and the table of the target, with all of its keys:
   [commit]
     participants  1 to 8
     transactions  up to 100 lists of \"yes\" and \"no\", one for each participant
+  [outside]
+    label         what the component is, a text of up to 200 bytes
+    codes         what may follow `fail` in an answer, up to 64 texts of up to 200 bytes
+    points        the names of its points, 1 to 64 texts of up to 200 bytes
+    hits          how often each point is hit without faults, as many numbers from 0 to 100000
+With \"outside\" somebody else runs the component: only plans, asks and report take such settings, in
+which variant, workers and max_hits are unknown keys.
 A chunk is a text of up to 4096 bytes. `paklour help try` says what a scenario may hold.
 
 Example:
@@ -77,7 +115,7 @@ Example:
 Exit status:
   0  no verdict is fail
   1  a verdict is fail
-  2  the words, the settings, a scenario or the number of plans is refused, or the settings can't
-     be read
+  2  the words, the settings, a scenario, the answers or the number of plans is refused, or the
+     settings or the answers can't be read
   3  memory is refused
   4  a write failed";

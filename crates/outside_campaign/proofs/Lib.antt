@@ -1,3 +1,5 @@
 pub mod Running
 pub mod Gathered
 pub mod Lines
+pub mod Open
+pub mod ResultLemmas

@@ -1,22 +1,19 @@
--- Lines added one after another.
-use Rattle.std.proofs.Common.{◌≡◌, ℕ, ◌+◌, ◌<◌, ◌≤◌, drop, Option, Some, None, List, [], ◌∷◌, ◌++◌, Bool, true, false, cond, length, get_or, map, take, fold, refl, ap, sym, ◌∙◌}
+-- Lines added one after another, and the verdicts of plans.
+use Rattle.std.proofs.Common.{◌≡◌, ℕ, zero, suc, ◌+◌, ◌<◌, ◌≤◌, Option, Some, None, List, [], ◌∷◌, ◌++◌, Bool, true, false, cond, length, get_or, map, take, fold, refl, ap, sym, ◌∙◌, arith, subst}
 use Rattle.std.specs.Prelude.{is_none}
-use Rattle.std.specs.List.{list_any}
+use Rattle.std.specs.List.{AllByRecursion, list_any}
 use Rattle.std.specs.Str.{bytes_eq}
-use Rattle.std.proofs.lemmas.List.{take_more, take_all, take-append-drop}
+use Rattle.std.proofs.lemmas.List.{take_more, take_all}
 use Rattle.indexmap.specs.IndexSet.{insert_key}
 use Rattle.scenario_values.specs.Scenario.{Entries, IsScenario}
 use Rattle.scenario_values.proofs.Limits.{tidied_scenario}
-use Rattle.scenario_values.proofs.Chains.{rest_is}
+use Rattle.scenario_values.specs.Tidied.{tidied}
 use Rattle.target_trait.specs.declared.judgement.Verdict.{Verdict}
 use Rattle.result_book.specs.Verdicts.{verdicts_from}
-use Rattle.report.specs.Reports.{FindingFacts}
-use Rattle.campaign_core.specs.Findings.{finding}
-use Rattle.scenario_values.specs.Tidied.{tidied}
 use Rattle.report.specs.ReportText.{scenario_text}
-use Rattle.answer_text.specs.Known.{Book, verdict_in, Agrees}
+use Rattle.answer_text.specs.Known.{KnownVerdicts, Agrees}
 use Rattle.outside_campaign.specs.Outside.{Component, say}
-use Rattle.outside_campaign.specs.Asked.{AreAsked, each_once, open_plans}
+use Rattle.outside_campaign.specs.Asked.{open_plans, plan_verdicts, lines_for}
 
 abbrev put_all : List (List ℕ) → List Entries → List (List ℕ)
 put_all lines ts = fold (insert_key bytes_eq) lines (map scenario_text ts)
@@ -25,23 +22,29 @@ put_more : (lines : List (List ℕ)) (ts us : List Entries) → put_all lines (t
 put_more lines [] us = refl
 put_more lines (t ∷ ts) us = put_more (insert_key bytes_eq lines (scenario_text t)) ts us
 
-open_more : (book : Book) (ps qs : List Entries) → open_plans book (ps ++ qs) ≡ open_plans book ps ++ open_plans book qs
-open_more book [] qs = refl
-open_more book (p ∷ ps) qs = by_test (is_none (verdict_in book (tidied p))) (open_more book ps qs)
+pub both_added : (cards opened : List Entries) (first second : List (List ℕ)) → first ≡ put_all [] cards → second ≡ put_all first opened → second ≡ lines_for (cards ++ opened)
+both_added cards opened first second e f = f ∙ ap (λ (l : List (List ℕ)). put_all l opened) e ∙ sym (put_more [] cards opened)
+
+pub from_nothing : (cards : List Entries) (none after : List (List ℕ)) → none ≡ [] → after ≡ put_all none cards → after ≡ put_all [] cards
+from_nothing cards none after e f = f ∙ ap (λ (l : List (List ℕ)). put_all l cards) e
+
+open_more : (known : KnownVerdicts) (ps qs : List Entries) → open_plans known (ps ++ qs) ≡ open_plans known ps ++ open_plans known qs
+open_more known [] qs = refl
+open_more known (p ∷ ps) qs = by_test (is_none (known (tidied p))) (open_more known ps qs)
   where
-    by_test : (b : Bool) → open_plans book (ps ++ qs) ≡ open_plans book ps ++ open_plans book qs
-        → cond b (tidied p ∷ open_plans book (ps ++ qs)) (open_plans book (ps ++ qs)) ≡ cond b (tidied p ∷ open_plans book ps) (open_plans book ps) ++ open_plans book qs
+    by_test : (b : Bool) → open_plans known (ps ++ qs) ≡ open_plans known ps ++ open_plans known qs
+        → cond b (tidied p ∷ open_plans known (ps ++ qs)) (open_plans known (ps ++ qs)) ≡ cond b (tidied p ∷ open_plans known ps) (open_plans known ps) ++ open_plans known qs
     by_test true e = ap (λ (r : List Entries). tidied p ∷ r) e
     by_test false e = e
 
-pub plan_added : (book : Book) (first before after : List (List ℕ)) (plans : List Entries) (i : ℕ) (p : Entries) → i < length plans → p ≡ get_or plans i p
-    → before ≡ put_all first (open_plans book (take i plans)) → after ≡ put_all before (open_plans book (p ∷ [])) → after ≡ put_all first (open_plans book (take (i + 1) plans))
-plan_added book first before after plans i p less is so_far this =
+pub plan_added : (known : KnownVerdicts) (first before after : List (List ℕ)) (plans : List Entries) (i : ℕ) (p : Entries) → i < length plans → p ≡ get_or plans i p
+    → before ≡ put_all first (open_plans known (take i plans)) → after ≡ put_all before (open_plans known (p ∷ [])) → after ≡ put_all first (open_plans known (take (i + 1) plans))
+plan_added known first before after plans i p less is so_far this =
     let more : take (i + 1) plans ≡ take i plans ++ p ∷ [] = take_more plans i p less ∙ ap (λ (x : Entries). take i plans ++ x ∷ []) (sym is) in
-    this ∙ ap (λ (x : List (List ℕ)). put_all x (open_plans book (p ∷ []))) so_far
-    ∙ sym (put_more first (open_plans book (take i plans)) (open_plans book (p ∷ [])))
-    ∙ ap (put_all first) (sym (open_more book (take i plans) (p ∷ [])))
-    ∙ ap (λ (x : List Entries). put_all first (open_plans book x)) (sym more)
+    this ∙ ap (λ (x : List (List ℕ)). put_all x (open_plans known (p ∷ []))) so_far
+    ∙ sym (put_more first (open_plans known (take i plans)) (open_plans known (p ∷ [])))
+    ∙ ap (put_all first) (sym (open_more known (take i plans) (p ∷ [])))
+    ∙ ap (λ (x : List Entries). put_all first (open_plans known x)) (sym more)
 
 -- ---- nothing asked
 
@@ -54,59 +57,100 @@ more_stay k ks (x ∷ xs) h = by_test (list_any (bytes_eq x) (k ∷ ks)) (more_s
     by_test true f g e = f e
     by_test false f g e = g e
 
-none_once : (ts : List Entries) → each_once (map scenario_text ts) ≡ [] → ts ≡ []
+pub none_once : (ts : List Entries) → lines_for ts ≡ [] → ts ≡ []
 none_once [] h = refl
 none_once (t ∷ ts) h = absurd (more_stay (scenario_text t) [] (map scenario_text ts) h)
 
-both_none : (xs ys : List Entries) → xs ++ ys ≡ [] → (xs ≡ []) × (ys ≡ [])
-both_none [] ys h = (refl, h)
-both_none (x ∷ xs) ys h = absurd cc
-
-pub nothing_asked : (book : Book) (plans : List Entries) (failures : List (ℕ × ℕ)) → AreAsked book plans failures []
-    → (open_plans book plans ≡ []) × ((all : List FindingFacts) × ((component : Component) → Agrees component book → all ≡ map (finding (say component) plans) failures))
-nothing_asked book plans failures a =
-    let none = both_none a.cards (open_plans book plans) (none_once (a.cards ++ open_plans book plans) (sym a.lines_are)) in
-    (none.1, a.decided none.0)
-
 -- ---- verdicts
 
-verdicts_push : (component : Component) (n : ℕ) (ps : List Entries) (p : Entries) → verdicts_from (say component) n (ps ++ p ∷ []) ≡ verdicts_from (say component) n ps ++ component (tidied p) ∷ []
-verdicts_push component n [] p = refl
-verdicts_push component n (q ∷ ps) p = ap (λ (r : List Verdict). component (tidied q) ∷ r) (verdicts_push component (n + 1) ps p)
+lawful_push : (ps : List Entries) (p : Entries) → AllByRecursion (λ s. IsScenario s) ps → IsScenario p → AllByRecursion (λ s. IsScenario s) (ps ++ p ∷ [])
+lawful_push [] p h ok = (ok, tt)
+lawful_push (q ∷ ps) p h ok = (h.0, lawful_push ps p h.1 ok)
 
-pub record Answered (book : Book) (plans : List Entries) (i : ℕ) (verdicts : List Verdict) : Type 0 where
-  pub none_open : open_plans book (take i plans) ≡ []
-  pub same : (component : Component) → Agrees component book → verdicts ≡ verdicts_from (say component) 0 (take i plans)
+lawful_more : (plans : List Entries) (i : ℕ) (p : Entries) → i < length plans → p ≡ get_or plans i p → IsScenario p → AllByRecursion (λ s. IsScenario s) (take i plans) → AllByRecursion (λ s. IsScenario s) (take (i + 1) plans)
+lawful_more plans i p less is ok h =
+    let P : List Entries → Type 0 = λ ps. AllByRecursion (λ s. IsScenario s) ps in
+    subst P (sym (take_more plans i p less ∙ ap (λ (x : Entries). take i plans ++ x ∷ []) (sym is))) (lawful_push (take i plans) p h ok)
 
-pub answered_none : (book : Book) (plans : List Entries) → Answered book plans 0 []
-answered_none book plans = record { none_open = refl; same = λ component agrees. refl }
+verdicts_push : (known : KnownVerdicts) (ps : List Entries) (p : Entries) → plan_verdicts known (ps ++ p ∷ []) ≡ plan_verdicts known ps ++ known (tidied p) ∷ []
+verdicts_push known [] p = refl
+verdicts_push known (q ∷ ps) p = ap (λ (r : List (Option Verdict)). known (tidied q) ∷ r) (verdicts_push known ps p)
 
-open_one : (book : Book) (s : Entries) (o : Option Verdict) → o ≡ verdict_in book (tidied s) → open_plans book (s ∷ []) ≡ cond (is_none o) (tidied s ∷ []) []
-open_one book s o e = ap (λ (x : Option Verdict). cond (is_none x) (tidied s ∷ []) []) (sym e)
+-- the verdicts of some plans are looked up
+pub record LookedUp (known : KnownVerdicts) (plans : List Entries) (i : ℕ) (verdicts : List (Option Verdict)) : Type 0 where
+  pub are : verdicts ≡ plan_verdicts known (take i plans)
+  pub lawful : AllByRecursion (λ s. IsScenario s) (take i plans)
 
-pub answered_more : (book : Book) (plans : List Entries) (i : ℕ) (p s : Entries) (v : Verdict) (before after : List Verdict) → i < length plans → p ≡ get_or plans i p → s ≡ p → IsScenario s → Some v ≡ verdict_in book (tidied s)
-    → after ≡ before ++ v ∷ [] → Answered book plans i before → Answered book plans (i + 1) after
-answered_more book plans i p s v before after less is plan ok told pushed a =
-    let more : take (i + 1) plans ≡ take i plans ++ s ∷ [] = take_more plans i p less ∙ ap (λ (x : Entries). take i plans ++ x ∷ []) (sym is ∙ sym plan) in
+pub looked_up : (known : KnownVerdicts) (plans : List Entries) (i : ℕ) (p s : Entries) (v : Option Verdict) (before after : List (Option Verdict)) → i < length plans → p ≡ get_or plans i p → s ≡ p → IsScenario s → v ≡ known (tidied s)
+    → after ≡ before ++ v ∷ [] → LookedUp known plans i before → LookedUp known plans (i + 1) after
+looked_up known plans i p s v before after less is plan ok told pushed r =
+    let mine : s ≡ get_or plans i s = plan ∙ is ∙ get_same plans i p s less in
     record {
-      none_open = ap (open_plans book) more ∙ open_more book (take i plans) (s ∷ []) ∙ ap (λ (x : List Entries). x ++ open_plans book (s ∷ [])) a.none_open ∙ open_one book s (Some v) told;
-      same = λ component agrees.
-          let mine : component (tidied s) ≡ v = agrees (tidied s) v (tidied_scenario s ok) (sym told) in
-          pushed ∙ ap (λ (x : List Verdict). x ++ v ∷ []) (a.same component agrees) ∙ ap (λ (x : Verdict). verdicts_from (say component) 0 (take i plans) ++ x ∷ []) (sym mine)
-          ∙ sym (verdicts_push component 0 (take i plans) s) ∙ ap (verdicts_from (say component) 0) (sym more);
+      are = pushed ∙ ap (λ (x : List (Option Verdict)). x ++ v ∷ []) r.are ∙ ap (λ (x : Option Verdict). plan_verdicts known (take i plans) ++ x ∷ []) told ∙ sym (verdicts_push known (take i plans) s)
+          ∙ ap (λ (x : Entries). plan_verdicts known (take i plans ++ x ∷ [])) mine ∙ ap (plan_verdicts known) (sym (take_more plans i s less));
+      lawful = lawful_more plans i s less mine ok r.lawful;
     }
+  where
+    get_same : (xs : List Entries) (n : ℕ) (d e : Entries) → n < length xs → get_or xs n d ≡ get_or xs n e
+    get_same [] n d e h = absurd (omega arith)
+    get_same (x ∷ xs) zero d e h = refl
+    get_same (x ∷ xs) (suc n) d e h = get_same xs n d e (omega arith)
 
-pub first_open : (book : Book) (plans : List Entries) (i : ℕ) (p s t : Entries) (before : List Verdict) → i < length plans → p ≡ get_or plans i p → s ≡ p → None ≡ verdict_in book (tidied s) → t ≡ tidied s → Answered book plans i before
-    → (rest : List Entries) × (open_plans book plans ≡ t ∷ rest)
-first_open book plans i p s t before less is plan none tidy a =
-    let whole : plans ≡ take i plans ++ s ∷ drop (i + 1) plans = sym (take-append-drop i plans) ∙ ap (λ (x : List Entries). take i plans ++ x) (rest_is plans i p less is ∙ ap (λ (x : Entries). x ∷ drop (i + 1) plans) (sym plan)) in
-    let after : List Entries = open_plans book (drop (i + 1) plans) in
-    let this : open_plans book (s ∷ drop (i + 1) plans) ≡ t ∷ after =
-    ap (λ (x : Option Verdict). cond (is_none x) (tidied s ∷ after) after) (sym none) ∙ ap (λ (x : Entries). x ∷ after) (sym tidy) in
-    (after, ap (open_plans book) whole ∙ open_more book (take i plans) (s ∷ drop (i + 1) plans) ∙ ap (λ (x : List Entries). x ++ open_plans book (s ∷ drop (i + 1) plans)) a.none_open ∙ this)
-
-pub all_answered : (book : Book) (plans : List Entries) (i : ℕ) (verdicts : List Verdict) → length plans ≤ i → Answered book plans i verdicts
-    → (open_plans book plans ≡ []) × ((component : Component) → Agrees component book → verdicts ≡ verdicts_from (say component) 0 plans)
-all_answered book plans i verdicts end a =
+pub looked_up_all : (known : KnownVerdicts) (plans : List Entries) (i : ℕ) (verdicts : List (Option Verdict)) → length plans ≤ i → LookedUp known plans i verdicts
+    → (verdicts ≡ plan_verdicts known plans) × AllByRecursion (λ s. IsScenario s) plans
+looked_up_all known plans i verdicts end r =
     let whole : take i plans ≡ plans = take_all i plans end in
-    (ap (open_plans book) (sym whole) ∙ a.none_open, λ component agrees. a.same component agrees ∙ ap (verdicts_from (say component) 0) whole)
+    let P : List Entries → Type 0 = λ ps. AllByRecursion (λ s. IsScenario s) ps in
+    (r.are ∙ ap (plan_verdicts known) whole, subst P whole r.lawful)
+
+some_is : (v w : Verdict) → Some v ≡ Some w → v ≡ w
+some_is v w e = cc
+
+-- each plan is answered
+pub all_answered : (known : KnownVerdicts) (plans : List Entries) (all : List Verdict) (n : ℕ) → AllByRecursion (λ s. IsScenario s) plans → map (λ v. Some v) all ≡ plan_verdicts known plans
+    → (open_plans known plans ≡ []) × ((component : Component) → Agrees component known → all ≡ verdicts_from (say component) n plans)
+all_answered known [] [] n lawful e = (refl, λ component agrees. refl)
+all_answered known [] (v ∷ all) n lawful e = absurd cc
+all_answered known (p ∷ plans) [] n lawful e = absurd cc
+all_answered known (p ∷ plans) (v ∷ all) n lawful e =
+    let here : known (tidied p) ≡ Some v = cc in
+    let later = all_answered known plans all (n + 1) lawful.1 (cc) in (
+      ap (λ (o : Option Verdict). cond (is_none o) (tidied p ∷ open_plans known plans) (open_plans known plans)) here ∙ later.0,
+      λ component agrees.
+          let mine : component (tidied p) ≡ v = agrees (tidied p) v (tidied_scenario p lawful.0) here in
+          ap (λ (w : Verdict). w ∷ all) (sym mine) ∙ ap (λ (vs : List Verdict). component (tidied p) ∷ vs) (later.1 component agrees),
+    )
+
+pub verdicts_all : (known : KnownVerdicts) (plans : List Entries) (i : ℕ) (verdicts : List (Option Verdict)) (all : List Verdict) → length verdicts ≤ i → map (λ v. Some v) all ≡ take i verdicts → verdicts ≡ plan_verdicts known plans → AllByRecursion (λ s. IsScenario s) plans
+    → (map (λ v. Some v) all ≡ plan_verdicts known plans) × (open_plans known plans ≡ []) × ((component : Component) → Agrees component known → all ≡ verdicts_from (say component) 0 plans)
+verdicts_all known plans i verdicts all end e is lawful =
+    let same : map (λ v. Some v) all ≡ plan_verdicts known plans = e ∙ take_all i verdicts end ∙ is in
+    let a = all_answered known plans all 0 lawful same in
+    (same, a.0, a.1)
+
+map_push : (all : List Verdict) (v : Verdict) → map (λ w. Some w) (all ++ v ∷ []) ≡ map (λ w. Some w) all ++ Some v ∷ []
+map_push [] v = refl
+map_push (w ∷ all) v = ap (λ (r : List (Option Verdict)). Some w ∷ r) (map_push all v)
+
+pub told_more : (verdicts : List (Option Verdict)) (i : ℕ) (d : Option Verdict) (all new : List Verdict) (v : Verdict) → i < length verdicts → new ≡ all ++ v ∷ [] → map (λ w. Some w) all ≡ take i verdicts → get_or verdicts i d ≡ Some v
+    → map (λ w. Some w) new ≡ take (i + 1) verdicts
+told_more verdicts i d all new v less pushed so_far is =
+    ap (map (λ w. Some w)) pushed ∙ map_push all v ∙ ap (λ (r : List (Option Verdict)). r ++ Some v ∷ []) so_far ∙ ap (λ (o : Option Verdict). take i verdicts ++ o ∷ []) (sym is) ∙ sym (take_more verdicts i d less)
+
+-- the plans before this one are answered, and it isn't
+pub first_unanswered : (known : KnownVerdicts) (plans : List Entries) (all : List Verdict) (i : ℕ) (d : Option Verdict) (p : Entries) → i < length plans → map (λ v. Some v) all ≡ take i (plan_verdicts known plans) → get_or (plan_verdicts known plans) i d ≡ None
+    → p ≡ get_or plans i p → (more : List Entries) × (open_plans known plans ≡ tidied p ∷ more)
+first_unanswered known [] all i d p less e none is = absurd (omega arith)
+first_unanswered known (q ∷ plans) all zero d p less e none is =
+    (open_plans known plans, ap (λ (o : Option Verdict). cond (is_none o) (tidied q ∷ open_plans known plans) (open_plans known plans)) none ∙ ap (λ (x : Entries). tidied x ∷ open_plans known plans) (sym is))
+first_unanswered known (q ∷ plans) [] (suc i) d p less e none is = absurd cc
+first_unanswered known (q ∷ plans) (v ∷ all) (suc i) d p less e none is =
+    let here : known (tidied q) ≡ Some v = cc in
+    let later = first_unanswered known plans all i d p (omega arith) (cc) none is in
+    (later.0, ap (λ (o : Option Verdict). cond (is_none o) (tidied q ∷ open_plans known plans) (open_plans known plans)) here ∙ later.1)
+
+pub open_at : (known : KnownVerdicts) (plans : List Entries) (verdicts : List (Option Verdict)) (all : List Verdict) (i : ℕ) (d : Option Verdict) (p s t : Entries) → i < length verdicts → length verdicts ≡ length plans → verdicts ≡ plan_verdicts known plans
+    → map (λ v. Some v) all ≡ take i verdicts → get_or verdicts i d ≡ None → p ≡ get_or plans i p → s ≡ p → t ≡ tidied s → (more : List Entries) × (open_plans known plans ≡ t ∷ more)
+open_at known plans verdicts all i d p s t less many is e none at same tidy =
+    let first = first_unanswered known plans all i d p (omega arith) (e ∙ ap (take i) is) (ap (λ (vs : List (Option Verdict)). get_or vs i d) (sym is) ∙ none) at in
+    (first.0, first.1 ∙ ap (λ (x : Entries). x ∷ first.0) (sym (tidy ∙ ap tidied same)))

@@ -1,35 +1,45 @@
--- The lines that say what is still to be tried.
-use Rattle.std.specs.Prelude.{◌≡◌, ℕ, List, [], ◌∷◌, ◌++◌, is_none, if◌then◌else◌, map, fold}
-use Rattle.std.specs.List.{AllByRecursion}
+-- What is still to be tried.
+use Rattle.std.specs.Prelude.{◌≡◌, ℕ, None, List, [], ◌∷◌, ◌++◌, is_none, if◌then◌else◌, map, flat_map, fold, Option}
 use Rattle.std.specs.Str.{bytes_eq}
 use Rattle.indexmap.specs.IndexSet.{insert_key}
 use Rattle.scenario_values.specs.Scenario.{Entries}
 use Rattle.scenario_values.specs.Tidied.{tidied}
+use Rattle.target_trait.specs.declared.judgement.Verdict.{Verdict}
+use Rattle.result_book.specs.FirstFailures.{first_failures}
+use Rattle.result_book.specs.Slots.{in_book}
 use Rattle.report.specs.ReportText.{scenario_text}
-use Rattle.report.specs.Reports.{FindingFacts}
-use Rattle.answer_text.specs.Known.{Book, verdict_in, Agrees}
-use Rattle.campaign_core.specs.Findings.{finding}
-use Rattle.outside_campaign.specs.Outside.{Component, say}
-use Rattle.outside_campaign.specs.Told.{IsCard}
+use Rattle.answer_text.specs.Known.{KnownVerdicts}
+use Rattle.campaign_core.specs.Findings.{plan_at}
+use Rattle.outside_campaign.specs.Reached.{open_candidates}
+
+-- the verdict of each plan, where it is known
+abbrev pub plan_verdicts : KnownVerdicts → List Entries → List (Option Verdict)
+plan_verdicts known plans = map (λ plan. known (tidied plan)) plans
+
+-- for each code with which a plan is known to fail, the least number of such a plan, and the code
+abbrev pub known_failures : KnownVerdicts → List Entries → List (ℕ × ℕ)
+known_failures known plans = first_failures (in_book (plan_verdicts known plans))
 
 -- the plans that aren't answered, tidied, in order
-abbrev pub open_plans : Book → List Entries → List Entries
-open_plans book [] = []
-open_plans book (p ∷ ps) = if is_none (verdict_in book (tidied p)) then tidied p ∷ open_plans book ps else open_plans book ps
+abbrev pub open_plans : KnownVerdicts → List Entries → List Entries
+open_plans known [] = []
+open_plans known (p ∷ ps) = if is_none (known (tidied p)) then tidied p ∷ open_plans known ps else open_plans known ps
 
--- the texts, each where it first stands
-abbrev pub each_once : List (List ℕ) → List (List ℕ)
-each_once texts = fold (insert_key bytes_eq) [] texts
+-- the open candidates of the reductions of these failures, each the number of a plan and its code
+abbrev pub open_cards : KnownVerdicts → List Entries → List (ℕ × ℕ) → List Entries
+open_cards known plans failures = flat_map (λ failure. open_candidates known failure.1 (plan_at plans failure.0)) failures
 
--- these cards, and the plans that aren't answered, each once
-abbrev pub asked : Book → List Entries → List Entries → List (List ℕ)
-asked book cards plans = each_once (map scenario_text (cards ++ open_plans book plans))
+-- what is still to be tried: those, and then the open plans
+abbrev pub to_try : KnownVerdicts → List Entries → List (ℕ × ℕ) → List Entries
+to_try known plans failures = open_cards known plans failures ++ open_plans known plans
 
--- what is asked of plans of which these fail: open candidates of their reductions, then the open plans; where no candidate is asked, what
--- is known decides what is told of each of the failures
-pub record AreAsked (book : Book) (plans : List Entries) (failures : List (ℕ × ℕ)) (lines : List (List ℕ)) : Type 0 where
-  pub cards : List Entries
-  pub cards_are : AllByRecursion (IsCard book plans failures) cards
-  pub lines_are : lines ≡ asked book cards plans
-  pub decided : cards ≡ []
-      → (all : List FindingFacts) × ((component : Component) → Agrees component book → all ≡ map (finding (say component) plans) failures)
+-- the lines that ask for it, each where it first stands
+abbrev pub lines_for : List Entries → List (List ℕ)
+lines_for scenarios = fold (insert_key bytes_eq) [] (map scenario_text scenarios)
+
+abbrev pub asked : KnownVerdicts → List Entries → List (ℕ × ℕ) → List (List ℕ)
+asked known plans failures = lines_for (to_try known plans failures)
+
+-- a tidied scenario of which no verdict is known
+abbrev pub IsUntried : KnownVerdicts → Entries → Type 0
+IsUntried known t = (known t ≡ None) × (tidied t ≡ t)

@@ -4,3 +4,5 @@ pub mod Tests
 pub mod Told
 pub mod Asked
 pub mod Verdicts
+pub mod Campaigns
+pub mod Results

@@ -1,36 +1,50 @@
 -- How far a reduction comes by what is known.
-use Rattle.std.specs.Prelude.{◌≡◌, ℕ, ◌<◌, true, List, length, map, Option, Some, None, Bool, Contains}
-use Rattle.std.specs.List.{AllByRecursion}
+use Rattle.std.specs.Prelude.{◌≡◌, ℕ, ◌<◌, true, false, List, [], ◌∷◌, length, map, fold, Some, None, option_map, if◌then◌else◌}
+use Rattle.indexmap.specs.IndexSet.{insert_key}
 use Rattle.scenario_values.specs.Scenario.{Entries, all_faults}
 use Rattle.scenario_values.specs.Keep.{are_faults, kept}
 use Rattle.scenario_values.specs.Tidied.{tidied}
-use Rattle.ddmin_parallel.specs.CoreEvents.{round_at, start, walk}
-use Rattle.answer_text.specs.Known.{Book, verdict_in, Agrees}
-use Rattle.campaign_core.specs.FaultTest.{fault_test}
-use Rattle.campaign_core.specs.Findings.{reduction}
+use Rattle.ddmin_parallel.specs.Rounds.{Candidate}
+use Rattle.ddmin_parallel.specs.CoreEvents.{Answers, Position, End, furthest, round_at, same_set, start, walk}
+use Rattle.answer_text.specs.Known.{KnownVerdicts}
+use Rattle.campaign_core.specs.FaultTest.{fails_with, fault_test}
 use Rattle.outside_campaign.specs.Outside.{Component, say}
 use Rattle.outside_campaign.specs.declared.reduction.Reached.{Reached}
 use Rattle.outside_campaign.specs.declared.reduction.Reached.TheVariants.{Reduced as Ended, Open}
 
--- what each test of a reduction answers, as what is known of all sets
-abbrev pub all_answers : Component → ℕ → Entries → List ℕ → Option Bool
-all_answers component code s set = Some (fault_test (say component 0) code s set)
+-- what is known of the test of each set of faults: whether the scenario with these faults alone, tidied, fails with this code. A list that
+-- isn't faults of the scenario in ascending order fails not.
+abbrev pub known_tests : KnownVerdicts → ℕ → Entries → Answers
+known_tests known code s set =
+    if are_faults (all_faults s) set then option_map (fails_with code) (known (tidied (kept set s))) else Some false
 
--- the reduction of this component comes to a round that tries the set
-pub record ComesTo (component : Component) (code : ℕ) (s : Entries) (set : List ℕ) : Type 0 where
-  pub steps : ℕ
-  pub tried : Contains (map (λ c. c.set) (round_at (walk steps (all_answers component code s) (start (all_faults s))))) set
+-- the place in the reduction that what is known leads to: its end, or the first round that it doesn't decide
+abbrev pub place_of : KnownVerdicts → ℕ → Entries → Position
+place_of known code s = furthest (known_tests known code s) (start (all_faults s))
 
--- an open candidate of the reduction: a scenario with some of the faults, tidied, of which no verdict is known, and which the reduction
--- of each component that agrees with what is known comes to
-pub record IsOpen (book : Book) (code : ℕ) (s t : Entries) : Type 0 where
-  pub set : List ℕ
-  pub faults : are_faults (all_faults s) set ≡ true
-  pub is : t ≡ tidied (kept set s)
-  pub unanswered : verdict_in book t ≡ None
-  pub reached : (component : Component) → Agrees component book → ComesTo component code s set
+-- of a round's candidates those of which nothing is known, before the first that is known to fail
+abbrev pub unknown_sets : Answers → List Candidate → List (List ℕ)
+unknown_sets known [] = []
+unknown_sets known (c ∷ cs) = elim (known c.set) [
+  | None ↦ c.set ∷ unknown_sets known cs
+  | Some fails ↦ elim fails [ true ↦ [] | false ↦ unknown_sets known cs ]
+]
 
--- the reduction of each component that agrees with what is known, or some of its open candidates
-abbrev pub IsReached : Book → ℕ → Entries → Reached → Type 0
-IsReached book code s (Ended r) = (component : Component) → Agrees component book → (stream : ℕ) → r ≡ reduction (say component) stream code s
-IsReached book code s (Open untried) = (0 < length untried.items) × AllByRecursion (IsOpen book code s) untried.items
+-- the same, each where it first stands
+abbrev pub open_sets : Answers → List Candidate → List (List ℕ)
+open_sets known cs = fold (insert_key same_set) [] (unknown_sets known cs)
+
+-- The open candidates of a reduction: all that the round which it has come to waits for, as tidied scenarios. There are none where what
+-- is known leads to the end.
+abbrev pub open_candidates : KnownVerdicts → ℕ → Entries → List Entries
+open_candidates known code s = map (λ set. tidied (kept set s)) (open_sets (known_tests known code s) (round_at (place_of known code s)))
+
+-- the reduction of this component, a test at a time, comes to this place
+abbrev pub ComesTo : Component → ℕ → Entries → Position → Type 0
+ComesTo component code s place =
+    (steps : ℕ) × (walk steps (λ set. Some (fault_test (say component 0) code s set)) (start (all_faults s)) ≡ place)
+
+-- the end that what is known leads to, or all open candidates, at least one
+abbrev pub IsReached : KnownVerdicts → ℕ → Entries → Reached → Type 0
+IsReached known code s (Ended r) = place_of known code s ≡ End r
+IsReached known code s (Open untried) = (0 < length untried.items) × (untried.items ≡ open_candidates known code s)

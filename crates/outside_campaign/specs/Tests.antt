@@ -1,22 +1,21 @@
 -- What is known of a set of faults; the private contracts cite it.
-use Rattle.std.specs.Prelude.{◌≡◌, ℕ, true, List, [], ◌∷◌, ◌++◌, None}
-use Rattle.scenario_values.specs.Scenario.{Entries, all_faults}
-use Rattle.scenario_values.specs.Keep.{are_faults, kept}
+use Rattle.std.specs.Prelude.{◌≡◌, ℕ, true, List, [], ◌∷◌, ◌++◌, Some, None}
+use Rattle.scenario_values.specs.Scenario.{Entries}
+use Rattle.scenario_values.specs.Keep.{kept}
 use Rattle.scenario_values.specs.Tidied.{tidied}
-use Rattle.answer_text.specs.Known.{Book, verdict_in, Agrees}
-use Rattle.campaign_core.specs.FaultTest.{fault_test}
+use Rattle.answer_text.specs.Known.{KnownVerdicts}
 use Rattle.ddmin_parallel.specs.CoreEvents.{State, Put, apply, is_out, position, End}
 use Rattle.ddmin_parallel.specs.Ddmin.{Reduced}
-use Rattle.outside_campaign.specs.Outside.{Component, say}
+use Rattle.outside_campaign.specs.Reached.{known_tests}
 use Rattle.outside_campaign.specs.declared.reduction.Reached.{Reached}
 use Rattle.outside_campaign.specs.declared.reduction.Reached.TheVariants.{Reduced as Ended, Open}
 use Rattle.outside_campaign.specs.declared.reduction.Test.{Test}
 use Rattle.outside_campaign.specs.declared.reduction.Test.TheVariants.{Told, Untold}
 
--- the answer of each component that agrees with what is known, or the scenario that isn't answered
-abbrev pub IsTested : Book → ℕ → Entries → List ℕ → Test → Type 0
-IsTested book code s set (Told fails) = (component : Component) → Agrees component book → fails ≡ fault_test (say component 0) code s set
-IsTested book code s set (Untold t) = (are_faults (all_faults s) set ≡ true) × (t ≡ tidied (kept set s)) × (verdict_in book t ≡ None)
+-- what is known, or the scenario that isn't answered
+abbrev pub IsTested : KnownVerdicts → ℕ → Entries → List ℕ → Test → Type 0
+IsTested known code s set (Told fails) = known_tests known code s set ≡ Some fails
+IsTested known code s set (Untold t) = (known_tests known code s set ≡ None) × (t ≡ tidied (kept set s))
 
 -- what settling a card leaves: its answer put, or its scenario added to those that are to be tried
 abbrev pub IsSettled : State → State → List Entries → List Entries → List ℕ → Test → Type 0

@@ -1,12 +1,12 @@
--- What is told of the failures of a list of plans, by what is known.
-use Rattle.std.specs.Prelude.{◌≡◌, ℕ, ◌<◌, List, [], ◌∷◌, ◌++◌, length, map, Contains}
-use Rattle.std.specs.List.{AllByRecursion}
+-- What is told of the failures of a list of plans, by what is known; the contracts cite it.
+use Rattle.std.specs.Prelude.{◌≡◌, ℕ, ◌<◌, List, [], ◌∷◌, ◌++◌, length, map}
 use Rattle.scenario_values.specs.Scenario.{Entries}
 use Rattle.report.specs.Reports.{FindingFacts}
-use Rattle.answer_text.specs.Known.{Book, Agrees}
-use Rattle.campaign_core.specs.Findings.{reduction, reduced, plan_at, finding}
+use Rattle.answer_text.specs.Known.{KnownVerdicts, Agrees}
+use Rattle.campaign_core.specs.Findings.{reduction, reduced, finding}
 use Rattle.outside_campaign.specs.Outside.{Component, say}
-use Rattle.outside_campaign.specs.Reached.{IsOpen}
+use Rattle.outside_campaign.specs.Reached.{open_candidates}
+use Rattle.outside_campaign.specs.Asked.{open_cards}
 use Rattle.outside_campaign.specs.declared.findings.Look.{Look}
 use Rattle.outside_campaign.specs.declared.findings.Look.TheVariants as look
 use Rattle.outside_campaign.specs.declared.findings.Findings.{Findings}
@@ -22,22 +22,19 @@ told_of component number code s = record {
   tests = (reduction (say component) number code s).tests;
 }
 
--- the same of each component that agrees with what is known, or open candidates of its reduction
-abbrev pub IsLook : Book → ℕ → ℕ → Entries → Look → Type 0
-IsLook book number code s (look.Told f) = (component : Component) → Agrees component book → f ≡ told_of component number code s
-IsLook book number code s (look.Open cards) = (0 < length cards.items) × AllByRecursion (IsOpen book code s) cards.items
+-- the same of each component that agrees with what is known, which leaves nothing open; or the open candidates of its reduction
+abbrev pub IsLook : KnownVerdicts → ℕ → ℕ → Entries → Look → Type 0
+IsLook known number code s (look.Told f) =
+    (open_candidates known code s ≡ []) × ((component : Component) → Agrees component known → f ≡ told_of component number code s)
+IsLook known number code s (look.Open cards) = (0 < length cards.items) × (cards.items ≡ open_candidates known code s)
 
--- an open candidate of the reduction of one of these failures
-pub record IsCard (book : Book) (plans : List Entries) (failures : List (ℕ × ℕ)) (t : Entries) : Type 0 where
-  pub failure : ℕ × ℕ
-  pub one : Contains failures failure
-  pub card : IsOpen book failure.1 (plan_at plans failure.0) t
-
--- what is told of these failures for each component that agrees with what is known, or open candidates of their reductions
-abbrev pub AreFindings : Book → List Entries → List (ℕ × ℕ) → Findings → Type 0
-AreFindings book plans failures (findings.Told all) =
-    (component : Component) → Agrees component book → all.items ≡ map (finding (say component) plans) failures
-AreFindings book plans failures (findings.Open cards) = (0 < length cards.items) × AllByRecursion (IsCard book plans failures) cards.items
+-- what is told of these failures for each component that agrees with what is known, which leaves nothing open; or the open candidates of
+-- their reductions
+abbrev pub AreFindings : KnownVerdicts → List Entries → List (ℕ × ℕ) → Findings → Type 0
+AreFindings known plans failures (findings.Told all) =
+    (open_cards known plans failures ≡ [])
+    × ((component : Component) → Agrees component known → all.items ≡ map (finding (say component) plans) failures)
+AreFindings known plans failures (findings.Open cards) = (0 < length cards.items) × (cards.items ≡ open_cards known plans failures)
 
 -- what a look adds to what was gathered
 abbrev pub IsGathered : List FindingFacts → List FindingFacts → List Entries → List Entries → Look → Type 0

@@ -1,15 +1,19 @@
 //! What is still to be tried.
-ghost use Rattle.std.specs.Prelude.{◌≡◌, ◌<◌, ◌∷◌, [], All, length, map, IfOk, OnOk, fold};
+ghost use Rattle.std.specs.Prelude.{◌≡◌, ◌<◌, ◌≤◌, ◌∷◌, ◌++◌, [], All, length, map, IfOk, OnOk, fold, string_bytes};
 ghost use Rattle.std.specs.Str.{bytes_eq};
 ghost use Rattle.indexmap.specs.IndexSet.{insert_key};
-ghost use Rattle.report.specs.ReportText.{scenario_text};
-ghost use Rattle.outside_campaign.specs.Asked.{AreAsked, asked, open_plans};
+ghost use Rattle.report.specs.ReportText.{scenario_text, text_of};
+ghost use Rattle.answer_text.specs.Known.{verdict_in};
+ghost use Rattle.outside_campaign.specs.Asked.{asked, lines_for, open_plans};
+ghost use Rattle.outside_campaign.specs.Campaigns.{untried};
 
 use crate::findings::{Findings, findings_known};
+use crate::verdicts::plan_verdicts;
 use answer_text::Known;
 use indexmap::IndexSet;
 use plan_gen::Plan;
 use report::write_scenario;
+use result_book::first_failures_of;
 use scenario_values::{Scenario, Text, tidy};
 use std::alloc::{AllocError, Global};
 
@@ -43,7 +47,7 @@ fn add_plan(
     known: &Known,
     plan: &Plan<'_>,
 ) -> Result<(), AllocError>
-    ensures { OnOk result (lines.new.keys ≡ fold (insert_key bytes_eq) lines.old.keys (map scenario_text (open_plans known.now (plan.now ∷ [])))) }
+    ensures { OnOk result (lines.new.keys ≡ fold (insert_key bytes_eq) lines.old.keys (map scenario_text (open_plans (verdict_in known.now) (plan.now ∷ [])))) }
 {
     let scenario = plan.scenario(alloc)?;
     match known.verdict_of(alloc, &scenario)? {
@@ -61,7 +65,7 @@ fn add_plans(
     known: &Known,
     plans: &[Plan<'_>],
 ) -> Result<(), AllocError>
-    ensures { OnOk result (lines.new.keys ≡ fold (insert_key bytes_eq) lines.old.keys (map scenario_text (open_plans known.now plans.now))) }
+    ensures { OnOk result (lines.new.keys ≡ fold (insert_key bytes_eq) lines.old.keys (map scenario_text (open_plans (verdict_in known.now) plans.now))) }
 {
     for plan in plans {
         add_plan(alloc, lines, known, plan)?;
@@ -76,7 +80,7 @@ fn asked(
     cards: &[Scenario],
     plans: &[Plan<'_>],
 ) -> Result<IndexSet<Text>, AllocError>
-    ensures { IfOk result (λ lines. lines.keys ≡ asked known.now cards.now plans.now) }
+    ensures { IfOk result (λ lines. lines.keys ≡ lines_for (cards.now ++ open_plans (verdict_in known.now) plans.now)) }
 {
     let mut lines = IndexSet::new(alloc);
     add_cards(alloc, &mut lines, cards)?;
@@ -95,10 +99,34 @@ pub fn asks(
     failures: &[(u32, u32)],
 ) -> Result<IndexSet<Text>, AllocError>
     requires { All (λ f. f.0 < length plans.now) failures.now }
-    ensures { IfOk result (λ lines. AreAsked known.now plans.now failures.now lines.keys) }
+    ensures { IfOk result (λ lines. lines.keys ≡ asked (verdict_in known.now) plans.now failures.now) }
 {
     match findings_known(alloc, known, plans, failures)? {
         Findings::Told(_) => asked(alloc, known, &[], plans),
         Findings::Open(cards) => asked(alloc, known, cards.as_slice(), plans),
     }
+}
+
+/// The lines, each with its line feed. An error means that memory was refused.
+fn joined(alloc: Global, lines: &IndexSet<Text>) -> Result<String, AllocError>
+    ensures { IfOk result (λ text. string_bytes text ≡ text_of lines.now.keys) }
+{
+    let mut text = String::new(alloc);
+    for line in lines {
+        text.push_str(line.as_str())?;
+        text.push_str("\n")?;
+    }
+    Ok(text)
+}
+
+/// The lines that ask for what is still to be tried of these plans, where the reductions are those of the first failures known. An error
+/// means that memory was refused.
+pub fn asks_text(alloc: Global, known: &Known, plans: &[Plan<'_>]) -> Result<String, AllocError>
+    requires { length plans.now ≤ 65536 }
+    ensures { IfOk result (λ text. string_bytes text ≡ text_of (lines_for (untried (verdict_in known.now) plans.now))) }
+{
+    let verdicts = plan_verdicts(alloc, known, plans)?;
+    let failures = first_failures_of(alloc, verdicts.as_slice())?;
+    let lines = asks(alloc, known, plans, failures.as_slice())?;
+    joined(alloc, &lines)
 }

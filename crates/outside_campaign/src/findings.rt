@@ -1,5 +1,6 @@
 //! What is told of failures, by what is known.
 ghost use Rattle.std.specs.Prelude.{◌≡◌, ◌<◌, All, length, IfOk, OnOk};
+ghost use Rattle.answer_text.specs.Known.{verdict_in};
 ghost use Rattle.outside_campaign.specs.Told.{IsLook, IsGathered, AreFindings};
 
 use crate::reduction::{Reached, reduce_known};
@@ -13,7 +14,7 @@ use std::alloc::{AllocError, Global};
 #[derive(Drop)]
 enum Look {
     Told(Finding),
-    /// Scenarios that are to be tried first, at least one.
+    /// The open candidates of its reduction, at least one.
     Open(Vec<Scenario>),
 }
 
@@ -22,7 +23,7 @@ enum Look {
 pub enum Findings {
     /// What each is reduced to.
     Told(Vec<Finding>),
-    /// Tidied scenarios that are to be tried first, at least one. Two of them may be equal.
+    /// The open candidates of their reductions, as tidied scenarios, at least one. Two of them may be equal.
     Open(Vec<Scenario>),
 }
 
@@ -34,8 +35,9 @@ fn look_at(
     number: u32,
     code: u32,
 ) -> Result<Look, AllocError>
-    ensures { IfOk result (IsLook known.now number code scenario) }
+    ensures { IfOk result (IsLook (verdict_in known.now) number code scenario) }
 {
+    let _ = scenario.entries();
     match reduce_known(alloc, known, &scenario, code)? {
         Reached::Open(cards) => Ok(Look::Open(cards)),
         Reached::Reduced(reduction) => {
@@ -74,7 +76,7 @@ fn gather(
 }
 
 /// What is told of these failures, each the number of a plan and its code, by what is known: what each is reduced to, for each component
-/// that agrees with what is known; or scenarios that are to be tried first.
+/// that agrees with what is known; or the open candidates of their reductions.
 ///
 /// An error means that memory was refused.
 pub fn findings_known(
@@ -84,7 +86,7 @@ pub fn findings_known(
     failures: &[(u32, u32)],
 ) -> Result<Findings, AllocError>
     requires { All (λ f. f.0 < length plans.now) failures.now }
-    ensures { IfOk result (AreFindings known.now plans.now failures.now) }
+    ensures { IfOk result (AreFindings (verdict_in known.now) plans.now failures.now) }
 {
     let mut findings = Vec::new(alloc);
     let mut cards = Vec::new(alloc);

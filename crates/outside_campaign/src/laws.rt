@@ -1,15 +1,26 @@
 //! Laws on what is asked, as contracts of functions that do nothing.
-ghost use Rattle.std.specs.Prelude.{◌≡◌, ℕ, List, [], map};
-ghost use Rattle.scenario_values.specs.Scenario.{Entries};
-ghost use Rattle.report.specs.Reports.{FindingFacts};
-ghost use Rattle.answer_text.specs.Known.{Book, Agrees};
-ghost use Rattle.campaign_core.specs.Findings.{finding};
-ghost use Rattle.outside_campaign.specs.Outside.{Component, say};
-ghost use Rattle.outside_campaign.specs.Asked.{AreAsked, open_plans};
+ghost use Rattle.std.specs.Prelude.{◌≡◌, ◌↔◌, ℕ, List, []};
+ghost use Rattle.std.specs.List.{AllByRecursion};
+ghost use Rattle.scenario_values.specs.Scenario.{Entries, IsScenario};
+ghost use Rattle.answer_text.specs.Known.{KnownVerdicts, Agrees};
+ghost use Rattle.outside_campaign.specs.Outside.{Component};
+ghost use Rattle.outside_campaign.specs.Reached.{place_of, ComesTo};
+ghost use Rattle.outside_campaign.specs.Asked.{lines_for, IsUntried};
+ghost use Rattle.outside_campaign.specs.Campaigns.{untried};
 
-/// Where nothing is asked, each plan is answered, and what is known decides what is told of each failure.
-pub fn nothing_is_asked_where_all_is_told()
-    ensures { (book : Book) (plans : List Entries) (failures : List (ℕ × ℕ)) → AreAsked book plans failures []
-        → (open_plans book plans ≡ [])
-        × ((all : List FindingFacts) × ((component : Component) → Agrees component book → all ≡ map (finding (say component) plans) failures)) }
+/// No line is written just where nothing is still to be tried, which is where no report is refused for want of answers.
+pub fn nothing_is_asked_where_nothing_is_to_be_tried()
+    ensures { (scenarios : List Entries) → (lines_for scenarios ≡ []) ↔ (scenarios ≡ []) }
+{}
+
+/// What is still to be tried is tidied, and has no verdict yet.
+pub fn what_is_asked_is_unanswered()
+    ensures { (known : KnownVerdicts) (plans : List Entries) → AllByRecursion (IsUntried known) (untried known plans) }
+{}
+
+/// The reduction of each component that agrees with what is known comes to the round whose open candidates are asked: so what it tries
+/// next is among them.
+pub fn reductions_come_to_what_is_asked()
+    ensures { (known : KnownVerdicts) (code : ℕ) (scenario : Entries) (component : Component) → IsScenario scenario → Agrees component known
+        → ComesTo component code scenario (place_of known code scenario) }
 {}

@@ -2,13 +2,20 @@
 #![tactic(auto)]
 
 mod asking;
+mod driving;
 mod findings;
 mod laws;
+mod planned;
 mod reduction;
+mod refusal;
+mod results;
+mod telling;
 mod verdicts;
 
-pub use asking::asks;
-pub use findings::{Findings, findings_known};
-pub use laws::nothing_is_asked_where_all_is_told;
-pub use reduction::{Reached, reduce_known};
-pub use verdicts::{Verdicts, verdicts_known};
+pub use driving::{write_asks, write_told};
+pub use laws::{
+    nothing_is_asked_where_nothing_is_to_be_tried, reductions_come_to_what_is_asked,
+    what_is_asked_is_unanswered,
+};
+pub use planned::list_plans;
+pub use refusal::OutsideFault;

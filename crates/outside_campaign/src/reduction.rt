@@ -1,23 +1,23 @@
 //! Reductions by what is known.
 ghost use Rattle.std.specs.Prelude.{◌≡◌, IfOk, OnOk};
 ghost use Rattle.scenario_values.specs.Scenario.{all_faults};
-ghost use Rattle.campaign_core.specs.FaultTest.{fails_with};
+ghost use Rattle.answer_text.specs.Known.{verdict_in};
 ghost use Rattle.outside_campaign.specs.Reached.{IsReached};
 ghost use Rattle.outside_campaign.specs.Tests.{IsTested, IsSettled, IsEnded};
 
 use answer_text::Known;
-use campaign_core::fault_count;
+use campaign_core::{fails_with, fault_count};
 use ddmin_parallel::{Card, Core, Reduction};
 use scenario_values::{Scenario, are_faults, keep, tidy};
 use std::alloc::{AllocError, Global};
-use target_trait::Verdict;
 
 /// How far a reduction comes by what is known.
 #[derive(Drop)]
 pub enum Reached {
     /// To its end.
     Reduced(Reduction),
-    /// To a round that what is known doesn't decide: tidied scenarios of it that aren't answered, at least one. Two of them may be equal.
+    /// To a round that what is known doesn't decide: all candidates that it waits for, as tidied scenarios, at least one. Two of them may be
+    /// equal.
     Open(Vec<Scenario>),
 }
 
@@ -30,15 +30,6 @@ enum Test {
     Untold(Scenario),
 }
 
-fn fails_with(code: u32, verdict: Verdict) -> bool
-    ensures { result ≡ fails_with code verdict }
-{
-    match verdict {
-        Verdict::Fail(other) => other == code,
-        Verdict::Pass | Verdict::Unresolved => false,
-    }
-}
-
 /// What is known of the scenario with the faults of the set alone. A list that isn't faults of the scenario in ascending order fails not.
 fn look_up(
     alloc: Global,
@@ -49,7 +40,7 @@ fn look_up(
     set: &[u32],
 ) -> Result<Test, AllocError>
     requires { faults ≡ all_faults scenario.now }
-    ensures { IfOk result (IsTested known.now code scenario.now set.now) }
+    ensures { IfOk result (IsTested (verdict_in known.now) code scenario.now set.now) }
 {
     let _ = scenario.entries();
     if !are_faults(faults, set) {
@@ -102,8 +93,8 @@ fn ended(alloc: Global, core: &Core, untried: Vec<Scenario>) -> Result<Reached, 
     }
 }
 
-/// Reduces a scenario that fails with this code as far as what is known decides: to the reduction of each component that agrees with it,
-/// or to scenarios that are still to be tried.
+/// Reduces a scenario that fails with this code as far as what is known decides: to its end, which is that of each component that agrees
+/// with it, or to scenarios that are still to be tried.
 ///
 /// Each answer is looked up, and none is asked of a component; a verdict that isn't a failure with the code is no failure here. An error
 /// means that memory was refused.
@@ -113,7 +104,7 @@ pub fn reduce_known(
     scenario: &Scenario,
     code: u32,
 ) -> Result<Reached, AllocError>
-    ensures { IfOk result (IsReached known.now code scenario.now) }
+    ensures { IfOk result (IsReached (verdict_in known.now) code scenario.now) }
 {
     let faults = fault_count(alloc, scenario)?;
     let mut core = Core::start(alloc, faults);

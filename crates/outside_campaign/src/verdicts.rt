@@ -1,5 +1,9 @@
 //! The verdicts of plans, by what is known.
-ghost use Rattle.std.specs.Prelude.{◌≡◌, IfOk};
+ghost use Rattle.std.specs.Prelude.{◌≡◌, length, IfOk, OnOk};
+ghost use Rattle.std.specs.List.{AllByRecursion};
+ghost use Rattle.scenario_values.specs.Scenario.{IsScenario};
+ghost use Rattle.answer_text.specs.Known.{KnownVerdicts, verdict_in};
+ghost use Rattle.outside_campaign.specs.Asked.{plan_verdicts};
 ghost use Rattle.outside_campaign.specs.Verdicts.{AreVerdicts};
 
 use answer_text::Known;
@@ -17,23 +21,43 @@ pub enum Verdicts {
     NotAnswered(Scenario),
 }
 
-/// The verdicts of plans by what is known: those that each component that agrees with it gives them; or the first plan that isn't
-/// answered. An error means that memory was refused.
-pub fn verdicts_known(
+/// The verdict of each plan, where it is known. An error means that memory was refused.
+pub fn plan_verdicts(
     alloc: Global,
     known: &Known,
     plans: &[Plan<'_>],
-) -> Result<Verdicts, AllocError>
-    ensures { IfOk result (AreVerdicts known.now plans.now) }
+) -> Result<Vec<Option<Verdict>>, AllocError>
+    ensures verdicts { IfOk result (λ verdicts. verdicts.items ≡ plan_verdicts (verdict_in known.now) plans.now) }
+    ensures lawful { OnOk result (AllByRecursion (λ s. IsScenario s) plans.now) }
 {
     let mut verdicts = Vec::with_capacity(alloc, plans.len())?;
     for plan in plans {
         let scenario = plan.scenario(alloc)?;
         let _ = scenario.entries();
-        let Some(verdict) = known.verdict_of(alloc, &scenario)? else {
-            return Ok(Verdicts::NotAnswered(tidy(alloc, &scenario)?));
-        };
+        let verdict = known.verdict_of(alloc, &scenario)?;
         verdicts.push(verdict)?;
     }
-    Ok(Verdicts::All(verdicts))
+    Ok(verdicts)
+}
+
+/// The verdicts of plans where each is known: those that each component that agrees with what is known gives them; or the first plan that
+/// isn't answered. An error means that memory was refused.
+pub fn verdicts_known(
+    alloc: Global,
+    plans: &[Plan<'_>],
+    verdicts: &[Option<Verdict>],
+) -> Result<Verdicts, AllocError>
+    requires many { length verdicts.now ≡ length plans.now }
+    requires lawful { AllByRecursion (λ s. IsScenario s) plans.now }
+    ensures { IfOk result (λ r. (known : KnownVerdicts) → verdicts.now ≡ plan_verdicts known plans.now → AreVerdicts known plans.now r) }
+{
+    let mut all = Vec::with_capacity(alloc, plans.len())?;
+    for i in 0..verdicts.len() {
+        let Some(verdict) = verdicts[i] else {
+            let scenario = plans[i].scenario(alloc)?;
+            return Ok(Verdicts::NotAnswered(tidy(alloc, &scenario)?));
+        };
+        all.push(verdict)?;
+    }
+    Ok(Verdicts::All(all))
 }

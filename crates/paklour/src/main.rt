@@ -1,14 +1,18 @@
-//! The command `paklour`: reads settings from a file or from standard input, and does one command with the target that they choose.
+//! The command `paklour`: reads settings from a file or from standard input, and does one command with the target that they choose; or
+//! reads settings from a file, answers from standard input, and says what is still to be tried, or what they come to.
 #![tactic(auto)]
 
+ghost use Rattle.std.specs.Prelude.{◌≡◌, false};
+
 use campaign_main::{
-    Exit, Line, perform, read_words, refuse_words, status, unreadable_settings, unreadable_words,
+    Exit, Line, Order, Question, perform, perform_outside, read_words, refuse_words, status,
+    unreadable_settings, unreadable_words,
 };
 use std::process::ExitCode;
 use std::sync::Wait;
 use std::thread::Threads;
 use std::{env, fs, io};
-use target_trait::Out;
+use target_trait::{Out, Sink};
 
 fn main(rt: HostRuntime) -> ExitCode {
     let exit = run(&rt, &rt);
@@ -30,17 +34,57 @@ fn run<H: Threads + Wait + Sync>(rt: &HostRuntime, threads: &H) -> Exit {
         Ok(words) => words,
         Err(error) => return unreadable_words(&error, &mut faults),
     };
-    let line = match read_words(alloc, words.as_slice()) {
-        Ok(line) => line,
-        Err(fault) => return refuse_words(alloc, &fault, &mut output, &mut faults),
-    };
-    let Line { order, file } = line;
+    match read_words(alloc, words.as_slice()) {
+        Ok(Line::Own { order, file }) => {
+            run_order(rt, threads, &order, file, &mut output, &mut faults)
+        }
+        Ok(Line::Outside { question, file }) => {
+            run_question(rt, &question, file, &mut output, &mut faults)
+        }
+        Err(fault) => refuse_words(alloc, &fault, &mut output, &mut faults),
+    }
+}
+
+/// Does what is ordered, by settings from a file or from standard input.
+fn run_order<W: Sink, E: Sink, H: Threads + Wait + Sync>(
+    rt: &HostRuntime,
+    threads: &H,
+    order: &Order,
+    file: Option<String>,
+    output: &mut W,
+    faults: &mut E,
+) -> Exit
+    requires output { W.has_failed output.old ≡ false }
+    requires faults { E.has_failed faults.old ≡ false }
+{
+    let alloc = rt.alloc();
     let Some(path) = file else {
         let mut input = rt.stdin();
-        return perform(threads, alloc, &order, &mut input, &mut output, &mut faults);
+        return perform(threads, alloc, order, &mut input, output, faults);
     };
     match fs::open(rt, path) {
-        Ok(mut input) => perform(threads, alloc, &order, &mut input, &mut output, &mut faults),
-        Err(error) => unreadable_settings(&error, &mut faults),
+        Ok(mut input) => perform(threads, alloc, order, &mut input, output, faults),
+        Err(error) => unreadable_settings(&error, faults),
+    }
+}
+
+/// Answers a question, by settings from a file and answers from standard input.
+fn run_question<W: Sink, E: Sink>(
+    rt: &HostRuntime,
+    question: &Question,
+    path: String,
+    output: &mut W,
+    faults: &mut E,
+) -> Exit
+    requires output { W.has_failed output.old ≡ false }
+    requires faults { E.has_failed faults.old ≡ false }
+{
+    let mut answers = rt.stdin();
+    match fs::open(rt, path) {
+        Ok(mut settings) => {
+            let alloc = rt.alloc();
+            perform_outside(alloc, question, &mut settings, &mut answers, output, faults)
+        }
+        Err(error) => unreadable_settings(&error, faults),
     }
 }

@@ -1,8 +1,9 @@
-use Rattle.std.proofs.Common.{Err, ap, inl, subst}
+use Rattle.std.proofs.Common.{List, ℕ, Err, ap, inl, subst}
 use Rattle.campaign_main.specs.declared.exit.Exit.{Exit}
 use Rattle.campaign_main.specs.Commands.{Answer, text_answer}
+use Rattle.campaign_main.specs.Minimal.{TextReducesToMinimal}
 use Rattle.campaign_main.specs.Ends.{EndsAs, IsRefused, TellsBy, TellsRefusal}
-use Rattle.campaign_main.proofs.EndLemmas.{cause-unread, read-answer, tells-unread}
+use Rattle.campaign_main.proofs.EndLemmas.{cause-unread, read-answer, read-whole, tells-unread, whole-map}
 use Rattle.campaign_main.proofs.performing.perform.Goals as goal
 
 pub returns-in-Ok-clause-end : goal.returns-in-Ok-clause-end
@@ -31,3 +32,8 @@ returns-in-Err-clause-cause g c =
 
 pub returns-in-Err-clause-told : goal.returns-in-Err-clause-told
 returns-in-Err-clause-told g c = tells-unread c.in-Err.fault c.unread.result _ _ _ c.unread.ensures.end c.unread.ensures.memory
+
+pub returns-in-Ok-clause-minimal : goal.returns-in-Ok-clause-minimal
+returns-in-Ok-clause-minimal g c =
+    let P : List ℕ → Type 0 = TextReducesToMinimal c.args.order.now in
+    whole-map c.perform_text.result _ _ (λ h. read-whole _ _ _ P c.as_str.ensures.value c.in-Ok.ensures.ok h) c.perform_text.ensures.minimal

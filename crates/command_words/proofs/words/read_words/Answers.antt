@@ -1,7 +1,7 @@
 use Rattle.std.proofs.Common.{◌≡◌, ◌∙◌, Some, map, refl, string_bytes, sym}
 use Rattle.clap.specs.Words.{found_of, rows_of, subcommand_of}
 use Rattle.command_words.specs.Words.{paklour}
-use Rattle.command_words.proofs.WordsLemmas.{entered-is, line-read, name-entered, no-fault, none-entered, refused-for, rows-entered, text-given}
+use Rattle.command_words.proofs.WordsLemmas.{entered-is, line-read, name-entered, no-fault, none-entered, refused-for, rows-entered, needed-given}
 use Rattle.command_words.proofs.words.read_words.Goals as goal
 
 pub returns-in-Err-clause-refused : goal.returns-in-Err-clause-refused
@@ -17,7 +17,7 @@ line_of-requires c =
     ∙ rows-entered c.in-Ok.matches c.in-Some.name.now (rows_of (found_of c.in-Some.own.now)) c.in-Some.ensures.name c.in-Some.ensures.rows in
     record {
       name = name-entered words c.in-Some.name.now (rows_of (found_of c.in-Some.own.now)) none entered;
-      text = text-given words c.in-Some.name.now (found_of c.in-Some.own.now) none entered;
+      needed = needed-given words c.in-Some.name.now (found_of c.in-Some.own.now) none entered;
     }
 
 pub returns-in-Some-clause-ok : goal.returns-in-Some-clause-ok
@@ -35,7 +35,7 @@ pub returns-clause-ok : goal.returns-clause-ok
 returns-clause-ok c =
     let words = map string_bytes c.args.words.now in
     let is = entered-is c.in_ok-command.command c.in-Ok.matches words c.in_ok-command.ensures c.in-Ok.ensures.matches in
-    rw (← is, none-entered c.in-Ok.matches c.in-None.ensures.name) (tt, refl)
+    rw (← is, none-entered c.in-Ok.matches c.in-None.ensures.name) refl
 
 pub returns-clause-taken : goal.returns-clause-taken
 returns-clause-taken c =

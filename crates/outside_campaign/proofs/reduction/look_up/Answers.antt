@@ -10,5 +10,5 @@ pub returns-in-Some : goal.returns-in-Some
 returns-in-Some c =
     let faults : are_faults (all_faults c.args.scenario.now) c.args.set.now ≡ true =
     ap (λ (n : ℕ). are_faults n c.args.set.now) (sym c.requires) ∙ sym c.are_faults.ensures ∙ c.if-not-are_faults.false in
-    told_by c.args.known.now c.args.code c.args.scenario.now c.args.set.now c.in-Some.verdict c.fails_with.result c.entries.ensures.limits faults
+    told_by (verdict_in c.args.known.now) c.args.code c.args.scenario.now c.args.set.now c.in-Some.verdict c.fails_with.result faults
     (sym c.in-Some.is ∙ c.in_ok-verdict.ensures ∙ ap (λ (k : Entries). verdict_in c.args.known.now (tidied k)) c.in_ok-kept.ensures) c.fails_with.ensures

@@ -1,5 +1,5 @@
-use Rattle.outside_campaign.proofs.Lines.{Answered}
+use Rattle.std.proofs.Common.{◌≡◌, Some, map, take}
 use Rattle.outside_campaign.proofs.verdicts.verdicts_known.Given as goal
 
-abbrev pub invariant-loop-plan : goal.invariant-loop-plan
-invariant-loop-plan l = Answered l.known l.plans l.plan-index l.verdicts.items
+abbrev pub invariant-loop-i : goal.invariant-loop-i
+invariant-loop-i l = map (λ v. Some v) l.all.items ≡ take l.i l.verdicts

@@ -1,0 +1,163 @@
+//! Campaigns on made-up components, from nothing known to the report.
+
+use crate::plain::{number_of, plain_report, tidied_text, verdict_of};
+use campaign_settings::{Choice, Outside, Settings};
+use outside_campaign::{OutsideFault, list_plans, write_asks, write_told};
+use std::alloc::Global;
+use std::fmt::Write;
+use std::process::Abort;
+use std::test::Fail;
+use target_trait::Out;
+
+/// Settings whose two points are hit so often.
+fn settings(alloc: Global, first: u32, second: u32) -> Result<Settings, Fail> {
+    let text = format!(in alloc;
+        "target = \"outside\"\nseed = 7\npairs = true\nstorms = 4\nrate = 700\nscenarios = [\"p=2*off->1*off->return->off\"]\n[outside]\nlabel = \"t\"\ncodes = [\"a\", \"b\"]\npoints = [\"p\", \"q\"]\nhits = [{first}, {second}]\n"
+    )?;
+    match Settings::read(alloc, &text) {
+        Ok(settings) => Ok(settings),
+        Err(_) => Err(Fail::from("no settings")),
+    }
+}
+
+fn text_in(out: Out<Vec<u8>>) -> Result<String, Fail> {
+    match String::from_utf8(out.into_writer()) {
+        Ok(text) => Ok(text),
+        Err(_) => Err(Fail::from("no text")),
+    }
+}
+
+fn plans(alloc: Global, outside: &Outside, settings: &Settings) -> Result<String, Fail> {
+    let mut out = Out::new(Vec::new(alloc));
+    match list_plans(alloc, outside, settings, &mut out) {
+        Ok(()) => text_in(out),
+        Err(_) => Err(Fail::from("no plans")),
+    }
+}
+
+fn asks(
+    alloc: Global,
+    outside: &Outside,
+    settings: &Settings,
+    answers: &str,
+) -> Result<String, Fail> {
+    let mut out = Out::new(Vec::new(alloc));
+    match write_asks(alloc, outside, settings, answers.as_bytes(), &mut out) {
+        Ok(()) => text_in(out),
+        Err(_) => Err(Fail::from("nothing asked")),
+    }
+}
+
+/// The report, or `not answered` and the scenario.
+fn told(
+    alloc: Global,
+    outside: &Outside,
+    settings: &Settings,
+    answers: &str,
+) -> Result<String, Fail> {
+    let mut out = Out::new(Vec::new(alloc));
+    match write_told(alloc, outside, settings, answers.as_bytes(), &mut out) {
+        Ok(_) => text_in(out),
+        Err(OutsideFault::NotAnswered(scenario)) => {
+            let text = tidied_text(alloc, &scenario)?;
+            Ok(format!(in alloc; "not answered {text}")?)
+        }
+        Err(_) => Err(Fail::from("no report")),
+    }
+}
+
+/// Answers some of the lines, the first among them, the last ones first in every other round.
+fn answer_some(alloc: Global, salt: u32, asked: &str, answers: &mut String) -> Result<(), Fail> {
+    let mut lines = Vec::new(alloc);
+    for line in asked.lines() {
+        if lines.is_empty() || number_of(salt ^ 255, line) % 3 > 0 {
+            lines.push(line)?;
+        }
+    }
+    if salt % 2 == 0 {
+        lines.reverse();
+    }
+    for line in lines {
+        let verdict = verdict_of(salt, line);
+        writeln!(answers, "{verdict}\t{line}")?;
+    }
+    Ok(())
+}
+
+/// The campaign on this component ends with the report of the plain recursion, and before that the first line asked is missing.
+fn comes_to_the_plain_report(rt: &impl Abort, alloc: Global, salt: u32) -> Result<(), Fail> {
+    let (first, second) = (salt % 3, salt / 3 % 3);
+    let settings = settings(alloc, first, second)?;
+    let Some(Choice::Outside(outside)) = &settings.choice else {
+        return Err(Fail::from("another target"));
+    };
+    let mut answers = String::new(alloc);
+    for _ in 0..200 {
+        let asked = asks(alloc, outside, &settings, answers.as_str())?;
+        let report = told(alloc, outside, &settings, answers.as_str())?;
+        let Some(line) = asked.as_str().lines().next() else {
+            let head = format!(in alloc; "census p {first}\ncensus q {second}\n")?;
+            let plans = plans(alloc, outside, &settings)?;
+            assert_eq!(rt;
+                report.as_str(),
+                plain_report(alloc, salt, &head, &plans)?.as_str(),
+                "at {salt}"
+            );
+            return Ok(());
+        };
+        assert_eq!(rt;
+            report.strip_prefix("not answered "),
+            Some(line),
+            "at {salt}"
+        );
+        answer_some(alloc, salt, asked.as_str(), &mut answers)?;
+    }
+    Err(Fail::from("a campaign without end"))
+}
+
+#[test]
+fn campaigns_come_to_the_plain_report(rt: HostRuntime) -> Result<(), Fail> {
+    for salt in 0..1000 {
+        comes_to_the_plain_report(&rt, rt.alloc(), salt)?;
+    }
+    Ok(())
+}
+
+/// What is asked by these answers is refused with the answers' fault, told so.
+fn is_refused(rt: &impl Abort, alloc: Global, answers: &str, line: &str) -> Result<(), Fail> {
+    let settings = settings(alloc, 1, 1)?;
+    let Some(Choice::Outside(outside)) = &settings.choice else {
+        return Err(Fail::from("another target"));
+    };
+    let mut out = Out::new(Vec::new(alloc));
+    match write_asks(alloc, outside, &settings, answers.as_bytes(), &mut out) {
+        Err(OutsideFault::Answers(fault)) => {
+            assert_eq!(rt; format!(in alloc; "{fault}")?.as_str(), line);
+            Ok(())
+        }
+        _ => Err(Fail::from("the answers are taken")),
+    }
+}
+
+#[test]
+fn faulty_answers_are_refused(rt: HostRuntime) -> Result<(), Fail> {
+    let alloc = rt.alloc();
+    is_refused(
+        &rt,
+        alloc,
+        "pass\tnone\nfail a\t\n",
+        "answers: line 2: contradicts line 1",
+    )?;
+    is_refused(
+        &rt,
+        alloc,
+        "pass\tnone\npass\tp=return",
+        "answers: line 2: not ended",
+    )?;
+    is_refused(
+        &rt,
+        alloc,
+        "fail c\tnone\n",
+        "answers: line 1: unknown code",
+    )
+}

@@ -1,0 +1,278 @@
+-- Ends of questions, by what they came to and by what was read.
+use Rattle.std.proofs.Common.{◌≡◌, ◌≤◌, ◌<◌, ◌∙◌, ◌==◌, [], ◌∷◌, ℕ, Bool, true, false, List, Option, Some, None, IfSome, IfErr, IsErrAnd, Result, Ok, Err, length, is_some, refl, sym, ap, inl, inr, subst, if◌then◌else◌}
+use Rattle.std.specs.Io.KnownBytes.{Appends}
+use Rattle.std.specs.Str.{IsUtf8}
+use Rattle.answer_text.specs.Answers.{Answer as Told, most_bytes}
+use Rattle.answer_text.specs.FirstFault.{pieces_from, reading_of}
+use Rattle.answer_text.specs.declared.fault.AnswersFault.{AnswersFault}
+use Rattle.answer_text.specs.declared.fault.AnswersFault.TheVariants as answers
+use Rattle.std.specs.List.{slice_split}
+use Rattle.std.proofs.lemmas.Bool.{lt-ltb}
+use Rattle.campaign_settings.specs.Description.{Description}
+use Rattle.campaign_settings.specs.Settings.{Cause, Read, Given, RefusedBy, given_of, settings_of, too_long, wrong}
+use Rattle.campaign_settings.specs.declared.choice.Choice.{Choice}
+use Rattle.campaign_settings.specs.declared.choice.Choice.TheVariants as choice
+use Rattle.campaign_settings.specs.declared.fault.SettingsFault.{SettingsFault}
+use Rattle.campaign_settings.specs.declared.fault.SettingsFault.TheVariants as settings
+use Rattle.campaign_settings.specs.declared.keys.Key.TheVariants as key
+use Rattle.campaign_settings.specs.declared.keys.KeyFault.TheVariants as fault
+use Rattle.campaign_settings.specs.declared.settings.Settings.{Settings}
+use Rattle.campaign_core.specs.declared.ending.CampaignFault.{CampaignFault}
+use Rattle.campaign_core.specs.declared.ending.CampaignFault.TheVariants as campaign
+use Rattle.command_words.specs.declared.words.Question.{Question}
+use Rattle.command_words.specs.declared.words.Question.TheVariants.{Asks, Report}
+use Rattle.outside_campaign.specs.Campaigns.{AsksFault, ReportFault}
+use Rattle.outside_campaign.specs.declared.refusal.OutsideFault.{OutsideFault}
+use Rattle.outside_campaign.specs.declared.refusal.OutsideFault.TheVariants as outside
+use Rattle.campaign_main.specs.declared.exit.Exit.{Exit}
+use Rattle.campaign_main.specs.declared.exit.Exit.TheVariants as exit
+use Rattle.campaign_main.specs.declared.input.ReadFault.{ReadFault}
+use Rattle.campaign_main.specs.declared.input.ReadFault.TheVariants as read
+use Rattle.campaign_main.specs.Commands.{Refusal, bad_answers, bad_settings, bundled_target, not_answered, not_text, of_text, too_many_plans}
+use Rattle.campaign_main.specs.Ends.{IsEndOf, IsTold, IsUntouched, Leaves, RefusesWith, TellsBy}
+use Rattle.campaign_main.specs.Exit.{exit_of}
+use Rattle.campaign_main.specs.FaultLines.{answers_read_line, read_fault_line, refusal_line, settings_line, unreadable_answers_line, unreadable_line}
+use Rattle.campaign_main.specs.Questions.{ComesToText, EndsAnswered, EndsQuestion, EndsUnanswered, FallsShortOf, IsAnswered, IsEndOfQuestion, IsNotAnswered, IsPart, RefusesQuestion, Subject, TellsOfQuestion, TellsWhy, chosen_subject, given_subject, subject_of, text_subject}
+use Rattle.campaign_main.proofs.EndLemmas.{broken-meaning, if_some, long-meaning, memory-apart, read-meaning, tells-by, text-meaning, unset-cause}
+
+-- ---- by what the lower crate came to
+
+module _ (s : Settings) (d : Description) (answers : List ℕ) (old new : Option (List ℕ)) (failed : Bool) where
+  asks-short : (f : OutsideFault) → AsksFault d s answers old new failed f → FallsShortOf Asks (given_of s, d) answers old new failed f
+  asks-short (outside.Answers f) h = ((h.0, h.1), h.2)
+  asks-short (outside.NotAnswered t) h = absurd h
+  asks-short (outside.Campaign campaign.TooManyPlans) h = ((h.0, h.1), h.2)
+  asks-short (outside.Campaign campaign.Memory) h = h
+  asks-short (outside.Campaign (campaign.Write n)) h = (h.0, h.1)
+
+  report-short : (f : OutsideFault) → ReportFault d s answers old new failed f → FallsShortOf Report (given_of s, d) answers old new failed f
+  report-short (outside.Answers f) h = ((h.0, h.1), h.2)
+  report-short (outside.NotAnswered t) h = ((h.0, h.1), h.2)
+  report-short (outside.Campaign campaign.TooManyPlans) h = ((h.0, h.1), h.2)
+  report-short (outside.Campaign campaign.Memory) h = h
+  report-short (outside.Campaign (campaign.Write n)) h = (h.0, h.1)
+
+  -- a fault that is passed up
+  short-of-up : (question : Question) (result : Result Bool OutsideFault) (f : OutsideFault) → IsErrAnd result (λ e. e ≡ f)
+      → FallsShortOf question (given_of s, d) answers old new failed f → ComesToText question (given_of s, d) answers old new failed result
+  short-of-up question (Ok found) f is short = absurd is
+  short-of-up question (Err e) f is short = let P : OutsideFault → Type 0 = λ x. FallsShortOf question (given_of s, d) answers old new failed x in subst P (sym is) short
+
+  pub asks-up : (result : Result Bool OutsideFault) (f : OutsideFault) → IsErrAnd result (λ e. e ≡ f) → AsksFault d s answers old new failed f → ComesToText Asks (given_of s, d) answers old new failed result
+  asks-up result f is h = short-of-up Asks result f is (asks-short f h)
+
+  pub report-up : (result : Result Bool OutsideFault) (f : OutsideFault) → IsErrAnd result (λ e. e ≡ f) → ReportFault d s answers old new failed f → ComesToText Report (given_of s, d) answers old new failed result
+  report-up result f is h = short-of-up Report result f is (report-short f h)
+
+-- ---- by what a question came to
+
+module _ (question : Question) (s : Subject) (answers : List ℕ) where
+  module _ (old new : Option (List ℕ)) (failed : Bool) where
+    pub answered-ends : (found : Bool) → IsAnswered question s answers old new failed found → EndsAnswered question s answers (exit_of found) old new failed
+    answered-ends false h = h
+    answered-ends true h = h
+
+    answered-sound : (q : Question) (found : Bool) → IsAnswered q s answers old new failed found → failed ≡ false
+    answered-sound Asks found h = h.sound
+    answered-sound Report found h = h.sound
+
+    part-broken : (q : Question) (n : ℕ) → IsPart q s answers old new failed n → failed ≡ true
+    part-broken Asks n h = h.1
+    part-broken Report n h = h.1
+
+    pub answered-leaves : (end : Exit) → EndsAnswered question s answers end old new failed → Leaves end old new failed
+    answered-leaves exit.Kept h = answered-sound question false h
+    answered-leaves exit.Found h = answered-sound question true h
+    answered-leaves exit.Refused h = h
+    answered-leaves exit.Memory h = h
+    answered-leaves (exit.Write n) h = part-broken question n h
+
+    module _ (line line' : Option (List ℕ)) (broken : Bool) where
+      pub refused-ends : (text : List ℕ) (end : Exit) → IsUntouched old new failed → RefusesWith text end line line' broken → EndsAnswered question s answers end old new failed
+      refused-ends text exit.Kept h is = absurd is
+      refused-ends text exit.Found h is = absurd is
+      refused-ends text exit.Refused h is = h
+      refused-ends text exit.Memory h is = h
+      refused-ends text (exit.Write n) h is = absurd is
+
+      pub short-ends : (f : OutsideFault) (end : Exit) → FallsShortOf question s answers old new failed f → IsEndOfQuestion f end line line' broken → EndsAnswered question s answers end old new failed
+      short-ends (outside.Answers f) end short is = refused-ends _ end short.0 is
+      short-ends (outside.NotAnswered t) end short is = refused-ends _ end short.0 is
+      short-ends (outside.Campaign campaign.TooManyPlans) end short is = let P : Exit → Type 0 = λ e. EndsAnswered question s answers e old new failed in subst P (sym is.0) short.0
+      short-ends (outside.Campaign campaign.Memory) end short is = let P : Exit → Type 0 = λ e. EndsAnswered question s answers e old new failed in subst P (sym is.0) short
+      short-ends (outside.Campaign (campaign.Write n)) end short is = let P : Exit → Type 0 = λ e. EndsAnswered question s answers e old new failed in subst P (sym is.0) short
+
+      -- a refusal whose line is told
+      why : (refusal : Refusal) (end : Exit) → RefusesQuestion question (Ok s) answers refusal → RefusesWith (refusal_line refusal) end line line' broken → end ≡ exit.Refused → TellsWhy question (Ok s) answers line line' broken
+      why refusal end because is refused =
+          let P : Exit → Type 0 = λ e. RefusesWith (refusal_line refusal) e line line' broken in (refusal, because, subst P refused is)
+
+      pub short-tells : (f : OutsideFault) (end : Exit) → FallsShortOf question s answers old new failed f → IsEndOfQuestion f end line line' broken → TellsBy (TellsWhy question (Ok s) answers line line' broken) end line line' broken
+      short-tells (outside.Answers f) end short is = tells-by _ _ end line line' broken is (why (bad_answers f) end short.1 is)
+      short-tells (outside.NotAnswered t) end short is = tells-by _ _ end line line' broken is (why (not_answered t) end short.1 is)
+      short-tells (outside.Campaign campaign.TooManyPlans) end short is =
+          let P : Exit → Type 0 = λ e. TellsBy (TellsWhy question (Ok s) answers line line' broken) e line line' broken in subst P (sym is.0) (too_many_plans, short.1, is.1)
+      short-tells (outside.Campaign campaign.Memory) end short is = let P : Exit → Type 0 = λ e. TellsBy (TellsWhy question (Ok s) answers line line' broken) e line line' broken in subst P (sym is.0) is.1
+      short-tells (outside.Campaign (campaign.Write n)) end short is = let P : Exit → Type 0 = λ e. TellsBy (TellsWhy question (Ok s) answers line line' broken) e line line' broken in subst P (sym is.0) is.1
+
+-- what is told of a question's refusal is the line of some refusal
+pub some-why : (question : Question) (read : Result Subject Refusal) (answers : List ℕ) (end : Exit) (old new : Option (List ℕ)) (failed : Bool)
+    → TellsBy (TellsWhy question read answers old new failed) end old new failed → TellsOfQuestion end old new failed
+some-why question read answers exit.Kept old new failed told = told
+some-why question read answers exit.Found old new failed told = told
+some-why question read answers exit.Refused old new failed told = inl (told.0, told.2)
+some-why question read answers exit.Memory old new failed told = told
+some-why question read answers (exit.Write n) old new failed told = told
+
+pub refused-why : (claim : Type 0) (end : Exit) (old new : Option (List ℕ)) (failed : Bool) → end ≡ exit.Refused → TellsBy claim end old new failed → claim
+refused-why claim end old new failed refused told = let P : Exit → Type 0 = λ e. TellsBy claim e old new failed in subst P refused told
+
+-- an end that refuses with a line wrote nothing, whatever the question is about
+pub refused-question : (question : Question) (read : Result Subject Refusal) (answers : List ℕ) (line : List ℕ) (end : Exit) (old new : Option (List ℕ)) (failed : Bool) (output : Option (List ℕ)) (broken : Bool)
+    → RefusesWith line end old new failed → broken ≡ false → EndsQuestion question read answers end output output broken
+refused-question question read answers line exit.Kept old new failed output broken told sound = absurd told
+refused-question question read answers line exit.Found old new failed output broken told sound = absurd told
+refused-question question (Ok s) answers line exit.Refused old new failed output broken told sound = (refl, sound)
+refused-question question (Err r) answers line exit.Refused old new failed output broken told sound = (refl, sound)
+refused-question question (Ok s) answers line exit.Memory old new failed output broken told sound = (refl, sound)
+refused-question question (Err r) answers line exit.Memory old new failed output broken told sound = (refl, sound)
+refused-question question read answers line (exit.Write n) old new failed output broken told sound = absurd told
+
+-- a text that is too long
+long-answers : (names : List (List ℕ)) (text : List ℕ) → most_bytes < length text → reading_of names text ≡ Err answers.TooLong
+unfolding reading_of
+long-answers names text many =
+    let rest : Result (List Told) AnswersFault = pieces_from names [] (slice_split (λ b. b == 10) text) in
+    let f : Bool → Result (List Told) AnswersFault = λ b. if b then Err answers.TooLong else rest in
+    ap f (lt-ltb most_bytes (length text) many)
+
+-- ---- by the answers that a reader gave
+
+module _ (question : Question) (s : Subject) (known : Option (List ℕ)) where
+  -- what holds of the bytes that were read holds of those that the reader tells
+  pub of-bytes : (bytes : List ℕ) (P : List ℕ → Type 0) → IfSome known (λ xs. bytes ≡ xs) → P bytes → IfSome known P
+  of-bytes bytes P is h = if_some known (λ xs. bytes ≡ xs) P (λ xs e. subst P e h) is
+
+  pub cause-unread-answers : (f : ReadFault) (end : Exit) (old new : Option (List ℕ)) (failed : Bool)
+      → (f ≡ read.TooLong → IfSome known (λ bytes. 268435456 < length bytes))
+      → RefusesWith (answers_read_line f) end old new failed → (f ≡ read.Memory → end ≡ exit.Memory) → end ≡ exit.Refused
+      → IfSome known (λ bytes. IsNotAnswered question (Ok s) bytes old new failed)
+  cause-unread-answers read.TooLong end old new failed long told memory refused =
+      let P : Exit → Type 0 = λ e. RefusesWith (answers_read_line read.TooLong) e old new failed in
+      if_some known _ (λ bytes. IsNotAnswered question (Ok s) bytes old new failed)
+      (λ bytes h. inl (bad_answers _, long-answers s.1.codes bytes h, subst P refused told)) (long refl)
+  cause-unread-answers read.NotUtf8 end old new failed long told memory refused =
+      let P : Exit → Type 0 = λ e. RefusesWith unreadable_answers_line e old new failed in
+      elim known as (λ k. IfSome k (λ bytes. IsNotAnswered question (Ok s) bytes old new failed)) [ None ↦ tt | Some bytes ↦ inr (inr (subst P refused told)) ]
+  cause-unread-answers read.NotReadable end old new failed long told memory refused =
+      let P : Exit → Type 0 = λ e. RefusesWith unreadable_answers_line e old new failed in
+      elim known as (λ k. IfSome k (λ bytes. IsNotAnswered question (Ok s) bytes old new failed)) [ None ↦ tt | Some bytes ↦ inr (inr (subst P refused told)) ]
+  cause-unread-answers read.Memory end old new failed long told memory refused = memory-apart end (memory refl) refused
+
+-- what holds of all bytes
+pub for-any : (known : Option (List ℕ)) (P : List ℕ → Type 0) → ((bytes : List ℕ) → P bytes) → IfSome known P
+for-any None P h = tt
+for-any (Some bytes) P h = h bytes
+
+pub refused-any : (question : Question) (read : Result Subject Refusal) (known : Option (List ℕ)) (line : List ℕ) (end : Exit) (old new : Option (List ℕ)) (failed : Bool) (output : Option (List ℕ)) (broken : Bool)
+    → RefusesWith line end old new failed → broken ≡ false → IfSome known (λ bytes. EndsQuestion question read bytes end output output broken)
+refused-any question read known line end old new failed output broken told sound =
+    for-any known (λ bytes. EndsQuestion question read bytes end output output broken)
+    (λ bytes. refused-question question read bytes line end old new failed output broken told sound)
+
+-- ---- by what the settings come to
+
+module _ (question : Question) (read : Result Subject Refusal) (refusal : Refusal) (is : read ≡ Err refusal) where
+  -- a refusal by the settings, whose line is told
+  pub settings-why : (known : Option (List ℕ)) (end : Exit) (old new : Option (List ℕ)) (failed : Bool) → RefusesWith (refusal_line refusal) end old new failed → end ≡ exit.Refused
+      → IfSome known (λ bytes. IsNotAnswered question read bytes old new failed)
+  settings-why known end old new failed told refused =
+      let P : Exit → Type 0 = λ e. RefusesWith (refusal_line refusal) e old new failed in
+      let Q : Result Subject Refusal → Type 0 = λ r. IfSome known (λ bytes. IsNotAnswered question r bytes old new failed) in
+      subst Q (sym is) (for-any known (λ bytes. IsNotAnswered question (Err refusal) bytes old new failed) (λ bytes. inl (refusal, refl, subst P refused told)))
+
+-- the line of a refusal, where an end refuses with it
+pub tells-question : (refusal : Refusal) (end : Exit) (old new : Option (List ℕ)) (failed : Bool) → RefusesWith (refusal_line refusal) end old new failed → TellsOfQuestion end old new failed
+tells-question refusal end old new failed told =
+    let P : Exit → Type 0 = λ e. RefusesWith (refusal_line refusal) e old new failed in
+    tells-by _ _ end old new failed told (λ refused. inl (refusal, subst P refused told))
+
+module _ (text : List ℕ) where
+  unset-subject : (cause : Cause) → settings_of text ≡ Err cause → text_subject text ≡ Err (bad_settings cause)
+  unfolding text_subject
+  unset-subject cause is = let f : Read Given → Result Subject Refusal = given_subject in ap f is
+
+  pub chosen-is : (s : Settings) → settings_of text ≡ Ok (given_of s) → text_subject text ≡ chosen_subject (given_of s) s.choice
+  unfolding text_subject
+  chosen-is s is = let f : Read Given → Result Subject Refusal = given_subject in ap f is
+
+  -- settings with a fault, whose line is told
+  module _ (question : Question) (end : Exit) (old new : Option (List ℕ)) (failed : Bool) (f : SettingsFault) (by : RefusedBy (settings_of text) f) (memory : f ≡ settings.Memory → end ≡ exit.Memory)
+      (told : RefusesWith (settings_line f) end old new failed) where
+    pub unset-why : (known : Option (List ℕ)) → end ≡ exit.Refused → IfSome known (λ bytes. IsNotAnswered question (text_subject text) bytes old new failed)
+    unset-why known refused =
+        let c = unset-cause text end old new failed refused f by memory told in
+        settings-why question (text_subject text) (bad_settings c.0) (unset-subject c.0 c.1) known end old new failed c.2 refused
+
+    pub unset-tells : TellsOfQuestion end old new failed
+    unset-tells =
+        tells-by _ _ end old new failed told
+        (λ refused.
+        let c = unset-cause text end old new failed refused f by memory told in
+        let Q : Exit → Type 0 = λ e. RefusesWith (refusal_line (bad_settings c.0)) e old new failed in
+        inl (bad_settings c.0, subst Q refused c.2))
+
+-- ---- by the bytes of the settings
+
+subject-text : (bytes : List ℕ) → length bytes ≤ 1048576 → IsUtf8 bytes → subject_of bytes ≡ text_subject bytes
+unfolding subject_of
+subject-text bytes few utf8 = text-meaning text_subject bytes few utf8
+
+subject-long : (bytes : List ℕ) → 1048576 < length bytes → subject_of bytes ≡ Err (bad_settings too_long)
+unfolding subject_of
+subject-long bytes many = long-meaning text_subject bytes many
+
+subject-broken : (bytes : List ℕ) → length bytes ≤ 1048576 → ¬ IsUtf8 bytes → subject_of bytes ≡ Err not_text
+unfolding subject_of
+subject-broken bytes few broken = broken-meaning text_subject bytes few broken
+
+pub read-subject : (known : Option (List ℕ)) (text shown : List ℕ) (P : Result Subject Refusal → Type 0) → shown ≡ text → IfSome known (λ bytes. text ≡ bytes)
+    → length text ≤ 1048576 → IsUtf8 shown → P (text_subject shown) → IfSome known (λ bytes. P (subject_of bytes))
+read-subject known text shown P same is few utf8 h = read-meaning subject_of text_subject subject-text known text shown P same is few utf8 h
+
+-- a reader that gave no settings
+module _ (question : Question) (given known : Option (List ℕ)) (end : Exit) (old new : Option (List ℕ)) (failed : Bool) (refused : end ≡ exit.Refused) where
+  unread-settings : RefusesWith unreadable_line end old new failed → IfSome given (λ s. IfSome known (λ bytes. IsNotAnswered question (subject_of s) bytes old new failed))
+  unread-settings told =
+      let P : Exit → Type 0 = λ e. RefusesWith unreadable_line e old new failed in
+      for-any given _ (λ s. for-any known (λ bytes. IsNotAnswered question (subject_of s) bytes old new failed) (λ bytes. inr (inl (subst P refused told))))
+
+  pub unread-why : (f : ReadFault) → (f ≡ read.TooLong → IfSome given (λ bytes. 1048576 < length bytes))
+      → (f ≡ read.NotUtf8 → IfSome given (λ bytes. (length bytes ≤ 1048576) × ¬ IsUtf8 bytes))
+      → RefusesWith (read_fault_line f) end old new failed → (f ≡ read.Memory → end ≡ exit.Memory)
+      → IfSome given (λ s. IfSome known (λ bytes. IsNotAnswered question (subject_of s) bytes old new failed))
+  unread-why read.TooLong long broken told memory =
+      if_some given _ (λ s. IfSome known (λ bytes. IsNotAnswered question (subject_of s) bytes old new failed))
+      (λ s h. settings-why question (subject_of s) (bad_settings too_long) (subject-long s h) known end old new failed told refused) (long refl)
+  unread-why read.NotUtf8 long broken told memory =
+      if_some given _ (λ s. IfSome known (λ bytes. IsNotAnswered question (subject_of s) bytes old new failed))
+      (λ s h. settings-why question (subject_of s) not_text (subject-broken s h.0 h.1) known end old new failed told refused) (broken refl)
+  unread-why read.NotReadable long broken told memory = unread-settings told
+  unread-why read.Memory long broken told memory = memory-apart end (memory refl) refused
+
+-- what is told of a reader that gave nothing
+module _ (end : Exit) (old new : Option (List ℕ)) (failed : Bool) where
+  pub unread-tells : (f : ReadFault) → RefusesWith (read_fault_line f) end old new failed → (f ≡ read.Memory → end ≡ exit.Memory) → TellsOfQuestion end old new failed
+  unread-tells read.TooLong told memory = tells-question (bad_settings too_long) end old new failed told
+  unread-tells read.NotUtf8 told memory = tells-question not_text end old new failed told
+  unread-tells read.NotReadable told memory =
+      let P : Exit → Type 0 = λ e. RefusesWith unreadable_line e old new failed in tells-by _ _ end old new failed told (λ refused. inr (inl (subst P refused told)))
+  unread-tells read.Memory told memory = tells-by _ _ end old new failed told (λ refused. memory-apart end (memory refl) refused)
+
+  pub unread-answers-tells : (f : ReadFault) → RefusesWith (answers_read_line f) end old new failed → (f ≡ read.Memory → end ≡ exit.Memory) → TellsOfQuestion end old new failed
+  unread-answers-tells read.TooLong told memory = tells-question (bad_answers answers.TooLong) end old new failed told
+  unread-answers-tells read.NotUtf8 told memory =
+      let P : Exit → Type 0 = λ e. RefusesWith unreadable_answers_line e old new failed in tells-by _ _ end old new failed told (λ refused. inr (inr (subst P refused told)))
+  unread-answers-tells read.NotReadable told memory =
+      let P : Exit → Type 0 = λ e. RefusesWith unreadable_answers_line e old new failed in tells-by _ _ end old new failed told (λ refused. inr (inr (subst P refused told)))
+  unread-answers-tells read.Memory told memory = tells-by _ _ end old new failed told (λ refused. memory-apart end (memory refl) refused)

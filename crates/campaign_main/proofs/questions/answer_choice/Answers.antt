@@ -1,0 +1,22 @@
+use Rattle.std.proofs.Common.{◌≡◌, Err, Result, Some, ap, inl, inr}
+use Rattle.campaign_settings.specs.Settings.{given_of}
+use Rattle.campaign_settings.specs.declared.choice.Choice.{Choice}
+use Rattle.campaign_main.specs.Commands.{Refusal, bundled_target}
+use Rattle.campaign_main.specs.Questions.{Subject, chosen_subject}
+use Rattle.campaign_main.proofs.QuestionLemmas.{settings-why, tells-question}
+use Rattle.campaign_main.proofs.ToldLemmas.{refuses-with}
+use Rattle.campaign_main.proofs.questions.answer_choice.Goals as goal
+
+pub returns-in-Replace-clause-told : goal.returns-in-Replace-clause-told
+returns-in-Replace-clause-told g c = tells-question bundled_target c.bundled.result _ _ _ (refuses-with _ _ _ _ _ c.bundled.ensures.end c.bundled.ensures.told)
+
+pub returns-in-Replace-clause-cause : goal.returns-in-Replace-clause-cause
+returns-in-Replace-clause-cause g c =
+    λ refused.
+    let f : Choice → Result Subject Refusal = λ ch. chosen_subject (given_of c.args.settings.now) (Some ch) in
+    let is : f c.args.choice.now ≡ Err bundled_target = elim c.in-Replace.is [
+      | inl replace ↦ ap f replace.2
+      | inr other ↦ elim other [ inl maildir ↦ ap f maildir.2 | inr commit ↦ ap f commit.2 ]
+    ] in
+    settings-why c.args.question.now (f c.args.choice.now) bundled_target is (g.A.Read.remaining c.args.answers.now) c.bundled.result _ _ _
+    (refuses-with _ _ _ _ _ c.bundled.ensures.end c.bundled.ensures.told) refused

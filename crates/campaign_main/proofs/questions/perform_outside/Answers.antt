@@ -1,0 +1,41 @@
+use Rattle.std.proofs.Common.{Err, IfSome, Result, ap}
+use Rattle.campaign_main.specs.Commands.{Refusal}
+use Rattle.campaign_main.specs.Questions.{EndsQuestion, IsNotAnswered, Subject, subject_of}
+use Rattle.campaign_main.proofs.QuestionLemmas.{for-any, read-subject, refused-any, unread-tells, unread-why}
+use Rattle.campaign_main.proofs.questions.perform_outside.Goals as goal
+
+pub returns-in-Ok-clause-end : goal.returns-in-Ok-clause-end
+returns-in-Ok-clause-end g c =
+    let W = g.W.Sink in
+    let A = g.A.Read in
+    let new = c.answer_text.new.output in
+    let P : Result Subject Refusal → Type 0 =
+    λ r. IfSome (A.remaining c.args.answers.now) (λ b. EndsQuestion c.args.question.now r b c.answer_text.result (W.told c.args.output.now) (W.told new) (W.has_failed new)) in
+    read-subject _ _ _ P c.as_str.ensures.value c.in-Ok.ensures.ok c.in-Ok.ensures.limit c.as_str.utf8 c.answer_text.ensures.end
+
+pub returns-in-Ok-clause-cause : goal.returns-in-Ok-clause-cause
+returns-in-Ok-clause-cause g c =
+    λ refused.
+    let E = g.E.Sink in
+    let A = g.A.Read in
+    let new = c.answer_text.new.faults in
+    let P : Result Subject Refusal → Type 0 =
+    λ r. IfSome (A.remaining c.args.answers.now) (λ b. IsNotAnswered c.args.question.now r b (E.told c.args.faults.now) (E.told new) (E.has_failed new)) in
+    read-subject _ _ _ P c.as_str.ensures.value c.in-Ok.ensures.ok c.in-Ok.ensures.limit c.as_str.utf8 (c.answer_text.ensures.cause refused)
+
+pub returns-in-Err-clause-end : goal.returns-in-Err-clause-end
+returns-in-Err-clause-end g c =
+    let W = g.W.Sink in
+    let A = g.A.Read in
+    let old = c.args.output.now in
+    for-any (g.R.Read.remaining c.args.settings.now) (λ s. IfSome (A.remaining c.args.answers.now) (λ b. EndsQuestion c.args.question.now (subject_of s) b c.unread.result (W.told old) (W.told old) (W.has_failed old)))
+    (λ s. refused-any c.args.question.now (subject_of s) (A.remaining c.args.answers.now) _ c.unread.result _ _ _ (W.told old) _ c.unread.ensures.end c.requires.output)
+
+pub returns-in-Err-clause-cause : goal.returns-in-Err-clause-cause
+returns-in-Err-clause-cause g c =
+    λ refused.
+    unread-why _ _ _ c.unread.result _ _ _ refused c.in-Err.fault (λ e. c.in-Err.ensures.too_long (ap (λ f. Err f) e)) (λ e. c.in-Err.ensures.not_text (ap (λ f. Err f) e))
+    c.unread.ensures.end c.unread.ensures.memory
+
+pub returns-in-Err-clause-told : goal.returns-in-Err-clause-told
+returns-in-Err-clause-told g c = unread-tells c.unread.result _ _ _ c.in-Err.fault c.unread.ensures.end c.unread.ensures.memory

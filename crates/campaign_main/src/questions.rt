@@ -1,0 +1,203 @@
+//! Questions on a component that somebody else runs, over any readers and any sinks.
+ghost use Rattle.std.specs.Prelude.{◌≡◌, false, IfSome, Ok, Some};
+ghost use Rattle.campaign_settings.specs.Settings.{given_of};
+ghost use Rattle.campaign_main.specs.Ends.{Leaves, TellsBy};
+ghost use Rattle.campaign_main.specs.Questions.{ComesToText, EndsAnswered, EndsQuestion, IsNotAnswered, TellsOfQuestion, TellsWhy, chosen_subject, subject_of, text_subject};
+
+use crate::exit::{Exit, exit_of};
+use crate::input::{read_all, read_bytes};
+use crate::lines::{bundled, unread, unread_answers, unset, untold};
+use answer_text::LIMIT;
+use campaign_settings::{Choice, Key, Outside, Settings, SettingsFault};
+use command_words::Question;
+use outside_campaign::{OutsideFault, write_asks, write_told};
+use std::alloc::Global;
+use std::io::Read;
+use target_trait::Sink;
+
+/// Writes what is still to be tried, in which no verdict stands.
+fn write_asked<W: Sink>(
+    alloc: Global,
+    outside: &Outside,
+    settings: &Settings,
+    answers: &[u8],
+    output: &mut W,
+) -> Result<bool, OutsideFault>
+    requires { W.has_failed output.old ≡ false }
+    ensures { ComesToText Question.Asks (given_of settings.now, outside.now) answers.now (W.told output.old) (W.told output.new) (W.has_failed output.new) result }
+{
+    write_asks(alloc, outside, settings, answers, output)?;
+    Ok(false)
+}
+
+/// Writes the report, and answers whether a plan fails.
+fn write_reported<W: Sink>(
+    alloc: Global,
+    outside: &Outside,
+    settings: &Settings,
+    answers: &[u8],
+    output: &mut W,
+) -> Result<bool, OutsideFault>
+    requires { W.has_failed output.old ≡ false }
+    ensures { ComesToText Question.Report (given_of settings.now, outside.now) answers.now (W.told output.old) (W.told output.new) (W.has_failed output.new) result }
+{
+    let ending = write_told(alloc, outside, settings, answers, output)?;
+    Ok(ending.first.is_some())
+}
+
+/// Writes the text that answers a question, and answers whether a verdict in it is fail.
+fn write_answer<W: Sink>(
+    alloc: Global,
+    question: &Question,
+    outside: &Outside,
+    settings: &Settings,
+    answers: &[u8],
+    output: &mut W,
+) -> Result<bool, OutsideFault>
+    requires { W.has_failed output.old ≡ false }
+    ensures { ComesToText question.now (given_of settings.now, outside.now) answers.now (W.told output.old) (W.told output.new) (W.has_failed output.new) result }
+{
+    match question {
+        Question::Asks => write_asked(alloc, outside, settings, answers, output),
+        Question::Report => write_reported(alloc, outside, settings, answers, output),
+    }
+}
+
+/// Answers a question by a text of answers.
+fn answer_by<W: Sink, E: Sink>(
+    alloc: Global,
+    question: &Question,
+    outside: &Outside,
+    settings: &Settings,
+    answers: &[u8],
+    output: &mut W,
+    faults: &mut E,
+) -> Exit
+    requires output { W.has_failed output.old ≡ false }
+    requires faults { E.has_failed faults.old ≡ false }
+    ensures end { EndsAnswered question.now (given_of settings.now, outside.now) answers.now result (W.told output.old) (W.told output.new) (W.has_failed output.new) }
+    ensures told { TellsBy (TellsWhy question.now (Ok (given_of settings.now, outside.now)) answers.now (E.told faults.old) (E.told faults.new) (E.has_failed faults.new))
+        result (E.told faults.old) (E.told faults.new) (E.has_failed faults.new) }
+{
+    match write_answer(alloc, question, outside, settings, answers, output) {
+        Ok(found) => exit_of(found),
+        Err(fault) => untold(alloc, &fault, faults),
+    }
+}
+
+/// Answers a question on a component that settings describe, by the answers that a reader has left.
+fn answer_on<A: Read, W: Sink, E: Sink>(
+    alloc: Global,
+    question: &Question,
+    outside: &Outside,
+    settings: &Settings,
+    answers: &mut A,
+    output: &mut W,
+    faults: &mut E,
+) -> Exit
+    requires output { W.has_failed output.old ≡ false }
+    requires faults { E.has_failed faults.old ≡ false }
+    ensures end { IfSome (A.remaining answers.old) (λ bytes. EndsAnswered question.now (given_of settings.now, outside.now) bytes result (W.told output.old) (W.told output.new) (W.has_failed output.new)) }
+    ensures cause { result ≡ Exit.Refused → IfSome (A.remaining answers.old) (λ bytes. IsNotAnswered question.now (Ok (given_of settings.now, outside.now)) bytes (E.told faults.old) (E.told faults.new) (E.has_failed faults.new)) }
+    ensures output { Leaves result (W.told output.old) (W.told output.new) (W.has_failed output.new) }
+    ensures told { TellsOfQuestion result (E.told faults.old) (E.told faults.new) (E.has_failed faults.new) }
+{
+    match read_bytes(alloc, answers, LIMIT) {
+        Ok(bytes) => answer_by(
+            alloc,
+            question,
+            outside,
+            settings,
+            bytes.as_slice(),
+            output,
+            faults,
+        ),
+        Err(fault) => unread_answers(fault, faults),
+    }
+}
+
+/// Answers a question on what settings choose.
+fn answer_choice<A: Read, W: Sink, E: Sink>(
+    alloc: Global,
+    question: &Question,
+    choice: &Choice,
+    settings: &Settings,
+    answers: &mut A,
+    output: &mut W,
+    faults: &mut E,
+) -> Exit
+    requires output { W.has_failed output.old ≡ false }
+    requires faults { E.has_failed faults.old ≡ false }
+    ensures end { IfSome (A.remaining answers.old) (λ bytes. EndsQuestion question.now (chosen_subject (given_of settings.now) (Some choice.now)) bytes result (W.told output.old) (W.told output.new) (W.has_failed output.new)) }
+    ensures cause { result ≡ Exit.Refused → IfSome (A.remaining answers.old) (λ bytes. IsNotAnswered question.now (chosen_subject (given_of settings.now) (Some choice.now)) bytes (E.told faults.old) (E.told faults.new) (E.has_failed faults.new)) }
+    ensures output { Leaves result (W.told output.old) (W.told output.new) (W.has_failed output.new) }
+    ensures told { TellsOfQuestion result (E.told faults.old) (E.told faults.new) (E.has_failed faults.new) }
+{
+    match choice {
+        Choice::Outside(outside) => {
+            answer_on(alloc, question, outside, settings, answers, output, faults)
+        }
+        Choice::Replace(..) | Choice::Maildir(..) | Choice::Commit(..) => bundled(faults),
+    }
+}
+
+/// Answers a question, by the settings that a text gives.
+fn answer_text<A: Read, W: Sink, E: Sink>(
+    alloc: Global,
+    question: &Question,
+    text: &str,
+    answers: &mut A,
+    output: &mut W,
+    faults: &mut E,
+) -> Exit
+    requires output { W.has_failed output.old ≡ false }
+    requires faults { E.has_failed faults.old ≡ false }
+    ensures end { IfSome (A.remaining answers.old) (λ bytes. EndsQuestion question.now (text_subject text.now) bytes result (W.told output.old) (W.told output.new) (W.has_failed output.new)) }
+    ensures cause { result ≡ Exit.Refused → IfSome (A.remaining answers.old) (λ bytes. IsNotAnswered question.now (text_subject text.now) bytes (E.told faults.old) (E.told faults.new) (E.has_failed faults.new)) }
+    ensures output { Leaves result (W.told output.old) (W.told output.new) (W.has_failed output.new) }
+    ensures told { TellsOfQuestion result (E.told faults.old) (E.told faults.new) (E.has_failed faults.new) }
+{
+    let settings = match Settings::read(alloc, text) {
+        Ok(settings) => settings,
+        Err(fault) => return unset(alloc, &fault, faults),
+    };
+    match &settings.choice {
+        Some(choice) => answer_choice(alloc, question, choice, &settings, answers, output, faults),
+        None => unset(alloc, &SettingsFault::Missing(Key::Target), faults),
+    }
+}
+
+/// Reads settings, and answers a question on the component from outside that they describe: which scenarios are still to be tried, or the
+/// report. What is known of the component is what a second reader has left: a text of answers, of which up to 268435456 bytes are read.
+///
+/// It answers Kept, or Found where the report tells a failure, where the whole text stands in the output. Else one line on the sink of
+/// faults says why there is none: Refused for settings that can't be read or have a fault, that choose a bundled target, or that have
+/// more than 65536 plans; for answers that can't be read or have a fault, of which the first is named; and for a report where something is
+/// still to be tried. Memory is for memory that was refused, and both leave the output unchanged. Write tells how many bytes of the text,
+/// fewer than all, went out before the output failed. Where that line can't be written whole the answer stays. Where settings are refused,
+/// no answers are read.
+///
+/// The report is that of every component that agrees with the answers, a function from tidied scenarios to verdicts.
+///
+/// Which text and which fault, the contract says for readers that tell their bytes, as slices do, and for sinks that tell theirs, as
+/// [`target_trait::Out`] over a `Vec` does; of others, as [`crate::perform`] does.
+pub fn perform_outside<R: Read, A: Read, W: Sink, E: Sink>(
+    alloc: Global,
+    question: &Question,
+    settings: &mut R,
+    answers: &mut A,
+    output: &mut W,
+    faults: &mut E,
+) -> Exit
+    requires output { W.has_failed output.old ≡ false }
+    requires faults { E.has_failed faults.old ≡ false }
+    ensures end { IfSome (R.remaining settings.old) (λ given. IfSome (A.remaining answers.old) (λ bytes. EndsQuestion question.now (subject_of given) bytes result (W.told output.old) (W.told output.new) (W.has_failed output.new))) }
+    ensures cause { result ≡ Exit.Refused → IfSome (R.remaining settings.old) (λ given. IfSome (A.remaining answers.old) (λ bytes. IsNotAnswered question.now (subject_of given) bytes (E.told faults.old) (E.told faults.new) (E.has_failed faults.new))) }
+    ensures output { Leaves result (W.told output.old) (W.told output.new) (W.has_failed output.new) }
+    ensures told { TellsOfQuestion result (E.told faults.old) (E.told faults.new) (E.has_failed faults.new) }
+{
+    match read_all(alloc, settings) {
+        Ok(text) => answer_text(alloc, question, text.as_str(), answers, output, faults),
+        Err(fault) => unread(fault, faults),
+    }
+}

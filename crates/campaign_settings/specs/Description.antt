@@ -1,0 +1,56 @@
+-- What the settings say of a component from outside, which somebody else runs. Its texts stand in lines of their own, in what is asked
+-- and in what is told, so none has an ASCII control character.
+use Rattle.std.specs.Prelude.{◌≡◌, ◌&&◌, ℕ, ◌≤◌, Bool, true, not, List, [], ◌∷◌, length, nat_le, nat_lt}
+use Rattle.std.specs.Char.{is_ascii_control}
+use Rattle.std.specs.List.{AllByRecursion, list_all, list_any}
+use Rattle.std.specs.Str.{bytes_eq}
+use Rattle.scenario_values.specs.Scenario.{is_name}
+use Rattle.target_trait.specs.Catalogue.{HasDistinct, IsCatalogue}
+
+-- its label; the names of its failures' codes, whose numbers are their places; the names of its points; and how often each point is hit
+-- in a run without faults
+pub record Description : Type 0 where
+  pub label : List ℕ
+  pub codes : List (List ℕ)
+  pub points : List (List ℕ)
+  pub hits : List ℕ
+
+-- whether a byte of the text is an ASCII control character
+abbrev pub has_control : List ℕ → Bool
+has_control text = list_any is_ascii_control text
+
+abbrev pub is_label : List ℕ → Bool
+is_label text = nat_le (length text) 200 && not (has_control text)
+
+abbrev pub is_code : List ℕ → Bool
+is_code name = nat_lt 0 (length name) && is_label name
+
+abbrev pub is_point : List ℕ → Bool
+is_point name = is_name name && is_label name
+
+-- no text is one of those after it
+abbrev pub are_distinct : List (List ℕ) → Bool
+are_distinct [] = true
+are_distinct (t ∷ ts) = not (list_any (λ other. bytes_eq other t) ts) && are_distinct ts
+
+abbrev pub are_codes : List (List ℕ) → Bool
+are_codes names = nat_le (length names) 64 && list_all is_code names && are_distinct names
+
+-- a catalogue, as that of a bundled target
+abbrev pub are_points : List (List ℕ) → Bool
+are_points names = nat_lt 0 (length names) && nat_le (length names) 64 && list_all is_point names && are_distinct names
+
+-- at most 64 distinct names of 1 to 200 bytes
+pub record AreCodes (names : List (List ℕ)) : Type 0 where
+  pub few : length names ≤ 64
+  pub each : AllByRecursion (λ name. is_code name ≡ true) names
+  pub distinct : HasDistinct names
+
+-- a label of at most 200 bytes, lawful codes and points, and a count of at most 100,000 for each point
+pub record IsDescription (d : Description) : Type 0 where
+  pub label : is_label d.label ≡ true
+  pub codes : AreCodes d.codes
+  pub catalogue : IsCatalogue d.points
+  pub plain_points : AllByRecursion (λ name. is_label name ≡ true) d.points
+  pub counts : length d.hits ≡ length d.points
+  pub high : AllByRecursion (λ n. n ≤ 100000) d.hits

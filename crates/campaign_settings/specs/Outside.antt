@@ -1,0 +1,56 @@
+-- The values of the table of a target from outside.
+use Rattle.std.specs.Prelude.{◌&&◌, ◌||◌, ◌==◌, ℕ, ℤ, pos, negsuc, Bool, not, List, length, Option, Some, None, Result, Ok, Err, nat_le, if◌then◌else◌}
+use Rattle.std.specs.List.{list_all}
+use Rattle.toml.specs.Data.{Data, as_array, as_integer, as_str}
+use Rattle.scenario_values.specs.declared.term.Term.{Term}
+use Rattle.scenario_values.specs.Printed.{printed}
+use Rattle.scenario_values.specs.Scenario.{Entries}
+use Rattle.campaign_settings.specs.Description.{has_control, is_label}
+use Rattle.campaign_settings.specs.Keys.{Text}
+use Rattle.campaign_settings.specs.Lists.{all_in, texts_in}
+use Rattle.campaign_settings.specs.Values.{in_ranges, ranged, typed}
+use Rattle.campaign_settings.specs.declared.keys.KeyFault.{KeyFault}
+use Rattle.campaign_settings.specs.declared.keys.KeyFault.TheVariants.{Missing}
+
+-- ---- the values at its keys, which have to be there
+
+abbrev pub label_at : Option Data → Result Text KeyFault
+label_at None = Err Missing
+label_at (Some d) = typed (ranged is_label) (as_str d)
+
+abbrev pub listed_at : Option Data → Result (List Text) KeyFault
+listed_at None = Err Missing
+listed_at (Some d) = typed (λ ds. typed (λ texts. Ok texts) (texts_in ds)) (as_array d)
+
+-- those texts, all of them in their range
+abbrev pub in_range_of : (List Text → Bool) → Result (List Text) KeyFault → Result (List Text) KeyFault
+in_range_of fits (Ok texts) = ranged fits texts
+in_range_of fits (Err fault) = Err fault
+
+abbrev pub names_at : (List Text → Bool) → Option Data → Result (List Text) KeyFault
+names_at fits o = in_range_of fits (listed_at o)
+
+-- how often a point is hit
+abbrev pub count_of : ℤ → Option ℕ
+count_of (pos n) = if nat_le n 100000 then Some n else None
+count_of (negsuc n) = None
+
+-- a count for each of so many points
+abbrev pub counts_at : ℕ → Option Data → Result (List ℕ) KeyFault
+counts_at points None = Err Missing
+counts_at points (Some d) =
+    typed (λ ds. typed (in_ranges count_of (ranged (λ counts. length counts == points))) (all_in as_integer ds)) (as_array d)
+
+-- ---- the scenarios that it may be given
+
+-- a term that acts at each hit or at none. Where the share stands between, a draw decides, which is the component's own: two runs under
+-- one scenario differ, and no verdict is the scenario's.
+abbrev pub is_certain : Term → Bool
+is_certain t = t.share == 0 || t.share == 1000000
+
+abbrev pub are_certain : Entries → Bool
+are_certain s = list_all (λ e. list_all is_certain e.1) s
+
+-- it is handed the printed form, in a line of its own
+abbrev pub can_be_handed : Entries → Bool
+can_be_handed s = are_certain s && not (has_control (printed s))

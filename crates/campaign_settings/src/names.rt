@@ -1,0 +1,74 @@
+//! The names that a target from outside has.
+ghost use Rattle.std.specs.Prelude.{◌≡◌};
+ghost use Rattle.std.specs.List.{list_all, list_any};
+ghost use Rattle.std.specs.Str.{bytes_eq};
+ghost use Rattle.campaign_settings.specs.Description.{are_codes, are_distinct, are_points, has_control, is_code, is_label, is_point};
+
+use scenario_grammar::{Text, is_name};
+
+// Whether a byte of the text is an ASCII control character.
+pub fn has_control(text: &str) -> bool
+    ensures { result ≡ has_control text.now }
+{
+    text.as_bytes().iter().any(|b| b.is_ascii_control())
+}
+
+pub fn is_label(text: &str) -> bool
+    ensures { result ≡ is_label text.now }
+{
+    text.len() <= 200 && !has_control(text)
+}
+
+fn is_code(name: &str) -> bool
+    ensures { result ≡ is_code name.now }
+{
+    !name.is_empty() && is_label(name)
+}
+
+fn is_point(name: &str) -> bool
+    ensures { result ≡ is_point name.now }
+{
+    is_name(name) && is_label(name)
+}
+
+fn stands_in(name: &Text, names: &[Text]) -> bool
+    ensures { result ≡ list_any (λ other. bytes_eq other name.now) names.now }
+{
+    names.iter().any(|other| other == name)
+}
+
+fn are_distinct(names: &[Text]) -> bool
+    ensures { result ≡ are_distinct names.now }
+{
+    for i in 0..names.len() {
+        if stands_in(&names[i], &names[i + 1..]) {
+            return false;
+        }
+    }
+    true
+}
+
+fn all_codes(names: &[Text]) -> bool
+    ensures { result ≡ list_all is_code names.now }
+{
+    names.iter().all(|name| is_code(name.as_str()))
+}
+
+fn all_points(names: &[Text]) -> bool
+    ensures { result ≡ list_all is_point names.now }
+{
+    names.iter().all(|name| is_point(name.as_str()))
+}
+
+// The two rules for a list of names: as a target's codes, and as its catalogue.
+pub fn are_codes(names: &[Text]) -> bool
+    ensures { result ≡ are_codes names.now }
+{
+    names.len() <= 64 && all_codes(names) && are_distinct(names)
+}
+
+pub fn are_points(names: &[Text]) -> bool
+    ensures { result ≡ are_points names.now }
+{
+    !names.is_empty() && names.len() <= 64 && all_points(names) && are_distinct(names)
+}

@@ -1,0 +1,157 @@
+-- What answers come to.
+use Rattle.std.proofs.Common.{◌≡◌, ℕ, zero, suc, ◌<◌, List, [], ◌∷◌, ◌++◌, Bool, true, Option, Some, None, Result, Ok, Err, length, take, get_or, map, All, refl, ap, sym, ◌∙◌, arith, subst, option_map}
+use Rattle.std.specs.Prelude.{◌≤◌, slice_get, IfErr, IsErrAnd}
+use Rattle.std.proofs.lemmas.List.{length-map}
+use Rattle.std.specs.Io.KnownBytes.{Appends}
+use Rattle.scenario_values.specs.Scenario.{Entries}
+use Rattle.scenario_values.specs.Tidied.{tidied}
+use Rattle.target_trait.specs.declared.judgement.Verdict.{Verdict}
+use Rattle.target_trait.specs.declared.judgement.Verdict.TheVariants as verdict
+use Rattle.result_book.specs.Verdicts.{verdicts_from, numbered}
+use Rattle.result_book.specs.FirstFailures.{first_failures}
+use Rattle.result_book.specs.Slots.{in_book}
+use Rattle.result_book.proofs.EachCodeLemmas.{firsts_in, firsts_full}
+use Rattle.result_book.proofs.SlotLemmas.{length_verdicts}
+use Rattle.plan_gen.specs.PlanList.{most_plans}
+use Rattle.report.specs.Reports.{FindingFacts}
+use Rattle.report.specs.ReportText.{report_lines, text_of}
+use Rattle.answer_text.specs.Known.{KnownVerdicts, known_by, Agrees, AgreesWithText}
+use Rattle.answer_text.specs.Answers.{Answer, Says}
+use Rattle.answer_text.proofs.Agreement.{agrees_by, some_agrees}
+use Rattle.campaign_settings.specs.Description.{Description}
+use Rattle.campaign_settings.specs.declared.settings.Settings.{Settings}
+use Rattle.campaign_core.specs.Findings.{finding}
+use Rattle.outside_campaign.specs.Outside.{Component, say}
+use Rattle.outside_campaign.specs.Asked.{open_plans, open_cards, plan_verdicts, known_failures, lines_for}
+use Rattle.outside_campaign.specs.Campaigns.{plans as plans_of, code_name, asks_text, report_text, first_failure, untried, untried_by, AsksFault, ReportFault}
+use Rattle.outside_campaign.specs.Results.{AreOf, IsFirst, AreWithVerdicts, AreResults, facts_of}
+use Rattle.campaign_core.specs.declared.ending.CampaignFault.TheVariants as campaign
+use Rattle.outside_campaign.specs.declared.refusal.OutsideFault.{OutsideFault}
+use Rattle.outside_campaign.specs.declared.refusal.OutsideFault.TheVariants as refusal
+use Rattle.outside_campaign.proofs.Gathered.{by_known, by_known_agrees}
+use Rattle.outside_campaign.specs.declared.results.Results.{Results}
+use Rattle.outside_campaign.specs.declared.results.Results.TheVariants.{Told, NotAnswered}
+
+-- ---- first failures
+
+below : (slots : List (Option Verdict)) (n code : ℕ) → get_or slots n None ≡ Some (verdict.Fail code) → n < length slots
+below [] n code h = absurd cc
+below (s ∷ slots) zero code h = omega arith
+below (s ∷ slots) (suc n) code h = let less = below slots n code h in omega arith
+
+pub all_below : (known : KnownVerdicts) (plans : List Entries) (verdicts : List (Option Verdict)) (firsts : List (ℕ × ℕ)) → verdicts ≡ plan_verdicts known plans → firsts ≡ first_failures (in_book verdicts) → All (λ f. f.0 < length plans) firsts
+all_below known plans verdicts firsts is e =
+    let many : length verdicts ≡ length plans = ap length is ∙ length-map plans (λ p. known (tidied p)) in
+    let P : List (ℕ × ℕ) → Type 0 = λ fs. All (λ f. f.0 < length plans) fs in
+    subst P (sym e) (λ k d lt.
+    let less = below verdicts (get_or (first_failures (in_book verdicts)) k d).0 (get_or (first_failures (in_book verdicts)) k d).1 ((firsts_in verdicts).least k d lt).0 in
+    omega (arith, less, many))
+
+pub failures_are : (known : KnownVerdicts) (plans : List Entries) (verdicts : List (Option Verdict)) (firsts : List (ℕ × ℕ)) → verdicts ≡ plan_verdicts known plans → firsts ≡ first_failures (in_book verdicts) → firsts ≡ known_failures known plans
+failures_are known plans verdicts firsts is e = e ∙ ap (λ (slots : List (Option Verdict)). first_failures (in_book slots)) is
+
+-- ---- results
+
+pub open_first : (known : KnownVerdicts) (plans : List Entries) (failures : List (ℕ × ℕ)) (cards : List Entries) (r : Results) → failures ≡ known_failures known plans → cards ≡ open_cards known plans failures → IsFirst cards r → AreResults known plans r
+open_first known plans failures cards (Told verdicts findings) fe ce h = absurd h
+open_first known plans failures cards (NotAnswered t) fe ce h =
+    (h.0 ++ open_plans known plans, ap (λ (fs : List (ℕ × ℕ)). open_cards known plans fs ++ open_plans known plans) (sym fe) ∙ ap (λ (cs : List Entries). cs ++ open_plans known plans) (sym ce ∙ h.1))
+
+none_open : (known : KnownVerdicts) (plans : List Entries) (failures : List (ℕ × ℕ)) → failures ≡ known_failures known plans → open_cards known plans failures ≡ [] → untried known plans ≡ open_plans known plans
+none_open known plans failures fe none = ap (λ (fs : List (ℕ × ℕ)). open_cards known plans fs ++ open_plans known plans) (sym fe) ∙ ap (λ (cs : List Entries). cs ++ open_plans known plans) none
+
+pub told_all : (known : KnownVerdicts) (plans : List Entries) (failures : List (ℕ × ℕ)) (findings : List FindingFacts) (r : Results) → failures ≡ known_failures known plans
+    → (open_cards known plans failures ≡ []) × ((component : Component) → Agrees component known → findings ≡ map (finding (say component) plans) failures)
+    → AreWithVerdicts known plans findings r → AreResults known plans r
+told_all known plans failures findings (Told verdicts told) fe h w = (
+  none_open known plans failures fe h.0 ∙ w.1.1,
+  λ component agrees.
+      let vs : List Verdict = verdicts_from (say component) 0 plans in
+      let mine : verdicts.items ≡ vs = w.1.2 component agrees in
+      let firsts : failures ≡ first_failures (numbered vs) =
+      fe ∙ ap (λ (slots : List (Option Verdict)). first_failures (in_book slots)) (sym w.1.0) ∙ firsts_full verdicts.items ∙ ap (λ (x : List Verdict). first_failures (numbered x)) mine in
+      record { verdicts_are = mine; findings_are = w.0 ∙ h.1 component agrees ∙ ap (map (finding (say component) plans)) firsts },
+)
+told_all known plans failures findings (NotAnswered t) fe h w = (w.0, none_open known plans failures fe h.0 ∙ w.1)
+
+-- ---- the report
+
+pub agrees_with_known : (names : List (List ℕ)) (text : List ℕ) (known : KnownVerdicts) (component : Component) → known ≡ known_by names text → AgreesWithText names text component → Agrees component known
+agrees_with_known names text known component is agrees = subst (Agrees component) (sym is) (agrees_by names text component agrees)
+
+pub report_is : (outside : Description) (settings : Settings) (component : Component) (plans : List Entries) (verdicts : List Verdict) (findings : List FindingFacts) → plans ≡ plans_of outside settings → AreOf component plans verdicts findings
+    → text_of (report_lines outside.points (code_name outside.codes) (facts_of outside settings.seed verdicts findings)) ≡ report_text outside settings component
+report_is outside settings component plans verdicts findings is of =
+    let text : List Verdict → List FindingFacts → List ℕ = λ vs fs. text_of (report_lines outside.points (code_name outside.codes) (facts_of outside settings.seed vs fs)) in
+    let whole : List Entries → List ℕ = λ ps. text (verdicts_from (say component) 0 ps) (map (finding (say component) ps) (first_failures (numbered (verdicts_from (say component) 0 ps)))) in
+    ap (λ (vs : List Verdict). text vs findings) of.verdicts_are ∙ ap (text (verdicts_from (say component) 0 plans)) of.findings_are ∙ ap whole is
+
+first_of : (f : ℕ × ℕ → FindingFacts) (fs : List (ℕ × ℕ)) → ((x : ℕ × ℕ) → (f x).number ≡ x.0) → option_map (λ x. x.number) (slice_get (map f fs) 0) ≡ option_map (λ x. x.0) (slice_get fs 0)
+first_of f [] own = refl
+first_of f (x ∷ fs) own = ap (λ (n : ℕ). Some n) (own x)
+
+pub first_is : (outside : Description) (settings : Settings) (component : Component) (plans : List Entries) (verdicts : List Verdict) (findings : List FindingFacts) → plans ≡ plans_of outside settings → AreOf component plans verdicts findings
+    → option_map (λ f. f.number) (slice_get findings 0) ≡ first_failure outside settings component
+first_is outside settings component plans verdicts findings is of =
+    ap (λ (fs : List FindingFacts). option_map (λ f. f.number) (slice_get fs 0)) of.findings_are
+    ∙ first_of (finding (say component) plans) (first_failures (numbered (verdicts_from (say component) 0 plans))) (λ x. refl)
+    ∙ ap (λ (ps : List Entries). option_map (λ x. x.0) (slice_get (first_failures (numbered (verdicts_from (say component) 0 ps))) 0)) is
+
+pub untried_is : (outside : Description) (settings : Settings) (answers : List ℕ) (known : KnownVerdicts) (plans : List Entries) → known ≡ known_by outside.codes answers → plans ≡ plans_of outside settings → untried known plans ≡ untried_by outside settings answers
+untried_is outside settings answers known plans e is = ap (λ (k : KnownVerdicts). untried k plans) e ∙ ap (untried (known_by outside.codes answers)) is
+
+-- ---- faults
+
+-- a write that failed, of the bytes that are asked
+pub asks_cut : {X : Type 0} (outside : Description) (settings : Settings) (answers : List ℕ) (old new : Option (List ℕ)) (failed : Bool) (known : KnownVerdicts) (plans : List Entries) (bytes : List ℕ) (n : ℕ) (result : Result X OutsideFault)
+    → IsErrAnd result (λ f. f ≡ refusal.Campaign (campaign.Write n)) → known ≡ known_by outside.codes answers → plans ≡ plans_of outside settings → bytes ≡ text_of (lines_for (untried known plans))
+    → Appends old new (take n bytes) → n < length bytes → failed ≡ true → length (plans_of outside settings) ≤ most_plans → IfErr result (AsksFault outside settings answers old new failed)
+asks_cut outside settings answers old new failed known plans bytes n (Ok x) is k p b wrote less bad few = tt
+asks_cut outside settings answers old new failed known plans bytes n (Err f) is k p b wrote less bad few =
+    let whole : bytes ≡ asks_text outside settings answers = b ∙ ap (λ (ts : List Entries). text_of (lines_for ts)) (untried_is outside settings answers known plans k p) in
+    let P : OutsideFault → Type 0 = λ x. AsksFault outside settings answers old new failed x in
+    let Q : List ℕ → Type 0 = λ t. Appends old new (take n t) × (n < length t) in
+    subst P (sym is) (subst Q whole (wrote, less), bad, few)
+
+-- of a report's bytes
+pub report_cut : {X : Type 0} (outside : Description) (settings : Settings) (answers : List ℕ) (old new : Option (List ℕ)) (failed : Bool) (known : KnownVerdicts) (plans : List Entries) (verdicts : List Verdict) (findings : List FindingFacts) (bytes : List ℕ) (n : ℕ) (result : Result X OutsideFault)
+    → IsErrAnd result (λ f. f ≡ refusal.Campaign (campaign.Write n)) → known ≡ known_by outside.codes answers → plans ≡ plans_of outside settings
+    → ((component : Component) → Agrees component known → AreOf component plans verdicts findings)
+    → bytes ≡ text_of (report_lines outside.points (code_name outside.codes) (facts_of outside settings.seed verdicts findings))
+    → Appends old new (take n bytes) → n < length bytes → failed ≡ true → length (plans_of outside settings) ≤ most_plans → IfErr result (ReportFault outside settings answers old new failed)
+report_cut outside settings answers old new failed known plans verdicts findings bytes n (Ok x) is k p own b wrote less bad few = tt
+report_cut outside settings answers old new failed known plans verdicts findings bytes n (Err f) is k p own b wrote less bad few =
+    let P : OutsideFault → Type 0 = λ x. ReportFault outside settings answers old new failed x in
+    subst P (sym is) (
+      (λ component agrees.
+          let whole : bytes ≡ report_text outside settings component = b ∙ report_is outside settings component plans verdicts findings p (own component (agrees_with_known outside.codes answers known component k agrees)) in
+          let Q : List ℕ → Type 0 = λ t. Appends old new (take n t) × (n < length t) in
+          subst Q whole (wrote, less)),
+      bad,
+      few,
+    )
+
+pub report_written : (outside : Description) (settings : Settings) (answers : List ℕ) (old new : Option (List ℕ)) (known : KnownVerdicts) (plans : List Entries) (verdicts : List Verdict) (findings : List FindingFacts) (bytes : List ℕ)
+    → known ≡ known_by outside.codes answers → plans ≡ plans_of outside settings → ((component : Component) → Agrees component known → AreOf component plans verdicts findings)
+    → bytes ≡ text_of (report_lines outside.points (code_name outside.codes) (facts_of outside settings.seed verdicts findings)) → Appends old new bytes
+    → (component : Component) → AgreesWithText outside.codes answers component → Appends old new (report_text outside settings component)
+report_written outside settings answers old new known plans verdicts findings bytes k p own b wrote component agrees =
+    let Q : List ℕ → Type 0 = λ t. Appends old new t in
+    subst Q (b ∙ report_is outside settings component plans verdicts findings p (own component (agrees_with_known outside.codes answers known component k agrees))) wrote
+
+pub first_told : (outside : Description) (settings : Settings) (answers : List ℕ) (known : KnownVerdicts) (plans : List Entries) (verdicts : List Verdict) (findings : List FindingFacts) (first : Option ℕ)
+    → known ≡ known_by outside.codes answers → plans ≡ plans_of outside settings → ((component : Component) → Agrees component known → AreOf component plans verdicts findings)
+    → first ≡ option_map (λ f. f.number) (slice_get findings 0) → (component : Component) → AgreesWithText outside.codes answers component → first ≡ first_failure outside settings component
+first_told outside settings answers known plans verdicts findings first k p own is component agrees =
+    is ∙ first_is outside settings component plans verdicts findings p (own component (agrees_with_known outside.codes answers known component k agrees))
+
+-- there is a verdict for each plan
+pub verdicts_some : (known : KnownVerdicts) (plans : List Entries) (verdicts : List Verdict) (findings : List FindingFacts) → ((component : Component) → Agrees component known → AreOf component plans verdicts findings) → 0 < length plans → 0 < length verdicts
+verdicts_some known plans verdicts findings own some =
+    let of = own (by_known known) (by_known_agrees known) in
+    omega (arith, ap length of.verdicts_are, length_verdicts (say (by_known known)) 0 plans)
+
+pub some_component : (outside : Description) (text : List ℕ) (codes : List (List ℕ)) → codes ≡ outside.codes → (answers : List Answer) → Says codes text answers → (component : Component) × AgreesWithText outside.codes text component
+some_component outside text codes is answers says =
+    let P : List (List ℕ) → Type 0 = λ names. (component : Component) × AgreesWithText names text component in
+    subst P is (some_agrees codes text answers says)

@@ -1,0 +1,88 @@
+-- A campaign on a component that somebody else runs: its list of plans, what is still to be tried, and its report, by the settings and a
+-- text of answers.
+use Rattle.std.specs.Prelude.{◌≡◌, ◌≤◌, ◌<◌, ℕ, Bool, true, false, List, [], ◌∷◌, Option, option_map, length, slice_get, slice_index_or, take, Err}
+use Rattle.std.specs.Io.KnownBytes.{Appends}
+use Rattle.scenario_values.specs.Scenario.{Entries}
+use Rattle.plan_gen.specs.PlanList.{most_plans, plan_list}
+use Rattle.result_book.specs.Verdicts.{verdicts_from, numbered}
+use Rattle.result_book.specs.FirstFailures.{first_failures}
+use Rattle.report.specs.ReportText.{report_lines, text_of}
+use Rattle.answer_text.specs.FirstFault.{reading_of}
+use Rattle.answer_text.specs.Known.{KnownVerdicts, known_by, AgreesWithText}
+use Rattle.campaign_settings.specs.Description.{Description}
+use Rattle.campaign_settings.specs.declared.settings.Settings.{Settings}
+use Rattle.campaign_core.specs.CommandTexts.{plan_lines}
+use Rattle.campaign_core.specs.Findings.{report_of}
+use Rattle.campaign_core.specs.Headline.{asked_of}
+use Rattle.campaign_core.specs.declared.ending.CampaignFault.{CampaignFault}
+use Rattle.campaign_core.specs.declared.ending.CampaignFault.TheVariants as campaign
+use Rattle.outside_campaign.specs.Outside.{Component, say}
+use Rattle.outside_campaign.specs.Asked.{to_try, lines_for, known_failures}
+use Rattle.outside_campaign.specs.declared.refusal.OutsideFault.{OutsideFault}
+use Rattle.outside_campaign.specs.declared.refusal.OutsideFault.TheVariants as refusal
+
+-- the list of plans, over the points and the counts of the settings
+abbrev pub plans : Description → Settings → List Entries
+plans outside settings = plan_list outside.points outside.hits (asked_of settings)
+
+abbrev pub plans_text : Description → Settings → List ℕ
+plans_text outside settings = text_of (plan_lines 0 (plans outside settings))
+
+-- the name of a code, which is empty where there is no such code
+abbrev pub code_name : List (List ℕ) → ℕ → List ℕ
+code_name codes number = slice_index_or codes number []
+
+-- the report's text, for a component
+abbrev pub report_text : Description → Settings → Component → List ℕ
+report_text outside settings component = text_of (report_lines outside.points (code_name outside.codes)
+    (report_of (say component) outside.label settings.seed outside.hits (plans outside settings)))
+
+-- the least number of a plan that fails
+abbrev pub first_failure : Description → Settings → Component → Option ℕ
+first_failure outside settings component =
+    option_map (λ first. first.0) (slice_get (first_failures (numbered (verdicts_from (say component) 0 (plans outside settings)))) 0)
+
+-- what is still to be tried, of these plans: the open candidates of the reductions of what is known to fail, each as the first of its
+-- code; then the plans that aren't answered
+abbrev pub untried : KnownVerdicts → List Entries → List Entries
+untried known plans = to_try known plans (known_failures known plans)
+
+-- the same by the settings and a text of answers
+abbrev pub untried_by : Description → Settings → List ℕ → List Entries
+untried_by outside settings answers = untried (known_by outside.codes answers) (plans outside settings)
+
+abbrev pub asks_text : Description → Settings → List ℕ → List ℕ
+asks_text outside settings answers = text_of (lines_for (untried_by outside settings answers))
+
+-- ---- faults. A sink held `old` and holds `new`, where it tells its bytes.
+
+-- some of the first bytes of a text were written, never all
+abbrev pub IsCut : Option (List ℕ) → Option (List ℕ) → List ℕ → ℕ → Type 0
+IsCut old new text n = Appends old new (take n text) × (n < length text)
+
+-- What a fault means of a text over these plans that wasn't written whole, and what was written by then: nothing, and the sink is as good
+-- as before; or a write failed after so many bytes, and the sink says so.
+abbrev pub IsUnwritten : List Entries → (ℕ → Type 0) → Option (List ℕ) → Option (List ℕ) → Bool → CampaignFault → Type 0
+IsUnwritten plans Cut old new failed campaign.TooManyPlans = (new ≡ old) × (failed ≡ false) × (most_plans < length plans)
+IsUnwritten plans Cut old new failed campaign.Memory = (new ≡ old) × (failed ≡ false)
+IsUnwritten plans Cut old new failed (campaign.Write n) = Cut n × (failed ≡ true) × (length plans ≤ most_plans)
+
+-- why what is to be tried wasn't written: the answers' first fault, or a fault as of the list of plans
+abbrev pub AsksFault : Description → Settings → List ℕ → Option (List ℕ) → Option (List ℕ) → Bool → OutsideFault → Type 0
+AsksFault outside settings answers old new failed (refusal.Answers fault) =
+    (new ≡ old) × (failed ≡ false) × (reading_of outside.codes answers ≡ Err fault)
+AsksFault outside settings answers old new failed (refusal.NotAnswered t) = ⊥
+AsksFault outside settings answers old new failed (refusal.Campaign fault) =
+    IsUnwritten (plans outside settings) (IsCut old new (asks_text outside settings answers)) old new failed fault
+
+-- the same of the report, for each component that agrees with the answers; and it isn't written where something is to be tried, of which
+-- this is the first
+abbrev pub ReportFault : Description → Settings → List ℕ → Option (List ℕ) → Option (List ℕ) → Bool → OutsideFault → Type 0
+ReportFault outside settings answers old new failed (refusal.Answers fault) =
+    (new ≡ old) × (failed ≡ false) × (reading_of outside.codes answers ≡ Err fault)
+ReportFault outside settings answers old new failed (refusal.NotAnswered t) =
+    (new ≡ old) × (failed ≡ false) × ((more : List Entries) × (untried_by outside settings answers ≡ t ∷ more))
+ReportFault outside settings answers old new failed (refusal.Campaign fault) =
+    IsUnwritten (plans outside settings)
+    (λ n. (component : Component) → AgreesWithText outside.codes answers component → IsCut old new (report_text outside settings component) n)
+    old new failed fault

@@ -1,0 +1,84 @@
+//! The plans of a campaign on a component that somebody else runs.
+ghost use Rattle.std.specs.Prelude.{◌≡◌, ◌<◌, ◌≤◌, false, length, IfOk, IfErr, OnOk, IsErrOf};
+ghost use Rattle.std.specs.Io.KnownBytes.{Appends};
+ghost use Rattle.action_eval.specs.Answers.{texts};
+ghost use Rattle.plan_gen.specs.PlanList.{most_plans};
+ghost use Rattle.campaign_core.specs.Headline.{asked_of};
+ghost use Rattle.outside_campaign.specs.Campaigns.{plans, plans_text, IsCut, IsUnwritten};
+
+use campaign_core::{CampaignFault, plans_text};
+use campaign_settings::{Outside, Settings};
+use plan_gen::{Census, Plan, PlanFault, PlanSettings, plans};
+use report::write_report;
+use scenario_values::Text;
+use std::alloc::{AllocError, Global};
+use target_trait::Sink;
+
+/// The texts, borrowed.
+pub fn borrowed(alloc: Global, from: &[Text]) -> Result<Vec<&str>, AllocError>
+    ensures { IfOk result (λ names. texts names.items ≡ from.now) }
+{
+    let mut names = Vec::with_capacity(alloc, from.len())?;
+    for name in from {
+        names.push(name.as_str())?;
+    }
+    Ok(names)
+}
+
+/// What the settings ask of the list of plans.
+fn asked_of(settings: &Settings) -> PlanSettings<'_>
+    ensures { result ≡ asked_of settings.now }
+{
+    PlanSettings {
+        pairs: settings.pairs,
+        storms: settings.storms,
+        rate: settings.rate,
+        listed: settings.scenarios.as_slice(),
+        seed: settings.seed,
+    }
+}
+
+/// The list of plans, over the names of the settings' points.
+pub fn planned<'a>(
+    alloc: Global,
+    points: &'a [&'a str],
+    outside: &Outside,
+    settings: &'a Settings,
+) -> Result<Vec<Plan<'a>>, PlanFault>
+    requires { texts points.now ≡ outside.now.points }
+    ensures plans { IfOk result (λ r. r.items ≡ plans outside.now settings.now) }
+    ensures few { OnOk result (length (plans outside.now settings.now) ≤ most_plans) }
+    ensures some { IfOk result (λ r. 0 < length r.items) }
+    ensures many { IsErrOf result PlanFault.TooManyPlans → most_plans < length (plans outside.now settings.now) }
+{
+    let Ok(counts) = Vec::from_slice(alloc, outside.hits.as_slice()) else {
+        return Err(PlanFault::Memory);
+    };
+    plans(alloc, &Census { counts }, points, &asked_of(settings))
+}
+
+/// Writes the list of plans of a campaign on a component that somebody else runs, a line for each: its number and its scenario.
+///
+/// Nothing is written before the whole text stands. The answer is `TooManyPlans` only where the list has more than 65536 plans, and then,
+/// and where memory was refused, the sink is as it was and hasn't failed; `Write` tells how many bytes of the text, fewer than all, went
+/// out before the sink failed.
+pub fn list_plans<W: Sink>(
+    alloc: Global,
+    outside: &Outside,
+    settings: &Settings,
+    sink: &mut W,
+) -> Result<(), CampaignFault>
+    requires { W.has_failed sink.old ≡ false }
+    ensures text { OnOk result (Appends (W.told sink.old) (W.told sink.new) (plans_text outside.now settings.now)) }
+    ensures few { OnOk result (length (plans outside.now settings.now) ≤ most_plans) }
+    ensures sound { OnOk result (W.has_failed sink.new ≡ false) }
+    ensures fault { IfErr result (IsUnwritten (plans outside.now settings.now)
+        (IsCut (W.told sink.old) (W.told sink.new) (plans_text outside.now settings.now))
+        (W.told sink.old) (W.told sink.new) (W.has_failed sink.new)) }
+{
+    let points = borrowed(alloc, outside.points.as_slice())?;
+    let plans = planned(alloc, points.as_slice(), outside, settings)?;
+    let text = plans_text(alloc, plans.as_slice())?;
+    write_report(text.as_bytes(), sink)?;
+    Ok(())
+}

@@ -1,0 +1,59 @@
+//! Why a text over answers wasn't written whole.
+ghost use Rattle.std.specs.Prelude.{◌≡◌};
+ghost use Rattle.campaign_core.specs.CommandTexts.{plan_fault};
+ghost use Rattle.campaign_core.specs.declared.ending.CampaignFault.TheVariants.{Memory, Write};
+ghost use Rattle.outside_campaign.specs.declared.refusal.OutsideFault.TheVariants.{Campaign};
+ghost use Rattle.outside_campaign.specs.Results.{answers_fault};
+
+use answer_text::AnswersFault;
+use campaign_core::CampaignFault;
+use plan_gen::PlanFault;
+use report::WriteFault;
+use scenario_values::Scenario;
+use std::alloc::AllocError;
+
+/// Why a text over answers wasn't written whole.
+#[derive(Debug, Drop)]
+pub enum OutsideFault {
+    /// The first fault of the answers; never want of memory. Nothing was written.
+    Answers(AnswersFault),
+    /// This tidied scenario is still to be tried, the first of those that are. Nothing was written.
+    NotAnswered(Scenario),
+    /// A fault as of a campaign of the program's own.
+    Campaign(CampaignFault),
+}
+
+impl From<AllocError> for OutsideFault {
+    ghost from_gives = { λ _ fault. fault ≡ Campaign Memory };
+
+    fn from(_: AllocError) -> OutsideFault {
+        OutsideFault::Campaign(CampaignFault::Memory)
+    }
+}
+
+impl From<AnswersFault> for OutsideFault {
+    ghost from_gives = { λ cause fault. fault ≡ answers_fault cause };
+
+    fn from(cause: AnswersFault) -> OutsideFault {
+        match cause {
+            AnswersFault::Memory => OutsideFault::Campaign(CampaignFault::Memory),
+            other => OutsideFault::Answers(other),
+        }
+    }
+}
+
+impl From<PlanFault> for OutsideFault {
+    ghost from_gives = { λ cause fault. fault ≡ Campaign (plan_fault cause) };
+
+    fn from(cause: PlanFault) -> OutsideFault {
+        OutsideFault::Campaign(CampaignFault::from(cause))
+    }
+}
+
+impl From<WriteFault> for OutsideFault {
+    ghost from_gives = { λ cause fault. fault ≡ Campaign (Write cause.written) };
+
+    fn from(cause: WriteFault) -> OutsideFault {
+        OutsideFault::Campaign(CampaignFault::Write(cause.written))
+    }
+}

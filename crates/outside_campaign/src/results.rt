@@ -1,0 +1,72 @@
+//! What answers come to.
+ghost use Rattle.std.specs.Prelude.{◌≡◌, ◌<◌, ◌≤◌, length, IfOk};
+ghost use Rattle.std.specs.List.{AllByRecursion};
+ghost use Rattle.scenario_values.specs.Scenario.{IsScenario};
+ghost use Rattle.answer_text.specs.Known.{KnownVerdicts, verdict_in};
+ghost use Rattle.outside_campaign.specs.Asked.{plan_verdicts};
+ghost use Rattle.outside_campaign.specs.Results.{IsFirst, AreWithVerdicts, AreResults};
+
+use crate::findings::{Findings, findings_known};
+use crate::verdicts::{Verdicts, plan_verdicts, verdicts_known};
+use answer_text::Known;
+use plan_gen::Plan;
+use report::Finding;
+use result_book::first_failures_of;
+use scenario_values::Scenario;
+use std::alloc::{AllocError, Global};
+use target_trait::Verdict;
+
+/// What is told of a list of plans by what is known.
+#[derive(Drop)]
+pub enum Results {
+    /// The verdict of each plan, in the plans' order, and the first failure of each code.
+    Told(Vec<Verdict>, Vec<Finding>),
+    /// The first scenario that is to be tried, tidied.
+    NotAnswered(Scenario),
+}
+
+/// The first of the open candidates.
+fn first_card(cards: Vec<Scenario>) -> Result<Results, AllocError>
+    requires { 0 < length cards.items }
+    ensures { IfOk result (IsFirst cards.items) }
+{
+    match cards.into_iter().next() {
+        Some(card) => Ok(Results::NotAnswered(card)),
+        None => Err(AllocError),
+    }
+}
+
+/// What is told where no candidate is open.
+fn with_verdicts(
+    alloc: Global,
+    plans: &[Plan<'_>],
+    verdicts: &[Option<Verdict>],
+    findings: Vec<Finding>,
+) -> Result<Results, AllocError>
+    requires many { length verdicts.now ≡ length plans.now }
+    requires lawful { AllByRecursion (λ s. IsScenario s) plans.now }
+    ensures { IfOk result (λ r. (known : KnownVerdicts) → verdicts.now ≡ plan_verdicts known plans.now → AreWithVerdicts known plans.now findings.items r) }
+{
+    match verdicts_known(alloc, plans, verdicts)? {
+        Verdicts::All(verdicts) => Ok(Results::Told(verdicts, findings)),
+        Verdicts::NotAnswered(scenario) => Ok(Results::NotAnswered(scenario)),
+    }
+}
+
+/// What is told of these plans by what is known: the results of each component that agrees with it, or the first scenario that is to be
+/// tried. An error means that memory was refused.
+pub fn results_known(
+    alloc: Global,
+    known: &Known,
+    plans: &[Plan<'_>],
+) -> Result<Results, AllocError>
+    requires { length plans.now ≤ 65536 }
+    ensures { IfOk result (AreResults (verdict_in known.now) plans.now) }
+{
+    let verdicts = plan_verdicts(alloc, known, plans)?;
+    let failures = first_failures_of(alloc, verdicts.as_slice())?;
+    match findings_known(alloc, known, plans, failures.as_slice())? {
+        Findings::Open(cards) => first_card(cards),
+        Findings::Told(findings) => with_verdicts(alloc, plans, verdicts.as_slice(), findings),
+    }
+}

@@ -1,0 +1,129 @@
+#!/usr/bin/env python3
+"""Runs whole campaigns of bundled targets as if somebody else ran them: one call of `try` is the component. However the answers come, the
+report is that of `run`; before that each scenario that is asked has no answer and is asked once, and `report` waits for the first.
+
+    tests/outside_campaigns.py
+
+`paklour` has to be on the PATH. Prints each difference, and fails where there is one.
+"""
+import os
+import random
+import re
+import subprocess
+import sys
+import tempfile
+
+EXAMPLES = os.path.join(os.path.dirname(os.path.abspath(__file__)), "..", "examples")
+CODES = {"replace": ["torn", "stale"], "maildir": ["torn", "lost"], "commit": ["split", "lost", "phantom"]}
+
+
+class Campaigns:
+    """A folder for the program's runs, with the count of checks and of those that differed."""
+
+    def __init__(self, folder):
+        self.folder, self.checks, self.failed = folder, 0, 0
+
+    def file(self, name, contents):
+        path = os.path.join(self.folder, name)
+        with open(path, "w", encoding="utf-8", newline="") as file:
+            file.write(contents)
+        return path
+
+    def run(self, words, given=b""):
+        """Its status and what it wrote on standard output and standard error."""
+        done = subprocess.run(["paklour", *words], input=given, cwd=self.folder, capture_output=True, timeout=20, check=False)
+        return done.returncode, done.stdout, done.stderr
+
+    def expect(self, what, wanted, found):
+        self.checks += 1
+        if wanted == found:
+            return
+        self.failed += 1
+        print(f"campaigns: {what}:", file=sys.stderr)
+        for name, value in (("wanted", wanted), ("found ", found)):
+            print(f"  {name} {str(value)[:600]}", file=sys.stderr)
+
+
+def outside_settings(report, own):
+    """Settings of a component from outside whose report is this, with the campaign's own numbers and scenarios."""
+    text = report.decode()
+    census = re.findall(r"^census (\S+) (\d+)$", text, re.M)
+    label = re.search(r"^target (.*)$", text, re.M)[1]
+    target = label.split()[0]
+    top = re.split(r"^\[", own, flags=re.M)[0]
+    kept = [line for line in top.splitlines() if re.match(r"(seed|pairs|storms|rate|scenarios) =", line)]
+    names = ", ".join(f'"{name}"' for name, _ in census)
+    hits = ", ".join(count for _, count in census)
+    codes = ", ".join(f'"{code}"' for code in codes_of(text, target))
+    return "\n".join(['target = "outside"', *kept, "[outside]", f'label = "{label}"', f"codes = [{codes}]", f"points = [{names}]", f"hits = [{hits}]", ""])
+
+
+def codes_of(text, target):
+    """The codes that a report names, and more, in another order than the target has them."""
+    return sorted(set(re.findall(r"^verdict \d+ fail (\S+)$", text, re.M)) | set(CODES[target]))
+
+
+def answer(campaigns, own, scenario, known):
+    """One run of the bundled target."""
+    if scenario not in known:
+        text = "" if scenario == b"none" else scenario.decode()
+        _, said, _ = campaigns.run(["try", f"--scenario={text}", own])
+        known[scenario] = re.match(rb"verdict (.*)\n", said)[1] + b"\t" + scenario + b"\n"
+    return known[scenario]
+
+
+def bundled(campaigns, name, more=""):
+    """A bundled target as a component from outside: any part of what is asked, in any order, repeated, with answers that nobody asked."""
+    with open(os.path.join(EXAMPLES, name), encoding="utf-8") as file:
+        own_text = more + file.read()
+    own = campaigns.file("own.toml", own_text)
+    status, wanted, _ = campaigns.run(["run", own])
+    settings = campaigns.file("outside.toml", outside_settings(wanted, own_text))
+    plans = campaigns.run(["plans", own])
+    campaigns.expect(f"{name}: plans", plans, campaigns.run(["plans", settings]))
+    draw, known, answers, rounds = random.Random(7), {}, [], 0
+    if b"%" not in own_text.encode():
+        answers.append(answer(campaigns, own, b"nobody::asked=return", known))
+    while True:
+        given = b"".join(answers)
+        asked = campaigns.run(["asks", settings], given)
+        campaigns.expect(f"{name}: asks", (0, b""), (asked[0], asked[2]))
+        lines = asked[1].splitlines()
+        campaigns.expect(f"{name}: each once", len(lines), len(set(lines)))
+        campaigns.expect(f"{name}: none that is answered", set(), set(lines) & set(known) - {b"nobody::asked=return"})
+        if not lines or asked[0] != 0:
+            break
+        refused = campaigns.run(["report", settings], given)
+        campaigns.expect(f"{name}: report waits", (2, b"", b"not answered " + lines[0] + b"\n"), refused)
+        part = draw.sample(lines, max(1, len(lines) // 2))
+        answers += [answer(campaigns, own, line, known) for line in part]
+        answers += draw.sample(answers, 1)
+        draw.shuffle(answers)
+        rounds += 1
+    campaigns.expect(f"{name}: report", (status, wanted, b""), campaigns.run(["report", settings], b"".join(answers)))
+
+
+def size(campaigns):
+    """The most plans, all answered. Each command takes a few tenths of a second; a search of a list for each plan would take minutes."""
+    settings = campaigns.file("size.toml", 'target = "outside"\n[outside]\nlabel = "x"\ncodes = []\npoints = ["p"]\nhits = [21845]\n')
+    status, asked, _ = campaigns.run(["asks", settings])
+    lines = asked.splitlines()
+    campaigns.expect("the most plans", (0, 65536), (status, len(lines)))
+    given = b"".join(b"pass\t" + line + b"\n" for line in lines)
+    for command, wanted in (("asks", 0), ("report", 65536 + 6)):
+        status, text, _ = campaigns.run([command, settings], given)
+        campaigns.expect(command, (0, wanted), (status, len(text.splitlines())))
+
+
+def main():
+    with tempfile.TemporaryDirectory() as folder:
+        campaigns = Campaigns(folder)
+        for name in ("replace_late_sync.toml", "replace_retry_write.toml", "maildir_append_tmp.toml", "commit_early_end.toml"):
+            bundled(campaigns, name)
+        bundled(campaigns, "replace_ignore_sync.toml", "pairs = true\nstorms = 20\nrate = 300\n")
+        size(campaigns)
+        print(f"{campaigns.failed} checks failed")
+    return 1 if campaigns.failed else 0
+
+
+sys.exit(main())

@@ -1,0 +1,275 @@
+Settings of a component that somebody else runs: `target = "outside"`, with its table. Each call of `outside` takes settings that are accepted,
+with lines before the table (--top), lines of the table in place of those of their keys, and without some keys (-KEY).
+
+  $ repeat() { printf "%.0s$2" $(seq $1); }
+  $ names() { seq -s ', ' -f "\"$1%g\"" 0 $(($2 - 1)); }
+  $ told() { paklour plans 2>&1 > /dev/null | sed 's/^too many plans$/accepted, but too many plans/' | grep . || echo accepted; }
+  $ outside() {
+  >     printf '%s\n' 'target = "outside"' > top
+  >     printf '%s\n' 'label = "store 1"' 'codes = ["lost", "corrupt"]' 'points = ["io::open", "io::write"]' 'hits = [2, 0]' > table
+  >     while [ $# -gt 0 ]; do
+  >         case $1 in
+  >         --top) shift; printf '%s\n' "$1" >> top ;;
+  >         -*) sed -i "/^${1#-} /d" table ;;
+  >         *) sed -i "/^${1%% *} /d" table; printf '%s\n' "$1" >> table ;;
+  >         esac
+  >         shift
+  >     done
+  >     { cat top; echo '[outside]'; cat table; } | told
+  > }
+
+Which keys there are
+--------------------
+
+The seed, and what is asked of plans, are as everywhere. `variant`, `workers` and `max_hits` mean nothing here, and other targets' tables aren't
+known; of unknown keys the least is told, before all else.
+
+  $ outside
+  accepted
+  $ outside --top 'variant = "sound"'
+  settings: unknown key variant
+  $ outside --top 'workers = 2'
+  settings: unknown key workers
+  $ outside 'extra = 1' 'beta = 2'
+  settings: unknown key outside.beta
+  $ outside -label -codes -points -hits 'old = "x"'
+  settings: unknown key outside.old
+  $ outside --top 'scenarios = ["io::open=50%return", "io::open=retrun"]'
+  settings: scenario 1: UnknownTask entry 1 term 1
+  $ outside --top 'scenarios = ["io::open=50%return"]' --top 'rate = 1001'
+  settings: out of range rate
+  $ outside --top 'seed = -1'
+  settings: out of range seed
+  $ outside --top 'pairs = 1'
+  settings: wrong type pairs
+  $ outside --top 'storms = 10001'
+  settings: out of range storms
+  $ told << 'END'
+  > target = "outside"
+  > [outside]
+  > label = "store 1"
+  > codes = ["lost", "corrupt"]
+  > points = ["io::open", "io::write"]
+  > hits = [2, 0]
+  > [replace]
+  > old = ""
+  > replacements = []
+  > END
+  settings: unknown key replace
+  $ told << 'END'
+  > target = "outside"
+  > [outside]
+  > label = "store 1"
+  > codes = ["lost", "corrupt"]
+  > points = ["io::open", "io::write"]
+  > hits = [2, 0]
+  > [maildir]
+  > messages = []
+  > END
+  settings: unknown key maildir
+  $ told << 'END'
+  > target = "outside"
+  > [outside]
+  > label = "store 1"
+  > codes = ["lost", "corrupt"]
+  > points = ["io::open", "io::write"]
+  > hits = [2, 0]
+  > [commit]
+  > participants = 1
+  > transactions = []
+  > END
+  settings: unknown key commit
+  $ told << 'END'
+  > target = "replace"
+  > [replace]
+  > old = ""
+  > replacements = []
+  > [outside]
+  > label = "store 1"
+  > codes = ["lost", "corrupt"]
+  > points = ["io::open", "io::write"]
+  > hits = [2, 0]
+  > END
+  settings: unknown key outside
+  $ told << 'END'
+  > target = "outsides"
+  > [outside]
+  > label = "store 1"
+  > codes = ["lost", "corrupt"]
+  > points = ["io::open", "io::write"]
+  > hits = [2, 0]
+  > END
+  settings: unknown key outside
+  $ told << 'END'
+  > target = "outsides"
+  > workers = 1
+  > END
+  settings: out of range target
+  $ told << 'END'
+  > workers = 1
+  > END
+  settings: missing target
+  $ told << 'END'
+  > target = "outside"
+  > END
+  settings: missing outside
+  $ told << 'END'
+  > target = "outside"
+  > outside = 3
+  > END
+  settings: wrong type outside
+  $ told << 'END'
+  > target = "outside"
+  > scenarios = ["io::open=50%return"]
+  > END
+  settings: out of range scenarios
+  $ told << 'END'
+  > target = "replace"
+  > scenarios = ["io::open=50%return(a\tb)"]
+  > [replace]
+  > old = ""
+  > replacements = []
+  > END
+  accepted
+
+The scenarios
+-------------
+
+Nothing is drawn for such a component: no share stands strictly between none and all. The texts are lines of their own, so no byte of them is
+a control character. A text that spells no scenario comes first, and what is wrong with the table after.
+
+  $ outside --top 'seed = 7' --top 'pairs = true' --top 'storms = 3' --top 'rate = 10' \
+  >     --top 'scenarios = ["io::open=1*return", "other=0%return;io::write=100%2*off->panic(x)"]'
+  accepted
+  $ outside --top 'scenarios = ["io::open=50%return"]'
+  settings: out of range scenarios
+  $ outside --top 'scenarios = ["io::open=99.9999%return"]'
+  settings: out of range scenarios
+  $ outside --top 'scenarios = ["io::open=0.0001%off->return"]'
+  settings: out of range scenarios
+  $ outside --top 'scenarios = ["io::open=100%return", "io::open=0%return"]'
+  accepted
+  $ outside --top 'scenarios = ["io::open=return(a\tb)"]'
+  settings: out of range scenarios
+  $ outside --top 'scenarios = ["a\nb=return"]'
+  settings: out of range scenarios
+  $ outside --top 'scenarios = ["\n io::open = return ;\t"]'
+  accepted
+  $ outside --top 'scenarios = ["io::open=50%return"]' 'label = 3'
+  settings: out of range scenarios
+
+The label
+---------
+
+  $ outside -label -codes -points -hits
+  settings: missing outside.label
+  $ outside 'label = 3' 'codes = 3'
+  settings: wrong type outside.label
+  $ outside 'label = ""'
+  accepted
+  $ outside "label = \"$(repeat 200 x)\""
+  accepted
+  $ outside "label = \"$(repeat 201 x)\""
+  settings: out of range outside.label
+  $ outside "label = \"$(repeat 101 é)\""
+  settings: out of range outside.label
+  $ outside 'label = "a\tb"'
+  settings: out of range outside.label
+  $ outside 'label = "a\u007F"'
+  settings: out of range outside.label
+  $ outside 'label = "a\u0080"'
+  accepted
+
+The codes
+---------
+
+  $ outside 'codes = []' 'hits = [0, 0]'
+  accepted
+  $ outside -codes
+  settings: missing outside.codes
+  $ outside 'codes = "lost"'
+  settings: wrong type outside.codes
+  $ outside 'codes = ["lost", 1]'
+  settings: wrong type outside.codes
+  $ outside 'codes = [""]'
+  settings: out of range outside.codes
+  $ outside 'codes = ["a", "b", "a"]'
+  settings: out of range outside.codes
+  $ outside 'codes = ["a", "A"]'
+  accepted
+  $ outside "codes = [$(names '' 64)]"
+  accepted
+  $ outside "codes = [$(names '' 65)]"
+  settings: out of range outside.codes
+  $ outside "codes = [\"$(repeat 200 c)\"]"
+  accepted
+  $ outside "codes = [\"$(repeat 201 c)\"]"
+  settings: out of range outside.codes
+  $ outside 'codes = ["a\nb"]'
+  settings: out of range outside.codes
+  $ outside "codes = [\"$(repeat 201 c)\", 1]"
+  settings: wrong type outside.codes
+
+The points
+----------
+
+  $ outside -points
+  settings: missing outside.points
+  $ outside 'points = 3'
+  settings: wrong type outside.points
+  $ outside 'points = ["a", ["b"]]'
+  settings: wrong type outside.points
+  $ outside 'points = []' 'hits = []'
+  settings: out of range outside.points
+  $ outside 'points = ["a", "a"]'
+  settings: out of range outside.points
+  $ outside 'points = ["a", ""]'
+  settings: out of range outside.points
+  $ outside 'points = ["a", " b"]'
+  settings: out of range outside.points
+  $ outside 'points = ["a", "b=c"]'
+  settings: out of range outside.points
+  $ outside 'points = ["a", "b;c"]'
+  settings: out of range outside.points
+  $ outside 'points = ["a", "b\tc"]'
+  settings: out of range outside.points
+  $ outside 'points = ["a", "b c"]'
+  accepted
+  $ outside "points = [\"$(repeat 200 p)\"]" 'hits = [100000]'
+  accepted, but too many plans
+  $ outside "points = [\"$(repeat 201 p)\"]" 'hits = [1]'
+  settings: out of range outside.points
+  $ outside "points = [$(names p 64)]" "hits = [$(repeat 64 '1, ')]"
+  accepted
+  $ outside "points = [$(names p 65)]" "hits = [$(repeat 65 '1, ')]"
+  settings: out of range outside.points
+
+The hits
+--------
+
+As many as there are points.
+
+  $ outside --top 'max_hits = 5' --top 'seed = -1'
+  settings: unknown key max_hits
+  $ outside --top 'workers = 1' --top 'variant = "sound"' --top 'max_hits = 1'
+  settings: unknown key max_hits
+  $ outside -hits
+  settings: missing outside.hits
+  $ outside 'hits = 2'
+  settings: wrong type outside.hits
+  $ outside 'hits = [1, "2"]'
+  settings: wrong type outside.hits
+  $ outside 'hits = [-1, "2"]'
+  settings: wrong type outside.hits
+  $ outside 'hits = [1, 2.0]'
+  settings: wrong type outside.hits
+  $ outside 'hits = [1]'
+  settings: out of range outside.hits
+  $ outside 'hits = [1, 2, 3]'
+  settings: out of range outside.hits
+  $ outside 'hits = [1, 100000]'
+  accepted, but too many plans
+  $ outside 'hits = [1, 100001]'
+  settings: out of range outside.hits
+  $ outside 'hits = [-1, 1]'
+  settings: out of range outside.hits
