@@ -16,5 +16,6 @@ pub mod Rests
 pub mod Steps
 pub mod Heads
 pub mod CallerLemmas
+pub mod PassedHits
 pub mod RunLaws
 pub mod LeftFaults

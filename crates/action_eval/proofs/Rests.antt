@@ -1,10 +1,12 @@
 -- What is left of a chain when terms at its head that are spent are left out: it is tried as the whole is, and they stay spent.
 use Rattle.std.proofs.Common.{◌≡◌, ℕ, zero, suc, ◌+◌, ◌-◌, ◌<◌, ◌≤◌, ◌%◌, nat_lt, Bool, true, false, cond, eqb, ◌&&◌, List, [], ◌∷◌, ◌++◌, length, map, take, drop, get_or, slice_index, slice_set, slice_get, slice_range, Option, Some, None, option_map, is_some, IfSome, refl, ap, sym, ◌∙◌, arith, add-zero, zero-add, append_assoc, length-append, subst, get_or-take, get_or-drop}
 use Rattle.std.proofs.lemmas.Bool.Decides.{nat_tests}
+use Rattle.std.proofs.lemmas.List.{map-append}
 use Rattle.std.specs.Option.{option_map_or}
 use Rattle.scenario_values.specs.declared.term.Term.{Term}
 use Rattle.scenario_values.specs.declared.term.Task.TheVariants as task
 use Rattle.action_eval.specs.declared.found.Found.{Found}
+use Rattle.action_eval.specs.declared.found.Head.{Head}
 use Rattle.action_eval.specs.Trial.{tried, is_spent, Trial}
 use Rattle.action_eval.specs.Answers.{task_at}
 use Rattle.action_eval.specs.Session.{AllSpent, StartsUnspent, Rest, IsRest, AreRests, left_after, with_one_less, seen}
@@ -245,3 +247,33 @@ one_more_spent spent i p ts t l e s h = let one : suc p ≡ p + 1 = omega arith 
 
 pub spent_by : (left : List ℕ) (j : ℕ) (t : Term) → is_some t.count ≡ true → slice_index left j ≡ 0 → is_spent left j t ≡ true
 spent_by left j t some none = ap (λ (b : Bool). b && eqb (slice_index left j) 0) some ∙ ap (λ (n : ℕ). eqb n 0) none
+
+-- ---- points found one after another
+
+take_one : {A : Type 0} (xs : List A) (i : ℕ) (x : A) → i < length xs → take (i + 1) xs ≡ take i xs ++ get_or xs i x ∷ []
+take_one [] i x h = absurd (omega arith)
+take_one (y ∷ ys) zero x h = refl
+take_one {A} (y ∷ ys) (suc i) x h = let one : suc i + 1 ≡ suc (i + 1) = omega arith in ap (λ (n : ℕ). take n (y ∷ ys)) one ∙ ap (λ (l : List A). y ∷ l) (take_one ys i x (omega arith))
+
+take_set : {A : Type 0} (xs : List A) (i : ℕ) (x : A) → i < length xs → take (i + 1) (slice_set xs i x) ≡ take i xs ++ x ∷ []
+take_set [] i x h = absurd (omega arith)
+take_set (y ∷ ys) zero x h = refl
+take_set {A} (y ∷ ys) (suc i) x h = let one : suc i + 1 ≡ suc (i + 1) = omega arith in ap (λ (n : ℕ). take n (slice_set (y ∷ ys) (suc i) x)) one ∙ ap (λ (l : List A). y ∷ l) (take_set ys i x (omega arith))
+
+pub length_seen : (found : List (Option Found)) → length (map seen found) ≡ length found
+length_seen [] = refl
+length_seen (f ∷ fs) = ap suc (length_seen fs)
+
+pub found_more : {B : Type 0} (g : B → Option (List Term × ℕ)) (names : List B) (n : B) (found : List (Option Found)) (i : ℕ) (f : Option Found) → i < length names → i < length found
+    → take i (map seen found) ≡ map g (take i names) → seen f ≡ g (get_or names i n) → take (i + 1) (map seen (slice_set found i f)) ≡ map g (take (i + 1) names)
+found_more {B} g names n found i f less within so_far is =
+    ap (take (i + 1)) (seen_set found i f) ∙ take_set (map seen found) i (seen f) (omega (arith, length_seen found, within))
+    ∙ ap (λ (l : List (Option (List Term × ℕ))). l ++ seen f ∷ []) so_far ∙ ap (λ (o : Option (List Term × ℕ)). map g (take i names) ++ o ∷ []) is
+    ∙ sym (map-append g (take i names) (get_or names i n ∷ [])) ∙ ap (map g) (sym (take_one names i n less))
+
+pub heads_more : (head : Option (List Term × ℕ) → Head) (heads : List Head) (found : List (Option Found)) (i : ℕ) (h : Head) (f : Option Found) → i < length heads → i < length found
+    → take i heads ≡ map head (take i (map seen found)) → h ≡ head (seen f) → take (i + 1) (slice_set heads i h) ≡ map head (take (i + 1) (map seen (slice_set found i f)))
+heads_more head heads found i h f less within so_far is =
+    take_set heads i h less ∙ ap (λ (l : List Head). l ++ h ∷ []) so_far ∙ ap (λ (x : Head). map head (take i (map seen found)) ++ x ∷ []) is
+    ∙ sym (map-append head (take i (map seen found)) (seen f ∷ []))
+    ∙ ap (map head) (sym (ap (take (i + 1)) (seen_set found i f) ∙ take_set (map seen found) i (seen f) (omega (arith, length_seen found, within))))

@@ -1,6 +1,6 @@
 -- How the hits of a run are answered, by the actions of fail-rs's fail points. Nothing here counts down: each answer follows from all
 -- the hits before it.
-use Rattle.std.specs.Prelude.{◌≡◌, ℕ, ◌-◌, ◌==◌, ◌&&◌, nat_lt, nat_le, if◌then◌else◌, Bool, false, List, [], ◌∷◌, ◌++◌, Option, Some, None, map, take, length, sum_by, count_by, slice_get, slice_index_or}
+use Rattle.std.specs.Prelude.{◌≡◌, ℕ, zero, suc, ◌-◌, ◌==◌, ◌&&◌, nat_lt, nat_le, if◌then◌else◌, Bool, false, List, [], ◌∷◌, ◌++◌, Option, Some, None, map, take, length, sum_by, count_by, slice_get, slice_index_or}
 use Rattle.std.specs.Option.{option_map_or, option_or}
 use Rattle.std.specs.List.{flat_map}
 use Rattle.std.specs.Borrow.{Bor}
@@ -192,9 +192,29 @@ stopped_by (h ∷ hs) = option_or (stop_of h.did) (stopped_by hs)
 abbrev pub stopped : Run → Option Stop
 stopped r = if is_over r then Some stop.Limit else stopped_by (history_of r)
 
+-- a run with further hits
+abbrev pub hits_of : Run → List ℕ → Run
+hits_of r ps = record { given = r.given; hits = r.hits ++ ps }
+
 -- a run with one more hit
 abbrev pub hit : Run → ℕ → Run
 hit r p = record { given = r.given; hits = r.hits ++ p ∷ [] }
+
+-- further hits, each of which is answered to go on
+abbrev pub AllGo : Run → List ℕ → Type 0
+AllGo r [] = Unit {0}
+AllGo r (p ∷ ps) = (replies (hit r p) ≡ replies r ++ Go ∷ []) × AllGo (hit r p) ps
+
+-- these points in turn, so many times
+abbrev pub rounds : ℕ → List ℕ → List ℕ
+rounds zero ps = []
+rounds (suc n) ps = ps ++ rounds n ps
+
+-- the same catalogue, seed and limit, which a session keeps from run to run
+pub record SameCourse (old new : Given) : Type 0 where
+  pub catalogue : new.catalogue ≡ old.catalogue
+  pub seed : new.seed ≡ old.seed
+  pub limit : new.limit ≡ old.limit
 
 -- the answer of the next hit of a run
 abbrev pub reply_to : Run → ℕ → Reply

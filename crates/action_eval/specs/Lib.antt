@@ -2,7 +2,10 @@ pub mod Words
 pub mod Trial
 pub mod Answers
 pub mod SameMeaning
+pub mod Catalogue
+pub mod Rigging
 pub mod FullShares
 pub mod LeftTerms
 pub mod LeftFrom
 pub mod Session
+pub mod Quiet

@@ -1,34 +1,38 @@
 //! What is left of the counts of a scenario's terms, chain after chain.
-ghost use Rattle.std.specs.Prelude.{◌≡◌, ◌+◌, ◌++◌, ◌<◌, [], length, IfOk, OnOk};
+ghost use Rattle.std.specs.Prelude.{◌≡◌, ◌+◌, ◌++◌, ◌<◌, ◌≤◌, [], length, vec_len, vec_capacity, OnOk, OnErr};
 ghost use Rattle.std.specs.Option.{ForSome};
 ghost use Rattle.scenario_values.specs.Scenario.{IsScenario};
 ghost use Rattle.action_eval.specs.Session.{left_row, left_counts, left_after};
 
 use crate::found::start_of;
 use scenario_values::{Scenario, Term};
-use std::alloc::{AllocError, Global};
+use std::alloc::AllocError;
 
-/// Adds the counts of a chain; a term without one has more than a session answers hits.
-fn push_counts(left: &mut Vec<u32>, terms: &[Term]) -> Result<(), AllocError>
-    ensures { OnOk result (left.new.items ≡ left.old.items ++ left_row (λ _. 0) 0 terms.now) }
+/// Adds the counts of a chain, for which there is room; a term without one has more than a session answers hits.
+fn push_counts(left: &mut Vec<u32>, terms: &[Term])
+    requires { vec_len left.old + length terms.now ≤ vec_capacity left.old }
+    ensures counts { left.new.items ≡ left.old.items ++ left_row (λ _. 0) 0 terms.now }
+    ensures room { vec_capacity left.new ≡ vec_capacity left.old }
 {
     for term in terms {
-        left.push(term.count.unwrap_or(u32::MAX))?;
+        left.push_reserved(term.count.unwrap_or(u32::MAX));
     }
-    Ok(())
 }
 
-/// The counts of all chains.
-pub fn full_counts(alloc: Global, scenario: &Scenario) -> Result<Vec<u32>, AllocError>
-    ensures counts { IfOk result (λ left. left.items ≡ left_counts [] scenario.now) }
+/// The counts of all chains, in place of those that stood there. Want of memory leaves these.
+pub fn fill_counts(left: &mut Vec<u32>, scenario: &Scenario) -> Result<(), AllocError>
+    ensures counts { OnOk result (left.new.items ≡ left_counts [] scenario.now) }
     ensures limits { IsScenario scenario.now }
+    ensures err { OnErr result (left.new.items ≡ left.old.items) }
 {
     let _ = scenario.entries();
-    let mut left = Vec::with_capacity(alloc, start_of(scenario, scenario.len()))?;
+    let count = start_of(scenario, scenario.len());
+    left.reserve(count.saturating_sub(left.len()))?;
+    left.clear();
     for entry in 0..scenario.len() {
-        push_counts(&mut left, scenario.chain(entry))?;
+        push_counts(left, scenario.chain(entry));
     }
-    Ok(left)
+    Ok(())
 }
 
 /// Takes one off what is left of the term at a place of a chain whose counts begin at `start`, if anything is.

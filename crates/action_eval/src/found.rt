@@ -1,5 +1,5 @@
 //! Where the chains of the points stand.
-ghost use Rattle.std.specs.Prelude.{◌≡◌, ◌+◌, ◌<◌, ◌≤◌, length, map, IfOk};
+ghost use Rattle.std.specs.Prelude.{◌≡◌, ◌+◌, ◌<◌, ◌≤◌, length, map};
 ghost use Rattle.scenario_values.specs.Scenario.{IsScenario};
 ghost use Rattle.action_eval.specs.Answers.{texts};
 ghost use Rattle.action_eval.specs.Session.{seen, found_of, start_of, head_of, Rest, StartsUnspent};
@@ -7,7 +7,6 @@ ghost use Rattle.action_eval.specs.Trial.{is_spent};
 
 use crate::terms::FULL_SHARE;
 use scenario_values::{Scenario, Task, Term};
-use std::alloc::{AllocError, Global};
 
 /// A chain, and where its counts begin among those of all chains. Terms at its head that are spent may be left out: a count never grows,
 /// so they stay spent.
@@ -42,17 +41,6 @@ pub fn head_of(found: Option<Found<'_>>) -> Head
             _ => Head::Terms,
         },
     }
-}
-
-/// The same of all points.
-pub fn heads_of(alloc: Global, found: &[Option<Found<'_>>]) -> Result<Vec<Head>, AllocError>
-    ensures { IfOk result (λ heads. heads.items ≡ map head_of (map seen found.now)) }
-{
-    let mut heads = Vec::with_capacity(alloc, found.len())?;
-    for point in found {
-        heads.push(head_of(*point))?;
-    }
-    Ok(heads)
 }
 
 /// A chain without the terms at its head that are spent.
@@ -99,17 +87,21 @@ fn find<'a>(scenario: &'a Scenario, name: &str) -> Option<Found<'a>>
     })
 }
 
-/// Where the chain of each point stands.
+/// Where the chain of each point stands, and what its next hit meets, in place of what stood there.
 pub fn find_all<'a>(
-    alloc: Global,
+    found: &mut Vec<Option<Found<'a>>>,
+    heads: &mut Vec<Head>,
     scenario: &'a Scenario,
     catalogue: &[&str],
-) -> Result<Vec<Option<Found<'a>>>, AllocError>
-    ensures { IfOk result (λ found. map seen found.items ≡ map (found_of scenario.now) (texts catalogue.now)) }
+)
+    requires found { length found.old.items ≡ length catalogue.now }
+    requires heads { length heads.old.items ≡ length catalogue.now }
+    ensures found { map seen found.new.items ≡ map (found_of scenario.now) (texts catalogue.now) }
+    ensures heads { heads.new.items ≡ map head_of (map seen found.new.items) }
 {
-    let mut found = Vec::with_capacity(alloc, catalogue.len())?;
-    for name in catalogue {
-        found.push(find(scenario, name))?;
+    for (point, name) in catalogue.iter().enumerate() {
+        let chain = find(scenario, name);
+        found[point] = chain;
+        heads[point] = head_of(chain);
     }
-    Ok(found)
 }

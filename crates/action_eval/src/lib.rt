@@ -6,6 +6,8 @@ mod counts;
 mod draws;
 mod found;
 mod laws;
+mod quiet;
+mod rig;
 mod session;
 mod terms;
 
@@ -15,4 +17,5 @@ pub use laws::{
     faults_left_by_tidying, history_of_a_part, keep_of_tidied, keep_then_tidy,
     tidied_without_a_fault, tidy_keeps_meaning,
 };
+pub use rig::{Kind, Rig, Site};
 pub use session::Session;

@@ -1,13 +1,14 @@
 //! A session: one run, hit by hit.
-ghost use Rattle.std.specs.Prelude.{◌≡◌, ◌+◌, ◌^◌, ◌<◌, ◌≤◌, [], length, IfOk, OnOk, OnErr, None, Some, ◌++◌, ◌∷◌};
+ghost use Rattle.std.specs.Prelude.{◌≡◌, ◌+◌, ◌^◌, ◌<◌, ◌≤◌, [], All, replicate, length, IfOk, OnOk, OnErr, None, Some, ◌++◌, ◌∷◌};
 ghost use Rattle.std.specs.Option.{ForSome};
-ghost use Rattle.action_eval.specs.Answers.{did, task_at, replies, GoesOn, reply_to, reply_of_answer, hit, stopped, notes_of_task, asked, history_of, notes_of, total_millis, words_of, start, given_of, texts, name_of};
+ghost use Rattle.action_eval.specs.Answers.{AllGo, hits_of, rounds, SameCourse, did, task_at, replies, GoesOn, reply_to, reply_of_answer, hit, stopped, notes_of_task, asked, history_of, notes_of, total_millis, words_of, start, given_of, texts, name_of};
 ghost use Rattle.action_eval.specs.Session.{found_of, seen, left_counts, IsRest};
 
 use crate::answer::{Answer, Note, Stop, answer_of, millis_of, push_note, stop_of};
-use crate::counts::{full_counts, spend};
+use crate::counts::{fill_counts, spend};
 use crate::draws::Draws;
-use crate::found::{Found, Head, find_all, head_of, heads_of, without_spent};
+use crate::found::{Found, Head, find_all, head_of, without_spent};
+use crate::quiet::{pass_hits, push_rounds, rounds_left, take_rounds};
 use crate::terms::try_terms;
 use scenario_values::{Scenario, Task, Term};
 use std::alloc::{AllocError, Global};
@@ -113,9 +114,13 @@ impl<'a> Session<'a> {
     ) -> Result<Self, AllocError>
         ensures { IfOk result (λ s. s ≡ start (given_of scenario.now (texts catalogue.now) seed stream max_hits)) }
     {
-        let left = full_counts(alloc, scenario)?;
-        let found = find_all(alloc, scenario, catalogue)?;
-        let heads = heads_of(alloc, &found)?;
+        let mut left = Vec::new(alloc);
+        fill_counts(&mut left, scenario)?;
+        let mut found = Vec::new(alloc);
+        found.resize(catalogue.len(), None)?;
+        let mut heads = Vec::new(alloc);
+        heads.resize(catalogue.len(), Head::Nothing)?;
+        find_all(&mut found, &mut heads, scenario, catalogue);
         Ok(Session {
             scenario,
             catalogue,
@@ -213,6 +218,72 @@ impl<'a> Session<'a> {
         self.millis += u64::from(millis_of(task));
         self.stopped = stop_of(task);
         Ok(answer_of(task))
+    }
+
+    /// Hits the point of this number in the catalogue as often as that surely comes to nothing, at most so often, and gives how often that
+    /// was. Each of these hits is answered `Go`; 0 says nothing of the next one, which is for `hit`.
+    ///
+    /// Want of memory leaves the session as it was.
+    pub fn pass(&mut self, point: u32, most: usize) -> Result<usize, AllocError>
+        requires known { point < length self.old.given.catalogue }
+        requires running { stopped self.old ≡ None }
+        ensures count { IfOk result (λ n. n ≤ most) }
+        ensures ok { IfOk result (λ n. self.new ≡ hits_of self.old (replicate n point)) }
+        ensures told { IfOk result (λ n. AllGo self.old (replicate n point)) }
+        ensures goes_on { OnOk result (stopped self.new ≡ None) }
+        ensures err { OnErr result (self.new ≡ self.old) }
+    {
+        let room = (self.max_hits as usize).saturating_sub(self.hits.len());
+        let most = most.min(room);
+        let count = pass_hits(&self.heads, &mut self.left, &mut self.hits, point, most)?;
+        Ok(count)
+    }
+
+    /// Hits these points of the catalogue in turn, round after round, as often as that surely comes to nothing, at most so many rounds, and
+    /// gives how many these were. Each of these hits is answered `Go`; 0 says nothing of the next one, which is for `hit`.
+    ///
+    /// Want of memory leaves the session as it was.
+    pub fn pass_rounds(&mut self, points: &[u32], most: usize) -> Result<usize, AllocError>
+        requires known { All (λ p. p < length self.old.given.catalogue) points.now }
+        requires running { stopped self.old ≡ None }
+        ensures count { IfOk result (λ n. n ≤ most) }
+        ensures ok { IfOk result (λ n. self.new ≡ hits_of self.old (rounds n points.now)) }
+        ensures told { IfOk result (λ n. AllGo self.old (rounds n points.now)) }
+        ensures goes_on { OnOk result (stopped self.new ≡ None) }
+        ensures err { OnErr result (self.new ≡ self.old) }
+    {
+        if points.is_empty() {
+            return Ok(0);
+        }
+        let room = (self.max_hits as usize).saturating_sub(self.hits.len()) / points.len();
+        let count = (rounds_left(&self.left, &self.heads, points) as usize)
+            .min(most)
+            .min(room);
+        self.hits.reserve(count * points.len())?;
+        if !take_rounds(&mut self.left, &self.heads, points, count as u32) {
+            return Ok(0);
+        }
+        push_rounds(&mut self.hits, points, count);
+        Ok(count)
+    }
+
+    /// Begins a new run of this scenario, under the stream of this number. The catalogue, the seed and the limit stay, and so does the room
+    /// that the session has taken.
+    ///
+    /// An error means that memory was refused. The run is then of no use, and another may be begun.
+    pub fn restart(&mut self, scenario: &'a Scenario, stream: u64) -> Result<(), AllocError>
+        ensures ok { OnOk result (self.new ≡ start (given_of scenario.now self.old.given.catalogue self.old.given.seed stream self.old.given.limit)) }
+        ensures course { SameCourse self.old.given self.new.given }
+    {
+        fill_counts(&mut self.left, scenario)?;
+        find_all(&mut self.found, &mut self.heads, scenario, self.catalogue);
+        self.scenario = scenario;
+        self.hits.clear();
+        self.draws.restart(stream);
+        self.notes.clear();
+        self.millis = 0;
+        self.stopped = None;
+        Ok(())
     }
 
     /// The points that were asked, in order. A hit past the limit isn't asked.

@@ -14,11 +14,11 @@ use Rattle.action_eval.specs.Answers.{Given, Hit, given_of, run_of, replies, his
 use Rattle.action_eval.specs.SameMeaning.{Meaning}
 use Rattle.action_eval.specs.FullShares.{IsFull, NoFaultActed}
 use Rattle.action_eval.proofs.Clean.{clean_meaning}
-use Rattle.target_trait.specs.Catalogue.{IsCatalogue, HasDistinct}
-use Rattle.plan_gen.specs.declared.site.Rig.{Rig}
-use Rattle.plan_gen.specs.declared.site.Kind.{Kind}
-use Rattle.plan_gen.specs.declared.site.Kind.TheVariants.{OnceReturn, OnwardReturn, OncePanic}
-use Rattle.plan_gen.specs.Rigging.{offs, term_of, full, rigged, entry, entries_from, rig, rigging}
+use Rattle.action_eval.specs.Catalogue.{IsCatalogue, HasDistinct}
+use Rattle.action_eval.specs.declared.rig.Rig.{Rig}
+use Rattle.action_eval.specs.declared.rig.Kind.{Kind}
+use Rattle.action_eval.specs.declared.rig.Kind.TheVariants.{OnceReturn, OnwardReturn, OncePanic}
+use Rattle.action_eval.specs.Rigging.{offs, term_of, full, rigged, entry, entries_from, rig, rigging}
 use Rattle.plan_gen.specs.LoopRuns.{times}
 use Rattle.plan_gen.proofs.Lists.{fold_append}
 use Rattle.plan_gen.proofs.Meeting.{IsCleanBefore}

@@ -3,11 +3,11 @@ use Rattle.std.proofs.Common.{◌≡◌, ℕ, zero, suc, ◌+◌, ◌-◌, ◌*�
 use Rattle.std.specs.List.{flat_map, range_with_len}
 use Rattle.std.proofs.lemmas.Grind.{flat_map-append}
 use Rattle.scenario_values.specs.Scenario.{Entries}
-use Rattle.plan_gen.specs.declared.site.Site.{Site}
+use Rattle.action_eval.specs.declared.rig.Site.{Site}
 use Rattle.plan_gen.specs.PlanList.{Asked, pairs_of, site_plans, pair_plans, pair_part, storm_part, plans_over, plan_list, storm}
 use Rattle.plan_gen.specs.Census.{sites_at, sites_from, sites_of}
 use Rattle.plan_gen.specs.Counts.{total_of, pairs_count, plan_count}
-use Rattle.plan_gen.specs.Rigging.{rigging}
+use Rattle.action_eval.specs.Rigging.{rigging}
 use Rattle.plan_gen.proofs.Lists.{goes_on, range_length, map_length, flat_length, flat_map_of_map}
 
 pub pairs_small : (n : ℕ) → n ≤ 65536 → pairs_count n ≤ 65536 * n

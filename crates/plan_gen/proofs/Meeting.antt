@@ -5,9 +5,9 @@ use Rattle.scenario_values.specs.Scenario.{Entries}
 use Rattle.action_eval.specs.Answers.{Given, Run, Reply, given_of, hit, replies, asked}
 use Rattle.target_trait.specs.Play.{Move, Ask, Done}
 use Rattle.target_trait.specs.Outcomes.{play, moved}
-use Rattle.plan_gen.specs.declared.site.Kind.{Kind}
+use Rattle.action_eval.specs.declared.rig.Kind.{Kind}
 use Rattle.plan_gen.specs.LoopRuns.{times_of, times, IsMetAlike}
-use Rattle.plan_gen.specs.Rigging.{rigging, rig}
+use Rattle.action_eval.specs.Rigging.{rigging, rig}
 use Rattle.plan_gen.proofs.Lists.{fold_append}
 
 -- two runs of the same hits are answered alike, as long as point p is asked fewer than k times

@@ -4,12 +4,12 @@ use Rattle.std.specs.Prelude.{zip, filter}
 use Rattle.std.specs.List.{AllByRecursion, range_with_len, flat_map}
 use Rattle.scenario_values.specs.Scenario.{Entries}
 use Rattle.action_eval.specs.Words.{word}
-use Rattle.plan_gen.specs.declared.site.Site.{Site}
-use Rattle.plan_gen.specs.declared.site.Rig.{Rig}
-use Rattle.plan_gen.specs.declared.site.Kind.TheVariants.{OnceReturn, OnwardReturn, OncePanic}
+use Rattle.action_eval.specs.declared.rig.Site.{Site}
+use Rattle.action_eval.specs.declared.rig.Rig.{Rig}
+use Rattle.action_eval.specs.declared.rig.Kind.TheVariants.{OnceReturn, OnwardReturn, OncePanic}
 use Rattle.plan_gen.specs.Census.{sites_at, sites_from, sites_of}
-use Rattle.plan_gen.specs.Rigging.{rig, rigging}
-use Rattle.plan_gen.specs.PlanList.{Asked, most_sites, first_stream, with_words, is_taken, storm_kind, storm, pairs_of, site_plans, pair_plans, pair_part, storm_part, plans_over, plan_list}
+use Rattle.action_eval.specs.Rigging.{rig, rigging, most_rigs}
+use Rattle.plan_gen.specs.PlanList.{Asked, first_stream, with_words, is_taken, storm_kind, storm, pairs_of, site_plans, pair_plans, pair_part, storm_part, plans_over, plan_list}
 use Rattle.plan_gen.specs.RiggedAnswers.{IsBefore, AreInOrder, IsOfHits}
 use Rattle.plan_gen.proofs.Rigged.{rigging_nothing}
 
@@ -152,8 +152,8 @@ storm_in_order : (seed rate : ℕ) (sites : List Site) (j : ℕ) → AreInOrder 
 unfolding storm
 storm_in_order seed rate sites j o =
     let drawn = with_words (word seed (first_stream + j)) sites in
-    let taken = take most_sites (filter (is_taken rate) drawn) in
-    subst AreInOrder (keys_are taken) (take_in_order most_sites (filter (is_taken rate) drawn) (filter_in_order (is_taken rate) drawn (zip_in_order sites _ o)))
+    let taken = take most_rigs (filter (is_taken rate) drawn) in
+    subst AreInOrder (keys_are taken) (take_in_order most_rigs (filter (is_taken rate) drawn) (filter_in_order (is_taken rate) drawn (zip_in_order sites _ o)))
 
 -- ---- the list
 

@@ -12,11 +12,11 @@ use Rattle.scenario_values.specs.declared.term.Task.{Task}
 use Rattle.scenario_values.specs.declared.term.Task.TheVariants as task
 use Rattle.scenario_values.specs.Scenario.{Entries, New, DistinctNames, IsScenario, is_name, is_lawful_term, faults_in, all_faults, entries_of}
 use Rattle.scenario_values.specs.Printed.{share_text, count_text, task_text, term_text, chain_text, entry_text, printed}
-use Rattle.plan_gen.specs.declared.site.Rig.{Rig}
-use Rattle.plan_gen.specs.declared.site.Kind.{Kind}
-use Rattle.plan_gen.specs.declared.site.Kind.TheVariants.{OnceReturn, OnwardReturn, OncePanic}
-use Rattle.target_trait.specs.Catalogue.{IsCatalogue, HasDistinct}
-use Rattle.plan_gen.specs.Rigging.{chain_from, terms_at, done_after, rigged, offs, term_of, entry, entries_from, rigging, full}
+use Rattle.action_eval.specs.declared.rig.Rig.{Rig}
+use Rattle.action_eval.specs.declared.rig.Kind.{Kind}
+use Rattle.action_eval.specs.declared.rig.Kind.TheVariants.{OnceReturn, OnwardReturn, OncePanic}
+use Rattle.action_eval.specs.Catalogue.{IsCatalogue, HasDistinct}
+use Rattle.action_eval.specs.Rigging.{chain_from, terms_at, done_after, rigged, offs, term_of, entry, entries_from, rigging, full}
 use Rattle.plan_gen.proofs.Lists.{goes_on, zero_plus, fold_append}
 
 pub chain_more : (p done next : ℕ) (old new : List Term) (r : Rig) (rs rest : List Rig) (whole : List Term) → rs ≡ r ∷ rest → new ≡ old ++ terms_at p done r → next ≡ done_after p done r → old ++ chain_from p done rs ≡ whole → new ++ chain_from p next rest ≡ whole

@@ -16,12 +16,12 @@ use Rattle.action_eval.specs.Answers.{Given, Run, Hit, Go, Halt, given_of, run_o
 use Rattle.action_eval.proofs.Machine.{Step, step, done}
 use Rattle.action_eval.proofs.Kept.{left_chain, once_at, same_left_chain, whole_chain, Agrees, agrees}
 use Rattle.action_eval.proofs.Alike.{Tells, next_tells, once, bytes_self, acted-more}
-use Rattle.target_trait.specs.Catalogue.{IsCatalogue, HasDistinct}
-use Rattle.plan_gen.specs.declared.site.Rig.{Rig}
-use Rattle.plan_gen.specs.declared.site.Kind.{Kind}
-use Rattle.plan_gen.specs.declared.site.Kind.TheVariants.{OnceReturn, OnwardReturn, OncePanic}
+use Rattle.action_eval.specs.Catalogue.{IsCatalogue, HasDistinct}
+use Rattle.action_eval.specs.declared.rig.Rig.{Rig}
+use Rattle.action_eval.specs.declared.rig.Kind.{Kind}
+use Rattle.action_eval.specs.declared.rig.Kind.TheVariants.{OnceReturn, OnwardReturn, OncePanic}
 use Rattle.plan_gen.specs.LoopRuns.{times}
-use Rattle.plan_gen.specs.Rigging.{term_of, chain_from, entry, entries_from, rigging}
+use Rattle.action_eval.specs.Rigging.{term_of, chain_from, entry, entries_from, rigging}
 use Rattle.plan_gen.specs.RiggedAnswers.{AreInOrder, acts_at, reply_by, AnswersAsRigged}
 use Rattle.plan_gen.proofs.CleanRuns.{differ, other, apart}
 use Rattle.plan_gen.proofs.RiggedChains.{rigged_task, tasks, Does, ComeAfter, chain_does}

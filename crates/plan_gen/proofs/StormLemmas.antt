@@ -6,10 +6,10 @@ use Rattle.std.proofs.lemmas.List.{append-nil, map-append, take_more, take_all, 
 use Rattle.std.proofs.lemmas.Bool.Decides.{nat_tests}
 use Rattle.rand_chacha.specs.ChaCha.{ChaCha, word_at}
 use Rattle.action_eval.specs.Words.{at_word, word}
-use Rattle.plan_gen.specs.declared.site.Site.{Site}
-use Rattle.plan_gen.specs.declared.site.Rig.{Rig}
-use Rattle.plan_gen.specs.Rigging.{rig}
-use Rattle.plan_gen.specs.PlanList.{most_sites, with_words, is_taken, storm_kind, storm_by, storm}
+use Rattle.action_eval.specs.declared.rig.Site.{Site}
+use Rattle.action_eval.specs.declared.rig.Rig.{Rig}
+use Rattle.action_eval.specs.Rigging.{rig, most_rigs}
+use Rattle.plan_gen.specs.PlanList.{with_words, is_taken, storm_kind, storm_by, storm}
 use Rattle.plan_gen.proofs.Lists.{map_length}
 
 -- one site more takes one word more
@@ -52,15 +52,15 @@ taken_push f n xs y false = ap (λ l. map f (take n l)) (append-nil xs) ∙ sym 
 
 -- what is drawn at the next site
 abbrev at_next : ℕ → ℕ → List Rig → Site → List Rig
-at_next rate w old x = cond (nat_lt (w % 1000) rate && nat_lt (length old) most_sites) (rig x (storm_kind w) ∷ []) []
+at_next rate w old x = cond (nat_lt (w % 1000) rate && nat_lt (length old) most_rigs) (rig x (storm_kind w) ∷ []) []
 
 storm_push : (word : ℕ → ℕ) (rate : ℕ) (sites : List Site) (x : Site) → storm_by word rate (sites ++ x ∷ []) ≡ storm_by word rate sites ++ at_next rate (word (0 + length sites)) (storm_by word rate sites) x
 storm_push word rate sites x =
     let f = λ (s : Site × ℕ). rig s.0 (storm_kind s.1) in
     let y : Site × ℕ = (x, word (0 + length sites)) in
-    ap (λ l. map f (take most_sites (filter (is_taken rate) l))) (words_more word 0 sites x)
-    ∙ ap (λ l. map f (take most_sites l)) (filter_push (is_taken rate) (with_words word sites) y)
-    ∙ taken_push f most_sites (filter (is_taken rate) (with_words word sites)) y (is_taken rate y)
+    ap (λ l. map f (take most_rigs (filter (is_taken rate) l))) (words_more word 0 sites x)
+    ∙ ap (λ l. map f (take most_rigs l)) (filter_push (is_taken rate) (with_words word sites) y)
+    ∙ taken_push f most_rigs (filter (is_taken rate) (with_words word sites)) y (is_taken rate y)
 
 -- one site more
 pub storm_next : (word : ℕ → ℕ) (rate i : ℕ) (sites : List Site) (d : Site) (w : ℕ) (old new : List Rig) → i < length sites → w ≡ word i → old ≡ storm_by word rate (take i sites) → new ≡ old ++ at_next rate w old (get_or sites i d) → new ≡ storm_by word rate (take (i + 1) sites)

@@ -4,7 +4,7 @@ use Rattle.std.specs.List.{range_with_len}
 use Rattle.action_eval.specs.Answers.{Reply, given_of}
 use Rattle.target_trait.specs.Play.{Move}
 use Rattle.target_trait.specs.Outcomes.{outcome}
-use Rattle.plan_gen.specs.declared.site.Site.{Site}
+use Rattle.action_eval.specs.declared.rig.Site.{Site}
 
 -- how often each point is asked, in catalogue order
 abbrev pub counts_of : ℕ → List ℕ → List ℕ

@@ -1,5 +1,4 @@
 pub mod Census
-pub mod Rigging
 pub mod PlanList
 pub mod PlanForm
 pub mod Counts

@@ -4,9 +4,9 @@ use Rattle.scenario_values.specs.Scenario.{Entries}
 use Rattle.action_eval.specs.Answers.{Reply, given_of}
 use Rattle.target_trait.specs.Play.{Move}
 use Rattle.target_trait.specs.Outcomes.{outcome}
-use Rattle.plan_gen.specs.declared.site.Kind.{Kind}
-use Rattle.plan_gen.specs.declared.site.Kind.TheVariants.{OnceReturn, OnwardReturn}
-use Rattle.plan_gen.specs.Rigging.{rig, rigging}
+use Rattle.action_eval.specs.declared.rig.Kind.{Kind}
+use Rattle.action_eval.specs.declared.rig.Kind.TheVariants.{OnceReturn, OnwardReturn}
+use Rattle.action_eval.specs.Rigging.{rig, rigging}
 
 -- how often a point is among those asked
 abbrev pub times : ℕ → List ℕ → ℕ

@@ -1,26 +1,20 @@
 -- What a plan keeps: the hits at which something is done, over a catalogue, or a listed scenario.
-use Rattle.std.specs.Prelude.{◌<◌, ◌≤◌, ◌^◌, List, [], ◌∷◌, length}
-use Rattle.std.specs.List.{AllByRecursion}
+use Rattle.std.specs.Prelude.{List, [], ◌∷◌}
 use Rattle.action_eval.specs.Answers.{texts}
-use Rattle.target_trait.specs.Catalogue.{IsCatalogue}
+use Rattle.action_eval.specs.Catalogue.{IsCatalogue}
 use Rattle.scenario_values.specs.Scenario.{Entries}
-use Rattle.plan_gen.specs.declared.site.Rig.{Rig}
+use Rattle.action_eval.specs.declared.rig.Rig.{Rig}
 use Rattle.plan_gen.specs.declared.plan.Rigs.{Rigs}
 use Rattle.plan_gen.specs.declared.plan.Rigs.TheVariants.{One, Two, Many}
 use Rattle.plan_gen.specs.declared.plan.Source.{Source}
 use Rattle.plan_gen.specs.declared.plan.Source.TheVariants.{Rigged, Listed}
-use Rattle.plan_gen.specs.PlanList.{most_sites}
-use Rattle.plan_gen.specs.Rigging.{rigging}
+use Rattle.action_eval.specs.Rigging.{rigging, CanBeRigged}
 
 -- the rigged hits, in order
 abbrev pub rigs_of : Rigs → List Rig
 rigs_of (One r) = r ∷ []
 rigs_of (Two a b) = a ∷ b ∷ []
 rigs_of (Many rigs) = rigs.items
-
--- rigged hits of which a scenario can be made
-abbrev pub CanBeRigged : List Rig → Type 0
-CanBeRigged rigs = (length rigs ≤ most_sites) × AllByRecursion (λ r. r.site.hit < 2 ^ 32) rigs
 
 -- the scenario of a plan
 abbrev pub planned : Source → Entries

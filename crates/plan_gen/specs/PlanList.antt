@@ -4,20 +4,16 @@ use Rattle.std.specs.Prelude.{ℕ, ◌+◌, ◌/◌, ◌%◌, ◌==◌, nat_lt, 
 use Rattle.std.specs.List.{range_with_len}
 use Rattle.scenario_values.specs.Scenario.{Entries}
 use Rattle.action_eval.specs.Words.{word}
-use Rattle.plan_gen.specs.declared.site.Site.{Site}
-use Rattle.plan_gen.specs.declared.site.Rig.{Rig}
-use Rattle.plan_gen.specs.declared.site.Kind.{Kind}
-use Rattle.plan_gen.specs.declared.site.Kind.TheVariants.{OnceReturn, OnwardReturn, OncePanic}
+use Rattle.action_eval.specs.declared.rig.Site.{Site}
+use Rattle.action_eval.specs.declared.rig.Rig.{Rig}
+use Rattle.action_eval.specs.declared.rig.Kind.{Kind}
+use Rattle.action_eval.specs.declared.rig.Kind.TheVariants.{OnceReturn, OnwardReturn, OncePanic}
 use Rattle.plan_gen.specs.Census.{sites_of}
-use Rattle.plan_gen.specs.Rigging.{rig, rigging}
+use Rattle.action_eval.specs.Rigging.{rig, rigging, most_rigs}
 
 -- a list has at most so many plans
 abbrev pub most_plans : ℕ
 most_plans = 65536
-
--- a storm takes at most so many sites
-abbrev pub most_sites : ℕ
-most_sites = 64
 
 -- the stream number of the first storm's words; plans run under those from 0 on
 abbrev pub first_stream : ℕ
@@ -56,7 +52,7 @@ storm_kind w = if w / 1000 % 8 == 0 then OncePanic else OnceReturn
 
 -- the rigged hits of a storm, by its words: of the sites that are taken, the first so many
 abbrev pub storm_by : (ℕ → ℕ) → ℕ → List Site → List Rig
-storm_by word rate sites = map (λ s. rig s.0 (storm_kind s.1)) (take most_sites (filter (is_taken rate) (with_words word sites)))
+storm_by word rate sites = map (λ s. rig s.0 (storm_kind s.1)) (take most_rigs (filter (is_taken rate) (with_words word sites)))
 
 -- storm number j, by the words of a stream of its own
 unfoldable pub storm : ℕ → ℕ → List Site → ℕ → List Rig

@@ -4,12 +4,12 @@ use Rattle.std.specs.Option.{option_map_or}
 use Rattle.std.specs.List.{AllByRecursion}
 use Rattle.scenario_values.specs.Scenario.{Entries}
 use Rattle.action_eval.specs.Answers.{Reply, Go, Return, Halt, run_of, reply_to}
-use Rattle.plan_gen.specs.declared.site.Site.{Site}
-use Rattle.plan_gen.specs.declared.site.Rig.{Rig}
-use Rattle.plan_gen.specs.declared.site.Kind.{Kind}
-use Rattle.plan_gen.specs.declared.site.Kind.TheVariants.{OnceReturn, OnwardReturn, OncePanic}
+use Rattle.action_eval.specs.declared.rig.Site.{Site}
+use Rattle.action_eval.specs.declared.rig.Rig.{Rig}
+use Rattle.action_eval.specs.declared.rig.Kind.{Kind}
+use Rattle.action_eval.specs.declared.rig.Kind.TheVariants.{OnceReturn, OnwardReturn, OncePanic}
 use Rattle.plan_gen.specs.LoopRuns.{times}
-use Rattle.plan_gen.specs.Rigging.{rigging}
+use Rattle.action_eval.specs.Rigging.{rigging}
 
 -- a site stands before another: at an earlier point, or at the same one as an earlier hit
 abbrev pub IsBefore : Site → Site → Type 0

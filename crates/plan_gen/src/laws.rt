@@ -1,8 +1,8 @@
 //! Laws of plans, as contracts of functions that do nothing.
 ghost use Rattle.std.specs.Prelude.{ℕ, List, [], map};
 ghost use Rattle.std.specs.List.{AllByRecursion};
-ghost use Rattle.target_trait.specs.Catalogue.{IsCatalogue};
-ghost use Rattle.plan_gen.specs.declared.site.Rig.{Rig};
+ghost use Rattle.action_eval.specs.Catalogue.{IsCatalogue};
+ghost use Rattle.action_eval.specs.declared.rig.Rig.{Rig};
 ghost use Rattle.plan_gen.specs.PlanList.{Asked, plan_list};
 ghost use Rattle.plan_gen.specs.RiggedAnswers.{AreInOrder, AnswersAsRigged, IsOfHits};
 

@@ -10,7 +10,6 @@ mod looped;
 mod parts;
 mod plan;
 mod rigging;
-mod site;
 mod sites;
 mod storms;
 

@@ -1,7 +1,7 @@
 //! The list of plans.
 ghost use Rattle.std.specs.Prelude.{◌≡◌, ◌≤◌, ◌<◌, length, IfOk, OnOk, IsErrOf};
 ghost use Rattle.action_eval.specs.Answers.{texts};
-ghost use Rattle.target_trait.specs.Catalogue.{IsCatalogue};
+ghost use Rattle.action_eval.specs.Catalogue.{IsCatalogue};
 ghost use Rattle.plan_gen.specs.Counts.{total_of};
 ghost use Rattle.plan_gen.specs.PlanList.{most_plans, plan_list};
 

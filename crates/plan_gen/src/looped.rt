@@ -2,11 +2,11 @@
 ghost use Rattle.std.specs.Prelude.{◌≡◌, ◌≤◌, ◌<◌, ◌∷◌, [], nat_le, length, IfOk};
 ghost use Rattle.plan_gen.specs.LoopRuns.{IsMetAlike, loop_kind, times_of};
 ghost use Rattle.plan_gen.specs.Census.{census_of};
-ghost use Rattle.plan_gen.specs.Rigging.{rig, rigging};
+ghost use Rattle.action_eval.specs.Rigging.{rig, rigging};
 
 use crate::census::{Census, count_of};
 use crate::rigging::scenario_of;
-use crate::site::{Kind, Rig, Site};
+use action_eval::{Kind, Rig, Site};
 use std::alloc::{AllocError, Global};
 use target_trait::{Case, Target, run_case};
 

@@ -1,15 +1,15 @@
 //! The parts of the list of plans.
 ghost use Rattle.std.specs.Prelude.{◌≡◌, ◌++◌, ◌∷◌, ◌≤◌, [], length, flat_map, OnOk};
 ghost use Rattle.action_eval.specs.Answers.{texts};
-ghost use Rattle.target_trait.specs.Catalogue.{IsCatalogue};
-ghost use Rattle.plan_gen.specs.declared.site.Kind.TheVariants.{OnceReturn};
-ghost use Rattle.plan_gen.specs.Rigging.{rig, rigging};
-ghost use Rattle.plan_gen.specs.PlanForm.{rigs_of, CanBeRigged};
+ghost use Rattle.action_eval.specs.Catalogue.{IsCatalogue};
+ghost use Rattle.action_eval.specs.declared.rig.Kind.TheVariants.{OnceReturn};
+ghost use Rattle.action_eval.specs.Rigging.{rig, rigging, CanBeRigged};
+ghost use Rattle.plan_gen.specs.PlanForm.{rigs_of};
 ghost use Rattle.plan_gen.specs.PlanList.{most_plans, site_plans, pair_plans, pairs_of, storm_part};
 
 use crate::plan::{Plan, Rigs};
-use crate::site::{Kind, Rig, Site};
 use crate::storms::storm;
+use action_eval::{Kind, Rig, Site};
 use scenario_values::Scenario;
 use std::alloc::{AllocError, Global};
 

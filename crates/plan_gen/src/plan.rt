@@ -1,13 +1,13 @@
 //! Plans, and what is asked of their list.
 ghost use Rattle.std.specs.Prelude.{◌≡◌, [], IfOk};
 ghost use Rattle.action_eval.specs.Answers.{texts};
-ghost use Rattle.target_trait.specs.Catalogue.{IsCatalogue};
-ghost use Rattle.plan_gen.specs.PlanForm.{rigs_of, CanBeRigged};
-ghost use Rattle.plan_gen.specs.Rigging.{rigging};
+ghost use Rattle.action_eval.specs.Catalogue.{IsCatalogue};
+ghost use Rattle.plan_gen.specs.PlanForm.{rigs_of};
+ghost use Rattle.action_eval.specs.Rigging.{rigging, CanBeRigged};
 
 use crate::copies::copy_of;
 use crate::rigging::scenario_of;
-use crate::site::Rig;
+use action_eval::Rig;
 use scenario_values::Scenario;
 use std::alloc::{AllocError, Global};
 use std::marker::Model;

@@ -4,12 +4,11 @@ ghost use Rattle.std.specs.List.{AllByRecursion};
 ghost use Rattle.std.specs.Str.{bytes_eq};
 ghost use Rattle.indexmap.specs.IndexMap.{insert_all};
 ghost use Rattle.action_eval.specs.Answers.{texts};
-ghost use Rattle.target_trait.specs.Catalogue.{IsCatalogue};
+ghost use Rattle.action_eval.specs.Catalogue.{IsCatalogue};
 ghost use Rattle.scenario_values.specs.Scenario.{entries_of};
-ghost use Rattle.plan_gen.specs.PlanList.{most_sites};
-ghost use Rattle.plan_gen.specs.Rigging.{term_of, rigged, terms_at, done_after, chain_from, entry, rigging};
+ghost use Rattle.action_eval.specs.Rigging.{term_of, rigged, terms_at, done_after, chain_from, entry, rigging, most_rigs};
 
-use crate::site::{Kind, Rig};
+use action_eval::{Kind, Rig};
 use indexmap::IndexMap;
 use scenario_values::{Chain, Scenario, Task, Term, Text};
 use std::alloc::{AllocError, Global};
@@ -113,7 +112,7 @@ fn rigged_entries(
 /// The scenario of rigged hits.
 pub fn scenario_of(alloc: Global, catalogue: &[&str], rigs: &[Rig]) -> Result<Scenario, AllocError>
     requires lawful { IsCatalogue (texts catalogue.now) }
-    requires few { length rigs.now ≤ most_sites }
+    requires few { length rigs.now ≤ most_rigs }
     requires small { AllByRecursion (λ r. r.site.hit < 2 ^ 32) rigs.now }
     ensures { IfOk result (λ s. s ≡ rigging (texts catalogue.now) rigs.now) }
 {

@@ -3,7 +3,7 @@ ghost use Rattle.std.specs.Prelude.{◌≡◌, ◌++◌, ◌≤◌, length, IfOk
 ghost use Rattle.plan_gen.specs.Census.{sites_at, sites_of};
 ghost use Rattle.plan_gen.specs.Counts.{total_of};
 
-use crate::site::Site;
+use action_eval::Site;
 use std::alloc::{AllocError, Global};
 
 /// How many sites there are.

@@ -2,10 +2,10 @@
 ghost use Rattle.std.specs.Prelude.{◌≡◌, ◌++◌, ◌∷◌, [], ◌%◌, ◌&&◌, ◌≤◌, ◌<◌, ◌^◌, nat_lt, length, if◌then◌else◌, IfOk, OnOk};
 ghost use Rattle.std.specs.List.{AllByRecursion};
 ghost use Rattle.action_eval.specs.Words.{seed_bytes, at_word};
-ghost use Rattle.plan_gen.specs.PlanList.{most_plans, most_sites, storm_kind, storm};
-ghost use Rattle.plan_gen.specs.Rigging.{rig};
+ghost use Rattle.plan_gen.specs.PlanList.{most_plans, storm_kind, storm};
+ghost use Rattle.action_eval.specs.Rigging.{rig, most_rigs};
 
-use crate::site::{Kind, Rig, Site};
+use action_eval::{Kind, Rig, Site};
 use rand_chacha::ChaCha8Rng;
 use rand_core::SeedableRng;
 use rand_core::utils::NextWord;
@@ -50,8 +50,8 @@ fn storm_kind(word: u32) -> Kind
 
 /// Adds a site that its word takes, while fewer than the most are taken.
 fn draw(rigs: &mut Vec<Rig>, rate: u32, word: u32, site: Site) -> Result<(), AllocError>
-    ensures drawn { OnOk result (rigs.new.items ≡ rigs.old.items ++ (if nat_lt (word % 1000) rate && nat_lt (length rigs.old.items) most_sites then rig site (storm_kind word) ∷ [] else [])) }
-    ensures few { OnOk result (length rigs.old.items ≤ most_sites → length rigs.new.items ≤ most_sites) }
+    ensures drawn { OnOk result (rigs.new.items ≡ rigs.old.items ++ (if nat_lt (word % 1000) rate && nat_lt (length rigs.old.items) most_rigs then rig site (storm_kind word) ∷ [] else [])) }
+    ensures few { OnOk result (length rigs.old.items ≤ most_rigs → length rigs.new.items ≤ most_rigs) }
     ensures small { OnOk result (AllByRecursion (λ r. r.site.hit < 2 ^ 32) rigs.old.items → AllByRecursion (λ r. r.site.hit < 2 ^ 32) rigs.new.items) }
 {
     if word % 1000 < rate && rigs.len() < MOST_SITES {
@@ -74,7 +74,7 @@ pub fn storm(
 ) -> Result<Vec<Rig>, AllocError>
     requires { length sites.now ≤ most_plans }
     ensures rigs { IfOk result (λ rigs. rigs.items ≡ storm seed rate sites.now number) }
-    ensures few { IfOk result (λ rigs. length rigs.items ≤ most_sites) }
+    ensures few { IfOk result (λ rigs. length rigs.items ≤ most_rigs) }
     ensures small { IfOk result (λ rigs. AllByRecursion (λ r. r.site.hit < 2 ^ 32) rigs.items) }
 {
     let mut rng = generator(seed, FIRST_STREAM + u64::from(number));

@@ -1,6 +1,11 @@
-use Rattle.std.proofs.Common.{◌≡◌, map, take}
-use Rattle.action_eval.specs.Session.{seen, found_of}
+use Rattle.std.proofs.Common.{◌≡◌, length, map, take}
+use Rattle.action_eval.specs.Session.{seen, found_of, head_of}
 use Rattle.action_eval.proofs.found.find_all.Given as goal
 
-abbrev pub invariant-loop-name : goal.invariant-loop-name
-invariant-loop-name l = map seen l.found.items ≡ map (λ n. found_of l.scenario n.now) (take l.name-index l.catalogue)
+abbrev pub invariant-loop-point : goal.invariant-loop-point
+invariant-loop-point l = record {
+  many : length l.found.items ≡ length l.catalogue;
+  all : length l.heads.items ≡ length l.catalogue;
+  found : take l.point (map seen l.found.items) ≡ map (λ n. found_of l.scenario n.now) (take l.point l.catalogue);
+  heads : take l.point l.heads.items ≡ map head_of (take l.point (map seen l.found.items));
+}

@@ -1,5 +1,5 @@
 use Rattle.std.proofs.Common.{◌∙◌, ap, length, arith, List}
-use Rattle.plan_gen.specs.declared.site.Site.{Site}
+use Rattle.action_eval.specs.declared.rig.Site.{Site}
 use Rattle.plan_gen.proofs.Counting.{sites_length}
 use Rattle.plan_gen.proofs.list.made_plans.Goals as goal
 

@@ -1,6 +1,6 @@
 use Rattle.std.proofs.Common.{ℕ, ap}
 use Rattle.action_eval.specs.Answers.{texts}
-use Rattle.plan_gen.specs.Rigging.{rigging}
+use Rattle.action_eval.specs.Rigging.{rigging}
 use Rattle.plan_gen.specs.PlanList.{storm}
 use Rattle.plan_gen.proofs.Lists.{pushed_onto}
 use Rattle.plan_gen.proofs.parts.add_storms.Goals as goal

@@ -1,7 +1,7 @@
 use Rattle.std.proofs.Common.{◌≡◌, ◌++◌, map}
 use Rattle.std.specs.List.{range_with_len}
 use Rattle.action_eval.specs.Answers.{texts}
-use Rattle.plan_gen.specs.Rigging.{rigging}
+use Rattle.action_eval.specs.Rigging.{rigging}
 use Rattle.plan_gen.specs.PlanList.{storm}
 use Rattle.plan_gen.proofs.parts.add_storms.Given as goal
 

@@ -1,5 +1,5 @@
 use Rattle.std.proofs.Common.{◌≡◌, ◌++◌, drop}
-use Rattle.plan_gen.specs.Rigging.{chain_from}
+use Rattle.action_eval.specs.Rigging.{chain_from}
 use Rattle.plan_gen.proofs.rigging.chain_of.Given as goal
 
 abbrev pub invariant-loop-rig : goal.invariant-loop-rig

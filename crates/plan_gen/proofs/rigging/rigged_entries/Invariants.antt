@@ -3,7 +3,7 @@ use Rattle.std.specs.Str.{bytes_eq}
 use Rattle.indexmap.specs.IndexMap.{insert_all}
 use Rattle.action_eval.specs.Answers.{texts}
 use Rattle.scenario_values.specs.Scenario.{entries_of}
-use Rattle.plan_gen.specs.Rigging.{entries_from, rigging}
+use Rattle.action_eval.specs.Rigging.{entries_from, rigging}
 use Rattle.plan_gen.proofs.rigging.rigged_entries.Given as goal
 
 abbrev pub invariant-loop-name : goal.invariant-loop-name

@@ -2,7 +2,7 @@ use Rattle.std.proofs.Common.{sym, subst, ◌∙◌}
 use Rattle.action_eval.specs.Answers.{texts}
 use Rattle.scenario_values.specs.Scenario.{Entries, IsScenario}
 use Rattle.scenario_values.proofs.NameLaws.{entries_same}
-use Rattle.plan_gen.specs.Rigging.{rigging}
+use Rattle.action_eval.specs.Rigging.{rigging}
 use Rattle.plan_gen.proofs.Rigged.{rigging_keeps}
 use Rattle.plan_gen.proofs.rigging.scenario_of.Goals as goal
 

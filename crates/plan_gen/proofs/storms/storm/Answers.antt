@@ -2,7 +2,7 @@ use Rattle.std.proofs.Common.{rules, ◌≡◌, ℕ, ◌+◌, ◌<◌, ◌^◌, 
 use Rattle.std.specs.List.{AllByRecursion}
 use Rattle.rand_chacha.specs.ChaCha.{ChaCha, word_at}
 use Rattle.action_eval.specs.Words.{at_word}
-use Rattle.plan_gen.specs.declared.site.Rig.{Rig}
+use Rattle.action_eval.specs.declared.rig.Rig.{Rig}
 use Rattle.plan_gen.proofs.StormLemmas.{storm_next, storm_is, storm_whole}
 use Rattle.plan_gen.proofs.storms.storm.Goals as goal
 

@@ -1,13 +1,14 @@
 -- The scenario in which faults are rigged for hits of points: entries in catalogue order, and one chain for all rigged hits of a point.
-use Rattle.std.specs.Prelude.{ℕ, ◌+◌, ◌-◌, ◌==◌, if◌then◌else◌, List, [], ◌∷◌, ◌++◌, Option, Some, None}
+use Rattle.std.specs.Prelude.{ℕ, ◌+◌, ◌-◌, ◌^◌, ◌<◌, ◌≤◌, length, ◌==◌, if◌then◌else◌, List, [], ◌∷◌, ◌++◌, Option, Some, None}
+use Rattle.std.specs.List.{AllByRecursion}
 use Rattle.scenario_values.specs.declared.term.Term.{Term}
 use Rattle.scenario_values.specs.declared.term.Task.{Task}
 use Rattle.scenario_values.specs.declared.term.Task.TheVariants as task
 use Rattle.scenario_values.specs.Scenario.{Entries}
-use Rattle.plan_gen.specs.declared.site.Site.{Site}
-use Rattle.plan_gen.specs.declared.site.Rig.{Rig}
-use Rattle.plan_gen.specs.declared.site.Kind.{Kind}
-use Rattle.plan_gen.specs.declared.site.Kind.TheVariants.{OnceReturn, OnwardReturn, OncePanic}
+use Rattle.action_eval.specs.declared.rig.Site.{Site}
+use Rattle.action_eval.specs.declared.rig.Rig.{Rig}
+use Rattle.action_eval.specs.declared.rig.Kind.{Kind}
+use Rattle.action_eval.specs.declared.rig.Kind.TheVariants.{OnceReturn, OnwardReturn, OncePanic}
 
 -- a term of full share, a million millionths: it acts wherever it is reached
 abbrev pub full : Option ℕ → Task → Term
@@ -48,6 +49,14 @@ entry name (t ∷ ts) = (name, t ∷ ts) ∷ []
 abbrev pub entries_from : ℕ → List (List ℕ) → List Rig → Entries
 entries_from p [] rigs = []
 entries_from p (name ∷ names) rigs = entry name (chain_from p 0 rigs) ++ entries_from (p + 1) names rigs
+
+-- a scenario is made of at most so many rigged hits
+abbrev pub most_rigs : ℕ
+most_rigs = 64
+
+-- rigged hits of which a scenario can be made
+abbrev pub CanBeRigged : List Rig → Type 0
+CanBeRigged rigs = (length rigs ≤ most_rigs) × AllByRecursion (λ r. r.site.hit < 2 ^ 32) rigs
 
 -- the scenario of rigged hits, over a catalogue of names
 unfoldable pub rigging : List (List ℕ) → List Rig → Entries

@@ -1,0 +1,128 @@
+//! Hits that surely come to nothing, many at once.
+ghost use Rattle.std.specs.Prelude.{◌≡◌, ℕ, true, false, List, ◌+◌, ◌*◌, ◌^◌, ◌<◌, ◌≤◌, [], slice_index, ◌∷◌, ◌++◌, All, IfOk, OnErr, length, replicate, vec_len, vec_capacity};
+ghost use Rattle.action_eval.specs.Answers.{rounds};
+ghost use Rattle.action_eval.specs.Quiet.{CountsWithin, IsCounted, Spent, SpentBy, head_at, quiet_of, taken_by};
+
+use crate::found::Head;
+use std::alloc::AllocError;
+
+/// How many of the next hits of a point surely come to nothing, by its head.
+#[inline(always)]
+pub fn quiet_of(head: Head, left: &[u32]) -> u32
+    requires { CountsWithin (length left.now) head }
+    ensures { result ≡ quiet_of left.now head }
+{
+    match head {
+        Head::Nothing => u32::MAX,
+        Head::Off(at) => left[at],
+        Head::Terms => 0,
+    }
+}
+
+/// Hits a point as often as that surely comes to nothing, at most so often, and gives how often that was.
+#[inline(always)]
+pub fn pass_hits(
+    heads: &[Head],
+    left: &mut Vec<u32>,
+    hits: &mut Vec<u32>,
+    point: u32,
+    most: usize,
+) -> Result<usize, AllocError>
+    requires known { point < length heads.now }
+    requires within { CountsWithin (length left.old.items) (head_at heads.now point) }
+    ensures count { IfOk result (λ n. n ≤ most) }
+    ensures left { IfOk result (λ n. Spent heads.now (point ∷ []) n left.old.items left.new.items) }
+    ensures hits { IfOk result (λ n. hits.new.items ≡ hits.old.items ++ replicate n point) }
+    ensures err_left { OnErr result (left.new.items ≡ left.old.items) }
+    ensures err_hits { OnErr result (hits.new.items ≡ hits.old.items) }
+{
+    let head = heads[point as usize];
+    let count = (quiet_of(head, left) as usize).min(most);
+    hits.resize(hits.len() + count, point)?;
+    if let Head::Off(at) = head {
+        left[at] -= count as u32;
+    }
+    Ok(count)
+}
+
+/// Takes off the count at a head what so many hits take that come to nothing; or takes nothing, where they don't all surely come to
+/// nothing.
+#[inline(always)]
+fn take_hits(left: &mut Vec<u32>, head: Head, times: u32) -> bool
+    requires { CountsWithin (length left.old.items) head }
+    ensures taken { result ≡ true → IsCounted head × SpentBy head times left.old.items left.new.items }
+    ensures kept { result ≡ false → left.new.items ≡ left.old.items }
+{
+    match head {
+        Head::Nothing => true,
+        Head::Off(at) if left[at] >= times => {
+            left[at] -= times;
+            true
+        }
+        _ => false,
+    }
+}
+
+/// Gives the count at a head back what so many hits took.
+fn give_hits(left: &mut Vec<u32>, head: Head, times: u32)
+    requires { CountsWithin (length left.old.items) head }
+    ensures size { length left.new.items ≡ length left.old.items }
+    ensures each { (j : ℕ) → slice_index left.old.items j + times * taken_by j head < 2 ^ 32 → slice_index left.new.items j ≡ slice_index left.old.items j + times * taken_by j head }
+{
+    if let Head::Off(at) = head {
+        left[at] = left[at].saturating_add(times);
+    }
+}
+
+/// Gives the counts back what so many rounds of hits of these points took.
+#[cold]
+#[inline(never)]
+fn give_rounds(left: &mut Vec<u32>, heads: &[Head], points: &[u32], times: u32)
+    requires known { All (λ p. p < length heads.now) points.now }
+    requires within { All (λ p. CountsWithin (length left.old.items) (head_at heads.now p)) points.now }
+    ensures { (whole : List ℕ) → Spent heads.now points.now times whole left.old.items → ((j : ℕ) → slice_index whole j < 2 ^ 32) → left.new.items ≡ whole }
+{
+    for point in points {
+        give_hits(left, heads[*point as usize], times);
+    }
+}
+
+/// Takes off the counts what so many rounds of hits of these points take that come to nothing; or takes nothing, where they don't all
+/// surely come to nothing.
+pub fn take_rounds(left: &mut Vec<u32>, heads: &[Head], points: &[u32], times: u32) -> bool
+    requires known { All (λ p. p < length heads.now) points.now }
+    requires within { All (λ p. CountsWithin (length left.old.items) (head_at heads.now p)) points.now }
+    ensures taken { result ≡ true → Spent heads.now points.now times left.old.items left.new.items }
+    ensures kept { result ≡ false → left.new.items ≡ left.old.items }
+{
+    for (place, point) in points.iter().enumerate() {
+        if !take_hits(left, heads[*point as usize], times) {
+            give_rounds(left, heads, &points[..place], times);
+            return false;
+        }
+    }
+    true
+}
+
+/// How many rounds of hits of these points come to nothing by each point's own count.
+pub fn rounds_left(left: &[u32], heads: &[Head], points: &[u32]) -> u32
+    requires known { All (λ p. p < length heads.now) points.now }
+    requires within { All (λ p. CountsWithin (length left.now) (head_at heads.now p)) points.now }
+    ensures { All (λ p. result ≤ quiet_of left.now (head_at heads.now p)) points.now }
+{
+    let mut least = u32::MAX;
+    for point in points {
+        least = least.min(quiet_of(heads[*point as usize], left));
+    }
+    least
+}
+
+/// Adds so many rounds of hits of these points, for which there is room.
+pub fn push_rounds(hits: &mut Vec<u32>, points: &[u32], times: usize)
+    requires { vec_len hits.old + times * length points.now ≤ vec_capacity hits.old }
+    ensures { hits.new.items ≡ hits.old.items ++ rounds times points.now }
+{
+    for _ in 0..times {
+        let _ = hits.extend_from_slice(points);
+    }
+}
