@@ -2,3 +2,5 @@ pub mod Plays
 pub mod Verdicts
 pub mod Never
 pub mod Running
+pub mod Machine
+pub mod Tables

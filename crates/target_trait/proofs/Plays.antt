@@ -52,6 +52,10 @@ pub given_is : (x : Given) (s : Run) (scenario : Entries) (catalogue names : Lis
 given_is x s scenario catalogue names seed stream limit kept new same =
     kept ∙ ap (λ (r : Run). r.given) new ∙ ap (λ (c : List (List ℕ)). given_of scenario c seed stream limit) same
 
+-- what a run is given, by what its session was given
+pub given_with : (x given : Given) (names : List (List ℕ)) → x ≡ given → given.catalogue ≡ names → x ≡ given_of given.scenario names given.seed given.stream given.limit
+given_with x given names kept same = kept ∙ ap (λ (c : List (List ℕ)). given_of given.scenario c given.seed given.stream given.limit) same
+
 -- what is told of a run, part by part
 parts_told : (asks : List Reply → Move) (r : Run) (j : Judgement) → IsPlay asks r j → (v : Verdict) (points : List ℕ) (notes : List Note) (millis words : ℕ) (stop : Option Stop)
     → v ≡ verdict_of stop (Done j) → stop ≡ stopped r → points ≡ asked r → notes ≡ notes_of (history_of r) → millis ≡ total_millis (history_of r) → words ≡ words_of (history_of r)

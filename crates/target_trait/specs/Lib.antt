@@ -1,4 +1,6 @@
-pub mod Catalogue
+pub mod Machine
+pub mod Protocol
+pub mod MachineLaws
 pub mod Play
 pub mod Outcomes
 pub mod Output

@@ -108,6 +108,29 @@ pub fn run_case<T: Target>(
     })
 }
 
+/// The verdict of one run on a target, over a session that is there already: that of what the target asks, under what the session is
+/// given.
+///
+/// The session has to be a new one of the target's catalogue. It keeps what it is given and the hits of the run, and may then begin
+/// another one. An error means that memory was refused. The target keeps its setup, and the session what it is given, after an error too.
+pub fn run_session<T: Target>(
+    target: &mut T,
+    workload: &T::Workload,
+    session: &mut Session<'_>,
+) -> Result<Verdict, AllocError>
+    requires new { session.old ≡ start session.old.given }
+    requires points { session.old.given.catalogue ≡ T.names }
+    ensures ok { IfOk result (λ verdict. verdict ≡ verdict_with (T.asks target.old workload.now) T.names
+        session.old.given.seed session.old.given.limit session.old.given.stream session.old.given.scenario) }
+    ensures given { session.new.given ≡ session.old.given }
+    ensures setup { target.new ≡ target.old }
+{
+    let judgement = target.run(workload, session)?;
+    // for its clause alone, that at most one hit is past the limit
+    let _ = session.trace();
+    Ok(verdict_of(session.stopped(), judgement))
+}
+
 /// The verdict of a case on a target: that of `run_case`, without a copy of the points and of the notes.
 ///
 /// An error means that memory was refused. The target keeps its setup, after an error too.
@@ -122,8 +145,5 @@ pub fn run_verdict<T: Target>(
     ensures setup { target.new ≡ target.old }
 {
     let mut session = session_of(alloc, case, T::catalogue())?;
-    let judgement = target.run(workload, &mut session)?;
-    // for its clause alone, that at most one hit is past the limit
-    let _ = session.trace();
-    Ok(verdict_of(session.stopped(), judgement))
+    run_session(target, workload, &mut session)
 }

@@ -6,12 +6,14 @@ mod gate;
 mod judgement;
 mod laws;
 mod output;
+mod protocol;
 mod target;
 
 pub use action_eval::{Answer, Note, Session, Stop};
-pub use case::{Case, Outcome, run_case, run_verdict};
+pub use case::{Case, Outcome, run_case, run_session, run_verdict};
 pub use gate::{FreeGate, Gate, Phase};
 pub use judgement::{Judgement, Verdict};
 pub use laws::{same_meaning_same_outcome, verdict_of_outcome};
 pub use output::{Out, Sink};
+pub use protocol::{ByTable, Protocol};
 pub use target::Target;

@@ -1,7 +1,7 @@
 //! What is run under faults.
 ghost use Rattle.std.specs.Prelude.{◌≡◌, ℕ, List, [], ◌∷◌, ◌++◌, length, IfOk};
 ghost use Rattle.action_eval.specs.Answers.{Reply, Halt, start, texts};
-ghost use Rattle.target_trait.specs.Catalogue.{IsCatalogue};
+ghost use Rattle.action_eval.specs.Catalogue.{IsCatalogue};
 ghost use Rattle.target_trait.specs.Play.{Move, IsPlay, IsWithin, IsDone};
 
 use crate::judgement::Judgement;
@@ -26,12 +26,15 @@ use std::alloc::AllocError;
 ///    `Ask p` for the point of number p in the catalogue, or `Done judgement`. It has to say so for every list, and by the list as a
 ///    whole, as a reader of the component's documentation would: never as the loop of `run`.
 /// 3. `run`, first of all as code with tests.
-/// 4. The proof of `run`: its loop keeps that each hit so far was asked (`Follows asks given [] hits`), that nothing has stopped the
-///    session, and what the device holds by the answers so far. `follows_more` of this crate's `proofs/Plays` adds a hit; the clauses
-///    `told` and `goes_on` of `Session::hit` say what the answers are then. At the end `asks` has to say `Done` with what is returned.
+/// 4. The proof of `run`: each place in the code stands for a state of the machine (`specs/Machine`), and its loops and helpers keep that
+///    the session has come to that state (`Reached`), that nothing has stopped it, and what the device holds by the answers so far.
+///    `reached_more` of this crate's `proofs/Machine` adds a hit, `reached_on` many; the clauses `told` and `goes_on` of `Session::hit`
+///    say what the answers are then. At the end the state has to ask nothing more, with what is returned.
 ///    Runs of a few questions in a row are proved without a proof file.
-/// 5. The laws below the last `fn`: `within` and `halts` by cases over the answers, `lawful` by computing
+/// 5. The laws below the last `fn`: `within` and `halts` by `within_by` and `halts_by` of `specs/MachineLaws`, `lawful` by computing
 ///    (`Prim.search rules`, with `rules` of `Rattle.std.proofs.Common`).
+///
+/// With less to prove, and a slower run, a component is told by the table of its steps alone: `Protocol`.
 ///
 /// A target from a crate of its own is run on workers where it is `Send` and its workload `Sync`. The trait itself doesn't ask for
 /// that, so that one which isn't can still be run on one thread.

@@ -1,0 +1,7 @@
+use Rattle.target_trait.proofs.Plays.{given_with}
+use Rattle.target_trait.proofs.Verdicts.{verdict_told}
+use Rattle.target_trait.proofs.case.run_session.Goals as goal
+
+pub returns-clause-ok : goal.returns-clause-ok
+returns-clause-ok g c =
+    verdict_told _ _ _ _ _ _ _ _ _ _ (given_with _ _ _ c.run.ensures.given c.requires.points) c.in_ok-judgement.ensures.play c.trace.ensures.within c.verdict_of.ensures c.stopped.ensures
