@@ -6,7 +6,7 @@ use Rattle.std.specs.Str.{bytes_eq}
 use Rattle.toml.specs.Data.{Data, Items, as_integer}
 use Rattle.scenario_grammar.proofs.CutLaws.{not_false}
 use Rattle.scenario_values.specs.Scenario.{is_name}
-use Rattle.target_trait.specs.Catalogue.{HasDistinct, IsCatalogue}
+use Rattle.action_eval.specs.Catalogue.{HasDistinct, IsCatalogue}
 use Rattle.campaign_settings.specs.Description.{AreCodes, are_codes, are_distinct, are_points, has_control, is_code, is_label, is_point}
 use Rattle.campaign_settings.specs.Keys.{Text}
 use Rattle.campaign_settings.specs.Lists.{all_in}

@@ -5,7 +5,7 @@ use Rattle.std.specs.Char.{is_ascii_control}
 use Rattle.std.specs.List.{AllByRecursion, list_all, list_any}
 use Rattle.std.specs.Str.{bytes_eq}
 use Rattle.scenario_values.specs.Scenario.{is_name}
-use Rattle.target_trait.specs.Catalogue.{HasDistinct, IsCatalogue}
+use Rattle.action_eval.specs.Catalogue.{HasDistinct, IsCatalogue}
 
 -- its label; the names of its failures' codes, whose numbers are their places; the names of its points; and how often each point is hit
 -- in a run without faults

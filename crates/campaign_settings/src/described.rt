@@ -3,7 +3,7 @@ ghost use Rattle.std.specs.Prelude.{◌≡◌, ◌≤◌, Ok, Err, IfOk, IfErr, 
 ghost use Rattle.std.specs.List.{AllByRecursion, list_all};
 ghost use Rattle.toml.specs.Data.{as_integer};
 ghost use Rattle.toml.specs.View.{array_view, table_view, view};
-ghost use Rattle.target_trait.specs.Catalogue.{IsCatalogue};
+ghost use Rattle.action_eval.specs.Catalogue.{IsCatalogue};
 ghost use Rattle.campaign_settings.specs.Description.{AreCodes, are_codes, are_points, is_label};
 ghost use Rattle.campaign_settings.specs.Lists.{all_in, texts_in};
 ghost use Rattle.campaign_settings.specs.Outside.{count_of, counts_at, label_at, listed_at, names_at};

@@ -131,7 +131,7 @@ fn copy_chunks(alloc: Global, item: &Value) -> Result<Option<Chunks>, AllocError
     if !is_chunk_list(texts.as_slice()) {
         return Ok(None);
     }
-    Ok(Some(Chunks::new(texts)))
+    Ok(Some(Chunks::new(alloc, texts.as_slice())?))
 }
 
 fn copy_chunk_lists(alloc: Global, items: &Array) -> Result<Option<Vec<Chunks>>, AllocError>

@@ -1,5 +1,4 @@
 pub mod Safe
-pub mod Bytes
 pub mod Counted
 pub mod Playing
 pub mod Never

@@ -1,97 +1,127 @@
--- A run, told as far as the steps have come.
-use Rattle.std.proofs.Common.{◌≡◌, ℕ, ◌≤◌, List, [], ◌∷◌, ◌++◌, length, Option, None, Some, Bor, refl, ap, sym, ◌∙◌, subst, arith, length-append}
-use Rattle.sim_device.specs.FileEffects.{Effect}
-use Rattle.sim_device.specs.Disk.{Disk, StandsFor}
-use Rattle.action_eval.specs.Answers.{Run, Reply, Go, Halt, GoesOn, hit, replies, reply_of_answer}
+-- A run, told as far as it has come.
+use Rattle.std.proofs.Common.{◌≡◌, ℕ, zero, suc, ◌≤◌, false, List, [], ◌∷◌, ◌++◌, length, take, drop, replicate, Option, None, Some, Bor, refl, ap, sym, ◌∙◌, subst, arith, length-append}
+use Rattle.sim_device.specs.FileEffects.{Effect, Append}
+use Rattle.sim_device.specs.Disk.{Disk, StandsFor, AddsEffect}
+use Rattle.sim_device.proofs.Appends.{appended, stands_appended}
+use Rattle.action_eval.specs.Answers.{Run, Reply, Go, Halt, GoesOn, AllGo, start, hit, hits_of, replies, stopped, reply_of_answer}
 use Rattle.action_eval.specs.declared.answer.Answer.{Answer}
 use Rattle.action_eval.specs.declared.answer.Answer.TheVariants as answer
 use Rattle.target_trait.specs.declared.judgement.Judgement.{Judgement}
-use Rattle.target_trait.specs.Play.{Ask, Done, Follows, IsPlay, IsRunning, move_by}
-use Rattle.target_trait.proofs.Plays.{follows_more}
+use Rattle.target_trait.specs.Play.{Ask, Done, IsPlay, IsRunning, move_by}
+use Rattle.target_trait.specs.Machine.{Reached, AsksInTurn}
+use Rattle.target_trait.proofs.Machine.{reached_first, reached_more, reached_on, reached_end, gone}
 use Rattle.target_trait.proofs.Running.{runs_go, runs_return, running_at}
+use Rattle.chunked_text.specs.Chunks.{joined}
 use Rattle.file_replace.specs.declared.variant.Variant.{Variant}
+use Rattle.file_replace.specs.Words.{tmp, write_point}
 use Rattle.file_replace.specs.Work.{Work}
 use Rattle.file_replace.specs.Judgement.{judged}
-use Rattle.file_replace.specs.Steps.{Step, Tally, State, on_go, on_return, stepped, Over, at_step, start_of, laid, point_at, move_of, asks_of}
-use Rattle.file_replace.specs.Seen.{Shows, Played}
+use Rattle.file_replace.specs.Steps.{Step, Writing, Over, Tally, State, state, on_go, on_return, stepped, at_step, write_step, begun, before_all, prepared, start_of, machine, move_of, point_at, asks_of}
+use Rattle.file_replace.specs.inside.Seen.{Shows, Played}
 
-laid_more : (v : Variant) (s : State) (as' : List Reply) (a : Reply) → laid v s (as' ++ a ∷ []) ≡ stepped v (laid v s as') a
-laid_more v s [] a = refl
-laid_more v s (b ∷ as') a = laid_more v (stepped v s b) as' a
+asks_point : (t : Tally) (es : List Effect) (p : ℕ) → point_at t.step ≡ Some p → move_of (state t es) ≡ Ask p
+asks_point t es p e = ap (move_by (judged t.past es)) e
 
-asks_point : (s : State) (p : ℕ) → point_at s.tally.step ≡ Some p → move_of s ≡ Ask p
-asks_point s p e = ap (move_by (judged s.tally.past s.effects)) e
+asks_none : (t : Tally) (es : List Effect) → point_at t.step ≡ None → move_of (state t es) ≡ Done (judged t.past es)
+asks_none t es e = ap (move_by (judged t.past es)) e
 
-asks_none : (s : State) → point_at s.tally.step ≡ None → move_of s ≡ Done (judged s.tally.past s.effects)
-asks_none s e = ap (move_by (judged s.tally.past s.effects)) e
-
--- the steps laid against the answers of a run
-abbrev now : Variant → Work → Run → State
-now v w r = laid v (start_of w) (replies r)
-
-asked_more : (v : Variant) (w : Work) (r : Run) (t : Tally) (d : Disk) (p : ℕ) → Played v w r t d → point_at t.step ≡ Some p → (r' : Run) → r' ≡ hit r p → Follows (asks_of v w) r'.given [] r'.hits
-asked_more v w r t d p k at r' same =
-    let P : Run → Type 0 = λ x. Follows (asks_of v w) x.given [] x.hits in
-    subst P (sym same) (follows_more (asks_of v w) r.given [] r.hits p k.asked (asks_point (now v w r) p (sym (ap (λ (x : Tally). point_at x.step) k.shows.tally) ∙ at)))
+-- a run that has just begun
+pub played_first : (v : Variant) (w : Work) (r : Run) (t : Tally) (d : Disk) → r ≡ start r.given → replies (start r.given) ≡ [] → stopped r ≡ None
+    → t ≡ begun false (before_all w) → StandsFor d (prepared w.old) → Played v w r t d
+played_first v w r t d new none runs t_is device =
+    let P : Run → Type 0 = λ x. Reached (machine v w) x (start_of w) in
+    let Q : Tally → Type 0 = λ x. Reached (machine v w) r (state x (prepared w.old)) in
+    record {
+      effects = prepared w.old;
+      reached = subst Q (sym t_is) (subst P (sym new) (reached_first (machine v w) r.given none));
+      device = device;
+      running = running_at (point_at t.step) r runs;
+    }
 
 -- one answer more
-told_more : (v : Variant) (w : Work) (r r' : Run) (a : Reply) → replies r' ≡ replies r ++ a ∷ [] → stepped v (now v w r) a ≡ now v w r'
-told_more v w r r' a more = sym (laid_more v (start_of w) (replies r) a) ∙ ap (laid v (start_of w)) (sym more)
+played_more : (v : Variant) (w : Work) (r : Run) (t : Tally) (d : Disk) (p : ℕ) (k : Played v w r t d) → point_at t.step ≡ Some p → (r' : Run) → r' ≡ hit r p → (a : Reply) → replies r' ≡ replies r ++ a ∷ []
+    → (t' : Tally) (d' : Disk) → Shows (stepped v (state t k.effects) a) t' d' → IsRunning (point_at t'.step) r' → Played v w r' t' d'
+played_more v w r t d p k at r' same a told t' d' shows running =
+    let s : State = stepped v (state t k.effects) a in
+    let P : Tally → Type 0 = λ x. Reached (machine v w) r' (state x s.effects) in
+    record {
+      effects = s.effects;
+      reached = subst P (sym shows.tally) (reached_more (machine v w) r (state t k.effects) p k.reached (asks_point t k.effects p at) r' same a told);
+      device = shows.device;
+      running = running;
+    }
 
 pub played_go : (v : Variant) (w : Work) (r : Run) (t : Tally) (d : Disk) (p : ℕ) → Played v w r t d → point_at t.step ≡ Some p → (r' : Run) → r' ≡ hit r p → (a : Answer) → a ≡ answer.Go → replies r' ≡ replies r ++ reply_of_answer a ∷ []
     → GoesOn (reply_of_answer a) r' → (t' : Tally) (d' : Disk) → ((es : List Effect) → StandsFor d es → Shows (on_go v t es t.step) t' d') → Played v w r' t' d'
-played_go v w r t d p k at r' same a is more goes_on t' d' goes = record {
-  running = running_at (point_at t'.step) r' (runs_go a r' is goes_on);
-  asked = asked_more v w r t d p k at r' same;
-  shows =
-      let said : replies r' ≡ replies r ++ Go ∷ [] = more ∙ ap (λ (x : Answer). replies r ++ reply_of_answer x ∷ []) is in
-      let e : on_go v t (now v w r).effects t.step ≡ now v w r' = ap (λ (x : Tally). on_go v x (now v w r).effects x.step) k.shows.tally ∙ told_more v w r r' Go said in
-      subst (λ (x : State). Shows x t' d') e (goes (now v w r).effects k.shows.device);
-}
+played_go v w r t d p k at r' same a is more goes_on t' d' goes =
+    let told : replies r' ≡ replies r ++ Go ∷ [] = more ∙ ap (λ (x : Answer). replies r ++ reply_of_answer x ∷ []) is in
+    played_more v w r t d p k at r' same Go told t' d' (goes k.effects k.device) (running_at (point_at t'.step) r' (runs_go a r' is goes_on))
 
-return_step : (v : Variant) (s : State) (text : Option (Bor (List ℕ))) → stepped v s (reply_of_answer (answer.Return text)) ≡ on_return v s.tally s.effects s.tally.step
+return_step : (v : Variant) (s : State) (text : Option (Bor (List ℕ))) → on_return v s.tally s.effects s.tally.step ≡ stepped v s (reply_of_answer (answer.Return text))
 return_step v s None = refl
 return_step v s (Some text) = refl
 
 pub played_return : (v : Variant) (w : Work) (r : Run) (t : Tally) (d : Disk) (p : ℕ) → Played v w r t d → point_at t.step ≡ Some p → (r' : Run) → r' ≡ hit r p → (a : Answer) (text : Option (Bor (List ℕ))) → a ≡ answer.Return text → replies r' ≡ replies r ++ reply_of_answer a ∷ []
     → GoesOn (reply_of_answer a) r' → (t' : Tally) (d' : Disk) → ((es : List Effect) → StandsFor d es → Shows (on_return v t es t.step) t' d') → Played v w r' t' d'
-played_return v w r t d p k at r' same a text is more goes_on t' d' fails = record {
-  running = running_at (point_at t'.step) r' (runs_return a text r' is goes_on);
-  asked = asked_more v w r t d p k at r' same;
-  shows =
-      let said : replies r' ≡ replies r ++ reply_of_answer (answer.Return text) ∷ [] = more ∙ ap (λ (x : Answer). replies r ++ reply_of_answer x ∷ []) is in
-      let e : on_return v t (now v w r).effects t.step ≡ now v w r' =
-      ap (λ (x : Tally). on_return v x (now v w r).effects x.step) k.shows.tally ∙ sym (return_step v (now v w r) text) ∙ told_more v w r r' (reply_of_answer (answer.Return text)) said
-      in
-      subst (λ (x : State). Shows x t' d') e (fails (now v w r).effects k.shows.device);
-}
-
-judged_same : (t : Tally) (s : State) → t ≡ s.tally → judged t.past s.effects ≡ judged s.tally.past s.effects
-judged_same t s e = ap (λ (x : Tally). judged x.past s.effects) e
+played_return v w r t d p k at r' same a text is more goes_on t' d' fails =
+    let told : replies r' ≡ replies r ++ reply_of_answer (answer.Return text) ∷ [] = more ∙ ap (λ (x : Answer). replies r ++ reply_of_answer x ∷ []) is in
+    let shows = subst (λ (s : State). Shows s t' d') (return_step v (state t k.effects) text) (fails k.effects k.device) in
+    played_more v w r t d p k at r' same (reply_of_answer (answer.Return text)) told t' d' shows (running_at (point_at t'.step) r' (runs_return a text r' is goes_on))
 
 pub played_halt : (v : Variant) (w : Work) (r : Run) (t : Tally) (d : Disk) (p : ℕ) → Played v w r t d → point_at t.step ≡ Some p → (r' : Run) → r' ≡ hit r p → (a : Answer) → a ≡ answer.Halt → replies r' ≡ replies r ++ reply_of_answer a ∷ []
     → (t' : Tally) → t' ≡ at_step t Over → Played v w r' t' d
-played_halt v w r t d p k at r' same a is more t' t'_is = record {
-  running = subst (λ (x : Tally). IsRunning (point_at x.step) r') (sym t'_is) tt;
-  asked = asked_more v w r t d p k at r' same;
-  shows =
-      let said : replies r' ≡ replies r ++ Halt ∷ [] = more ∙ ap (λ (x : Answer). replies r ++ reply_of_answer x ∷ []) is in
-      let shown : Shows (stepped v (now v w r) Halt) t' d = record { tally = t'_is ∙ ap (λ (x : Tally). at_step x Over) k.shows.tally; device = k.shows.device } in
-      subst (λ (x : State). Shows x t' d) (told_more v w r r' Halt said) shown;
-}
+played_halt v w r t d p k at r' same a is more t' t'_is =
+    let told : replies r' ≡ replies r ++ Halt ∷ [] = more ∙ ap (λ (x : Answer). replies r ++ reply_of_answer x ∷ []) is in
+    played_more v w r t d p k at r' same Halt told t' d (record { tally = t'_is; device = k.device }) (subst (λ (x : Tally). IsRunning (point_at x.step) r') (sym t'_is) tt)
+
+-- a chunk is written whole
+pub wrote : (v : Variant) (w : Work) (r : Run) (t : Tally) (d : Disk) (c : List ℕ) (cs : List (List ℕ)) → Played v w r (at_step t (Writing c cs)) d
+    → (r' : Run) → r' ≡ hit r write_point → (a : Answer) → a ≡ answer.Go → replies r' ≡ replies r ++ reply_of_answer a ∷ [] → GoesOn (reply_of_answer a) r'
+    → (d' : Disk) → AddsEffect d d' (Append tmp c) → Played v w r' (at_step t (write_step v cs)) d'
+wrote v w r t d c cs k r' same a is more goes_on d' adds =
+    played_go v w r (at_step t (Writing c cs)) d write_point k refl r' same a is more goes_on (at_step t (write_step v cs)) d' (λ es h. record { tally = refl; device = adds es h })
+
+-- ---- several chunks at once
+
+asks_writes : (v : Variant) (w : Work) (t : Tally) (n : ℕ) (cs : List (List ℕ)) (es : List Effect) → n ≤ length cs → AsksInTurn (machine v w) (state (at_step t (write_step v cs)) es) (replicate n write_point)
+asks_writes v w t zero cs es few = tt
+asks_writes v w t (suc n) [] es few = let no : ⊥ = omega (arith, few) in elim no [ ]
+asks_writes v w t (suc n) (c ∷ cs) es few = (refl, asks_writes v w t n cs (Append tmp c ∷ es) (omega (arith, few)))
+
+writes_on : (v : Variant) (w : Work) (t : Tally) (n : ℕ) (cs : List (List ℕ)) (es : List Effect) → n ≤ length cs
+    → gone (machine v w) (state (at_step t (write_step v cs)) es) (replicate n write_point) ≡ state (at_step t (write_step v (drop n cs))) (appended tmp (take n cs) es)
+writes_on v w t zero cs es few = refl
+writes_on v w t (suc n) [] es few = let no : ⊥ = omega (arith, few) in elim no [ ]
+writes_on v w t (suc n) (c ∷ cs) es few = writes_on v w t n cs (Append tmp c ∷ es) (omega (arith, few))
+
+-- these chunks written at once, of those that are left
+pub played_on : (v : Variant) (w : Work) (r : Run) (t : Tally) (d : Disk) (cs : List (List ℕ)) (n : ℕ) → Played v w r (at_step t (write_step v cs)) d → n ≤ length cs
+    → (r' : Run) → r' ≡ hits_of r (replicate n write_point) → AllGo r (replicate n write_point) → stopped r' ≡ None
+    → (d' : Disk) (bytes : List ℕ) → bytes ≡ joined (take n cs) → AddsEffect d d' (Append tmp bytes)
+    → (rest : List (List ℕ)) → rest ≡ drop n cs → (step : Step) → step ≡ write_step v rest → Played v w r' (at_step t step) d'
+played_on v w r t d cs n k few r' same goes runs d' bytes bytes_are adds rest rest_is step step_is =
+    let effects : List Effect = appended tmp (take n cs) k.effects in
+    let now : step ≡ write_step v (drop n cs) = step_is ∙ ap (write_step v) rest_is in
+    let P : State → Type 0 = λ s. Reached (machine v w) (hits_of r (replicate n write_point)) s in
+    let Q : Step → Type 0 = λ s. Reached (machine v w) (hits_of r (replicate n write_point)) (state (at_step t s) effects) in
+    let R : Run → Type 0 = λ x. Reached (machine v w) x (state (at_step t step) effects) in
+    let reached = subst P (writes_on v w t n cs k.effects few)
+    (reached_on (machine v w) (replicate n write_point) r (state (at_step t (write_step v cs)) k.effects) k.reached (asks_writes v w t n cs k.effects few) goes) in
+    record {
+      effects = effects;
+      reached = subst R (sym same) (subst Q (sym now) reached);
+      device = stands_appended d' tmp (take n cs) k.effects (subst (λ (b : List ℕ). StandsFor d' (Append tmp b ∷ k.effects)) bytes_are (adds k.effects k.device));
+      running = running_at (point_at step) r' runs;
+    }
 
 pub played_over : (v : Variant) (w : Work) (r : Run) (t : Tally) (d : Disk) → Played v w r t d → point_at t.step ≡ None
     → (j : Judgement) → ((es : List Effect) → StandsFor d es → j ≡ judged t.past es) → IsPlay (asks_of v w) r j
-played_over v w r t d k at j judges = record {
-  asked = k.asked;
-  ended =
-      let j_is : j ≡ judged (now v w r).tally.past (now v w r).effects = judges (now v w r).effects k.shows.device ∙ judged_same t (now v w r) k.shows.tally in
-      asks_none (now v w r) (sym (ap (λ (x : Tally). point_at x.step) k.shows.tally) ∙ at) ∙ ap Done (sym j_is);
-}
+played_over v w r t d k at j judges =
+    reached_end (machine v w) r (state t k.effects) j k.reached (asks_none t k.effects at ∙ ap Done (sym (judges k.effects k.device)))
 
 -- the same, told of the step that it is
 pub writing_now : (v : Variant) (w : Work) (r : Run) (t : Tally) (d : Disk) (step next : Step) → Played v w r (at_step t step) d → step ≡ next → Played v w r (at_step t next) d
 writing_now v w r t d step next k is = let P : Step → Type 0 = λ s. Played v w r (at_step t s) d in subst P is k
 
-pub more_hits : (n : ℕ) (r r' : Run) (p : ℕ) → r' ≡ hit r p → n ≤ length r.hits → n ≤ length r'.hits
-more_hits n r r' p same few = let P : Run → Type 0 = λ x. n ≤ length x.hits in subst P (sym same) (omega (arith, length-append r.hits (p ∷ [])))
+pub more_hits : (n : ℕ) (r r' : Run) (ps : List ℕ) → r' ≡ hits_of r ps → n ≤ length r.hits → n ≤ length r'.hits
+more_hits n r r' ps same few = let P : Run → Type 0 = λ x. n ≤ length x.hits in subst P (sym same) (omega (arith, length-append r.hits ps))

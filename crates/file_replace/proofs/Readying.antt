@@ -1,14 +1,15 @@
 -- Each step's step finds what it needs.
-use Rattle.std.proofs.Common.{◌≡◌, ℕ, false, List, [], ◌∷◌, Option, None, Some, is_some, is_none, refl, sym, subst}
-use Rattle.sim_device.specs.FileEffects.{Effect, Create, Sync, Unlink, SyncDir, Live, leads}
-use Rattle.sim_device.specs.Disk.{Disk, StandsFor, entry_at}
+use Rattle.std.proofs.Common.{◌≡◌, ℕ, false, List, [], ◌∷◌, Option, None, Some, is_some, is_none, refl, ap, sym, ◌∙◌, subst}
+use Rattle.sim_device.specs.FileEffects.{Effect, Append, Create, Sync, Unlink, SyncDir, Live, leads}
+use Rattle.sim_device.specs.Disk.{Disk, StandsFor, AddsEffect, entry_at}
 use Rattle.action_eval.specs.Answers.{Run, Reply, Go, Return, Halt, replies}
-use Rattle.file_replace.specs.Seen.{Played}
+use Rattle.target_trait.specs.Machine.{led, after}
+use Rattle.file_replace.specs.inside.Seen.{Played}
 use Rattle.file_replace.specs.declared.variant.Variant.{Variant}
 use Rattle.file_replace.specs.declared.variant.Variant.TheVariants.{Sound, LateSync, IgnoreSync, RetryWrite}
 use Rattle.file_replace.specs.Work.{Work}
-use Rattle.file_replace.specs.Steps.{Step, Clearing, Creating, Writing, WritingAgain, Syncing, Renaming, SyncingDir, SyncingLate, Cleaning, Over, Tally, State, state, first_step, begun_of, acknowledged, is_there, write_step, after_half, after_no_sync, after_sync_dir, on_go, on_return, stepped, start_of, laid, prepared, before_all}
-use Rattle.file_replace.specs.Ready.{IsReady, IsReadyAfter, IsReadyOn}
+use Rattle.file_replace.specs.Steps.{Step, Clearing, Creating, Writing, WritingAgain, Syncing, Renaming, SyncingDir, SyncingLate, Cleaning, Over, Tally, State, state, first_step, begun_of, acknowledged, is_there, write_step, after_half, after_no_sync, after_sync_dir, on_go, on_return, stepped, start_of, machine, prepared, before_all}
+use Rattle.file_replace.specs.inside.Ready.{IsReady, IsReadyAfter, IsReadyOn}
 
 abbrev Ready : State → Type 0
 Ready s = IsReadyAfter s.tally.step s.effects
@@ -75,13 +76,13 @@ step_ready v s Go r = go_ready v s.tally s.effects s.tally.step r
 step_ready v s (Return text) r = return_ready v s.tally s.effects s.tally.step r
 step_ready v s Halt r = tt
 
-laid_ready : (v : Variant) (s : State) (answers : List Reply) → Ready s → Ready (laid v s answers)
-laid_ready v s [] r = r
-laid_ready v s (a ∷ answers) r = laid_ready v (stepped v s a) answers (step_ready v s a r)
+led_ready : (v : Variant) (w : Work) (s : State) (answers : List Reply) → Ready s → Ready (led (machine v w) s answers)
+led_ready v w s [] r = r
+led_ready v w s (a ∷ answers) r = led_ready v w (stepped v s a) answers (step_ready v s a r)
 
 -- whatever was answered, the next step is not refused
-pub steps_ready : (v : Variant) (w : Work) (answers : List Reply) → Ready (laid v (start_of w) answers)
-steps_ready v w answers = laid_ready v (start_of w) answers (begun_ready (before_all w) w.replacements (prepared w.old))
+pub steps_ready : (v : Variant) (w : Work) (answers : List Reply) → Ready (after (machine v w) answers)
+steps_ready v w answers = led_ready v w (start_of w) answers (begun_ready (before_all w) w.replacements (prepared w.old))
 
 pub ready_on : (step : Step) (d : Disk) (es : List Effect) → StandsFor d es → IsReadyAfter step es → IsReadyOn step d.names
 ready_on step d es k r =
@@ -90,7 +91,8 @@ ready_on step d es k r =
     subst Q (sym (k.live 1)) (subst P (sym (k.live 0)) r)
 
 pub ready_now : (v : Variant) (w : Work) (r : Run) (t : Tally) (d : Disk) → Played v w r t d → IsReadyOn t.step d.names
-ready_now v w r t d k =
-    let s = laid v (start_of w) (replies r) in
-    let P : Tally → Type 0 = λ x. IsReadyAfter x.step s.effects in
-    ready_on t.step d s.effects k.shows.device (subst P (sym k.shows.tally) (steps_ready v w (replies r)))
+ready_now v w r t d k = ready_on t.step d k.effects k.device (subst Ready k.reached.here (steps_ready v w (replies r)))
+
+-- `tmp` is there after an append too
+pub tmp_stays : (v : Variant) (w : Work) (r : Run) (t : Tally) (d d' : Disk) (bytes : List ℕ) → Played v w r t d → AddsEffect d d' (Append 1 bytes) → is_none (entry_at d.names 1).live ≡ false → is_none (entry_at d'.names 1).live ≡ false
+tmp_stays v w r t d d' bytes k adds there = ap is_none ((adds k.effects k.device).live 1 ∙ sym (k.device.live 1)) ∙ there

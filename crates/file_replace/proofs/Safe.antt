@@ -12,10 +12,12 @@ use Rattle.target_trait.specs.declared.judgement.Judgement.TheVariants.{Kept, Br
 use Rattle.target_trait.specs.Play.{Done}
 use Rattle.target_trait.proofs.Never.{done_kept}
 use Rattle.file_replace.specs.declared.variant.Variant.TheVariants.{Sound}
-use Rattle.file_replace.specs.Work.{Work, joined}
+use Rattle.target_trait.specs.Machine.{led, after}
+use Rattle.chunked_text.specs.Chunks.{joined, half}
+use Rattle.file_replace.specs.Work.{Work}
 use Rattle.file_replace.specs.Words.{torn, stale}
 use Rattle.file_replace.specs.Judgement.{Past, judged_by, judged}
-use Rattle.file_replace.specs.Steps.{Step, Clearing, Creating, Writing, WritingAgain, Syncing, Renaming, SyncingDir, SyncingLate, Cleaning, Over, Tally, State, state, first_step, begun_of, is_there, acknowledged, write_step, on_go, on_return, stepped, half, prepared, before_all, start_of, laid, point_at, asks_of}
+use Rattle.file_replace.specs.Steps.{Step, Clearing, Creating, Writing, WritingAgain, Syncing, Renaming, SyncingDir, SyncingLate, Cleaning, Over, Tally, State, state, first_step, begun_of, is_there, acknowledged, write_step, on_go, on_return, stepped, prepared, before_all, start_of, machine, point_at, asks_of}
 
 abbrev among : List ℕ → List (List ℕ) → Bool
 among x xs = list_any (bytes_eq x) xs
@@ -258,9 +260,9 @@ step_safe s Go k = go_safe s.tally s.effects s.tally.step k.solid k.mine k.step
 step_safe s (Return text) k = return_safe s.tally s.effects s.tally.step k.solid k.mine k.step
 step_safe s Halt k = record { solid = k.solid; mine = k.mine; step = tt }
 
-laid_safe : (s : State) (answers : List Reply) → Safe s → Safe (laid Sound s answers)
-laid_safe s [] k = k
-laid_safe s (a ∷ answers) k = laid_safe (stepped Sound s a) answers (step_safe s a k)
+led_safe : (w : Work) (s : State) (answers : List Reply) → Safe s → Safe (led (machine Sound w) s answers)
+led_safe w s [] k = k
+led_safe w s (a ∷ answers) k = led_safe w (stepped Sound s a) answers (step_safe s a k)
 
 prepared_solid : (old : List ℕ) → Solid (prepared old) (old ∷ [])
 prepared_solid old = record {
@@ -285,5 +287,5 @@ judged_kept past es k =
 -- whatever is answered, the sound variant keeps its word
 pub sound_kept : (w : Work) (answers : List Reply) (j : Judgement) → asks_of Sound w answers ≡ Done j → j ≡ Kept
 sound_kept w answers j e =
-    let s = laid Sound (start_of w) answers in
-    done_kept (point_at s.tally.step) _ j (judged_kept s.tally.past s.effects (laid_safe (start_of w) answers (start_safe w)).solid) e
+    let s = after (machine Sound w) answers in
+    done_kept (point_at s.tally.step) _ j (judged_kept s.tally.past s.effects (led_safe w (start_of w) answers (start_safe w)).solid) e

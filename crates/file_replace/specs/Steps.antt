@@ -1,14 +1,14 @@
--- The steps of a run, laid against the list of answers: what is asked, what each answer does, and what comes next.
-use Rattle.std.specs.Prelude.{ℕ, ◌/◌, Bool, true, false, List, [], ◌∷◌, ◌++◌, Option, Some, None, is_some, take, length}
+-- The protocol of atomic replacement as a table: the steps, what each asks, and what each answer does and leads to.
+use Rattle.std.specs.Prelude.{ℕ, Bool, true, false, List, [], ◌∷◌, Option, Some, None, is_some}
 use Rattle.sim_device.specs.FileEffects.{Effect, Create, Append, Sync, Rename, Unlink, SyncDir, PowerCut, Live, leads}
 use Rattle.action_eval.specs.Answers.{Reply, Go, Return, Halt}
-use Rattle.target_trait.specs.declared.judgement.Judgement.{Judgement}
-use Rattle.target_trait.specs.Play.{Move, move_by, IsWithin, IsDone}
-use Rattle.std.proofs.Common.{arith}
+use Rattle.target_trait.specs.Play.{Move, move_by}
+use Rattle.target_trait.specs.Machine.{Machine, after, asks_by}
+use Rattle.chunked_text.specs.Chunks.{joined, half}
 use Rattle.file_replace.specs.declared.variant.Variant.{Variant}
 use Rattle.file_replace.specs.declared.variant.Variant.TheVariants.{Sound, LateSync, IgnoreSync, RetryWrite}
 use Rattle.file_replace.specs.Words.{target, tmp, clear_point, create_point, write_point, sync_point, rename_point, sync_dir_point, unlink_point}
-use Rattle.file_replace.specs.Work.{Work, joined}
+use Rattle.file_replace.specs.Work.{Work}
 use Rattle.file_replace.specs.Judgement.{Past, nothing_begun, with_begun, with_acknowledged, judged}
 
 -- the step whose question comes next, with the chunks that are left
@@ -110,6 +110,19 @@ after_no_sync RetryWrite = Cleaning
 
 -- ---- the table of steps
 
+-- the point that a step asks
+abbrev pub point_at : Step → Option ℕ
+point_at (Clearing chunks) = Some clear_point
+point_at (Creating chunks) = Some create_point
+point_at (Writing c cs) = Some write_point
+point_at (WritingAgain c cs) = Some write_point
+point_at Syncing = Some sync_point
+point_at Renaming = Some rename_point
+point_at SyncingDir = Some sync_dir_point
+point_at SyncingLate = Some sync_point
+point_at Cleaning = Some unlink_point
+point_at Over = None
+
 -- what a step does where it is answered to go on
 abbrev pub on_go : Variant → Tally → List Effect → Step → State
 on_go v t es (Clearing chunks) = state (at_step t (Creating chunks)) (Unlink tmp ∷ es)
@@ -122,10 +135,6 @@ on_go v t es SyncingDir = after_sync_dir v t (SyncDir ∷ es)
 on_go v t es SyncingLate = done t (Sync target ∷ es)
 on_go v t es Cleaning = failed t (Unlink tmp ∷ es)
 on_go v t es Over = state (at_step t Over) es
-
--- the first half of a chunk, in whole bytes
-abbrev pub half : List ℕ → List ℕ
-half c = take (length c / 2) c
 
 -- what it does where it is answered that it fails
 abbrev pub on_return : Variant → Tally → List Effect → Step → State
@@ -158,62 +167,17 @@ before_all w = record { step = Over; whole = w.old; rest = w.replacements; past 
 abbrev pub start_of : Work → State
 start_of w = state (begun false (before_all w)) (prepared w.old)
 
-abbrev pub laid : Variant → State → List Reply → State
-laid v s [] = s
-laid v s (a ∷ as') = laid v (stepped v s a) as'
-
--- what the device accepted in a run of these answers, with the power cut at its end
-abbrev pub effects_of : Variant → Work → List Reply → List Effect
-effects_of v w answers = PowerCut ∷ (laid v (start_of w) answers).effects
-
--- the point that a step asks
-abbrev pub point_at : Step → Option ℕ
-point_at (Clearing chunks) = Some clear_point
-point_at (Creating chunks) = Some create_point
-point_at (Writing c cs) = Some write_point
-point_at (WritingAgain c cs) = Some write_point
-point_at Syncing = Some sync_point
-point_at Renaming = Some rename_point
-point_at SyncingDir = Some sync_dir_point
-point_at SyncingLate = Some sync_point
-point_at Cleaning = Some unlink_point
-point_at Over = None
-
 abbrev pub move_of : State → Move
 move_of s = move_by (judged s.tally.past s.effects) (point_at s.tally.step)
 
--- what is asked after these answers
+-- the protocol: the first state, what an answer makes of a state, and what a state asks
+abbrev pub machine : Variant → Work → Machine State
+machine v w = record { first = start_of w; step = stepped v; move = move_of }
+
+-- what is asked after a list of answers
 abbrev pub asks_of : Variant → Work → List Reply → Move
-asks_of v w answers = move_of (laid v (start_of w) answers)
+asks_of v w = asks_by (machine v w)
 
--- ---- laws
-
-step_within : (j : Judgement) (step : Step) → IsWithin 7 (move_by j (point_at step))
-step_within j (Clearing chunks) = omega arith
-step_within j (Creating chunks) = omega arith
-step_within j (Writing c cs) = omega arith
-step_within j (WritingAgain c cs) = omega arith
-step_within j Syncing = omega arith
-step_within j Renaming = omega arith
-step_within j SyncingDir = omega arith
-step_within j SyncingLate = omega arith
-step_within j Cleaning = omega arith
-step_within j Over = tt
-
--- each question is of one of the seven points
-pub asks-within : (v : Variant) (w : Work) (answers : List Reply) → IsWithin 7 (asks_of v w answers)
-asks-within v w answers = let s = laid v (start_of w) answers in step_within (judged s.tally.past s.effects) s.tally.step
-
-over_stays : (v : Variant) (t : Tally) (es : List Effect) (answers : List Reply) → IsDone (move_of (laid v (state (at_step t Over) es) answers))
-over_stays v t es [] = tt
-over_stays v t es (Go ∷ answers) = over_stays v t es answers
-over_stays v t es (Return text ∷ answers) = over_stays v t es answers
-over_stays v t es (Halt ∷ answers) = over_stays v t es answers
-
-halt_ends : (v : Variant) (s : State) (before after : List Reply) → IsDone (move_of (laid v s (before ++ Halt ∷ after)))
-halt_ends v s [] after = over_stays v s.tally s.effects after
-halt_ends v s (a ∷ before) after = halt_ends v (stepped v s a) before after
-
--- no question follows a halt
-pub asks-halts : (v : Variant) (w : Work) (before after : List Reply) → IsDone (asks_of v w (before ++ Halt ∷ after))
-asks-halts v w before after = halt_ends v (start_of w) before after
+-- what the device accepted in a run of these answers, with the power cut at its end
+abbrev pub effects_of : Variant → Work → List Reply → List Effect
+effects_of v w answers = PowerCut ∷ (after (machine v w) answers).effects

@@ -8,14 +8,16 @@ mod laws;
 mod play;
 mod progress;
 mod replace;
+mod rest;
 mod stage;
 mod steps;
 mod variant;
 mod work;
 
+pub use chunked_text::Chunks;
 pub use judge::{STALE, TORN};
 pub use laws::{ignore_sync_is_stale, late_sync_is_torn, retry_write_is_torn, sound_never_fails};
 pub use play::play as play_on;
 pub use replace::Replace;
 pub use variant::Variant;
-pub use work::{Chunks, Replacements};
+pub use work::Replacements;

@@ -5,7 +5,7 @@ ghost use Rattle.action_eval.specs.Answers.{start, replies};
 ghost use Rattle.target_trait.specs.Play.{IsPlay};
 ghost use Rattle.file_replace.specs.Words.{point_names};
 ghost use Rattle.file_replace.specs.Steps.{asks_of, effects_of, point_at};
-ghost use Rattle.file_replace.specs.Seen.{step_of, Played};
+ghost use Rattle.file_replace.specs.inside.Seen.{step_of, Played};
 
 use crate::disk::{Name, append};
 use crate::judge::judge;
@@ -73,7 +73,8 @@ fn ask(
     Ok(())
 }
 
-/// Asks and writes chunk after chunk, as long as chunks are left and the answers are to go on.
+/// Asks and writes chunk after chunk, as long as chunks are left and the answers are to go on. Chunks whose writes surely succeed are
+/// written together.
 fn write_on(
     variant: Variant,
     workload: &Replacements,
@@ -88,12 +89,12 @@ fn write_on(
     ensures more { OnOk result (length session.old.hits ≤ length session.new.hits) }
 {
     let mut stage = progress.stage();
-    while let Stage::Writing(chunk, chunks) = stage {
+    while let Stage::Writing(chunk, rest) = stage {
         match session.hit(WRITE)? {
-            Answer::Go => append(device, Name::Tmp, chunk.as_str().as_bytes())?,
+            Answer::Go => append(device, Name::Tmp, chunk)?,
             Answer::Return(_) => {
                 write_half(device, chunk)?;
-                progress.go_to(half_stage(variant, chunk, chunks));
+                progress.go_to(half_stage(variant, chunk, rest));
                 return Ok(());
             }
             Answer::Halt => {
@@ -101,7 +102,10 @@ fn write_on(
                 return Ok(());
             }
         }
-        stage = write_stage(variant, chunks);
+        let passed = session.pass(WRITE, rest.len())?;
+        let (bytes, left) = rest.split_at(passed);
+        append(device, Name::Tmp, bytes)?;
+        stage = write_stage(variant, left);
     }
     progress.go_to(stage);
     Ok(())

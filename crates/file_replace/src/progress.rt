@@ -1,22 +1,24 @@
 ghost use Rattle.std.specs.Prelude.{◌≡◌};
 ghost use Rattle.file_replace.specs.Judgement.{is_among};
 ghost use Rattle.file_replace.specs.Steps.{begun, at_step, acknowledged, before_all, first_step};
-ghost use Rattle.file_replace.specs.Seen.{step_of};
+ghost use Rattle.file_replace.specs.inside.Seen.{step_of};
 
 use crate::contents::is_among;
+use crate::rest::Rest;
 use crate::stage::Stage;
 use crate::work::Replacements;
-use scenario_values::Text;
+use chunked_text::Chunks;
 use std::marker::Model;
 
 /// The first stage of a replacement.
-fn first_stage<'w>(tmp_is_there: bool, chunks: &'w [Text]) -> Stage<'w>
+fn first_stage<'w>(tmp_is_there: bool, chunks: &'w Chunks) -> Stage<'w>
     ensures { step_of result ≡ first_step tmp_is_there chunks.now }
 {
+    let rest = Rest::of(chunks);
     if tmp_is_there {
-        Stage::Clearing(chunks)
+        Stage::Clearing(rest)
     } else {
-        Stage::Creating(chunks)
+        Stage::Creating(rest)
     }
 }
 
@@ -32,7 +34,7 @@ pub struct Progress<'w> {
 impl<'w> Model for Progress<'w> {
     ghost use Rattle.std.specs.Prelude.{◌≤◌, [], length, drop, slice_index_or};
     ghost use Rattle.file_replace.specs.Steps.{Tally};
-    ghost use Rattle.file_replace.specs.Seen.{step_of, all_contents, past_of};
+    ghost use Rattle.file_replace.specs.inside.Seen.{step_of, all_contents, past_of};
 
     ghost Value = { Tally };
 
@@ -68,7 +70,7 @@ impl<'w> Progress<'w> {
             return;
         };
         self.begun += 1;
-        self.stage = first_stage(tmp_is_there, next.as_slice());
+        self.stage = first_stage(tmp_is_there, next);
     }
 
     /// The replacement under way is acknowledged.

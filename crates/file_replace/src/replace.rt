@@ -5,7 +5,8 @@ ghost use Rattle.target_trait.specs.Play.{IsPlay};
 ghost use Rattle.target_trait.specs.declared.judgement.Judgement.TheVariants.{Kept};
 ghost use Rattle.file_replace.specs.declared.variant.Variant.TheVariants.{Sound};
 ghost use Rattle.file_replace.specs.Words.{label, code_text, point_names};
-ghost use Rattle.file_replace.specs.Steps.{asks_of, asks-within, asks-halts};
+ghost use Rattle.file_replace.specs.Steps.{asks_of};
+ghost use Rattle.file_replace.specs.Lawful.{asks-within, asks-halts};
 
 use crate::judge::TORN;
 use crate::play::play;

@@ -1,12 +1,12 @@
-use scenario_values::Text;
+use crate::rest::Rest;
 
 /// The step whose question comes next, with the chunks that are left.
 #[derive(Clone, Copy)]
 pub enum Stage<'w> {
-    Clearing(&'w [Text]),
-    Creating(&'w [Text]),
-    Writing(&'w Text, &'w [Text]),
-    WritingAgain(&'w Text, &'w [Text]),
+    Clearing(Rest<'w>),
+    Creating(Rest<'w>),
+    Writing(&'w [u8], Rest<'w>),
+    WritingAgain(&'w [u8], Rest<'w>),
     Syncing,
     Renaming,
     SyncingDir,

@@ -1,13 +1,16 @@
 ghost use Rattle.std.specs.Prelude.{◌≡◌, ◌∷◌, ℕ, List, OnOk, is_none, false};
 ghost use Rattle.sim_device.specs.FileEffects.{Effect, Append, Sync, SyncDir, Unlink};
 ghost use Rattle.sim_device.specs.Disk.{AddsEffect, StandsFor, entry_at};
+ghost use Rattle.chunked_text.specs.Chunks.{half};
+ghost use Rattle.file_replace.specs.inside.Left.{left};
 ghost use Rattle.file_replace.specs.Words.{target, tmp};
-ghost use Rattle.file_replace.specs.Steps.{on_go, on_return, half, prepared, failed, done, after_sync_dir, write_step, after_half, after_no_sync};
-ghost use Rattle.file_replace.specs.Ready.{IsReadyOn};
-ghost use Rattle.file_replace.specs.Seen.{step_of, Shows};
+ghost use Rattle.file_replace.specs.Steps.{on_go, on_return, prepared, failed, done, after_sync_dir, write_step, after_half, after_no_sync};
+ghost use Rattle.file_replace.specs.inside.Ready.{IsReadyOn};
+ghost use Rattle.file_replace.specs.inside.Seen.{step_of, Shows};
 
 use crate::disk::{Name, append, create, exists, rename, sync, unlink};
 use crate::progress::Progress;
+use crate::rest::Rest;
 use crate::stage::Stage;
 use crate::variant::Variant;
 use scenario_values::Text;
@@ -15,12 +18,12 @@ use sim_device::FileDevice;
 use std::alloc::AllocError;
 
 /// The stage after a write.
-pub fn write_stage<'w>(variant: Variant, chunks: &'w [Text]) -> Stage<'w>
-    ensures { step_of result ≡ write_step variant chunks.now }
+pub fn write_stage<'w>(variant: Variant, rest: Rest<'w>) -> Stage<'w>
+    ensures { step_of result ≡ write_step variant (left rest.entry) }
 {
-    match chunks {
-        [chunk, rest @ ..] => Stage::Writing(chunk, rest),
-        [] => match variant {
+    match rest.split_first() {
+        Some((chunk, rest)) => Stage::Writing(chunk, rest),
+        None => match variant {
             Variant::LateSync => Stage::Renaming,
             Variant::Sound | Variant::IgnoreSync | Variant::RetryWrite => Stage::Syncing,
         },
@@ -28,11 +31,11 @@ pub fn write_stage<'w>(variant: Variant, chunks: &'w [Text]) -> Stage<'w>
 }
 
 /// The stage after a write that fails.
-pub fn half_stage<'w>(variant: Variant, chunk: &'w Text, chunks: &'w [Text]) -> Stage<'w>
-    ensures { step_of result ≡ after_half variant chunk.now chunks.now }
+pub fn half_stage<'w>(variant: Variant, chunk: &'w [u8], rest: Rest<'w>) -> Stage<'w>
+    ensures { step_of result ≡ after_half variant chunk.now (left rest.entry) }
 {
     match variant {
-        Variant::RetryWrite => Stage::WritingAgain(chunk, chunks),
+        Variant::RetryWrite => Stage::WritingAgain(chunk, rest),
         Variant::Sound | Variant::LateSync | Variant::IgnoreSync => Stage::Cleaning,
     }
 }
@@ -94,12 +97,11 @@ fn sync_dir(variant: Variant, progress: &mut Progress<'_>, device: &mut FileDevi
 }
 
 /// Appends the first half of a chunk to `tmp`.
-pub fn write_half(device: &mut FileDevice, chunk: &Text) -> Result<(), AllocError>
+pub fn write_half(device: &mut FileDevice, chunk: &[u8]) -> Result<(), AllocError>
     requires { is_none (entry_at device.old.names tmp).live ≡ false }
     ensures { OnOk result (AddsEffect device.old device.new (Append tmp (half chunk.now))) }
 {
-    let bytes = chunk.as_str().as_bytes();
-    append(device, Name::Tmp, &bytes[..bytes.len() / 2])
+    append(device, Name::Tmp, &chunk[..chunk.len() / 2])
 }
 
 /// Does the step that was asked for.
@@ -112,17 +114,17 @@ pub fn go(
     ensures { OnOk result ((es : List Effect) → StandsFor device.old es → Shows (on_go variant progress.old es progress.old.step) progress.new device.new) }
 {
     match progress.stage() {
-        Stage::Clearing(chunks) => {
+        Stage::Clearing(rest) => {
             unlink(device, Name::Tmp);
-            progress.go_to(Stage::Creating(chunks));
+            progress.go_to(Stage::Creating(rest));
         }
-        Stage::Creating(chunks) => {
+        Stage::Creating(rest) => {
             create(device, Name::Tmp)?;
-            progress.go_to(write_stage(variant, chunks));
+            progress.go_to(write_stage(variant, rest));
         }
-        Stage::Writing(chunk, chunks) | Stage::WritingAgain(chunk, chunks) => {
-            append(device, Name::Tmp, chunk.as_str().as_bytes())?;
-            progress.go_to(write_stage(variant, chunks));
+        Stage::Writing(chunk, rest) | Stage::WritingAgain(chunk, rest) => {
+            append(device, Name::Tmp, chunk)?;
+            progress.go_to(write_stage(variant, rest));
         }
         Stage::Syncing => {
             sync(device, Name::Tmp);
@@ -150,9 +152,9 @@ pub fn fail(
     ensures { OnOk result ((es : List Effect) → StandsFor device.old es → Shows (on_return variant progress.old es progress.old.step) progress.new device.new) }
 {
     match progress.stage() {
-        Stage::Writing(chunk, chunks) => {
+        Stage::Writing(chunk, rest) => {
             write_half(device, chunk)?;
-            progress.go_to(half_stage(variant, chunk, chunks));
+            progress.go_to(half_stage(variant, chunk, rest));
         }
         Stage::WritingAgain(chunk, _) => {
             write_half(device, chunk)?;

@@ -1,44 +1,11 @@
 ghost use Rattle.std.specs.Prelude.{◌≡◌, ◌≤◌, length};
-ghost use Rattle.file_replace.specs.Work.{IsChunks};
 
+use chunked_text::Chunks;
 use scenario_values::Text;
 use std::marker::Model;
 
-/// The new contents of a replacement, in chunks: at most 1,000 of at most 4,096 bytes. Each chunk is written by a step of its own.
-#[derive(Debug, Drop)]
-pub struct Chunks {
-    chunks: Vec<Text>,
-}
-
-impl Model for Chunks {
-    ghost use Rattle.std.specs.Prelude.{List, ℕ};
-    ghost use Rattle.file_replace.specs.Work.{IsChunks};
-
-    ghost Value = { List (List ℕ) };
-
-    ghost view = { λ c. c.chunks.items };
-
-    ghost invariant = { λ c. IsChunks c.chunks.items };
-}
-
-impl Chunks {
-    /// These chunks, moved in. It takes no memory.
-    pub fn new(chunks: Vec<Text>) -> Self
-        requires { IsChunks chunks.items }
-        ensures { result ≡ chunks.items }
-    {
-        Chunks { chunks }
-    }
-
-    /// The chunks, in order.
-    pub fn as_slice(&self) -> &[Text]
-        ensures { result.now ≡ self.now }
-    {
-        self.chunks.as_slice()
-    }
-}
-
-/// The workload of a run: the old contents, at most 65,536 bytes, and the replacements in order, at most 1,000.
+/// The workload of a run: the old contents, at most 65,536 bytes, and in order the new contents of the replacements, at most 1,000, each in
+/// chunks. A chunk is written by a step of its own.
 #[derive(Debug, Drop)]
 pub struct Replacements {
     old: Text,

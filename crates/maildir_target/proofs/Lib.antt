@@ -2,5 +2,6 @@ pub mod Safe
 pub mod Never
 pub mod Flawed
 pub mod Playing
+pub mod Writing
 pub mod Readying
 pub mod Numbers

@@ -1,89 +1,132 @@
--- A run, told as far as the steps have come.
-use Rattle.std.proofs.Common.{◌≡◌, ℕ, List, [], ◌∷◌, ◌++◌, Option, None, Some, Bor, refl, ap, sym, ◌∙◌, subst}
+-- A run, told as far as the code has come.
+use Rattle.std.proofs.Common.{◌≡◌, ℕ, Bool, is_some, List, [], ◌∷◌, ◌++◌, Option, None, Some, Bor, refl, ap, sym, ◌∙◌, subst}
 use Rattle.sim_device.specs.FileEffects.{Effect}
-use Rattle.sim_device.specs.Disk.{Disk, StandsFor}
-use Rattle.action_eval.specs.Answers.{Run, Reply, Go, Halt, GoesOn, hit, replies, reply_of_answer}
+use Rattle.sim_device.specs.Disk.{Disk, StandsFor, entry_at}
+use Rattle.action_eval.specs.Answers.{Run, GoesOn, start, stopped, hit, replies, reply_of_answer}
 use Rattle.action_eval.specs.declared.answer.Answer.{Answer}
 use Rattle.action_eval.specs.declared.answer.Answer.TheVariants as answer
-use Rattle.target_trait.specs.declared.judgement.Judgement.{Judgement}
-use Rattle.target_trait.specs.Play.{Ask, Done, Follows, IsPlay, IsRunning, move_by}
-use Rattle.target_trait.proofs.Plays.{follows_more}
+use Rattle.target_trait.specs.Play.{Ask, Follows, IsRunning, move_by}
+use Rattle.target_trait.specs.Machine.{Reached, after}
+use Rattle.target_trait.proofs.Machine.{reached_more}
 use Rattle.target_trait.proofs.Running.{runs_go, runs_return, running_at}
 use Rattle.maildir_target.specs.declared.variant.Variant.{Variant}
 use Rattle.maildir_target.specs.Judgement.{judged}
-use Rattle.maildir_target.specs.Steps.{Tally, State, on_go, on_return, stepped, Over, at_step, start_of, laid, point_at, move_of, asks_of}
-use Rattle.maildir_target.specs.Seen.{Shows, Played}
-
-laid_more : (v : Variant) (s : State) (as' : List Reply) (a : Reply) → laid v s (as' ++ a ∷ []) ≡ stepped v (laid v s as') a
-laid_more v s [] a = refl
-laid_more v s (b ∷ as') a = laid_more v (stepped v s b) as' a
+use Rattle.maildir_target.specs.Words.{point_names}
+use Rattle.maildir_target.specs.declared.name.Attempt.{Attempt}
+use Rattle.maildir_target.specs.declared.name.Attempt.TheVariants.{First, Second}
+use Rattle.maildir_target.specs.Steps.{Step, Tally, State, Over, state, at_step, tmp_of, new_of, is_there, acknowledged, before_all, begun_of, begun, failed_of, failed, looked, linked, on_go, on_return, stepped, point_at, move_of, machine, asks_of}
+use Rattle.maildir_target.specs.inside.Seen.{Played}
 
 asks_point : (w : List (List (List ℕ))) (s : State) (p : ℕ) → point_at s.tally.step ≡ Some p → move_of w s ≡ Ask p
 asks_point w s p e = ap (move_by (judged w s.tally.acknowledged s.effects)) e
 
-asks_none : (w : List (List (List ℕ))) (s : State) → point_at s.tally.step ≡ None → move_of w s ≡ Done (judged w s.tally.acknowledged s.effects)
-asks_none w s e = ap (move_by (judged w s.tally.acknowledged s.effects)) e
-
--- the steps laid against the answers of a run
-abbrev now : Variant → List (List (List ℕ)) → Run → State
-now v w r = laid v (start_of v w) (replies r)
-
-asked_more : (v : Variant) (w : List (List (List ℕ))) (r : Run) (t : Tally) (d : Disk) (p : ℕ) → Played v w r t d → point_at t.step ≡ Some p → (r' : Run) → r' ≡ hit r p → Follows (asks_of v w) r'.given [] r'.hits
-asked_more v w r t d p k at r' same =
-    let P : Run → Type 0 = λ x. Follows (asks_of v w) x.given [] x.hits in
-    subst P (sym same) (follows_more (asks_of v w) r.given [] r.hits p k.asked (asks_point w (now v w r) p (sym (ap (λ (x : Tally). point_at x.step) k.shows.tally) ∙ at)))
+-- the device holds what a step did
+pub record Shows (s : State) (t : Tally) (d : Disk) : Type 0 where
+  pub tally : t ≡ s.tally
+  pub device : StandsFor d s.effects
 
 -- one answer more
-told_more : (v : Variant) (w : List (List (List ℕ))) (r r' : Run) (a : Reply) → replies r' ≡ replies r ++ a ∷ [] → stepped v (now v w r) a ≡ now v w r'
-told_more v w r r' a more = sym (laid_more v (start_of v w) (replies r) a) ∙ ap (laid v (start_of v w)) (sym more)
+played_more : {v : Variant} {w : List (List (List ℕ))} {r : Run} {t : Tally} {d : Disk} (p : ℕ) (k : Played v w r t d) → point_at t.step ≡ Some p
+    → (r' : Run) → r' ≡ hit r p → (a : Answer) → replies r' ≡ replies r ++ reply_of_answer a ∷ [] → (t' : Tally) (d' : Disk)
+    → Shows (stepped v (state t k.effects) (reply_of_answer a)) t' d' → IsRunning (point_at t'.step) r' → Played v w r' t' d'
+played_more {v} {w} {r} {t} {d} p k at r' same a told t' d' shows runs =
+    let s : State = stepped v (state t k.effects) (reply_of_answer a) in
+    let reached : Reached (machine v w) r' s =
+    reached_more (machine v w) r (state t k.effects) p k.reached (asks_point w (state t k.effects) p at) r' same (reply_of_answer a) told
+    in
+    record {
+      effects = s.effects;
+      reached = subst (λ (x : Tally). Reached (machine v w) r' (state x s.effects)) (sym shows.tally) reached;
+      device = shows.device;
+      running = runs;
+      points = ap (λ (x : Run). x.given.catalogue) same ∙ k.points;
+    }
 
-pub played_go : (v : Variant) (w : List (List (List ℕ))) (r : Run) (t : Tally) (d : Disk) (p : ℕ) → Played v w r t d → point_at t.step ≡ Some p → (r' : Run) → r' ≡ hit r p → (a : Answer) → a ≡ answer.Go → replies r' ≡ replies r ++ reply_of_answer a ∷ []
-    → GoesOn (reply_of_answer a) r' → (t' : Tally) (d' : Disk) → ((es : List Effect) → StandsFor d es → Shows (on_go v t es t.step) t' d') → Played v w r' t' d'
-played_go v w r t d p k at r' same a is more goes_on t' d' goes = record {
-  running = running_at (point_at t'.step) r' (runs_go a r' is goes_on);
-  asked = asked_more v w r t d p k at r' same;
-  shows =
-      let said : replies r' ≡ replies r ++ Go ∷ [] = more ∙ ap (λ (x : Answer). replies r ++ reply_of_answer x ∷ []) is in
-      let e : on_go v t (now v w r).effects t.step ≡ now v w r' = ap (λ (x : Tally). on_go v x (now v w r).effects x.step) k.shows.tally ∙ told_more v w r r' Go said in
-      subst (λ (x : State). Shows x t' d') e (goes (now v w r).effects k.shows.device);
-}
+shows_as : (s s' : State) (t : Tally) (d : Disk) → s ≡ s' → Shows s t d → Shows s' t d
+shows_as s s' t d e k = subst (λ (x : State). Shows x t d) e k
 
-return_step : (v : Variant) (s : State) (text : Option (Bor (List ℕ))) → stepped v s (reply_of_answer (answer.Return text)) ≡ on_return v s.tally s.effects s.tally.step
+-- what a step does where it is answered so
+told_step : (v : Variant) (s s' : State) (a b : Answer) → a ≡ b → s' ≡ stepped v s (reply_of_answer b) → s' ≡ stepped v s (reply_of_answer a)
+told_step v s s' a b is e = e ∙ ap (λ (x : Answer). stepped v s (reply_of_answer x)) (sym is)
+
+return_step : (v : Variant) (s : State) (text : Option (Bor (List ℕ)))
+    → on_return v s.tally s.effects s.tally.step ≡ stepped v s (reply_of_answer (answer.Return text))
 return_step v s None = refl
 return_step v s (Some text) = refl
 
-pub played_return : (v : Variant) (w : List (List (List ℕ))) (r : Run) (t : Tally) (d : Disk) (p : ℕ) → Played v w r t d → point_at t.step ≡ Some p → (r' : Run) → r' ≡ hit r p → (a : Answer) (text : Option (Bor (List ℕ))) → a ≡ answer.Return text → replies r' ≡ replies r ++ reply_of_answer a ∷ []
-    → GoesOn (reply_of_answer a) r' → (t' : Tally) (d' : Disk) → ((es : List Effect) → StandsFor d es → Shows (on_return v t es t.step) t' d') → Played v w r' t' d'
-played_return v w r t d p k at r' same a text is more goes_on t' d' fails = record {
-  running = running_at (point_at t'.step) r' (runs_return a text r' is goes_on);
-  asked = asked_more v w r t d p k at r' same;
-  shows =
-      let said : replies r' ≡ replies r ++ reply_of_answer (answer.Return text) ∷ [] = more ∙ ap (λ (x : Answer). replies r ++ reply_of_answer x ∷ []) is in
-      let e : on_return v t (now v w r).effects t.step ≡ now v w r' =
-      ap (λ (x : Tally). on_return v x (now v w r).effects x.step) k.shows.tally ∙ sym (return_step v (now v w r) text) ∙ told_more v w r r' (reply_of_answer (answer.Return text)) said
-      in
-      subst (λ (x : State). Shows x t' d') e (fails (now v w r).effects k.shows.device);
-}
+pub played_go : {v : Variant} {w : List (List (List ℕ))} {r : Run} {t : Tally} {d : Disk} (p : ℕ) → Played v w r t d → point_at t.step ≡ Some p
+    → (r' : Run) → r' ≡ hit r p → (a : Answer) → a ≡ answer.Go → replies r' ≡ replies r ++ reply_of_answer a ∷ [] → GoesOn (reply_of_answer a) r'
+    → (t' : Tally) (d' : Disk) → ((es : List Effect) → StandsFor d es → Shows (on_go v t es t.step) t' d') → Played v w r' t' d'
+played_go {v} {w} {r} {t} {d} p k at r' same a is told goes_on t' d' goes =
+    let does : on_go v t k.effects t.step ≡ stepped v (state t k.effects) (reply_of_answer a) = told_step v (state t k.effects) _ a answer.Go is refl in
+    played_more p k at r' same a told t' d' (shows_as _ _ t' d' does (goes k.effects k.device)) (running_at (point_at t'.step) r' (runs_go a r' is goes_on))
 
-judged_same : (w : List (List (List ℕ))) (t : Tally) (s : State) → t ≡ s.tally → judged w t.acknowledged s.effects ≡ judged w s.tally.acknowledged s.effects
-judged_same w t s e = ap (λ (x : Tally). judged w x.acknowledged s.effects) e
+pub played_return : {v : Variant} {w : List (List (List ℕ))} {r : Run} {t : Tally} {d : Disk} (p : ℕ) → Played v w r t d → point_at t.step ≡ Some p
+    → (r' : Run) → r' ≡ hit r p → (a : Answer) (text : Option (Bor (List ℕ))) → a ≡ answer.Return text → replies r' ≡ replies r ++ reply_of_answer a ∷ []
+    → GoesOn (reply_of_answer a) r' → (t' : Tally) (d' : Disk) → ((es : List Effect) → StandsFor d es → Shows (on_return v t es t.step) t' d')
+    → Played v w r' t' d'
+played_return {v} {w} {r} {t} {d} p k at r' same a text is told goes_on t' d' fails =
+    let does : on_return v t k.effects t.step ≡ stepped v (state t k.effects) (reply_of_answer a) =
+    told_step v (state t k.effects) _ a (answer.Return text) is (return_step v (state t k.effects) text)
+    in
+    played_more p k at r' same a told t' d' (shows_as _ _ t' d' does (fails k.effects k.device)) (running_at (point_at t'.step) r' (runs_return a text r' is goes_on))
 
-pub played_halt : (v : Variant) (w : List (List (List ℕ))) (r : Run) (t : Tally) (d : Disk) (p : ℕ) → Played v w r t d → point_at t.step ≡ Some p → (r' : Run) → r' ≡ hit r p → (a : Answer) → a ≡ answer.Halt → replies r' ≡ replies r ++ reply_of_answer a ∷ []
-    → (t' : Tally) → t' ≡ at_step t Over → Played v w r' t' d
-played_halt v w r t d p k at r' same a is more t' t'_is = record {
-  running = subst (λ (x : Tally). IsRunning (point_at x.step) r') (sym t'_is) tt;
-  asked = asked_more v w r t d p k at r' same;
-  shows =
-      let said : replies r' ≡ replies r ++ Halt ∷ [] = more ∙ ap (λ (x : Answer). replies r ++ reply_of_answer x ∷ []) is in
-      let shown : Shows (stepped v (now v w r) Halt) t' d = record { tally = t'_is ∙ ap (λ (x : Tally). at_step x Over) k.shows.tally; device = k.shows.device } in
-      subst (λ (x : State). Shows x t' d) (told_more v w r r' Halt said) shown;
-}
+pub played_halt : {v : Variant} {w : List (List (List ℕ))} {r : Run} {t : Tally} {d : Disk} (p : ℕ) → Played v w r t d → point_at t.step ≡ Some p
+    → (r' : Run) → r' ≡ hit r p → (a : Answer) → a ≡ answer.Halt → replies r' ≡ replies r ++ reply_of_answer a ∷ [] → Played v w r' (at_step t Over) d
+played_halt {v} {w} {r} {t} {d} p k at r' same a is told =
+    let ends : state (at_step t Over) k.effects ≡ stepped v (state t k.effects) (reply_of_answer a) = told_step v (state t k.effects) _ a answer.Halt is refl in
+    played_more p k at r' same a told (at_step t Over) d (shows_as _ _ (at_step t Over) d ends (record { tally = refl; device = k.device })) tt
 
-pub played_over : (v : Variant) (w : List (List (List ℕ))) (r : Run) (t : Tally) (d : Disk) → Played v w r t d → point_at t.step ≡ None
-    → (j : Judgement) → ((es : List Effect) → StandsFor d es → j ≡ judged w t.acknowledged es) → IsPlay (asks_of v w) r j
-played_over v w r t d k at j judges = record {
-  asked = k.asked;
-  ended =
-      let j_is : j ≡ judged w (now v w r).tally.acknowledged (now v w r).effects = judges (now v w r).effects k.shows.device ∙ judged_same w t (now v w r) k.shows.tally in
-      asks_none w (now v w r) (sym (ap (λ (x : Tally). point_at x.step) k.shows.tally) ∙ at) ∙ ap Done (sym j_is);
+-- ---- what a step leaves, by what the code finds and does
+
+-- nothing of the step that fails is left in the tally
+pub begun_any : (v : Variant) (t : Tally) (s : Step) (rest : List (List (List ℕ))) → begun_of v (at_step t s) rest ≡ begun_of v t rest
+begun_any v t s [] = refl
+begun_any v t s (chunks ∷ more) = refl
+
+failed_any_of : (v : Variant) (t : Tally) (s : Step) (attempt : Attempt) → failed_of v (at_step t s) attempt ≡ failed_of v t attempt
+failed_any_of v t s First = refl
+failed_any_of v t s Second = begun_any v t s t.rest
+
+pub failed_any : (v : Variant) (t : Tally) (s : Step) → failed v (at_step t s) ≡ failed v t
+failed_any v t s = failed_any_of v t s t.attempt
+
+-- a step that fails ends the attempt
+pub played_fail : {v : Variant} {w : List (List (List ℕ))} {r : Run} {t : Tally} {d : Disk} (p : ℕ) → Played v w r t d → point_at t.step ≡ Some p
+    → (r' : Run) → r' ≡ hit r p → (a : Answer) (text : Option (Bor (List ℕ))) → a ≡ answer.Return text → replies r' ≡ replies r ++ reply_of_answer a ∷ []
+    → GoesOn (reply_of_answer a) r' → ((es : List Effect) → state (failed v t) es ≡ on_return v t es t.step) → Played v w r' (failed v (at_step t Over)) d
+played_fail {v} {w} {r} {t} {d} p k at r' same a text is told goes_on fails =
+    played_return p k at r' same a text is told goes_on _ _ (λ es holds. shows_as _ _ _ _ (fails es) (record { tally = failed_any v t Over; device = holds }))
+
+is_there_on : (n : ℕ) (d : Disk) (es : List Effect) (b : Bool) → StandsFor d es → is_some (entry_at d.names n).live ≡ b → is_there n es ≡ b
+is_there_on n d es b k e = ap is_some (sym (k.live n)) ∙ e
+
+pub shows_looked : (v : Variant) (t : Tally) (d : Disk) (b : Bool) → is_some (entry_at d.names (tmp_of v t)).live ≡ b → (t' : Tally) → t' ≡ looked b v t
+    → (es : List Effect) → StandsFor d es → Shows (state (looked (is_there (tmp_of v t) es) v t) es) t' d
+shows_looked v t d b e t' is es k = record { tally = is ∙ ap (λ (x : Bool). looked x v t) (sym (is_there_on (tmp_of v t) d es b k e)); device = k }
+
+pub shows_linked : (v : Variant) (t : Tally) (d d' : Disk) (b : Bool) → is_some (entry_at d.names (new_of v t)).live ≡ b → (es : List Effect) → StandsFor d es
+    → StandsFor d' (linked b v t es).effects → Shows (linked (is_there (new_of v t) es) v t es) (linked b v t es).tally d'
+shows_linked v t d d' b e es k k' =
+    let P : Bool → Type 0 = λ x. Shows (linked x v t es) (linked b v t es).tally d' in
+    subst P (sym (is_there_on (new_of v t) d es b k e)) (record { tally = refl; device = k' })
+
+pub begun_acknowledged : (v : Variant) (t : Tally) (done : List ℕ) → done ≡ t.acknowledged ++ t.message ∷ []
+    → begun v (record { step = Over; message = t.message; attempt = t.attempt; chunks = t.chunks; rest = t.rest; acknowledged = done }) ≡ begun v (acknowledged t)
+begun_acknowledged v t done e =
+    ap (λ (l : List ℕ). begun v (record { step = Over; message = t.message; attempt = t.attempt; chunks = t.chunks; rest = t.rest; acknowledged = l })) e
+    ∙ begun_any v (acknowledged t) Over t.rest
+
+-- a new run, on a device that was cleared
+pub begins : (v : Variant) (w : List (List (List ℕ))) (r : Run) (d : Disk) → r ≡ start r.given → r.given.catalogue ≡ point_names → replies r ≡ []
+    → stopped r ≡ None → StandsFor d [] → Played v w r (begun v (before_all w)) d
+begins v w r d new points none runs clear = record {
+  effects = [];
+  reached = record {
+    asked = let P : Run → Type 0 = λ x. Follows (asks_of v w) x.given [] x.hits in subst P (sym new) tt;
+    here = ap (after (machine v w)) none;
+  };
+  device = clear;
+  running = running_at (point_at (begun v (before_all w)).step) r runs;
+  points = points;
 }

@@ -2,15 +2,30 @@
 use Rattle.std.proofs.Common.{◌≡◌, ℕ, ◌==◌, cond, Bool, true, false, List, [], ◌∷◌, Option, None, Some, is_some, is_none, refl, ap, sym, subst}
 use Rattle.std.proofs.lemmas.Bool.{eq-eqb}
 use Rattle.sim_device.specs.FileEffects.{Effect, Create, Link, Unlink, SyncDir, Live, leads, created}
-use Rattle.sim_device.specs.Disk.{Disk, StandsFor}
+use Rattle.sim_device.specs.Disk.{Disk, entry_at}
 use Rattle.action_eval.specs.Answers.{Run, Reply, Go, Return, Halt, replies}
+use Rattle.target_trait.specs.Machine.{led}
 use Rattle.maildir_target.specs.declared.variant.Variant.{Variant}
 use Rattle.maildir_target.specs.declared.variant.Variant.TheVariants.{Sound, LinkFirst, IgnoreWrite, AppendTmp}
 use Rattle.maildir_target.specs.declared.name.Attempt.{Attempt}
 use Rattle.maildir_target.specs.declared.name.Attempt.TheVariants.{First, Second}
-use Rattle.maildir_target.specs.Steps.{Step, Looking, Creating, Writing, Syncing, Linking, Unlinking, SyncingDir, Cleaning, Over, Tally, State, first_step, begun_of, acknowledged, failed_of, looked, linked, is_there, write_step, create_unless, created_by, after_create, after_link, after_sync, after_half, tmp_of, new_of, on_go, on_return, stepped, start_of, laid, before_all}
-use Rattle.maildir_target.specs.Ready.{CanCreate, IsReady, IsReadyAfter, IsReadyOn}
-use Rattle.maildir_target.specs.Seen.{Played}
+use Rattle.maildir_target.specs.Steps.{Step, Looking, Creating, Writing, Syncing, Linking, Unlinking, SyncingDir, Cleaning, Over, Tally, State, first_step, begun_of, acknowledged, failed_of, looked, linked, is_there, write_step, create_unless, created_by, after_create, after_link, after_sync, after_half, tmp_of, new_of, on_go, on_return, stepped, start_of, before_all, state, machine}
+use Rattle.maildir_target.specs.inside.Seen.{Played, CanCreate}
+
+-- the step finds what it needs
+abbrev pub IsReady : Variant → Step → Option ℕ → Type 0
+IsReady v Looking tmp = Unit {0}
+IsReady v Creating tmp = CanCreate v tmp
+IsReady v (Writing c cs) tmp = is_none tmp ≡ false
+IsReady v Syncing tmp = is_none tmp ≡ false
+IsReady v Linking tmp = is_none tmp ≡ false
+IsReady v Unlinking tmp = is_none tmp ≡ false
+IsReady v SyncingDir tmp = Unit {0}
+IsReady v Cleaning tmp = is_none tmp ≡ false
+IsReady v Over tmp = Unit {0}
+
+abbrev IsReadyAfter : Variant → Tally → List Effect → Type 0
+IsReadyAfter v t es = IsReady v t.step (leads es Live (tmp_of v t))
 
 abbrev Ready : Variant → State → Type 0
 Ready v s = IsReadyAfter v s.tally s.effects
@@ -123,21 +138,14 @@ step_ready v s Go r = go_ready v s.tally s.effects s.tally.step r
 step_ready v s (Return text) r = return_ready v s.tally s.effects s.tally.step r
 step_ready v s Halt r = tt
 
-laid_ready : (v : Variant) (s : State) (answers : List Reply) → Ready v s → Ready v (laid v s answers)
-laid_ready v s [] r = r
-laid_ready v s (a ∷ answers) r = laid_ready v (stepped v s a) answers (step_ready v s a r)
+led_ready : (v : Variant) (w : List (List (List ℕ))) (s : State) (answers : List Reply) → Ready v s → Ready v (led (machine v w) s answers)
+led_ready v w s [] r = r
+led_ready v w s (a ∷ answers) r = led_ready v w (stepped v s a) answers (step_ready v s a r)
 
 -- whatever was answered, the next step is not refused
-pub steps_ready : (v : Variant) (w : List (List (List ℕ))) (answers : List Reply) → Ready v (laid v (start_of v w) answers)
-steps_ready v w answers = laid_ready v (start_of v w) answers (begun_ready v (before_all w) w [])
-
-pub ready_on : (v : Variant) (t : Tally) (d : Disk) (es : List Effect) → StandsFor d es → IsReadyAfter v t es → IsReadyOn v t d.names
-ready_on v t d es k r =
-    let P : Option ℕ → Type 0 = λ o. IsReady v t.step o in
-    subst P (sym (k.live (tmp_of v t))) r
-
-pub ready_now : (v : Variant) (w : List (List (List ℕ))) (r : Run) (t : Tally) (d : Disk) → Played v w r t d → IsReadyOn v t d.names
+pub ready_now : (v : Variant) (w : List (List (List ℕ))) (r : Run) (t : Tally) (d : Disk) → Played v w r t d
+    → IsReady v t.step (entry_at d.names (tmp_of v t)).live
 ready_now v w r t d k =
-    let s = laid v (start_of v w) (replies r) in
-    let P : Tally → Type 0 = λ x. IsReadyAfter v x s.effects in
-    ready_on v t d s.effects k.shows.device (subst P (sym k.shows.tally) (steps_ready v w (replies r)))
+    let ready : Ready v (state t k.effects) = subst (Ready v) k.reached.here (led_ready v w (start_of v w) (replies r) (begun_ready v (before_all w) w [])) in
+    let P : Option ℕ → Type 0 = IsReady v t.step in
+    subst P (sym (k.device.live (tmp_of v t))) ready

@@ -10,9 +10,10 @@ use Rattle.action_eval.specs.Answers.{Reply, Go, Return, Halt}
 use Rattle.target_trait.specs.declared.judgement.Judgement.{Judgement}
 use Rattle.target_trait.specs.declared.judgement.Judgement.TheVariants.{Kept}
 use Rattle.target_trait.specs.Play.{Done}
+use Rattle.target_trait.specs.Machine.{led, after}
 use Rattle.target_trait.proofs.Never.{done_kept}
-use Rattle.file_replace.specs.Work.{joined}
-use Rattle.file_replace.specs.Steps.{half}
+use Rattle.chunked_text.specs.Chunks.{joined}
+use Rattle.chunked_text.specs.Chunks.{half}
 use Rattle.maildir_target.specs.declared.variant.Variant.TheVariants.{Sound}
 use Rattle.maildir_target.specs.declared.name.Attempt.{Attempt}
 use Rattle.maildir_target.specs.declared.name.Attempt.TheVariants.{First, Second}
@@ -20,7 +21,7 @@ use Rattle.maildir_target.specs.declared.name.Name.{Name}
 use Rattle.maildir_target.specs.declared.name.Folder.TheVariants as folder
 use Rattle.maildir_target.specs.Words.{tmp_name, new_name}
 use Rattle.maildir_target.specs.Judgement.{differs, has_torn, is_delivered, has_lost, judged_by, judged}
-use Rattle.maildir_target.specs.Steps.{Step, Looking, Creating, Writing, Syncing, Linking, Unlinking, SyncingDir, Cleaning, Over, Tally, State, state, begun_of, acknowledged, failed_of, looked, linked, is_there, write_step, on_go, on_return, stepped, before_all, start_of, laid, point_at, asks_of}
+use Rattle.maildir_target.specs.Steps.{Step, Looking, Creating, Writing, Syncing, Linking, Unlinking, SyncingDir, Cleaning, Over, Tally, State, state, begun_of, acknowledged, failed_of, looked, linked, is_there, write_step, on_go, on_return, stepped, before_all, start_of, point_at, machine, asks_of}
 use Rattle.maildir_target.proofs.Numbers.{apart, named}
 
 -- ---- what is claimed
@@ -296,9 +297,9 @@ step_safe w s Go k = go_safe w s.tally s.effects s.tally.step k.base k.step
 step_safe w s (Return text) k = return_safe w s.tally s.effects s.tally.step k.base k.step
 step_safe w s Halt k = record { base = k.base; step = tt }
 
-laid_safe : (w : ℕ → List ℕ) (s : State) (answers : List Reply) → Safe w s → Safe w (laid Sound s answers)
-laid_safe w s [] k = k
-laid_safe w s (a ∷ answers) k = laid_safe w (stepped Sound s a) answers (step_safe w s a k)
+led_safe : (w : ℕ → List ℕ) (messages : List (List (List ℕ))) (s : State) (answers : List Reply) → Safe w s → Safe w (led (machine Sound messages) s answers)
+led_safe w messages s [] k = k
+led_safe w messages s (a ∷ answers) k = led_safe w messages (stepped Sound s a) answers (step_safe w s a k)
 
 -- ---- the start
 
@@ -379,7 +380,7 @@ judged_kept messages done es whole there = ap (λ b. judged_by b (has_lost (Powe
 pub sound_kept : (messages : List (List (List ℕ))) (answers : List Reply) (j : Judgement) → asks_of Sound messages answers ≡ Done j → j ≡ Kept
 sound_kept messages answers j e =
     let w = whole_of messages in
-    let s = laid Sound (start_of Sound messages) answers in
-    let k = (laid_safe w (start_of Sound messages) answers (start_safe messages)).base in
+    let s = after (machine Sound messages) answers in
+    let k = (led_safe w messages (start_of Sound messages) answers (start_safe messages)).base in
     let kept = judged_kept messages s.tally.acknowledged s.effects (none_torn w s.effects 1 messages k.solid (whole_tells 0 ([] ∷ messages)).1) (none_lost s.effects s.tally.acknowledged k.delivered) in
     done_kept (point_at s.tally.step) _ j kept e

@@ -2,6 +2,6 @@ pub mod Words
 pub mod Work
 pub mod Judgement
 pub mod Steps
-pub mod Ready
-pub mod Seen
+pub mod Lawful
 pub mod Flaws
+pub mod inside

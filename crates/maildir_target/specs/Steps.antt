@@ -1,12 +1,11 @@
--- The steps of a run, laid against the list of answers: what is asked, what each answer does, and what comes next.
+-- The steps of a run: what is asked, what each answer does, and what comes next.
 -- The delivery is that of the maildir manual page: stat, create, write, sync, link, and then the name under `tmp/` is removed.
 use Rattle.std.specs.Prelude.{ℕ, ◌+◌, Bool, true, false, List, [], ◌∷◌, ◌++◌, Option, Some, None, is_some}
 use Rattle.sim_device.specs.FileEffects.{Effect, Create, Append, Sync, Link, Unlink, SyncDir, Live, leads}
 use Rattle.action_eval.specs.Answers.{Reply, Go, Return, Halt}
-use Rattle.target_trait.specs.declared.judgement.Judgement.{Judgement}
-use Rattle.target_trait.specs.Play.{Move, move_by, IsWithin, IsDone}
-use Rattle.file_replace.specs.Steps.{half}
-use Rattle.std.proofs.Common.{arith}
+use Rattle.target_trait.specs.Play.{Move, move_by}
+use Rattle.target_trait.specs.Machine.{Machine, asks_by}
+use Rattle.chunked_text.specs.Chunks.{half}
 use Rattle.maildir_target.specs.declared.variant.Variant.{Variant}
 use Rattle.maildir_target.specs.declared.variant.Variant.TheVariants.{Sound, LinkFirst, IgnoreWrite, AppendTmp}
 use Rattle.maildir_target.specs.declared.name.Attempt.{Attempt}
@@ -190,10 +189,6 @@ before_all messages = record { step = Over; message = 0; attempt = First; chunks
 abbrev pub start_of : Variant → List (List (List ℕ)) → State
 start_of v messages = state (begun v (before_all messages)) []
 
-abbrev pub laid : Variant → State → List Reply → State
-laid v s [] = s
-laid v s (a ∷ as') = laid v (stepped v s a) as'
-
 -- the point that a step asks
 abbrev pub point_at : Step → Option ℕ
 point_at Looking = Some stat_point
@@ -209,37 +204,10 @@ point_at Over = None
 abbrev pub move_of : List (List (List ℕ)) → State → Move
 move_of messages s = move_by (judged messages s.tally.acknowledged s.effects) (point_at s.tally.step)
 
+-- the delivery of messages, step by step
+abbrev pub machine : Variant → List (List (List ℕ)) → Machine State
+machine v messages = record { first = start_of v messages; step = stepped v; move = move_of messages }
+
 -- what is asked after these answers
 abbrev pub asks_of : Variant → List (List (List ℕ)) → List Reply → Move
-asks_of v messages answers = move_of messages (laid v (start_of v messages) answers)
-
--- ---- laws
-
-step_within : (j : Judgement) (step : Step) → IsWithin 7 (move_by j (point_at step))
-step_within j Looking = omega arith
-step_within j Creating = omega arith
-step_within j (Writing c cs) = omega arith
-step_within j Syncing = omega arith
-step_within j Linking = omega arith
-step_within j Unlinking = omega arith
-step_within j SyncingDir = omega arith
-step_within j Cleaning = omega arith
-step_within j Over = tt
-
--- each question is of one of the seven points
-pub asks-within : (v : Variant) (messages : List (List (List ℕ))) (answers : List Reply) → IsWithin 7 (asks_of v messages answers)
-asks-within v messages answers = let s = laid v (start_of v messages) answers in step_within (judged messages s.tally.acknowledged s.effects) s.tally.step
-
-over_stays : (v : Variant) (messages : List (List (List ℕ))) (t : Tally) (es : List Effect) (answers : List Reply) → IsDone (move_of messages (laid v (state (at_step t Over) es) answers))
-over_stays v messages t es [] = tt
-over_stays v messages t es (Go ∷ answers) = over_stays v messages t es answers
-over_stays v messages t es (Return text ∷ answers) = over_stays v messages t es answers
-over_stays v messages t es (Halt ∷ answers) = over_stays v messages t es answers
-
-halt_ends : (v : Variant) (messages : List (List (List ℕ))) (s : State) (before after : List Reply) → IsDone (move_of messages (laid v s (before ++ Halt ∷ after)))
-halt_ends v messages s [] after = over_stays v messages s.tally s.effects after
-halt_ends v messages s (a ∷ before) after = halt_ends v messages (stepped v s a) before after
-
--- no question follows a halt
-pub asks-halts : (v : Variant) (messages : List (List (List ℕ))) (before after : List Reply) → IsDone (asks_of v messages (before ++ Halt ∷ after))
-asks-halts v messages before after = halt_ends v messages (start_of v messages) before after
+asks_of v messages = asks_by (machine v messages)

@@ -1,84 +1,71 @@
-//! The calls of a run on its device. None of them is refused but for want of memory, and `sync` and `unlink` not at all.
+//! The calls of an attempt on its device. None of them is refused but for want of memory, and `sync` and `unlink` not at all.
 ghost use Rattle.std.specs.Prelude.{◌≡◌, ◌∷◌, ℕ, List, OnOk, is_some, is_none, false};
-ghost use Rattle.sim_device.specs.FileEffects.{Effect, Append, Create, Sync, Link, Unlink};
+ghost use Rattle.sim_device.specs.FileEffects.{Append, Create, Sync, Link, Unlink};
 ghost use Rattle.sim_device.specs.Disk.{AddsEffect, entry_at};
-ghost use Rattle.file_replace.specs.Steps.{half};
+ghost use Rattle.maildir_target.specs.inside.Seen.{tmp_of_delivery, new_of_delivery};
 
-use scenario_values::Text;
+use crate::delivery::Delivery;
 use sim_device::{DeviceFault, FileDevice};
 use std::alloc::AllocError;
 
-/// A new file.
-pub fn create(device: &mut FileDevice, name: u32) -> Result<(), AllocError>
-    requires { is_some (entry_at device.old.names name).live ≡ false }
-    ensures { OnOk result (AddsEffect device.old device.new (Create name)) }
+/// A new file under `tmp/`.
+pub fn create(delivery: &Delivery<'_>, device: &mut FileDevice) -> Result<(), AllocError>
+    requires { is_some (entry_at device.old.names (tmp_of_delivery delivery.now)).live ≡ false }
+    ensures { OnOk result (AddsEffect device.old device.new (Create (tmp_of_delivery delivery.now))) }
 {
-    match device.create(name) {
+    match device.create(delivery.tmp()) {
         Ok(()) => Ok(()),
         Err(DeviceFault::Memory) => Err(AllocError),
         Err(DeviceFault::Exists | DeviceFault::NotFound) => unreachable!(),
     }
 }
 
-/// More bytes at the end of a file.
-pub fn append(device: &mut FileDevice, name: u32, bytes: &[u8]) -> Result<(), AllocError>
-    requires { is_none (entry_at device.old.names name).live ≡ false }
-    ensures { OnOk result (AddsEffect device.old device.new (Append name bytes.now)) }
+/// More bytes at the end of the file under `tmp/`.
+pub fn append(
+    delivery: &Delivery<'_>,
+    device: &mut FileDevice,
+    bytes: &[u8],
+) -> Result<(), AllocError>
+    requires { is_none (entry_at device.old.names (tmp_of_delivery delivery.now)).live ≡ false }
+    ensures { OnOk result (AddsEffect device.old device.new (Append (tmp_of_delivery delivery.now) bytes.now)) }
 {
-    match device.append(name, bytes) {
+    match device.append(delivery.tmp(), bytes) {
         Ok(()) => Ok(()),
         Err(DeviceFault::Memory) => Err(AllocError),
         Err(DeviceFault::Exists | DeviceFault::NotFound) => unreachable!(),
     }
 }
 
-/// A whole chunk at the end of a file.
-pub fn append_whole(device: &mut FileDevice, name: u32, chunk: &Text) -> Result<(), AllocError>
-    requires { is_none (entry_at device.old.names name).live ≡ false }
-    ensures { OnOk result (AddsEffect device.old device.new (Append name chunk.now)) }
+/// What the file under `tmp/` holds lasts.
+pub fn sync(delivery: &Delivery<'_>, device: &mut FileDevice)
+    requires { is_none (entry_at device.old.names (tmp_of_delivery delivery.now)).live ≡ false }
+    ensures { AddsEffect device.old device.new (Sync (tmp_of_delivery delivery.now)) }
 {
-    append(device, name, chunk.as_str().as_bytes())
-}
-
-/// The first half of a chunk at the end of a file.
-pub fn append_half(device: &mut FileDevice, name: u32, chunk: &Text) -> Result<(), AllocError>
-    requires { is_none (entry_at device.old.names name).live ≡ false }
-    ensures { OnOk result (AddsEffect device.old device.new (Append name (half chunk.now))) }
-{
-    let bytes = chunk.as_str().as_bytes();
-    append(device, name, &bytes[..bytes.len() / 2])
-}
-
-/// What a file holds lasts.
-pub fn sync(device: &mut FileDevice, name: u32)
-    requires { is_none (entry_at device.old.names name).live ≡ false }
-    ensures { AddsEffect device.old device.new (Sync name) }
-{
-    match device.sync(name) {
+    match device.sync(delivery.tmp()) {
         Ok(()) => {}
         Err(_) => unreachable!(),
     }
 }
 
-/// Another name for a file, where that name isn't there.
-pub fn link(device: &mut FileDevice, from: u32, to: u32) -> Result<(), AllocError>
-    requires from { is_none (entry_at device.old.names from).live ≡ false }
-    requires to { is_some (entry_at device.old.names to).live ≡ false }
-    ensures { OnOk result (AddsEffect device.old device.new (Link from to)) }
+/// The file under `tmp/` is also under `new/`, where that name isn't there.
+pub fn link(delivery: &Delivery<'_>, device: &mut FileDevice) -> Result<(), AllocError>
+    requires from { is_none (entry_at device.old.names (tmp_of_delivery delivery.now)).live ≡ false }
+    requires to { is_some (entry_at device.old.names (new_of_delivery delivery.now)).live ≡ false }
+    ensures { OnOk result (AddsEffect device.old device.new (Link (tmp_of_delivery delivery.now) (new_of_delivery delivery.now))) }
 {
-    match device.link(from, to) {
+    match device.link(delivery.tmp(), delivery.delivered()) {
         Ok(()) => Ok(()),
         Err(DeviceFault::Memory) => Err(AllocError),
         Err(DeviceFault::Exists | DeviceFault::NotFound) => unreachable!(),
     }
 }
 
-/// A name is gone.
-pub fn unlink(device: &mut FileDevice, name: u32)
-    requires { is_none (entry_at device.old.names name).live ≡ false }
-    ensures { AddsEffect device.old device.new (Unlink name) }
+/// The name under `tmp/` is gone.
+pub fn unlink(delivery: &Delivery<'_>, device: &mut FileDevice)
+    requires { is_none (entry_at device.old.names (tmp_of_delivery delivery.now)).live ≡ false }
+    ensures { AddsEffect device.old device.new (Unlink (tmp_of_delivery delivery.now)) }
 {
-    match device.unlink(name) {
+    match device.unlink(delivery.tmp()) {
         Ok(()) => {}
         Err(_) => unreachable!(),
     }

@@ -1,15 +1,13 @@
 //! The judgement: what the names under `new/` hold after a power cut.
-ghost use Rattle.std.specs.Prelude.{◌≡◌, ◌≤◌, ◌∷◌, ℕ, List, length, not};
-ghost use Rattle.std.specs.Str.{bytes_eq};
+ghost use Rattle.std.specs.Prelude.{◌≡◌, ◌≤◌, ◌∷◌, ℕ, List, length};
 ghost use Rattle.sim_device.specs.FileEffects.{Effect, PowerCut, Live, held};
 ghost use Rattle.sim_device.specs.Disk.{StandsFor, AddsEffect};
-ghost use Rattle.file_replace.specs.Work.{joined};
+ghost use Rattle.chunked_text.specs.Chunks.{joined};
 ghost use Rattle.maildir_target.specs.Words.{new_name};
 ghost use Rattle.maildir_target.specs.Judgement.{differs, is_torn, has_torn, is_delivered, has_lost, judged_by, judged};
 
 use crate::name::{Attempt, Folder, Name};
-use file_replace::Chunks;
-use scenario_values::Text;
+use chunked_text::Chunks;
 use sim_device::FileDevice;
 use target_trait::Judgement;
 
@@ -30,32 +28,18 @@ fn new_name(message: u16, attempt: Attempt) -> u32
     name.number()
 }
 
-/// Whether bytes are these chunks, one after another.
-fn chunks_are(chunks: &[Text], bytes: &[u8]) -> bool
-    ensures { result ≡ bytes_eq bytes.now (joined chunks.now) }
-{
-    let mut rest = bytes;
-    for chunk in chunks {
-        match rest.strip_prefix(chunk.as_str().as_bytes()) {
-            Some(after) => rest = after,
-            None => return false,
-        }
-    }
-    rest.is_empty()
-}
-
 /// Whether a name is there and holds anything but these chunks.
-fn differs(device: &FileDevice, name: u32, chunks: &[Text]) -> bool
+fn differs(device: &FileDevice, name: u32, chunks: &Chunks) -> bool
     ensures { (es : List Effect) → StandsFor device.now es → result ≡ differs (joined chunks.now) (held es Live name) }
 {
     match device.read(name) {
-        Ok(bytes) => !chunks_are(chunks, bytes),
+        Ok(bytes) => !chunks.is_whole(bytes),
         Err(_) => false,
     }
 }
 
 /// Whether a name of this message under `new/` holds anything but the whole of it.
-fn is_torn(device: &FileDevice, message: u16, chunks: &[Text]) -> bool
+fn is_torn(device: &FileDevice, message: u16, chunks: &Chunks) -> bool
     ensures { (es : List Effect) → StandsFor device.now es → result ≡ is_torn es message (joined chunks.now) }
 {
     differs(device, new_name(message, Attempt::First), chunks)
@@ -69,7 +53,7 @@ fn has_torn(device: &FileDevice, messages: &[Chunks]) -> bool
 {
     let mut number = 1;
     for message in messages {
-        if is_torn(device, number, message.as_slice()) {
+        if is_torn(device, number, message) {
             return true;
         }
         number += 1;

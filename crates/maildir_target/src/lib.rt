@@ -1,17 +1,20 @@
 //! Maildir delivery, as a target, in four variants.
 #![tactic(auto)]
 
+mod attempt;
+mod delivery;
 mod disk;
+mod ended;
 mod judge;
 mod laws;
+mod mailbox;
 mod maildir;
 mod messages;
 mod name;
 mod play;
-mod progress;
-mod stage;
-mod steps;
+mod points;
 mod variant;
+mod write;
 
 pub use judge::{LOST, TORN, judge as judge_mail};
 pub use laws::{append_tmp_is_torn, ignore_write_is_torn, link_first_is_torn, sound_never_fails};

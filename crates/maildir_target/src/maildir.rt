@@ -5,9 +5,11 @@ ghost use Rattle.target_trait.specs.Play.{IsPlay};
 ghost use Rattle.target_trait.specs.declared.judgement.Judgement.TheVariants.{Kept};
 ghost use Rattle.maildir_target.specs.declared.variant.Variant.TheVariants.{Sound};
 ghost use Rattle.maildir_target.specs.Words.{label, code_text, point_names};
-ghost use Rattle.maildir_target.specs.Steps.{asks_of, asks-within, asks-halts};
+ghost use Rattle.maildir_target.specs.Steps.{asks_of};
+ghost use Rattle.maildir_target.specs.Lawful.{asks-within, asks-halts};
 
 use crate::judge::TORN;
+use crate::mailbox::Mailbox;
 use crate::messages::Messages;
 use crate::play::play;
 use crate::variant::Variant;
@@ -22,14 +24,12 @@ use target_trait::{Judgement, Session, Target};
 /// `tmp/`, chunk by chunk, which is then linked under `new/`. A message has two attempts at most. At the end the power is cut; what
 /// then stands under `new/` must be whole messages, and no acknowledged one may be missing.
 ///
-/// The device, and the list of acknowledged messages, are kept from run to run for their memory alone: each run clears them first.
+/// The mailbox is kept from run to run for its memory alone: each run clears it first.
 #[derive(Drop)]
 pub struct Maildir {
     alloc: Global,
     variant: Variant,
-    device: FileDevice,
-    // the numbers of the messages that the last run acknowledged
-    acknowledged: Vec<u16>,
+    mailbox: Mailbox,
 }
 
 impl Model for Maildir {
@@ -48,8 +48,10 @@ impl Maildir {
         Maildir {
             alloc,
             variant,
-            device: FileDevice::new(alloc),
-            acknowledged: Vec::new(alloc),
+            mailbox: Mailbox {
+                device: FileDevice::new(alloc),
+                acknowledged: Vec::new(alloc),
+            },
         }
     }
 }
@@ -107,14 +109,7 @@ impl Target for Maildir {
         // A sound delivery is kept, whatever fails.
         ensures sound { self.old ≡ Sound → IfOk result (λ judgement. judgement ≡ Kept) }
     {
-        play(
-            self.alloc,
-            self.variant,
-            messages,
-            &mut self.device,
-            &mut self.acknowledged,
-            session,
-        )
+        play(self.variant, messages, &mut self.mailbox, session)
     }
 
     ghost within = { asks-within };

@@ -1,6 +1,6 @@
 ghost use Rattle.std.specs.Prelude.{◌≡◌, ◌≤◌, length};
 
-use file_replace::Chunks;
+use chunked_text::Chunks;
 use std::marker::Model;
 
 /// The workload of a run: the messages in order, at most 1,000, each in chunks of which every one is written by a step of its own.

@@ -73,7 +73,7 @@ fn small_workload(alloc: Global) -> Result<Replacements, Fail> {
     chunks.push(Text::copy_of(alloc, "ne")?)?;
     chunks.push(Text::copy_of(alloc, "w")?)?;
     let mut replacements = Vec::new(alloc);
-    replacements.push(Chunks::new(chunks))?;
+    replacements.push(Chunks::new(alloc, chunks.as_slice())?)?;
     Ok(Replacements::new(Text::copy_of(alloc, "old")?, replacements))
 }
 

@@ -1,3 +1,4 @@
+pub mod Appends
 pub mod EffectLaws
 pub mod Keeping
 pub mod LogLaws

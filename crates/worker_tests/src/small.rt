@@ -49,7 +49,7 @@ fn new_chunks(alloc: Global) -> Result<Chunks, AllocError> {
     let mut chunks = Vec::new(alloc);
     chunks.push(Text::copy_of(alloc, "ne")?)?;
     chunks.push(Text::copy_of(alloc, "w")?)?;
-    Ok(Chunks::new(chunks))
+    Chunks::new(alloc, chunks.as_slice())
 }
 
 fn small_work(alloc: Global) -> Result<Replacements, AllocError> {

@@ -1,9 +1,16 @@
-use Rattle.std.proofs.Common.{◌≡◌, None, rules, refl}
-use Rattle.action_eval.specs.Answers.{stopped}
-use Rattle.target_trait.proofs.Running.{running_at}
+use Rattle.std.proofs.Common.{◌≡◌, [], false, None, rules, refl, ap, ◌∙◌, subst, List, ℕ}
+use Rattle.sim_device.specs.Disk.{StandsFor}
+use Rattle.action_eval.specs.Answers.{start, stopped, replies}
+use Rattle.file_replace.specs.Steps.{begun, prepared}
+use Rattle.file_replace.proofs.Playing.{played_first}
 use Rattle.file_replace.proofs.play.play_through.Goals as goal
 
 pub loop-point-init : goal.loop-point-init
 loop-point-init c =
     let runs : stopped c.args.session.now ≡ None = search rules in
-    record { given = refl; played = record { asked = search rules; shows = search rules; running = running_at _ _ runs } }
+    let none : replies (start c.args.session.now.given) ≡ [] = search rules in
+    record {
+      given = refl;
+      played = played_first c.args.variant c.args.workload.now _ _ _ c.requires.new none runs
+          (c.begin.ensures ∙ ap (begun false) c.new-progress.ensures) (subst (λ (old : List ℕ). StandsFor c.prepare.new.device (prepared old)) c.old.ensures c.in_ok-prepare.ensures);
+    }

@@ -1,5 +1,5 @@
 use Rattle.std.proofs.Common.{◌≡◌, ◌+◌, ◌-◌, length}
-use Rattle.file_replace.specs.Seen.{Played}
+use Rattle.file_replace.specs.inside.Seen.{Played}
 use Rattle.file_replace.proofs.play.play_through.Given as goal
 
 abbrev pub invariant-loop-point : goal.invariant-loop-point

@@ -1,6 +1,6 @@
 use Rattle.std.proofs.Common.{◌≡◌, ◌+◌, ◌-◌, ◌≤◌, length}
 use Rattle.file_replace.specs.Steps.{at_step}
-use Rattle.file_replace.specs.Seen.{step_of, Played}
+use Rattle.file_replace.specs.inside.Seen.{step_of, Played}
 use Rattle.file_replace.proofs.play.write_on.Given as goal
 
 abbrev pub invariant-loop-stage : goal.invariant-loop-stage

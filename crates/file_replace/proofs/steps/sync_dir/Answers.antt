@@ -3,7 +3,7 @@ use Rattle.std.proofs.Common.{sym, subst, ◌∷◌}
 use Rattle.sim_device.specs.FileEffects.{SyncDir}
 use Rattle.file_replace.specs.declared.variant.Variant.{Variant}
 use Rattle.file_replace.specs.Steps.{after_sync_dir}
-use Rattle.file_replace.specs.Seen.{Shows}
+use Rattle.file_replace.specs.inside.Seen.{Shows}
 use Rattle.file_replace.proofs.steps.sync_dir.Goals as goal
 
 pub returns-in-Sound : goal.returns-in-Sound

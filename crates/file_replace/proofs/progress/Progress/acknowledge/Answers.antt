@@ -1,6 +1,6 @@
 use Rattle.std.proofs.Common.{ap, ◌∙◌}
 use Rattle.file_replace.specs.Steps.{acknowledged}
-use Rattle.file_replace.specs.Seen.{step_of}
+use Rattle.file_replace.specs.inside.Seen.{step_of}
 use Rattle.file_replace.proofs.Counted.{acknowledged_counted}
 use Rattle.file_replace.proofs.progress.Progress.acknowledge.Goals as goal
 

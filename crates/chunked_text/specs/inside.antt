@@ -1,0 +1,2 @@
+-- How chunks are kept. No clause that a caller sees names any of it.
+pub mod Flat

@@ -1,5 +1,0 @@
-use Rattle.std.proofs.Common.{rules}
-use Rattle.file_replace.proofs.work.Chunks.new.Goals as goal
-
-pub returns : goal.returns
-returns c = search rules

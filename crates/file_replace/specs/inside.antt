@@ -1,0 +1,4 @@
+-- What the code keeps. No clause that a caller sees names any of it.
+pub mod Left
+pub mod Ready
+pub mod Seen

@@ -1,0 +1,51 @@
+-- What the values of a run say.
+use Rattle.std.specs.Prelude.{◌≡◌, ℕ, ◌+◌, List, ◌∷◌, map, take, drop}
+use Rattle.sim_device.specs.Disk.{Disk, StandsFor}
+use Rattle.sim_device.specs.FileEffects.{Effect}
+use Rattle.action_eval.specs.Answers.{Run}
+use Rattle.target_trait.specs.Play.{IsRunning}
+use Rattle.target_trait.specs.Machine.{Reached}
+use Rattle.chunked_text.specs.Chunks.{joined}
+use Rattle.file_replace.specs.declared.variant.Variant.{Variant}
+use Rattle.file_replace.specs.declared.stage.Stage.{Stage}
+use Rattle.file_replace.specs.declared.stage.Stage.TheVariants as stage
+use Rattle.file_replace.specs.Work.{Work}
+use Rattle.file_replace.specs.Judgement.{Past}
+use Rattle.file_replace.specs.Steps.{Step, Clearing, Creating, Writing, WritingAgain, Syncing, Renaming, SyncingDir, SyncingLate, Cleaning, Over, Tally, State, state, machine, point_at}
+use Rattle.file_replace.specs.inside.Left.{left}
+
+abbrev pub step_of : Stage → Step
+step_of (stage.Clearing rest) = Clearing (left rest)
+step_of (stage.Creating rest) = Creating (left rest)
+step_of (stage.Writing chunk rest) = Writing chunk.now (left rest)
+step_of (stage.WritingAgain chunk rest) = WritingAgain chunk.now (left rest)
+step_of stage.Syncing = Syncing
+step_of stage.Renaming = Renaming
+step_of stage.SyncingDir = SyncingDir
+step_of stage.SyncingLate = SyncingLate
+step_of stage.Cleaning = Cleaning
+step_of stage.Over = Over
+
+-- the old contents, and then those of each replacement
+abbrev pub all_contents : List ℕ → List (List (List ℕ)) → List (List ℕ)
+all_contents old replacements = old ∷ map joined replacements
+
+-- the contents from one number to another, in that order
+abbrev pub contents_between : ℕ → ℕ → List (List ℕ) → List (List ℕ)
+contents_between from to contents = drop from (take (to + 1) contents)
+
+-- with so many replacements begun, and these contents, by their number, the last that were acknowledged
+abbrev pub past_of : List (List ℕ) → ℕ → ℕ → Past
+past_of contents acknowledged begun = record { allowed = contents_between acknowledged begun contents; known = contents_between 0 begun contents }
+
+-- the code has come this far
+pub record Shows (s : State) (t : Tally) (d : Disk) : Type 0 where
+  pub tally : t ≡ s.tally
+  pub device : StandsFor d s.effects
+
+-- a run has come this far, with a device that holds what the protocol says
+pub record Played (v : Variant) (w : Work) (r : Run) (t : Tally) (d : Disk) : Type 0 where
+  pub effects : List Effect
+  pub reached : Reached (machine v w) r (state t effects)
+  pub device : StandsFor d effects
+  pub running : IsRunning (point_at t.step) r

@@ -1,0 +1,241 @@
+//! An attempt at a message, as the maildir manual page tells it: stat, create, write, sync, link, and then the name under `tmp/` is removed.
+ghost use Rattle.std.specs.Prelude.{◌≡◌, List, OnOk};
+ghost use Rattle.sim_device.specs.FileEffects.{Effect};
+ghost use Rattle.sim_device.specs.Disk.{StandsFor, entry_at};
+ghost use Rattle.maildir_target.specs.Steps.{Looking, Creating, Syncing, Linking, Unlinking, SyncingDir, Cleaning};
+ghost use Rattle.maildir_target.specs.Steps.{first_step, created_by, after_create, after_sync, after_link};
+ghost use Rattle.maildir_target.specs.inside.Seen.{tmp_of_delivery, CanCreate, IsAt, HasEnded, Leads, Delivers};
+
+use crate::delivery::Delivery;
+use crate::disk::{create, link, sync, unlink};
+use crate::ended::Ended;
+use crate::mailbox::Mailbox;
+use crate::points::{CREATE, LINK, STAT, SYNC, SYNC_DIR, UNLINK};
+use crate::variant::Variant;
+use crate::write::write_all;
+use sim_device::FileDevice;
+use std::alloc::AllocError;
+use target_trait::{Answer, Session};
+
+/// Takes the name under `tmp/` away after a failure. The attempt has failed, whether the name is gone or not.
+pub fn clean_up(delivery: &Delivery<'_>, mailbox: &mut Mailbox, session: &mut Session<'_>) -> Ended
+    requires at { IsAt delivery.now session.old mailbox.old Cleaning }
+    ensures ended { HasEnded delivery.now session.new mailbox.new result }
+    ensures given { session.new.given ≡ session.old.given }
+{
+    match session.hit(UNLINK) {
+        Ok(Answer::Go) => {
+            unlink(delivery, &mut mailbox.device);
+            Ended::Failed
+        }
+        Ok(Answer::Return(_)) => Ended::Failed,
+        Ok(Answer::Halt) => Ended::Halted,
+        Err(_) => Ended::Memory,
+    }
+}
+
+/// Looks whether the name under `tmp/` is free.
+fn stat(
+    delivery: &Delivery<'_>,
+    mailbox: &mut Mailbox,
+    session: &mut Session<'_>,
+) -> Result<(), Ended>
+    requires at { IsAt delivery.now session.old mailbox.old Looking }
+    ensures leads { Leads delivery.now session.new mailbox.new Creating result }
+    ensures given { session.new.given ≡ session.old.given }
+{
+    match session.hit(STAT)? {
+        Answer::Go => {
+            if mailbox.device.exists(delivery.tmp()) {
+                return Err(Ended::Failed);
+            }
+            Ok(())
+        }
+        Answer::Return(_) => Err(Ended::Failed),
+        Answer::Halt => Err(Ended::Halted),
+    }
+}
+
+/// The same where the variant looks: append_tmp doesn't.
+fn look(
+    delivery: &Delivery<'_>,
+    mailbox: &mut Mailbox,
+    session: &mut Session<'_>,
+) -> Result<(), Ended>
+    requires at { IsAt delivery.now session.old mailbox.old (first_step delivery.now.variant) }
+    ensures leads { Leads delivery.now session.new mailbox.new Creating result }
+    ensures given { session.new.given ≡ session.old.given }
+{
+    match delivery.variant {
+        Variant::AppendTmp => Ok(()),
+        Variant::Sound | Variant::LinkFirst | Variant::IgnoreWrite => stat(
+            delivery, mailbox, session,
+        ),
+    }
+}
+
+/// A new file, or with append_tmp the one that is there.
+fn create_by(delivery: &Delivery<'_>, device: &mut FileDevice) -> Result<(), AllocError>
+    requires { CanCreate delivery.now.variant (entry_at device.old.names (tmp_of_delivery delivery.now)).live }
+    ensures { OnOk result ((es : List Effect) → StandsFor device.old es →
+        StandsFor device.new (created_by delivery.now.variant (tmp_of_delivery delivery.now) es)) }
+{
+    match delivery.variant {
+        Variant::AppendTmp => {
+            if device.exists(delivery.tmp()) {
+                return Ok(());
+            }
+            create(delivery, device)
+        }
+        Variant::Sound => create(delivery, device),
+        Variant::LinkFirst => create(delivery, device),
+        Variant::IgnoreWrite => create(delivery, device),
+    }
+}
+
+/// Makes the file under `tmp/`.
+fn create_file(
+    delivery: &Delivery<'_>,
+    mailbox: &mut Mailbox,
+    session: &mut Session<'_>,
+) -> Result<(), Ended>
+    requires at { IsAt delivery.now session.old mailbox.old Creating }
+    ensures leads { Leads delivery.now session.new mailbox.new (after_create delivery.now.variant delivery.now.chunks.now) result }
+    ensures given { session.new.given ≡ session.old.given }
+{
+    match session.hit(CREATE)? {
+        Answer::Go => {
+            create_by(delivery, &mut mailbox.device)?;
+            Ok(())
+        }
+        Answer::Return(_) => Err(Ended::Failed),
+        Answer::Halt => Err(Ended::Halted),
+    }
+}
+
+/// Syncs the file under `tmp/`.
+fn sync_file(
+    delivery: &Delivery<'_>,
+    mailbox: &mut Mailbox,
+    session: &mut Session<'_>,
+) -> Result<(), Ended>
+    requires at { IsAt delivery.now session.old mailbox.old Syncing }
+    ensures leads { Leads delivery.now session.new mailbox.new (after_sync delivery.now.variant) result }
+    ensures given { session.new.given ≡ session.old.given }
+{
+    match session.hit(SYNC)? {
+        Answer::Go => {
+            sync(delivery, &mut mailbox.device);
+            Ok(())
+        }
+        Answer::Return(_) => Err(clean_up(delivery, mailbox, session)),
+        Answer::Halt => Err(Ended::Halted),
+    }
+}
+
+/// Links the file under `new/`, where that name is free.
+fn link_new(
+    delivery: &Delivery<'_>,
+    mailbox: &mut Mailbox,
+    session: &mut Session<'_>,
+) -> Result<(), Ended>
+    requires at { IsAt delivery.now session.old mailbox.old Linking }
+    ensures leads { Leads delivery.now session.new mailbox.new (after_link delivery.now.variant delivery.now.chunks.now) result }
+    ensures given { session.new.given ≡ session.old.given }
+{
+    match session.hit(LINK)? {
+        Answer::Go => {
+            if mailbox.device.exists(delivery.delivered()) {
+                return Err(clean_up(delivery, mailbox, session));
+            }
+            link(delivery, &mut mailbox.device)?;
+            Ok(())
+        }
+        Answer::Return(_) => Err(clean_up(delivery, mailbox, session)),
+        Answer::Halt => Err(Ended::Halted),
+    }
+}
+
+/// Removes the name under `tmp/`. Where that fails the name stays, and the delivery goes on.
+fn remove(
+    delivery: &Delivery<'_>,
+    mailbox: &mut Mailbox,
+    session: &mut Session<'_>,
+) -> Result<(), Ended>
+    requires at { IsAt delivery.now session.old mailbox.old Unlinking }
+    ensures leads { Leads delivery.now session.new mailbox.new SyncingDir result }
+    ensures given { session.new.given ≡ session.old.given }
+{
+    match session.hit(UNLINK)? {
+        Answer::Go => {
+            unlink(delivery, &mut mailbox.device);
+            Ok(())
+        }
+        Answer::Return(_) => Ok(()),
+        Answer::Halt => Err(Ended::Halted),
+    }
+}
+
+/// Syncs the directory, and acknowledges the message. Where that fails it isn't acknowledged.
+fn acknowledge(
+    delivery: &Delivery<'_>,
+    mailbox: &mut Mailbox,
+    session: &mut Session<'_>,
+) -> Result<(), Ended>
+    requires at { IsAt delivery.now session.old mailbox.old SyncingDir }
+    ensures delivers { Delivers delivery.now session.new mailbox.new result }
+    ensures given { session.new.given ≡ session.old.given }
+{
+    match session.hit(SYNC_DIR)? {
+        Answer::Go => {
+            mailbox.device.sync_dir();
+            match mailbox.acknowledged.push(delivery.message) {
+                Ok(()) => Ok(()),
+                Err(_) => Err(Ended::Memory),
+            }
+        }
+        Answer::Return(_) => Ok(()),
+        Answer::Halt => Err(Ended::Halted),
+    }
+}
+
+/// Writes the file, syncs it and links it; link_first links it first.
+fn fill(
+    delivery: &Delivery<'_>,
+    mailbox: &mut Mailbox,
+    session: &mut Session<'_>,
+) -> Result<(), Ended>
+    requires at { IsAt delivery.now session.old mailbox.old (after_create delivery.now.variant delivery.now.chunks.now) }
+    ensures leads { Leads delivery.now session.new mailbox.new Unlinking result }
+    ensures given { session.new.given ≡ session.old.given }
+{
+    match delivery.variant {
+        Variant::LinkFirst => {
+            link_new(delivery, mailbox, session)?;
+            write_all(delivery, mailbox, session)?;
+            sync_file(delivery, mailbox, session)
+        }
+        Variant::Sound | Variant::IgnoreWrite | Variant::AppendTmp => {
+            write_all(delivery, mailbox, session)?;
+            sync_file(delivery, mailbox, session)?;
+            link_new(delivery, mailbox, session)
+        }
+    }
+}
+
+/// An attempt from its first step to its last. An error tells how it ended before that.
+pub fn attempt(
+    delivery: &Delivery<'_>,
+    mailbox: &mut Mailbox,
+    session: &mut Session<'_>,
+) -> Result<(), Ended>
+    requires at { IsAt delivery.now session.old mailbox.old (first_step delivery.now.variant) }
+    ensures delivers { Delivers delivery.now session.new mailbox.new result }
+    ensures given { session.new.given ≡ session.old.given }
+{
+    look(delivery, mailbox, session)?;
+    create_file(delivery, mailbox, session)?;
+    fill(delivery, mailbox, session)?;
+    remove(delivery, mailbox, session)?;
+    acknowledge(delivery, mailbox, session)
+}

@@ -1,0 +1,103 @@
+//! The writes of an attempt.
+ghost use Rattle.std.specs.Prelude.{◌≡◌, ◌≤◌, ◌<◌, ◌+◌, [], length, drop, slice_index_or, IfOk, MatchResult};
+ghost use Rattle.maildir_target.specs.Steps.{Writing, Syncing, write_step, after_half};
+ghost use Rattle.maildir_target.specs.inside.Seen.{IsAt, HasEnded, Leads};
+
+use crate::attempt::clean_up;
+use crate::delivery::Delivery;
+use crate::disk::append;
+use crate::ended::Ended;
+use crate::mailbox::Mailbox;
+use crate::points::WRITE;
+use crate::variant::Variant;
+use target_trait::{Answer, Session};
+
+/// What follows half a chunk: ignore_write goes on as after the whole.
+fn go_on(
+    delivery: &Delivery<'_>,
+    at: usize,
+    mailbox: &mut Mailbox,
+    session: &mut Session<'_>,
+) -> Result<(), Ended>
+    requires at { IsAt delivery.now session.old mailbox.old (after_half delivery.now.variant (drop (at + 1) delivery.now.chunks.now)) }
+    ensures leads { Leads delivery.now session.new mailbox.new (write_step (drop (at + 1) delivery.now.chunks.now)) result }
+    ensures given { session.new.given ≡ session.old.given }
+{
+    match delivery.variant {
+        Variant::IgnoreWrite => Ok(()),
+        Variant::Sound => Err(clean_up(delivery, mailbox, session)),
+        Variant::LinkFirst => Err(clean_up(delivery, mailbox, session)),
+        Variant::AppendTmp => Err(clean_up(delivery, mailbox, session)),
+    }
+}
+
+/// Writes the chunk at a place.
+fn write_one(
+    delivery: &Delivery<'_>,
+    at: usize,
+    mailbox: &mut Mailbox,
+    session: &mut Session<'_>,
+) -> Result<(), Ended>
+    requires place { at < length delivery.now.chunks.now }
+    requires at { IsAt delivery.now session.old mailbox.old (Writing (slice_index_or delivery.now.chunks.now at []) (drop (at + 1) delivery.now.chunks.now)) }
+    ensures leads { Leads delivery.now session.new mailbox.new (write_step (drop (at + 1) delivery.now.chunks.now)) result }
+    ensures given { session.new.given ≡ session.old.given }
+{
+    match session.hit(WRITE)? {
+        Answer::Go => {
+            append(delivery, &mut mailbox.device, delivery.chunks.chunk(at))?;
+            Ok(())
+        }
+        Answer::Return(_) => {
+            append(delivery, &mut mailbox.device, delivery.chunks.half(at))?;
+            go_on(delivery, at, mailbox, session)
+        }
+        Answer::Halt => Err(Ended::Halted),
+    }
+}
+
+/// Writes the chunks from a place on that surely go through, or else one chunk. Gives the place after them.
+fn write_some(
+    delivery: &Delivery<'_>,
+    at: usize,
+    mailbox: &mut Mailbox,
+    session: &mut Session<'_>,
+) -> Result<usize, Ended>
+    requires place { at < length delivery.now.chunks.now }
+    requires at { IsAt delivery.now session.old mailbox.old (write_step (drop at delivery.now.chunks.now)) }
+    ensures within { IfOk result (λ next. next ≤ length delivery.now.chunks.now) }
+    ensures nearer { IfOk result (λ next. at < next) }
+    ensures leads { MatchResult result (λ next. IsAt delivery.now session.new mailbox.new (write_step (drop next delivery.now.chunks.now)))
+        (λ e. HasEnded delivery.now session.new mailbox.new e) }
+    ensures given { session.new.given ≡ session.old.given }
+{
+    let passed = session.pass(WRITE, delivery.chunks.len() - at)?;
+    if passed == 0 {
+        write_one(delivery, at, mailbox, session)?;
+        return Ok(at + 1);
+    }
+    let next = at + passed;
+    append(
+        delivery,
+        &mut mailbox.device,
+        delivery.chunks.between(at, next),
+    )?;
+    Ok(next)
+}
+
+/// Writes the chunks, one after another.
+pub fn write_all(
+    delivery: &Delivery<'_>,
+    mailbox: &mut Mailbox,
+    session: &mut Session<'_>,
+) -> Result<(), Ended>
+    requires at { IsAt delivery.now session.old mailbox.old (write_step delivery.now.chunks.now) }
+    ensures leads { Leads delivery.now session.new mailbox.new Syncing result }
+    ensures given { session.new.given ≡ session.old.given }
+{
+    let mut at = 0;
+    while at < delivery.chunks.len() {
+        at = write_some(delivery, at, mailbox, session)?;
+    }
+    Ok(())
+}
