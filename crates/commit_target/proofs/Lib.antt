@@ -4,5 +4,7 @@ pub mod Safe
 pub mod Voted
 pub mod Never
 pub mod Flawed
-pub mod Playing
 pub mod Counting
+pub mod Sets
+pub mod Playing
+pub mod Rounds

@@ -1,102 +1,148 @@
 -- A run, told as far as the steps have come.
-use Rattle.std.proofs.Common.{◌≡◌, ℕ, List, [], ◌∷◌, ◌++◌, Option, None, Some, Bor, refl, ap, sym, ◌∙◌, subst}
+use Rattle.std.proofs.Common.{◌≡◌, ◌<◌, ◌≤◌, ℕ, List, length, [], ◌∷◌, ◌++◌, Option, None, Some, Bor, Bool, true, false, cond, Result, Ok, Err, IsErrAnd, refl, ap, sym, ◌∙◌, subst}
+use Rattle.std.proofs.lemmas.Bool.{lt-ltb, le-ltb}
+use Rattle.std.proofs.lemmas.Result.{err_from_is_err_and}
+use Rattle.commit_target.specs.declared.cut.Cut.{Cut}
 use Rattle.action_eval.specs.Answers.{Run, Reply, Go, Halt, GoesOn, hit, replies, reply_of_answer}
 use Rattle.action_eval.specs.declared.answer.Answer.{Answer}
 use Rattle.action_eval.specs.declared.answer.Answer.TheVariants as answer
-use Rattle.target_trait.specs.declared.judgement.Judgement.{Judgement}
-use Rattle.target_trait.specs.Play.{Ask, Done, Follows, IsPlay, IsRunning, move_by}
-use Rattle.target_trait.proofs.Plays.{follows_more}
-use Rattle.target_trait.proofs.Running.{runs_go, runs_return, running_at}
+use Rattle.target_trait.specs.Play.{move_by}
+use Rattle.target_trait.specs.Machine.{Reached}
+use Rattle.target_trait.proofs.Machine.{reached_more}
+use Rattle.target_trait.proofs.Running.{runs_go, runs_return}
 use Rattle.commit_target.specs.declared.variant.Variant.{Variant}
+use Rattle.commit_target.specs.declared.variant.Variant.TheVariants.{Sound, LazyPrepare, EarlyEnd, TwoTries}
 use Rattle.commit_target.specs.declared.records.Write.{Write}
-use Rattle.commit_target.specs.declared.step.Step.TheVariants.{Over}
+use Rattle.commit_target.specs.Words.{point_names}
 use Rattle.commit_target.specs.Work.{Work}
-use Rattle.commit_target.specs.Writes.{Event, AllLogs, LogsStandFor}
-use Rattle.commit_target.specs.Judgement.{judged}
-use Rattle.commit_target.specs.Steps.{Tally, State, on_go, on_return, go_write, return_write, with_write, stepped, at_step, start_of, laid, point_at, judged_at, move_of, asks_of}
-use Rattle.commit_target.specs.Seen.{Shows, Played}
+use Rattle.commit_target.specs.Writes.{Written, AllLogs, AddsEvent, LogsStandFor}
+use Rattle.commit_target.specs.Steps.{Step, SendPrepare, Tally, State, opened, one_of, SendAck, Over, unacknowledged, next_of, after_commit_to, prepare_write, end_unless, machine, on_return, return_write, with_write, stepped, at_step, begun, point_at, judged_at}
+use Rattle.commit_target.specs.Seen.{OnCut, Leads, Due, Stands, Ended, Answered}
 
-laid_more : (v : Variant) (w : Work) (s : State) (as' : List Reply) (a : Reply) → laid v w s (as' ++ a ∷ []) ≡ stepped v w (laid v w s as') a
-laid_more v w s [] a = refl
-laid_more v w s (b ∷ as') a = laid_more v w (stepped v w s b) as' a
+-- the next answer
+more : (v : Variant) (w : Work) (r : Run) (t : Tally) (l : AllLogs) (p : ℕ) → (k : Stands v w r t l) → point_at t.step ≡ Some p → (r' : Run) → r' ≡ hit r p → (a : Reply) → replies r' ≡ replies r ++ a ∷ []
+    → Reached (machine v w) r' (stepped v w (record { tally = t; events = k.events }) a)
+more v w r t l p k at r' same a said =
+    let s : State = record { tally = t; events = k.events } in
+    reached_more (machine v w) r s p k.here.reached (ap (move_by (judged_at w s)) at) r' same a said
 
-asks_point : (w : Work) (s : State) (p : ℕ) → point_at s.tally.step ≡ Some p → move_of w s ≡ Ask p
-asks_point w s p e = ap (move_by (judged_at w s)) e
+points_stay : (r : Run) (p : ℕ) → r.given.catalogue ≡ point_names → (r' : Run) → r' ≡ hit r p → r'.given.catalogue ≡ point_names
+points_stay r p known r' same = ap (λ (x : Run). x.given.catalogue) same ∙ known
 
-asks_none : (w : Work) (s : State) → point_at s.tally.step ≡ None → move_of w s ≡ Done (judged_at w s)
-asks_none w s e = ap (move_by (judged_at w s)) e
-
--- the steps laid against the answers of a run
-abbrev now : Variant → Work → Run → State
-now v w r = laid v w (start_of w) (replies r)
-
-asked_more : (v : Variant) (w : Work) (r : Run) (t : Tally) (l : AllLogs) (p : ℕ) → Played v w r t l → point_at t.step ≡ Some p → (r' : Run) → r' ≡ hit r p → Follows (asks_of v w) r'.given [] r'.hits
-asked_more v w r t l p k at r' same =
-    let P : Run → Type 0 = λ x. Follows (asks_of v w) x.given [] x.hits in
-    subst P (sym same) (follows_more (asks_of v w) r.given [] r.hits p k.asked (asks_point w (now v w r) p (sym (ap (λ (x : Tally). point_at x.step) k.shows.tally) ∙ at)))
-
--- one answer more
-told_more : (v : Variant) (w : Work) (r r' : Run) (a : Reply) → replies r' ≡ replies r ++ a ∷ [] → stepped v w (now v w r) a ≡ now v w r'
-told_more v w r r' a more = sym (laid_more v w (start_of w) (replies r) a) ∙ ap (laid v w (start_of w)) (sym more)
-
--- the logs, with what was written
-abbrev pub Writes : AllLogs → AllLogs → Option Write → Type 0
-Writes l l' write = (count : ℕ) (es : List Event) → LogsStandFor count l es → LogsStandFor count l' (with_write write es)
-
-pub played_go : (v : Variant) (w : Work) (r : Run) (t : Tally) (l : AllLogs) (p : ℕ) → Played v w r t l → point_at t.step ≡ Some p → (r' : Run) → r' ≡ hit r p → (a : Answer) → a ≡ answer.Go → replies r' ≡ replies r ++ reply_of_answer a ∷ []
-    → GoesOn (reply_of_answer a) r' → (t' : Tally) → t' ≡ on_go v w t t.step → (l' : AllLogs) (write : Option Write) → write ≡ go_write v w t t.step → Writes l l' write → Played v w r' t' l'
-played_go v w r t l p k at r' same a is more goes_on t' goes l' write write_is writes = record {
-  running = running_at (point_at t'.step) r' (runs_go a r' is goes_on);
-  asked = asked_more v w r t l p k at r' same;
-  shows =
-      let said : replies r' ≡ replies r ++ Go ∷ [] = more ∙ ap (λ (x : Answer). replies r ++ reply_of_answer x ∷ []) is in
-      let wrote : Option Write → Type 0 = λ x. LogsStandFor w.participants l' (with_write x (now v w r).events) in
-      let shown : Shows w (stepped v w (now v w r) Go) t' l' = record {
-        tally = goes ∙ ap (λ (x : Tally). on_go v w x x.step) k.shows.tally;
-        written = subst wrote (write_is ∙ ap (λ (x : Tally). go_write v w x x.step) k.shows.tally) (writes w.participants (now v w r).events k.shows.written);
-      } in
-      subst (λ (x : State). Shows w x t' l') (told_more v w r r' Go said) shown;
+pub answered_go : (v : Variant) (w : Work) (r : Run) (t : Tally) (l : AllLogs) (p : ℕ) → Stands v w r t l → point_at t.step ≡ Some p → (r' : Run) → r' ≡ hit r p → (a : Answer) → a ≡ answer.Go
+    → replies r' ≡ replies r ++ reply_of_answer a ∷ [] → GoesOn (reply_of_answer a) r' → Answered v w r' t l true
+answered_go v w r t l p k at r' same a is said goes = record {
+  events = k.events;
+  here = record {
+    points = points_stay r p k.here.points r' same;
+    running = runs_go a r' is goes;
+    reached = more v w r t l p k at r' same Go (said ∙ ap (λ (x : Answer). replies r ++ reply_of_answer x ∷ []) is);
+  };
+  written = k.written;
 }
 
-return_step : (v : Variant) (w : Work) (s : State) (text : Option (Bor (List ℕ))) → stepped v w s (reply_of_answer (answer.Return text))
+returned : (v : Variant) (w : Work) (s : State) (text : Option (Bor (List ℕ))) → stepped v w s (reply_of_answer (answer.Return text))
     ≡ record { tally = on_return v w s.tally s.tally.step; events = with_write (return_write v w s.tally s.tally.step) s.events }
-return_step v w s None = refl
-return_step v w s (Some text) = refl
+returned v w s None = refl
+returned v w s (Some text) = refl
 
-pub played_return : (v : Variant) (w : Work) (r : Run) (t : Tally) (l : AllLogs) (p : ℕ) → Played v w r t l → point_at t.step ≡ Some p → (r' : Run) → r' ≡ hit r p → (a : Answer) (text : Option (Bor (List ℕ))) → a ≡ answer.Return text → replies r' ≡ replies r ++ reply_of_answer a ∷ []
-    → GoesOn (reply_of_answer a) r' → (t' : Tally) → t' ≡ on_return v w t t.step → (l' : AllLogs) (write : Option Write) → write ≡ return_write v w t t.step → Writes l l' write → Played v w r' t' l'
-played_return v w r t l p k at r' same a text is more goes_on t' fails l' write write_is writes = record {
-  running = running_at (point_at t'.step) r' (runs_return a text r' is goes_on);
-  asked = asked_more v w r t l p k at r' same;
-  shows =
-      let said : replies r' ≡ replies r ++ reply_of_answer (answer.Return text) ∷ [] = more ∙ ap (λ (x : Answer). replies r ++ reply_of_answer x ∷ []) is in
-      let wrote : Option Write → Type 0 = λ x. LogsStandFor w.participants l' (with_write x (now v w r).events) in
-      let shown : Shows w (record { tally = on_return v w (now v w r).tally (now v w r).tally.step; events = with_write (return_write v w (now v w r).tally (now v w r).tally.step) (now v w r).events }) t' l' = record {
-        tally = fails ∙ ap (λ (x : Tally). on_return v w x x.step) k.shows.tally;
-        written = subst wrote (write_is ∙ ap (λ (x : Tally). return_write v w x x.step) k.shows.tally) (writes w.participants (now v w r).events k.shows.written);
-      } in
-      subst (λ (x : State). Shows w x t' l') (sym (return_step v w (now v w r) text) ∙ told_more v w r r' (reply_of_answer (answer.Return text)) said) shown;
+pub answered_return : (v : Variant) (w : Work) (r : Run) (t : Tally) (l : AllLogs) (p : ℕ) → Stands v w r t l → point_at t.step ≡ Some p → (r' : Run) → r' ≡ hit r p → (a : Answer) (text : Option (Bor (List ℕ))) → a ≡ answer.Return text
+    → replies r' ≡ replies r ++ reply_of_answer a ∷ [] → GoesOn (reply_of_answer a) r' → Answered v w r' t l false
+answered_return v w r t l p k at r' same a text is said goes = record {
+  events = k.events;
+  here = record {
+    points = points_stay r p k.here.points r' same;
+    running = runs_return a text r' is goes;
+    reached =
+        subst (Reached (machine v w) r') (returned v w (record { tally = t; events = k.events }) text)
+        (more v w r t l p k at r' same (reply_of_answer (answer.Return text)) (said ∙ ap (λ (x : Answer). replies r ++ reply_of_answer x ∷ []) is));
+  };
+  written = k.written;
 }
 
-pub played_halt : (v : Variant) (w : Work) (r : Run) (t : Tally) (l : AllLogs) (p : ℕ) → Played v w r t l → point_at t.step ≡ Some p → (r' : Run) → r' ≡ hit r p → (a : Answer) → a ≡ answer.Halt → replies r' ≡ replies r ++ reply_of_answer a ∷ []
-    → (t' : Tally) → t' ≡ at_step t Over → Played v w r' t' l
-played_halt v w r t l p k at r' same a is more t' t'_is = record {
-  running = subst (λ (x : Tally). IsRunning (point_at x.step) r') (sym t'_is) tt;
-  asked = asked_more v w r t l p k at r' same;
-  shows =
-      let said : replies r' ≡ replies r ++ Halt ∷ [] = more ∙ ap (λ (x : Answer). replies r ++ reply_of_answer x ∷ []) is in
-      let shown : Shows w (stepped v w (now v w r) Halt) t' l = record { tally = t'_is ∙ ap (λ (x : Tally). at_step x Over) k.shows.tally; written = k.shows.written } in
-      subst (λ (x : State). Shows w x t' l) (told_more v w r r' Halt said) shown;
+pub answered_halt : (v : Variant) (w : Work) (r : Run) (t : Tally) (l : AllLogs) (p : ℕ) → Stands v w r t l → point_at t.step ≡ Some p → (r' : Run) → r' ≡ hit r p → (a : Answer) → a ≡ answer.Halt
+    → replies r' ≡ replies r ++ reply_of_answer a ∷ [] → Ended v w r' (at_step t Over) l
+answered_halt v w r t l p k at r' same a is said = record {
+  events = k.events;
+  reached = more v w r t l p k at r' same Halt (said ∙ ap (λ (x : Answer). replies r ++ reply_of_answer x ∷ []) is);
+  written = k.written;
 }
 
-judged_same : (w : Work) (t : Tally) (s : State) → t ≡ s.tally → judged w.participants t.told s.events t.begun ≡ judged_at w s
-judged_same w t s e = ap (λ (x : Tally). judged w.participants x.told s.events x.begun) e
-
-pub played_over : (v : Variant) (w : Work) (r : Run) (t : Tally) (l : AllLogs) → Played v w r t l → point_at t.step ≡ None
-    → (j : Judgement) → ((es : List Event) → LogsStandFor w.participants l es → j ≡ judged w.participants t.told es t.begun) → IsPlay (asks_of v w) r j
-played_over v w r t l k at j judges = record {
-  asked = k.asked;
-  ended =
-      let j_is : j ≡ judged_at w (now v w r) = judges (now v w r).events k.shows.written ∙ judged_same w t (now v w r) k.shows.tally in
-      asks_none w (now v w r) (sym (ap (λ (x : Tally). point_at x.step) k.shows.tally) ∙ at) ∙ ap Done (sym j_is);
+-- what was due is written
+pub written : (v : Variant) (w : Work) (r : Run) (t : Tally) (write : Write) (l l' : AllLogs) → Due v w r t (Some write) l → (x : Write) → x ≡ write → AddsEvent l l' (Written x) → Stands v w r t l'
+written v w r t write l l' k x is adds = record {
+  events = Written write ∷ k.events;
+  here = k.here;
+  written = subst (λ (y : Write). LogsStandFor w.participants l' (Written y ∷ k.events)) is (adds w.participants k.events k.written);
 }
+
+-- where nothing failed
+pub goes_on : (v : Variant) (w : Work) (r : Run) (t : Tally) (l : AllLogs) (goes : Bool) → goes ≡ true → Answered v w r t l goes → Answered v w r t l true
+goes_on v w r t l true e k = k
+goes_on v w r t l false e k = cc
+
+-- where a run was cut off, so is what led to it
+pub cut_off : {X : Type 0} (result : Result X Cut) (on : X → Type 0) (halted : Type 0) (cut : Cut) → IsErrAnd result (λ x. x ≡ cut) → OnCut cut halted → Leads result on halted
+cut_off result on halted cut is h = let p = err_from_is_err_and result is in rw (p.1, p.2) h
+
+-- a participant acknowledges the commit, or it doesn't
+abbrev pub Told : Variant → Work → Run → Tally → ℕ → AllLogs → Bool → Type 0
+Told v w r t i l acknowledges =
+    let u = cond acknowledges t (unacknowledged t) in
+    Due v w r (after_commit_to w u i) (end_unless v u u.acknowledged (next_of i w.participants)) l
+
+pub same_prepare : (v : Variant) (t : Tally) (step : Step) (i : ℕ) → prepare_write v t i ≡ prepare_write v (at_step t step) i
+same_prepare Sound t step i = refl
+same_prepare LazyPrepare t step i = refl
+same_prepare EarlyEnd t step i = refl
+same_prepare TwoTries t step i = refl
+
+pub same_end : (v : Variant) (t : Tally) (step : Step) (all : Bool) (next : Option ℕ) → end_unless v (at_step t step) all next ≡ end_unless v t all next
+same_end v t step all (Some i) = refl
+same_end Sound t step all None = refl
+same_end LazyPrepare t step all None = refl
+same_end EarlyEnd t step all None = refl
+same_end TwoTries t step all None = refl
+
+lost_end : (v : Variant) (t : Tally) (step : Step) (next : Option ℕ) → end_unless v (at_step t step) false next ≡ end_unless v (unacknowledged t) false next
+lost_end v t step (Some i) = refl
+lost_end Sound t step None = refl
+lost_end LazyPrepare t step None = refl
+lost_end EarlyEnd t step None = refl
+lost_end TwoTries t step None = refl
+
+-- an outcome or an acknowledgement is lost, or the participant can't force its commit record
+pub lost : (v : Variant) (w : Work) (r : Run) (t : Tally) (step : Step) (i : ℕ) (l : AllLogs)
+    → Due v w r (after_commit_to w (unacknowledged t) i) (end_unless v (at_step t step) false (next_of i w.participants)) l → Told v w r t i l false
+lost v w r t step i l k = subst (λ (x : Option Write). Due v w r (after_commit_to w (unacknowledged t) i) x l) (lost_end v t step (next_of i w.participants)) k
+
+pub acknowledged : (v : Variant) (w : Work) (r : Run) (t : Tally) (i : ℕ) (l : AllLogs) (result : Result Bool Cut) (halted : Type 0)
+    → Leads result (λ goes. Answered v w r (at_step t (SendAck i)) l goes) halted → Leads result (λ goes. Told v w r t i l goes) halted
+acknowledged v w r t i l (Ok true) halted k = subst (λ (x : Option Write). Due v w r (after_commit_to w t i) x l) (same_end v t (SendAck i) t.acknowledged (next_of i w.participants)) k
+acknowledged v w r t i l (Ok false) halted k = lost v w r t (SendAck i) i l k
+acknowledged v w r t i l (Err cut) halted k = k
+
+-- ---- one after another
+
+none_of : (i count : ℕ) → count ≤ i → one_of i count ≡ None
+none_of i count h = ap (λ (b : Bool). cond b (Some i) None) (le-ltb i count h)
+
+pub some_of : (i count : ℕ) → i < count → one_of i count ≡ Some i
+some_of i count h = ap (λ (b : Bool). cond b (Some i) None) (lt-ltb i count h)
+
+-- the end of so many
+pub at_end : (v : Variant) (w : Work) (r : Run) (to : Option ℕ → Tally) (write : Option ℕ → Option Write) (l : AllLogs) (i count : ℕ) → count ≤ i
+    → Due v w r (to (one_of i count)) (write (one_of i count)) l → Due v w r (to None) (write None) l
+at_end v w r to write l i count h k = subst (λ (o : Option ℕ). Due v w r (to o) (write o) l) (none_of i count h) k
+
+pub ended_by : (v : Variant) (w : Work) (r : Run) (t : Tally) (write : Option Write) (l l' : AllLogs) → Due v w r t write l → (x : Write) → Some x ≡ write → AddsEvent l l' (Written x) → Stands v w r t l'
+ended_by v w r t write l l' k x is adds = written v w r t x l l' (subst (λ (o : Option Write). Due v w r t o l) (sym is) k) x refl adds
+
+-- the next transaction, and the end of them
+pub next_begun : (v : Variant) (w : Work) (r : Run) (t : Tally) (l : AllLogs) → t.begun < length w.transactions → Stands v w r (begun w t) l → Stands v w r (at_step (opened t) (SendPrepare 0)) l
+next_begun v w r t l h k = subst (λ (b : Bool). Stands v w r (cond b (at_step (opened t) (SendPrepare 0)) (at_step t Over)) l) (lt-ltb t.begun (length w.transactions) h) k
+
+pub all_begun : (v : Variant) (w : Work) (r : Run) (t : Tally) (l : AllLogs) → length w.transactions ≤ t.begun → Stands v w r (begun w t) l → Ended v w r (at_step t Over) l
+all_begun v w r t l h k =
+    let over = subst (λ (b : Bool). Stands v w r (cond b (at_step (opened t) (SendPrepare 0)) (at_step t Over)) l) (le-ltb t.begun (length w.transactions) h) k in
+    record { events = over.events; reached = over.here.reached; written = over.written }

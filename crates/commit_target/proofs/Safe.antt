@@ -17,12 +17,10 @@ use Rattle.commit_target.specs.declared.records.Kind.TheVariants as kind
 use Rattle.commit_target.specs.declared.records.Party.TheVariants.{Coordinator, Participant}
 use Rattle.commit_target.specs.declared.records.Write.{Write}
 use Rattle.commit_target.specs.declared.records.Write.TheVariants.{Append, Force}
-use Rattle.commit_target.specs.declared.step.Step.{Step}
-use Rattle.commit_target.specs.declared.step.Step.TheVariants.{SendPrepare, ForcePrepare, SendVote, ForceCommit, ForceCommitAgain, SendCommit, ForceOutcome, SendAck, SendAbort, Over}
 use Rattle.commit_target.specs.Work.{Work, wish}
 use Rattle.commit_target.specs.Writes.{Event, Written}
 use Rattle.commit_target.specs.Judgement.{was_told}
-use Rattle.commit_target.specs.Steps.{Tally, State, number, at_step, with_yes, unacknowledged, with_told, first_of, next_of, begun, commit_to, abort_to, aborted, decided, prepare_to, after_vote, vote_step, entry, end_if, end_unless, go_write, return_write, with_write, on_go, on_return, stepped, before_all, start_of, laid, point_at, judged_at, asks_of}
+use Rattle.commit_target.specs.Steps.{Step, SendPrepare, ForcePrepare, SendVote, ForceCommit, ForceCommitAgain, SendCommit, ForceOutcome, SendAck, SendAbort, Over, Tally, State, number, at_step, with_yes, unacknowledged, with_told, first_of, next_of, opened, begun, commit_to, abort_to, aborted, decided, prepare_to, after_vote, vote_step, entry, end_if, end_unless, go_write, return_write, with_write, on_go, on_return, stepped, before_all, start_of, laid, point_at, judged_at, asks_of}
 use Rattle.commit_target.proofs.Logged.{decides, holds, entry_of, is_entry, other_transaction, other_kind, decides_stays, decides_spared, decided as forced_decision, held}
 use Rattle.commit_target.proofs.Agreeing.{AllHold, NoneHolds, Committed, Undecided, Settled, Open, all_stay, none_stay, undecided_stay, open_stay, settled_stay, all_kept}
 
@@ -137,11 +135,11 @@ settled_all p told count es b now k below = in_case (k == count - 1) refl
 one_later : (n : ℕ) → n ≡ n + 1 - 1
 one_later n = omega arith
 
-abbrev pub opened : Tally → Tally
-opened t = record { step = SendPrepare 0; begun = t.begun + 1; yes = []; acknowledged = true; told = t.told }
+abbrev pub first_asked : Tally → Tally
+first_asked t = at_step (opened t) (SendPrepare 0)
 
 begun_safe : (w : Work) → 1 ≤ w.participants → (t : Tally) (es : List Event) → ((k : ℕ) → k < t.begun → Settled w.participants es k (was_told t.told k))
-    → ((k : ℕ) → t.begun ≤ k → Open es k × (was_told t.told k ≡ false)) → Safe w (state (opened t) es)
+    → ((k : ℕ) → t.begun ≤ k → Open es k × (was_told t.told k ≡ false)) → Safe w (state (first_asked t) es)
 begun_safe w some t es before after = record {
   base = record { some = omega arith; earlier = λ k h. before k (omega arith); later = λ k h. after k (omega arith) };
   step = (
@@ -159,7 +157,7 @@ next_safe : (w : Work) → 1 ≤ w.participants → (t : Tally) (es : List Event
     → Settled w.participants es (number t) (was_told t.told (number t)) → Safe w (state (begun w t) es)
 next_safe w some t es b now = in_case (nat_lt t.begun (length w.transactions))
   where
-    in_case : (more : Bool) → Safe w (state (cond more (opened t) (at_step t Over)) es)
+    in_case : (more : Bool) → Safe w (state (cond more (first_asked t) (at_step t Over)) es)
     in_case true = begun_safe w some t es (settled_all w.participants t.told t.begun es b now) b.later
     in_case false = record { base = b; step = now }
 
@@ -405,7 +403,7 @@ abbrev Before : Step → Work → Tally → List Event → Type 0
 Before step w t es = StepSafe step w.participants (number t) t.told t.yes t.acknowledged es
 
 go_safe : (w : Work) → 1 ≤ w.participants → (t : Tally) (es : List Event) (step : Step) → Stands w t es → Before step w t es
-    → Safe w (state (on_go Sound w t step) (with_write (go_write Sound w t step) es))
+    → Safe w (state (on_go w t step) (with_write (go_write Sound w t step) es))
 go_safe w some t es (SendPrepare i) b r = wish_safe w (wish w (number t) i) t es i r.0 b r.1
 go_safe w some t es (ForcePrepare i) b r = prepared_safe w t es i r.0 b r.1
 go_safe w some t es (SendVote i Yes) b r = vote_safe w some (with_yes t i) es i r.0 b (polled_yes (number t) t.told t.yes i es r.1.0 r.1.1)
@@ -474,9 +472,9 @@ safe_settled w s k safe = in_case (nat_lt k s.tally.begun) refl
 pub all_settled : (w : Work) → 1 ≤ w.participants → (answers : List Reply) (k : ℕ) → SettledAt w k (laid Sound w (start_of w) answers)
 all_settled w some answers k = in_case (nat_lt 0 (length w.transactions))
   where
-    in_case : (more : Bool) → SettledAt w k (laid Sound w (state (cond more (opened before_all) (at_step before_all Over)) []) answers)
+    in_case : (more : Bool) → SettledAt w k (laid Sound w (state (cond more (first_asked before_all) (at_step before_all Over)) []) answers)
     in_case true =
-        let first = state (opened before_all) [] in
+        let first = state (first_asked before_all) [] in
         let begins = begun_safe w some before_all [] (λ i h. absurd (none_below i h)) (λ i h. nothing_open i) in
         safe_settled w (laid Sound w first answers) k (laid_safe w some first answers begins)
     in_case false = subst (SettledAt w k) (sym (laid_none w answers)) (nothing_open k).0.undecided

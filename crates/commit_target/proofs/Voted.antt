@@ -8,13 +8,11 @@ use Rattle.commit_target.specs.declared.work.Vote.{Vote}
 use Rattle.commit_target.specs.declared.work.Vote.TheVariants.{Yes, No}
 use Rattle.commit_target.specs.declared.records.Kind.TheVariants as kind
 use Rattle.commit_target.specs.declared.records.Write.{Write}
-use Rattle.commit_target.specs.declared.step.Step.{Step}
-use Rattle.commit_target.specs.declared.step.Step.TheVariants.{SendPrepare, ForcePrepare, SendVote, ForceCommit, ForceCommitAgain, SendCommit, ForceOutcome, SendAck, SendAbort, Over}
 use Rattle.commit_target.specs.Work.{Work, wish}
 use Rattle.commit_target.specs.Writes.{Event}
-use Rattle.commit_target.specs.Steps.{Tally, State, number, at_step, with_yes, unacknowledged, first_of, next_of, begun, commit_to, abort_to, aborted, decided, prepare_to, vote_step, entry, go_write, return_write, with_write, on_go, on_return, stepped, before_all, start_of, laid}
+use Rattle.commit_target.specs.Steps.{Step, SendPrepare, ForcePrepare, SendVote, ForceCommit, ForceCommitAgain, SendCommit, ForceOutcome, SendAck, SendAbort, Over, Tally, State, number, at_step, with_yes, unacknowledged, first_of, next_of, begun, commit_to, abort_to, aborted, decided, prepare_to, vote_step, entry, go_write, return_write, with_write, on_go, on_return, stepped, before_all, start_of, laid}
 use Rattle.commit_target.proofs.Logged.{holds, is_entry, holds_stays, held}
-use Rattle.commit_target.proofs.Safe.{state, opened}
+use Rattle.commit_target.proofs.Safe.{state, first_asked}
 
 -- this participant has forced its prepare record, and each of these has
 abbrev Has : List Event → ℕ → ℕ → Type 0
@@ -48,8 +46,8 @@ stay (Some w) es c ns h = λ k d below. holds_stays w es (slice_index_or ns k d)
 begun_voted : (w : Work) (t : Tally) (es : List Event) → Prepared es (number t) t.yes → Voted (state (begun w t) es)
 begun_voted w t es h = in_case (nat_lt t.begun (length w.transactions))
   where
-    in_case : (more : Bool) → Voted (state (cond more (opened t) (at_step t Over)) es)
-    in_case true = record { voters = All-nil (Has es (number (opened t))); mine = tt }
+    in_case : (more : Bool) → Voted (state (cond more (first_asked t) (at_step t Over)) es)
+    in_case true = record { voters = All-nil (Has es (number (first_asked t))); mine = tt }
     in_case false = record { voters = h; mine = tt }
 
 commit_voted : (w : Work) (t : Tally) (es : List Event) (next : Option ℕ) → Prepared es (number t) t.yes → Voted (state (commit_to w t next) es)
@@ -76,7 +74,7 @@ wish_voted Yes t es i h = record { voters = h; mine = tt }
 wish_voted No t es i h = record { voters = h; mine = tt }
 
 go_voted : (w : Work) (t : Tally) (es : List Event) (step : Step) → Prepared es (number t) t.yes → Mine step es (number t)
-    → Voted (state (on_go Sound w t step) (with_write (go_write Sound w t step) es))
+    → Voted (state (on_go w t step) (with_write (go_write Sound w t step) es))
 go_voted w t es (SendPrepare i) h m = wish_voted (wish w (number t) i) t es i h
 go_voted w t es (ForcePrepare i) h m = record {
   voters = stay (go_write Sound w t (ForcePrepare i)) es (number t) t.yes h;

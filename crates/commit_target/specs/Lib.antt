@@ -2,6 +2,7 @@ pub mod Words
 pub mod Work
 pub mod Writes
 pub mod Judgement
+pub mod Marks
 pub mod Steps
 pub mod Seen
 pub mod Flaws

@@ -1,19 +1,75 @@
--- What the values of a run say.
-use Rattle.std.specs.Prelude.{◌≡◌, []}
-use Rattle.action_eval.specs.Answers.{Run, replies}
-use Rattle.target_trait.specs.Play.{Follows, IsRunning}
+-- What the values of a run say: how far it has come, and what of it stands in the logs.
+use Rattle.target_trait.proofs.Machine.{gone}
+use Rattle.commit_target.specs.declared.work.Vote.TheVariants.{Yes}
+use Rattle.std.specs.Prelude.{◌<◌, ◌+◌, [], ◌∷◌, ℕ, ◌≡◌, Bool, true, false, List, Option, None, Result, Ok, Err}
+use Rattle.action_eval.specs.Answers.{Run, stopped, rounds}
+use Rattle.target_trait.specs.Machine.{Reached}
+use Rattle.commit_target.specs.declared.cut.Cut.{Cut}
+use Rattle.commit_target.specs.declared.cut.Cut.TheVariants.{Halted, Refused}
 use Rattle.commit_target.specs.declared.variant.Variant.{Variant}
-use Rattle.commit_target.specs.Work.{Work}
-use Rattle.commit_target.specs.Writes.{AllLogs, LogsStandFor}
-use Rattle.commit_target.specs.Steps.{Tally, State, laid, start_of, asks_of, point_at}
+use Rattle.commit_target.specs.declared.records.Write.{Write}
+use Rattle.commit_target.specs.Words.{point_names, send_prepare_point, force_prepare_point, send_vote_point, send_outcome_point, force_outcome_point, send_ack_point}
+use Rattle.commit_target.specs.Work.{Work, wish}
+use Rattle.commit_target.specs.Writes.{Event, AllLogs, LogsStandFor}
+use Rattle.commit_target.specs.Steps.{commit_to, end_unless, one_of, prepare_to, Tally, State, machine, on_go, on_return, go_write, return_write, with_write}
 
--- the code has come this far
-pub record Shows (w : Work) (s : State) (t : Tally) (logs : AllLogs) : Type 0 where
-  pub tally : t ≡ s.tally
-  pub written : LogsStandFor w.participants logs s.events
+-- what is so where a run was halted; where memory was refused, nothing is said
+abbrev pub OnCut : Cut → Type 0 → Type 0
+OnCut Halted halted = halted
+OnCut Refused halted = Unit {0}
 
--- the steps laid against the answers of a run have come this far
-pub record Played (v : Variant) (w : Work) (r : Run) (t : Tally) (logs : AllLogs) : Type 0 where
-  pub asked : Follows (asks_of v w) r.given [] r.hits
-  pub shows : Shows w (laid v w (start_of w) (replies r)) t logs
-  pub running : IsRunning (point_at t.step) r
+abbrev pub Leads : {X : Type 0} → Result X Cut → (X → Type 0) → Type 0 → Type 0
+Leads (Ok x) on halted = on x
+Leads (Err cut) on halted = OnCut cut halted
+
+-- a run that nothing has stopped has come to this state
+pub record Here (v : Variant) (w : Work) (r : Run) (s : State) : Type 0 where
+  pub points : r.given.catalogue ≡ point_names
+  pub running : stopped r ≡ None
+  pub reached : Reached (machine v w) r s
+
+-- the steps have come this far, and the logs too, but for this write
+pub record Due (v : Variant) (w : Work) (r : Run) (t : Tally) (write : Option Write) (logs : AllLogs) : Type 0 where
+  pub events : List Event
+  pub here : Here v w r (record { tally = t; events = with_write write events })
+  pub written : LogsStandFor w.participants logs events
+
+abbrev pub Stands : Variant → Work → Run → Tally → AllLogs → Type 0
+Stands v w r t logs = Due v w r t None logs
+
+-- the run is over, with this tally
+pub record Ended (v : Variant) (w : Work) (r : Run) (t : Tally) (logs : AllLogs) : Type 0 where
+  pub events : List Event
+  pub reached : Reached (machine v w) r (record { tally = t; events = events })
+  pub written : LogsStandFor w.participants logs events
+
+-- what an answer leads to: to go on, or that what was asked fails
+abbrev pub Answered : Variant → Work → Run → Tally → AllLogs → Bool → Type 0
+Answered v w r t logs true = Due v w r (on_go w t t.step) (go_write v w t t.step) logs
+Answered v w r t logs false = Due v w r (on_return v w t t.step) (return_write v w t t.step) logs
+
+-- so many rounds of these points have been answered to go on, from a state of which nothing stands in the logs yet
+pub record Passing (v : Variant) (w : Work) (r : Run) (points : List ℕ) (left : ℕ) (at : List Event → State) (logs : AllLogs) : Type 0 where
+  pub events : List Event
+  pub here : Here v w r (gone (machine v w) (at events) (rounds left points))
+  pub written : LogsStandFor w.participants logs events
+
+-- a participant is asked to prepare next, or the votes are in
+abbrev pub at_vote : Work → Tally → ℕ → List Event → State
+at_vote w t i es = record { tally = prepare_to w t (one_of i w.participants); events = es }
+
+-- these participants, so many from one on, wish yes
+abbrev pub WishYes : Work → ℕ → ℕ → ℕ → Type 0
+WishYes w transaction first count = (k : ℕ) → k < count → wish w transaction (first + k) ≡ Yes
+
+-- the points of a participant that wishes yes
+abbrev pub vote_points : List ℕ
+vote_points = send_prepare_point ∷ force_prepare_point ∷ send_vote_point ∷ []
+
+-- a participant is told of the commit next, or the coordinator has ended it, but for its record
+abbrev pub at_commit : Variant → Work → Tally → ℕ → List Event → State
+at_commit v w t i es = record { tally = commit_to w t (one_of i w.participants); events = with_write (end_unless v t t.acknowledged (one_of i w.participants)) es }
+
+-- the points of a participant that is told of the commit
+abbrev pub commit_points : List ℕ
+commit_points = send_outcome_point ∷ force_outcome_point ∷ send_ack_point ∷ []

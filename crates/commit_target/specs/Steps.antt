@@ -1,11 +1,13 @@
 -- The steps of a run, laid against the list of answers: what is asked, what each answer writes and where it leads. The protocol is
 -- two-phase commit with presumed abort: a yes is sent on a forced prepare record, the decision to commit is a forced commit record, a
 -- commit is acknowledged and then ended, and an abort is neither recorded by the coordinator nor acknowledged.
-use Rattle.std.specs.Prelude.{ℕ, ◌+◌, ◌-◌, ◌==◌, nat_lt, if◌then◌else◌, Bool, true, false, List, [], ◌∷◌, ◌++◌, Option, Some, None, length, slice_index_or}
+use Rattle.std.specs.Prelude.{◌≡◌, ℕ, ◌+◌, ◌-◌, ◌==◌, nat_lt, if◌then◌else◌, Bool, true, false, List, [], ◌∷◌, ◌++◌, Option, Some, None, length, slice_index_or}
 use Rattle.action_eval.specs.Answers.{Reply, Go, Return, Halt}
 use Rattle.target_trait.specs.declared.judgement.Judgement.{Judgement}
+use Rattle.target_trait.specs.Machine.{Machine, led, asks_by}
 use Rattle.target_trait.specs.Play.{Move, move_by, IsWithin, IsDone}
-use Rattle.std.proofs.Common.{arith}
+use Rattle.target_trait.proofs.Machine.{within_by, halts_by}
+use Rattle.std.proofs.Common.{arith, refl, ap, sym, subst}
 use Rattle.commit_target.specs.declared.variant.Variant.{Variant}
 use Rattle.commit_target.specs.declared.variant.Variant.TheVariants.{Sound, LazyPrepare, EarlyEnd, TwoTries}
 use Rattle.commit_target.specs.declared.work.Vote.{Vote}
@@ -16,12 +18,33 @@ use Rattle.commit_target.specs.declared.records.Kind.TheVariants as kind
 use Rattle.commit_target.specs.declared.records.Party.TheVariants.{Coordinator, Participant}
 use Rattle.commit_target.specs.declared.records.Write.{Write}
 use Rattle.commit_target.specs.declared.records.Write.TheVariants.{Append, Force}
-use Rattle.commit_target.specs.declared.step.Step.{Step}
-use Rattle.commit_target.specs.declared.step.Step.TheVariants.{SendPrepare, ForcePrepare, SendVote, ForceCommit, ForceCommitAgain, SendCommit, ForceOutcome, SendAck, SendAbort, Over}
 use Rattle.commit_target.specs.Words.{send_prepare_point, force_prepare_point, send_vote_point, force_commit_point, send_outcome_point, force_outcome_point, send_ack_point}
 use Rattle.commit_target.specs.Work.{Work, wish}
 use Rattle.commit_target.specs.Writes.{Event, Written}
 use Rattle.commit_target.specs.Judgement.{judged}
+
+-- the step whose question comes next; participants are numbered from 0
+pub data Step : Type 0 where
+  -- the coordinator asks the participant to prepare
+  SendPrepare : ℕ → Step
+  -- the participant writes its prepare record
+  ForcePrepare : ℕ → Step
+  -- the participant sends this vote
+  SendVote : ℕ → Vote → Step
+  -- every yes arrived: the coordinator forces the commit record
+  ForceCommit : Step
+  -- it tries once more
+  ForceCommitAgain : Step
+  -- the coordinator tells the participant that the transaction is committed
+  SendCommit : ℕ → Step
+  -- the participant forces its commit record
+  ForceOutcome : ℕ → Step
+  -- the participant acknowledges
+  SendAck : ℕ → Step
+  -- the coordinator tells the participant at this place, among those whose yes arrived, that the transaction is aborted
+  SendAbort : ℕ → Step
+  -- nothing more is asked
+  Over : Step
 
 -- how far the transactions have come
 pub record Tally : Type 0 where
@@ -58,21 +81,25 @@ unacknowledged t = record { step = t.step; begun = t.begun; yes = t.yes; acknowl
 abbrev pub with_told : Tally → Tally
 with_told t = record { step = t.step; begun = t.begun; yes = t.yes; acknowledged = t.acknowledged; told = t.told ++ number t ∷ [] }
 
--- the first of so many, and the one after another of them
+-- one of so many, where it is one of them; the first of them, and the one after another
+abbrev pub one_of : ℕ → ℕ → Option ℕ
+one_of i count = if nat_lt i count then Some i else None
+
 abbrev pub first_of : ℕ → Option ℕ
-first_of count = if nat_lt 0 count then Some 0 else None
+first_of count = one_of 0 count
 
 abbrev pub next_of : ℕ → ℕ → Option ℕ
-next_of i count = if nat_lt (i + 1) count then Some (i + 1) else None
+next_of i count = one_of (i + 1) count
 
 -- ---- between transactions
 
+-- one transaction more is begun
+abbrev pub opened : Tally → Tally
+opened t = record { step = t.step; begun = t.begun + 1; yes = []; acknowledged = true; told = t.told }
+
 -- the next transaction is begun, if there is one: its question is the next
 abbrev pub begun : Work → Tally → Tally
-begun w t =
-    if nat_lt t.begun (length w.transactions)
-    then record { step = SendPrepare 0; begun = t.begun + 1; yes = []; acknowledged = true; told = t.told }
-    else at_step t Over
+begun w t = if nat_lt t.begun (length w.transactions) then at_step (opened t) (SendPrepare 0) else at_step t Over
 
 -- ---- the second phase
 
@@ -132,17 +159,17 @@ after_no_commit TwoTries w t = at_step t ForceCommitAgain
 -- ---- the table of steps
 
 -- where a step leads that was answered to go on
-abbrev pub on_go : Variant → Work → Tally → Step → Tally
-on_go v w t (SendPrepare i) = at_step t (vote_step (wish w (number t) i) i)
-on_go v w t (ForcePrepare i) = at_step t (SendVote i Yes)
-on_go v w t (SendVote i vote) = after_vote w (with_vote t i vote) i
-on_go v w t ForceCommit = committed t
-on_go v w t ForceCommitAgain = committed t
-on_go v w t (SendCommit i) = at_step t (ForceOutcome i)
-on_go v w t (ForceOutcome i) = at_step t (SendAck i)
-on_go v w t (SendAck i) = after_commit_to w t i
-on_go v w t (SendAbort k) = after_abort_to w t k
-on_go v w t Over = at_step t Over
+abbrev pub on_go : Work → Tally → Step → Tally
+on_go w t (SendPrepare i) = at_step t (vote_step (wish w (number t) i) i)
+on_go w t (ForcePrepare i) = at_step t (SendVote i Yes)
+on_go w t (SendVote i vote) = after_vote w (with_vote t i vote) i
+on_go w t ForceCommit = committed t
+on_go w t ForceCommitAgain = committed t
+on_go w t (SendCommit i) = at_step t (ForceOutcome i)
+on_go w t (ForceOutcome i) = at_step t (SendAck i)
+on_go w t (SendAck i) = after_commit_to w t i
+on_go w t (SendAbort k) = after_abort_to w t k
+on_go w t Over = at_step t Over
 
 -- where it leads where it was answered that it fails. What was sent is lost, and a participant that can't prepare votes no. After its
 -- second try two_tries goes on as if the commit record stood
@@ -217,7 +244,7 @@ with_write (Some w) es = Written w ∷ es
 
 -- after a halt nothing is done or asked
 abbrev pub stepped : Variant → Work → State → Reply → State
-stepped v w s Go = record { tally = on_go v w s.tally s.tally.step; events = with_write (go_write v w s.tally s.tally.step) s.events }
+stepped v w s Go = record { tally = on_go w s.tally s.tally.step; events = with_write (go_write v w s.tally s.tally.step) s.events }
 stepped v w s (Return text) = record { tally = on_return v w s.tally s.tally.step; events = with_write (return_write v w s.tally s.tally.step) s.events }
 stepped v w s Halt = record { tally = at_step s.tally Over; events = s.events }
 
@@ -226,10 +253,6 @@ before_all = record { step = Over; begun = 0; yes = []; acknowledged = true; tol
 
 abbrev pub start_of : Work → State
 start_of w = record { tally = begun w before_all; events = [] }
-
-abbrev pub laid : Variant → Work → State → List Reply → State
-laid v w s [] = s
-laid v w s (a ∷ as') = laid v w (stepped v w s a) as'
 
 -- the point that a step asks
 abbrev pub point_at : Step → Option ℕ
@@ -250,9 +273,15 @@ judged_at w s = judged w.participants s.tally.told s.events s.tally.begun
 abbrev pub move_of : Work → State → Move
 move_of w s = move_by (judged_at w s) (point_at s.tally.step)
 
--- what is asked after these answers
+-- the steps as a machine, what is asked after these answers, and how far the answers lead from a state
+abbrev pub machine : Variant → Work → Machine State
+machine v w = record { first = start_of w; step = stepped v w; move = move_of w }
+
 abbrev pub asks_of : Variant → Work → List Reply → Move
-asks_of v w answers = move_of w (laid v w (start_of w) answers)
+asks_of v w = asks_by (machine v w)
+
+abbrev pub laid : Variant → Work → State → List Reply → State
+laid v w s answers = led (machine v w) s answers
 
 -- ---- laws
 
@@ -270,18 +299,17 @@ step_within j Over = tt
 
 -- each question is of one of the seven points
 pub asks-within : (v : Variant) (w : Work) (answers : List Reply) → IsWithin 7 (asks_of v w answers)
-asks-within v w answers = let s = laid v w (start_of w) answers in step_within (judged_at w s) s.tally.step
+asks-within v w answers = within_by (machine v w) 7 (λ s. step_within (judged_at w s) s.tally.step) answers
 
-over_stays : (v : Variant) (w : Work) (t : Tally) (es : List Event) (answers : List Reply) → IsDone (move_of w (laid v w (record { tally = at_step t Over; events = es }) answers))
-over_stays v w t es [] = tt
-over_stays v w t es (Go ∷ answers) = over_stays v w t es answers
-over_stays v w t es (Return text ∷ answers) = over_stays v w t es answers
-over_stays v w t es (Halt ∷ answers) = over_stays v w t es answers
+over_done : (j : Judgement) (step : Step) → step ≡ Over → IsDone (move_by j (point_at step))
+over_done j step e = subst (λ (x : Step). IsDone (move_by j (point_at x))) (sym e) tt
 
-halt_ends : (v : Variant) (w : Work) (s : State) (before after : List Reply) → IsDone (move_of w (laid v w s (before ++ Halt ∷ after)))
-halt_ends v w s [] after = over_stays v w s.tally s.events after
-halt_ends v w s (a ∷ before) after = halt_ends v w (stepped v w s a) before after
+over_stays : (v : Variant) (w : Work) (s : State) (a : Reply) → s.tally.step ≡ Over → (stepped v w s a).tally.step ≡ Over
+over_stays v w s Go e = ap (λ (x : Step). (on_go w s.tally x).step) e
+over_stays v w s (Return text) e = ap (λ (x : Step). (on_return v w s.tally x).step) e
+over_stays v w s Halt e = refl
 
 -- no question follows a halt
 pub asks-halts : (v : Variant) (w : Work) (before after : List Reply) → IsDone (asks_of v w (before ++ Halt ∷ after))
-asks-halts v w before after = halt_ends v w (start_of w) before after
+asks-halts v w before after =
+    halts_by (machine v w) (λ s. s.tally.step ≡ Over) (record { done = λ s. over_done (judged_at w s) s.tally.step; stays = over_stays v w; halts = λ s. refl }) before after

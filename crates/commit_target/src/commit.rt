@@ -10,6 +10,7 @@ ghost use Rattle.commit_target.specs.Steps.{asks_of, asks-within, asks-halts};
 use crate::judge::{LOST, SPLIT};
 use crate::logs::Logs;
 use crate::play::play;
+use crate::progress::Progress;
 use crate::variant::Variant;
 use crate::work::Transactions;
 use std::alloc::{AllocError, Global};
@@ -21,12 +22,13 @@ use target_trait::{Judgement, Session, Target};
 /// A run does the transactions of its workload one after another, with one coordinator and the workload's participants, each with a log of
 /// its own. At the end all restart. Each participant then must have ended each transaction as all others did, and as the client was told.
 ///
-/// The logs are kept from run to run for their memory alone: each run clears them first.
+/// The logs and the progress are kept from run to run for their memory alone: each run clears them first.
 #[derive(Drop)]
 pub struct Commit {
     alloc: Global,
     variant: Variant,
     logs: Logs,
+    progress: Progress,
 }
 
 impl Model for Commit {
@@ -46,6 +48,7 @@ impl Commit {
             alloc,
             variant,
             logs: Logs::new(alloc),
+            progress: Progress::new(alloc),
         }
     }
 }
@@ -109,7 +112,13 @@ impl Target for Commit {
         // Presumed abort is kept, whatever fails.
         ensures sound { self.old ≡ Sound → IfOk result (λ judgement. judgement ≡ Kept) }
     {
-        play(self.alloc, self.variant, workload, &mut self.logs, session)
+        play(
+            self.variant,
+            workload,
+            &mut self.progress,
+            &mut self.logs,
+            session,
+        )
     }
 
     ghost within = { asks-within };

@@ -1,11 +1,12 @@
-ghost use Rattle.std.specs.Prelude.{◌≡◌, ◌<◌, ◌∷◌, ℕ, List};
-ghost use Rattle.commit_target.specs.Judgement.{has, answers_commit, is_committed, judged_ends, judged_one, or_then, judged};
-ghost use Rattle.commit_target.specs.Writes.{Event, AllRestart, LogsStandFor, AddsEvent, on_coordinator, on_participant};
-ghost use Rattle.sim_device.specs.FileEffects.{Live};
-ghost use Rattle.sim_device.specs.LogEffects.{records};
+ghost use Rattle.std.specs.Prelude.{◌≡◌, ◌<◌, ◌≤◌, ◌+◌, ◌-◌, ◌∷◌, ℕ, List};
+ghost use Rattle.commit_target.specs.Judgement.{is_committed, judged_ends, or_then, judged};
+ghost use Rattle.commit_target.specs.Marks.{among, AreMarks, EndsOf};
+ghost use Rattle.commit_target.specs.Writes.{Event, AllRestart, LogsStandFor, AddsEvent};
+ghost use Rattle.commit_target.specs.declared.records.Record.{Record};
 
 use crate::logs::Logs;
-use crate::records::{Kind, Record};
+use crate::marks::{Marks, WIDTH, among, set_of};
+use crate::records::Kind;
 use target_trait::Judgement;
 
 /// The code of a transaction that two participants end differently.
@@ -15,33 +16,14 @@ pub const LOST: u32 = 1;
 /// The code of a transaction that all commit though the client was not told so.
 pub const PHANTOM: u32 = 2;
 
-/// Whether a log has a record of this transaction and kind.
-fn has(log: &[Record], transaction: usize, kind: Kind) -> bool
-    ensures { result ≡ has log.now transaction kind }
+/// The transactions that end as committed at the participant with these marks, where the coordinator has those: it inquires of one that it
+/// only prepared.
+fn committed(coordinator: &Marks, own: &Marks) -> u64
+    ensures { (first : ℕ) (log records : List Record) → AreMarks coordinator.now.sets log first → AreMarks own.now.sets records first
+        → (k : ℕ) → k < WIDTH → among result k ≡ is_committed log records (first + k) }
 {
-    log.contains(&Record { transaction, kind })
-}
-
-/// What the coordinator answers to an inquiry.
-fn answers_commit(coordinator: &[Record], transaction: usize) -> bool
-    ensures { result ≡ answers_commit coordinator.now transaction }
-{
-    has(coordinator, transaction, Kind::Commit) && !has(coordinator, transaction, Kind::End)
-}
-
-/// Whether a transaction ends as committed at the participant with this log.
-fn is_committed(coordinator: &[Record], own: &[Record], transaction: usize) -> bool
-    ensures { result ≡ is_committed coordinator.now own.now transaction }
-{
-    if has(own, transaction, Kind::Commit) {
-        true
-    } else if has(own, transaction, Kind::Abort) {
-        false
-    } else if has(own, transaction, Kind::Prepare) {
-        answers_commit(coordinator, transaction)
-    } else {
-        false
-    }
+    let answers = coordinator.with(Kind::Commit) & !coordinator.with(Kind::End);
+    own.with(Kind::Commit) | own.with(Kind::Prepare) & !own.with(Kind::Abort) & answers
 }
 
 /// The judgement of a transaction, by whether one participant committed it, whether one aborted it, and whether the client was told.
@@ -56,45 +38,71 @@ fn judged_ends(committed: bool, aborted: bool, told: bool) -> Judgement
     }
 }
 
-/// Whether a transaction ends as committed at a participant.
-fn ends_committed(logs: &Logs, participant: usize, transaction: usize) -> bool
-    ensures { (count : ℕ) (es : List Event) → LogsStandFor count logs.now es → participant < count →
-        result ≡ is_committed (records (on_coordinator es) Live) (records (on_participant es participant) Live) transaction }
-{
-    is_committed(
-        logs.coordinator(),
-        logs.participant(participant),
-        transaction,
-    )
+/// How transactions in a row end, from a first one on: which a participant commits, which one aborts, and of which the client was told.
+#[derive(Clone, Copy)]
+struct Ends {
+    first: usize,
+    committed: u64,
+    aborted: u64,
+    told: u64,
 }
 
-/// The judgement of a transaction, where all parties have restarted.
-fn judged_one(logs: &Logs, participants: usize, told: &[usize], transaction: usize) -> Judgement
-    ensures { (es : List Event) → LogsStandFor participants logs.now (AllRestart ∷ es) → result ≡ judged_one participants told.now es transaction }
-{
-    let mut committed = false;
-    let mut aborted = false;
-    for participant in 0..participants {
-        let is_committed = ends_committed(logs, participant, transaction);
-        committed |= is_committed;
-        aborted |= !is_committed;
+impl Ends {
+    /// How those from the first one on end, where all parties have restarted.
+    fn from(logs: &Logs, participants: usize, told: &[usize], first: usize) -> Ends
+        ensures first { result.first ≡ first }
+        ensures ends { (es : List Event) → LogsStandFor participants logs.now (AllRestart ∷ es) → EndsOf participants told.now es result }
+    {
+        let coordinator = Marks::of(logs.coordinator(), first);
+        let mut committed_by = 0;
+        let mut aborted_by = 0;
+        for participant in 0..participants {
+            let ends = committed(
+                &coordinator,
+                &Marks::of(logs.participant(participant), first),
+            );
+            committed_by |= ends;
+            aborted_by |= !ends;
+        }
+        Ends {
+            first,
+            committed: committed_by,
+            aborted: aborted_by,
+            told: set_of(told, first),
+        }
     }
-    judged_ends(committed, aborted, told.contains(&transaction))
-}
 
-/// The judgement of a transaction, after that of those before it: what was broken first stays so.
-fn judged_next(
-    judgement: Judgement,
-    logs: &Logs,
-    participants: usize,
-    told: &[usize],
-    transaction: usize,
-) -> Judgement
-    ensures { (es : List Event) → LogsStandFor participants logs.now (AllRestart ∷ es) → result ≡ or_then judgement (judged_one participants told.now es transaction) }
-{
-    match judgement {
-        Judgement::Kept => judged_one(logs, participants, told, transaction),
-        Judgement::Broken(_) => judgement,
+    /// These, where the transaction is among them, and otherwise those from it on.
+    fn reach(self, logs: &Logs, participants: usize, told: &[usize], transaction: usize) -> Ends
+        requires { self.first ≤ transaction }
+        ensures from { result.first ≤ transaction }
+        ensures within { transaction < result.first + WIDTH }
+        ensures ends { (es : List Event) → LogsStandFor participants logs.now (AllRestart ∷ es)
+            → EndsOf participants told.now es self → EndsOf participants told.now es result }
+    {
+        if transaction - self.first < WIDTH {
+            self
+        } else {
+            Ends::from(logs, participants, told, transaction)
+        }
+    }
+
+    /// The judgement of a transaction that is among these, after that of those before it: what was broken first stays so.
+    fn judged(&self, judgement: Judgement, transaction: usize) -> Judgement
+        requires from { self.now.first ≤ transaction }
+        requires within { transaction < self.now.first + WIDTH }
+        ensures { let place = transaction - self.now.first in
+            result ≡ or_then judgement (judged_ends (among self.now.committed place) (among self.now.aborted place) (among self.now.told place)) }
+    {
+        let place = transaction - self.first;
+        match judgement {
+            Judgement::Kept => judged_ends(
+                among(self.committed, place),
+                among(self.aborted, place),
+                among(self.told, place),
+            ),
+            Judgement::Broken(_) => judgement,
+        }
     }
 }
 
@@ -104,9 +112,11 @@ pub fn judge(logs: &mut Logs, participants: usize, told: &[usize], begun: usize)
     ensures restarted { AddsEvent logs.old logs.new AllRestart }
 {
     logs.restart();
+    let mut ends = Ends::from(logs, participants, told, 0);
     let mut judgement = Judgement::Kept;
     for transaction in 0..begun {
-        judgement = judged_next(judgement, logs, participants, told, transaction);
+        ends = ends.reach(logs, participants, told, transaction);
+        judgement = ends.judged(judgement, transaction);
     }
     judgement
 }

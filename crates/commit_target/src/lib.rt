@@ -2,14 +2,18 @@
 #![tactic(auto)]
 
 mod commit;
+mod cut;
 mod judge;
 mod laws;
 mod logs;
+mod marks;
+mod outcomes;
 mod play;
+mod points;
 mod progress;
 mod records;
-mod step;
 mod variant;
+mod votes;
 mod work;
 
 pub use commit::Commit;

@@ -79,6 +79,7 @@ impl Logs {
     }
 
     /// Adds a record to the log of a party, which does not last yet. A participant without a log writes nothing.
+    #[inline(always)]
     fn append(&mut self, party: Party, entry: Record) -> Result<(), AllocError>
         ensures ok { OnOk result (AddsEvent self.old self.new (Written (write.Append party entry))) }
         ensures err { OnErr result (self.new ≡ self.old) }
@@ -93,6 +94,7 @@ impl Logs {
     }
 
     /// Adds a record to the log of a party, and all there lasts. A participant without a log writes nothing.
+    #[inline(always)]
     fn force(&mut self, party: Party, entry: Record) -> Result<(), AllocError>
         ensures ok { OnOk result (AddsEvent self.old self.new (Written (write.Force party entry))) }
         ensures err { OnErr result (self.new ≡ self.old) }
@@ -109,6 +111,7 @@ impl Logs {
     /// Does a write. A participant without a log writes nothing.
     ///
     /// An error means that memory was refused. The logs are as they were.
+    #[inline(always)]
     pub fn write(&mut self, write: Write) -> Result<(), AllocError>
         ensures ok { OnOk result (AddsEvent self.old self.new (Written write)) }
         ensures err { OnErr result (self.new ≡ self.old) }

@@ -1,98 +1,71 @@
-//! A run: question after question, up to the judgement.
-ghost use Rattle.std.specs.Prelude.{◌≡◌, ◌+◌, ◌-◌, ◌<◌, ◌≤◌, ℕ, List, length, IfOk, OnOk, Some};
+//! A run: transaction after transaction, up to the judgement.
+ghost use Rattle.std.specs.Prelude.{◌≡◌, ◌<◌, ◌≤◌, IfOk};
 ghost use Rattle.action_eval.specs.Answers.{start};
 ghost use Rattle.target_trait.specs.Play.{IsPlay};
 ghost use Rattle.commit_target.specs.Words.{point_names};
-ghost use Rattle.commit_target.specs.Writes.{Event, LogsStandFor};
-ghost use Rattle.commit_target.specs.Steps.{asks_of, point_at, with_write};
-ghost use Rattle.commit_target.specs.Seen.{Played};
+ghost use Rattle.commit_target.specs.Steps.{SendPrepare, Over, at_step, begun, asks_of};
+ghost use Rattle.commit_target.specs.Seen.{Leads, Stands, Ended};
 
+use crate::cut::Cut;
 use crate::judge::judge;
 use crate::logs::Logs;
+use crate::outcomes::{commits, tell_abort, tell_commit};
 use crate::progress::Progress;
-use crate::records::Write;
-use crate::step::Step;
 use crate::variant::Variant;
+use crate::votes::votes;
 use crate::work::Transactions;
-use std::alloc::{AllocError, Global};
-use target_trait::{Answer, Judgement, Session};
+use std::alloc::AllocError;
+use target_trait::{Judgement, Session};
 
-// the numbers of the points in the catalogue
-const SEND_PREPARE: u32 = 0;
-
-const FORCE_PREPARE: u32 = 1;
-
-const SEND_VOTE: u32 = 2;
-
-const FORCE_COMMIT: u32 = 3;
-
-const SEND_OUTCOME: u32 = 4;
-
-const FORCE_OUTCOME: u32 = 5;
-
-const SEND_ACK: u32 = 6;
-
-/// The point that a step asks.
-fn point_of(step: Step) -> Option<u32>
-    ensures { result ≡ point_at step }
-{
-    match step {
-        Step::SendPrepare(_) => Some(SEND_PREPARE),
-        Step::ForcePrepare(_) => Some(FORCE_PREPARE),
-        Step::SendVote(_, _) => Some(SEND_VOTE),
-        Step::ForceCommit | Step::ForceCommitAgain => Some(FORCE_COMMIT),
-        Step::SendCommit(_) | Step::SendAbort(_) => Some(SEND_OUTCOME),
-        Step::ForceOutcome(_) => Some(FORCE_OUTCOME),
-        Step::SendAck(_) => Some(SEND_ACK),
-        Step::Over => None,
-    }
-}
-
-/// Does a write, if there is one.
-fn write(logs: &mut Logs, write: Option<Write>) -> Result<(), AllocError>
-    ensures { OnOk result ((count : ℕ) (es : List Event) → LogsStandFor count logs.old es → LogsStandFor count logs.new (with_write write es)) }
-{
-    match write {
-        Some(write) => logs.write(write),
-        None => Ok(()),
-    }
-}
-
-/// Asks one point, and does what its answer says.
-fn ask(
+/// Plays a transaction that was begun.
+fn transaction(
     variant: Variant,
     workload: &Transactions,
-    point: u32,
     progress: &mut Progress,
     logs: &mut Logs,
     session: &mut Session<'_>,
-) -> Result<(), AllocError>
-    requires points { session.old.given.catalogue ≡ point_names }
-    requires next { point_at progress.old.step ≡ Some point }
-    requires played { Played variant workload.now session.old progress.old logs.old }
+) -> Result<(), Cut>
+    requires { Stands variant workload.now session.old (at_step progress.old (SendPrepare 0)) logs.old }
     ensures given { session.new.given ≡ session.old.given }
-    ensures played { OnOk result (Played variant workload.now session.new progress.new logs.new) }
-    ensures nearer { OnOk result (session.new.given.limit + 1 - length session.new.hits < session.old.given.limit + 1 - length session.old.hits) }
+    ensures begun { progress.new.begun ≡ progress.old.begun }
+    ensures led { Leads result (λ _. Stands variant workload.now session.new (begun workload.now progress.new) logs.new)
+        (Ended variant workload.now session.new (at_step progress.new Over) logs.new) }
 {
-    match session.hit(point)? {
-        Answer::Go => {
-            write(logs, progress.go_write(variant, workload))?;
-            progress.go(variant, workload)?;
+    votes(variant, workload, progress, logs, session)?;
+    if progress.voters() == workload.participants() {
+        if commits(variant, workload, progress, logs, session)? {
+            return tell_commit(variant, workload, progress, logs, session);
         }
-        Answer::Return(_) => {
-            write(logs, progress.fail_write(variant, workload))?;
-            progress.fail(variant, workload)?;
-        }
-        Answer::Halt => progress.go_to(Step::Over),
+    }
+    tell_abort(variant, workload, progress, logs, session)
+}
+
+/// Plays the transactions, one after another.
+fn transactions(
+    variant: Variant,
+    workload: &Transactions,
+    progress: &mut Progress,
+    logs: &mut Logs,
+    session: &mut Session<'_>,
+) -> Result<(), Cut>
+    requires none { progress.old.begun ≡ 0 }
+    requires stands { Stands variant workload.now session.old (begun workload.now progress.old) logs.old }
+    ensures given { session.new.given ≡ session.old.given }
+    ensures led { Leads result (λ _. Ended variant workload.now session.new (at_step progress.new Over) logs.new)
+        (Ended variant workload.now session.new (at_step progress.new Over) logs.new) }
+{
+    for _number in 0..workload.len() {
+        progress.begin();
+        transaction(variant, workload, progress, logs, session)?;
     }
     Ok(())
 }
 
 /// Plays a run.
 pub fn play(
-    alloc: Global,
     variant: Variant,
     workload: &Transactions,
+    progress: &mut Progress,
     logs: &mut Logs,
     session: &mut Session<'_>,
 ) -> Result<Judgement, AllocError>
@@ -103,15 +76,14 @@ pub fn play(
     ensures some { 1 ≤ workload.now.participants }
 {
     logs.clear(workload.participants())?;
-    let mut progress = Progress::new(alloc);
-    progress.begin(workload);
-    while let Some(point) = point_of(progress.step()) {
-        ask(variant, workload, point, &mut progress, logs, session)?;
+    progress.clear();
+    match transactions(variant, workload, progress, logs, session) {
+        Ok(()) | Err(Cut::Halted) => Ok(judge(
+            logs,
+            workload.participants(),
+            progress.told(),
+            progress.begun(),
+        )),
+        Err(Cut::Refused) => Err(AllocError),
     }
-    Ok(judge(
-        logs,
-        workload.participants(),
-        progress.told(),
-        progress.begun(),
-    ))
 }

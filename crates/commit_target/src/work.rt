@@ -1,5 +1,6 @@
-ghost use Rattle.std.specs.Prelude.{◌≡◌, ◌≤◌, length, All};
+ghost use Rattle.std.specs.Prelude.{◌≡◌, ◌+◌, ◌≤◌, length, All};
 ghost use Rattle.commit_target.specs.Work.{wish};
+ghost use Rattle.commit_target.specs.Seen.{WishYes};
 
 use std::marker::Model;
 
@@ -101,5 +102,21 @@ impl Transactions {
                 .unwrap_or(Vote::No),
             None => Vote::No,
         }
+    }
+
+    /// How many participants in a row, from this one on, wish yes in a transaction.
+    pub(crate) fn willing(&self, transaction: usize, first: usize) -> usize
+        requires { first ≤ self.now.participants }
+        ensures within { first + result ≤ self.now.participants }
+        ensures yes { WishYes self.now transaction first result }
+    {
+        let all = self.participants;
+        for participant in first..all {
+            match self.wish(transaction, participant) {
+                Vote::Yes => {}
+                Vote::No => return participant - first,
+            }
+        }
+        all - first
     }
 }

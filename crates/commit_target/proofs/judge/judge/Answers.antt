@@ -1,11 +1,20 @@
-use Rattle.std.proofs.Common.{◌∙◌, ap, sym}
-use Rattle.target_trait.specs.declared.judgement.Judgement.{Judgement}
-use Rattle.commit_target.specs.Judgement.{judged_one, or_then}
-use Rattle.commit_target.proofs.Counting.{one_judged}
+use Rattle.std.proofs.Common.{◌∙◌, refl, arith}
+use Rattle.commit_target.proofs.Sets.{next_judged}
 use Rattle.commit_target.proofs.judge.judge.Goals as goal
 
+pub loop-transaction-init : goal.loop-transaction-init
+loop-transaction-init c = record {
+  from = omega arith;
+  ends = λ es h. c.from-ends.ensures.ends es (c.restart.ensures _ es h);
+  so_far = λ es h. refl;
+}
+
 pub loop-transaction-preserved : goal.loop-transaction-preserved
-loop-transaction-preserved c = λ es h.
-    c.judged_next-judgement.ensures es (c.restart.ensures _ es h)
-    ∙ ap (λ (j : Judgement). or_then j (judged_one c.args.participants c.args.told.now es c.loop-transaction.transaction)) (c.loop-transaction.invariant es h)
-    ∙ sym (one_judged c.args.participants c.args.told.now es c.loop-transaction.transaction)
+loop-transaction-preserved c = record {
+  from = omega arith;
+  ends = λ es h. c.reach-ends.ensures.ends es (c.restart.ensures _ es h) (c.loop-transaction.invariant.ends es h);
+  so_far = λ es h.
+      let now = c.reach-ends.ensures.ends es (c.restart.ensures _ es h) (c.loop-transaction.invariant.ends es h) in
+      c.judged-judgement.ensures
+      ∙ next_judged _ _ es _ now _ c.reach-ends.ensures.from c.reach-ends.ensures.within _ (c.loop-transaction.invariant.so_far es h);
+}

@@ -1,0 +1,188 @@
+-- Rounds of points that are answered to go on, one after another.
+use Rattle.std.proofs.Common.{◌≡◌, ◌<◌, ◌≤◌, ℕ, zero, suc, ◌+◌, Bool, true, false, cond, List, ◌∷◌, length, ◌==◌, nat_lt, Option, Some, None, refl, ap, sym, ◌∙◌, subst, arith}
+use Rattle.action_eval.specs.Answers.{Run, Go, AllGo, hits_of, rounds, stopped}
+use Rattle.target_trait.specs.Machine.{Reached, AsksInTurn}
+use Rattle.target_trait.proofs.Machine.{gone, reached_on}
+use Rattle.commit_target.specs.declared.variant.Variant.{Variant}
+use Rattle.commit_target.specs.declared.work.Vote.{Vote}
+use Rattle.commit_target.specs.declared.work.Vote.TheVariants.{Yes}
+use Rattle.commit_target.specs.declared.records.Write.{Write}
+use Rattle.commit_target.specs.declared.records.Kind.TheVariants as kind
+use Rattle.commit_target.specs.declared.records.Party.TheVariants.{Participant}
+use Rattle.commit_target.specs.declared.records.Write.TheVariants.{Force}
+use Rattle.commit_target.specs.Work.{Work, wish}
+use Rattle.commit_target.specs.Writes.{Event, Written, AllLogs, AddsEvent, LogsStandFor}
+use Rattle.commit_target.specs.Steps.{SendCommit, SendAck, commit_to, end_unless, with_write, entry, Step, SendPrepare, ForcePrepare, SendVote, ForceCommit, Over, Tally, State, machine, number, at_step, with_yes, opened, begun, first_of, one_of, abort_to, aborted, prepare_to, vote_step, prepare_write}
+use Rattle.commit_target.specs.Seen.{Due, at_commit, commit_points, Here, Stands, Passing, at_vote, WishYes, vote_points}
+use Rattle.commit_target.proofs.Playing.{same_end, same_prepare, some_of}
+
+-- ---- where the steps lead doesn't depend on the step
+
+begun_step : (w : Work) (t : Tally) (step : Step) → begun w (at_step t step) ≡ begun w t
+begun_step w t step = in_case (nat_lt t.begun (length w.transactions))
+  where
+    in_case : (more : Bool) → cond more (at_step (opened (at_step t step)) (SendPrepare 0)) (at_step (at_step t step) Over) ≡ cond more (at_step (opened t) (SendPrepare 0)) (at_step t Over)
+    in_case true = refl
+    in_case false = refl
+
+abort_step : (w : Work) (t : Tally) (step : Step) (next : Option ℕ) → abort_to w (at_step t step) next ≡ abort_to w t next
+abort_step w t step (Some k) = refl
+abort_step w t step None = begun_step w t step
+
+vote_at : (w : Work) (t : Tally) (step : Step) (next : Option ℕ) → prepare_to w (at_step t step) next ≡ prepare_to w t next
+vote_at w t step (Some i) = refl
+vote_at w t step None = in_case (length t.yes == w.participants)
+  where
+    in_case : (all : Bool) → cond all (at_step (at_step t step) ForceCommit) (aborted w (at_step t step)) ≡ cond all (at_step t ForceCommit) (aborted w t)
+    in_case true = refl
+    in_case false = abort_step w t step (first_of (length t.yes))
+
+-- ---- a round of votes
+
+abbrev later : Variant → Work → Tally → ℕ → List Event → State
+later v w t i es = at_vote w (with_yes t i) (i + 1) (Written (prepare_write v t i) ∷ es)
+
+asks_first : (w : Work) (t : Tally) (i : ℕ) (es : List Event) → i < w.participants → at_vote w t i es ≡ record { tally = at_step t (SendPrepare i); events = es }
+asks_first w t i es h = ap (λ (o : Option ℕ). let s : State = record { tally = prepare_to w t o; events = es } in s) (some_of i w.participants h)
+
+chosen : Tally → ℕ → List Event → Vote → State
+chosen t i es vote = record { tally = at_step t (vote_step vote i); events = es }
+
+voted : (v : Variant) (w : Work) (t : Tally) (i : ℕ) (es : List Event)
+    → (machine v w).step (record { tally = at_step t (SendVote i Yes); events = Written (prepare_write v (at_step t (ForcePrepare i)) i) ∷ es }) Go ≡ later v w t i es
+voted v w t i es =
+    ap (λ (u : Tally). let s : State = record { tally = u; events = Written (prepare_write v (at_step t (ForcePrepare i)) i) ∷ es } in s) (vote_at w (with_yes t i) (SendVote i Yes) (one_of (i + 1) w.participants))
+    ∙ ap (λ (x : Write). at_vote w (with_yes t i) (i + 1) (Written x ∷ es)) (sym (same_prepare v t (ForcePrepare i) i))
+
+vote_gone : (v : Variant) (w : Work) (t : Tally) (i : ℕ) (es : List Event) (ps : List ℕ) → i < w.participants → wish w (number t) i ≡ Yes
+    → gone (machine v w) (at_vote w t i es) (0 ∷ 1 ∷ 2 ∷ ps) ≡ gone (machine v w) (later v w t i es) ps
+unfolding chosen
+vote_gone v w t i es ps h wishes =
+    ap (λ (s : State). gone (machine v w) s (0 ∷ 1 ∷ 2 ∷ ps)) (asks_first w t i es h)
+    ∙ ap (λ (x : Vote). gone (machine v w) (chosen t i es x) (1 ∷ 2 ∷ ps)) wishes
+    ∙ ap (λ (s : State). gone (machine v w) s ps) (voted v w t i es)
+
+vote_asks : (v : Variant) (w : Work) (t : Tally) (i : ℕ) (es : List Event) (ps : List ℕ) → i < w.participants → wish w (number t) i ≡ Yes
+    → AsksInTurn (machine v w) (later v w t i es) ps → AsksInTurn (machine v w) (at_vote w t i es) (0 ∷ 1 ∷ 2 ∷ ps)
+unfolding chosen
+vote_asks v w t i es ps h wishes more =
+    subst (λ (s : State). AsksInTurn (machine v w) s (0 ∷ 1 ∷ 2 ∷ ps)) (sym (asks_first w t i es h))
+    (refl, subst (λ (x : Vote). AsksInTurn (machine v w) (chosen t i es x) (1 ∷ 2 ∷ ps)) (sym wishes) (refl, (refl, subst (λ (s : State). AsksInTurn (machine v w) s ps) (sym (voted v w t i es)) more)))
+
+wish_first : (w : Work) (k i n : ℕ) → WishYes w k i (suc n) → wish w k i ≡ Yes
+wish_first w k i n all = let e : i + 0 ≡ i = omega arith in subst (λ (x : ℕ). wish w k x ≡ Yes) e (all 0 (omega arith))
+
+wish_rest : (w : Work) (k i n : ℕ) → WishYes w k i (suc n) → WishYes w k (i + 1) n
+wish_rest w k i n all = λ j h. let e : i + (j + 1) ≡ i + 1 + j = omega arith in subst (λ (x : ℕ). wish w k x ≡ Yes) e (all (j + 1) (omega arith))
+
+votes_asked : (v : Variant) (w : Work) (n : ℕ) (t : Tally) (i : ℕ) (es : List Event) → i + n ≤ w.participants → WishYes w (number t) i n
+    → AsksInTurn (machine v w) (at_vote w t i es) (rounds n vote_points)
+votes_asked v w zero t i es h all = tt
+votes_asked v w (suc n) t i es h all =
+    vote_asks v w t i es (rounds n vote_points) (omega arith) (wish_first w (number t) i n all)
+    (votes_asked v w n (with_yes t i) (i + 1) (Written (prepare_write v t i) ∷ es) (omega arith) (wish_rest w (number t) i n all))
+
+-- ---- rounds that are passed
+
+pub passing : (v : Variant) (w : Work) (r : Run) (l : AllLogs) (ps : List ℕ) (n : ℕ) (at : List Event → State) (es : List Event) → Here v w r (at es) → LogsStandFor w.participants l es
+    → AsksInTurn (machine v w) (at es) (rounds n ps) → AllGo r (rounds n ps) → (r' : Run) → r' ≡ hits_of r (rounds n ps) → stopped r' ≡ None → Passing v w r' ps n at l
+passing v w r l ps n at es here logs asks goes r' same running = record {
+  events = es;
+  here = record {
+    points = ap (λ (x : Run). x.given.catalogue) same ∙ here.points;
+    running = running;
+    reached = subst (λ (x : Run). Reached (machine v w) x (gone (machine v w) (at es) (rounds n ps))) (sym same) (reached_on (machine v w) (rounds n ps) r (at es) here.reached asks goes);
+  };
+  written = logs;
+}
+
+pub first_vote : (v : Variant) (w : Work) (r : Run) (t : Tally) (l : AllLogs) → 1 ≤ w.participants → Stands v w r (at_step t (SendPrepare 0)) l → Stands v w r (prepare_to w t (one_of 0 w.participants)) l
+first_vote v w r t l some k = subst (λ (o : Option ℕ). Stands v w r (prepare_to w t o) l) (sym (some_of 0 w.participants (omega arith))) k
+
+pub votes_passed : (v : Variant) (w : Work) (r : Run) (t : Tally) (l : AllLogs) (i n : ℕ) → i < w.participants → i + n ≤ w.participants → WishYes w (number t) i n → Stands v w r (at_step t (SendPrepare i)) l
+    → AllGo r (rounds n vote_points) → (r' : Run) → r' ≡ hits_of r (rounds n vote_points) → stopped r' ≡ None → Passing v w r' vote_points n (at_vote w t i) l
+votes_passed v w r t l i n below h all k goes r' same running =
+    passing v w r l vote_points n (at_vote w t i) k.events (subst (Here v w r) (sym (asks_first w t i k.events below)) k.here) k.written
+    (votes_asked v w n t i k.events h all) goes r' same running
+
+-- one of these is written
+pub vote_written : (v : Variant) (w : Work) (r : Run) (t : Tally) (l l' : AllLogs) (i left n : ℕ) → left ≡ suc n → i < w.participants → wish w (number t) i ≡ Yes → Passing v w r vote_points left (at_vote w t i) l
+    → AddsEvent l l' (Written (prepare_write v t i)) → Passing v w r vote_points n (at_vote w (with_yes t i) (i + 1)) l'
+vote_written v w r t l l' i left n is h wishes k adds = record {
+  events = Written (prepare_write v t i) ∷ k.events;
+  here = subst (Here v w r) (ap (λ (m : ℕ). gone (machine v w) (at_vote w t i k.events) (rounds m vote_points)) is ∙ vote_gone v w t i k.events (rounds n vote_points) h wishes) k.here;
+  written = adds w.participants k.events k.written;
+}
+
+-- all are written
+pub votes_stand : (v : Variant) (w : Work) (r : Run) (t : Tally) (l : AllLogs) (i left : ℕ) → left ≡ 0 → Passing v w r vote_points left (at_vote w t i) l → Stands v w r (prepare_to w t (one_of i w.participants)) l
+votes_stand v w r t l i left is k = record {
+  events = k.events;
+  here = subst (Here v w r) (ap (λ (m : ℕ). gone (machine v w) (at_vote w t i k.events) (rounds m vote_points)) is) k.here;
+  written = k.written;
+}
+
+-- ---- a round of commits
+
+commit_at : (w : Work) (t : Tally) (step : Step) (next : Option ℕ) → commit_to w (at_step t step) next ≡ commit_to w t next
+commit_at w t step (Some i) = refl
+commit_at w t step None = begun_step w t step
+
+forced : Tally → ℕ → Write
+forced t i = Force (Participant i) (entry t kind.Commit)
+
+tells_first : (v : Variant) (w : Work) (t : Tally) (i : ℕ) (es : List Event) → i < w.participants → at_commit v w t i es ≡ record { tally = at_step t (SendCommit i); events = es }
+tells_first v w t i es h =
+    ap (λ (o : Option ℕ). let s : State = record { tally = commit_to w t o; events = with_write (end_unless v t t.acknowledged o) es } in s) (some_of i w.participants h)
+
+told : (v : Variant) (w : Work) (t : Tally) (i : ℕ) (es : List Event) → (machine v w).step (record { tally = at_step t (SendAck i); events = es }) Go ≡ at_commit v w t (i + 1) es
+told v w t i es =
+    let next : Option ℕ = one_of (i + 1) w.participants in
+    ap (λ (u : Tally). let s : State = record { tally = u; events = with_write (end_unless v (at_step t (SendAck i)) t.acknowledged next) es } in s) (commit_at w t (SendAck i) next)
+    ∙ ap (λ (o : Option Write). let s : State = record { tally = commit_to w t next; events = with_write o es } in s) (same_end v t (SendAck i) t.acknowledged next)
+
+commit_gone : (v : Variant) (w : Work) (t : Tally) (i : ℕ) (es : List Event) (ps : List ℕ) → i < w.participants
+    → gone (machine v w) (at_commit v w t i es) (4 ∷ 5 ∷ 6 ∷ ps) ≡ gone (machine v w) (at_commit v w t (i + 1) (Written (forced t i) ∷ es)) ps
+unfolding forced
+commit_gone v w t i es ps h =
+    ap (λ (s : State). gone (machine v w) s (4 ∷ 5 ∷ 6 ∷ ps)) (tells_first v w t i es h)
+    ∙ ap (λ (s : State). gone (machine v w) s ps) (told v w t i (Written (forced t i) ∷ es))
+
+commit_asks : (v : Variant) (w : Work) (t : Tally) (i : ℕ) (es : List Event) (ps : List ℕ) → i < w.participants
+    → AsksInTurn (machine v w) (at_commit v w t (i + 1) (Written (forced t i) ∷ es)) ps → AsksInTurn (machine v w) (at_commit v w t i es) (4 ∷ 5 ∷ 6 ∷ ps)
+unfolding forced
+commit_asks v w t i es ps h more =
+    subst (λ (s : State). AsksInTurn (machine v w) s (4 ∷ 5 ∷ 6 ∷ ps)) (sym (tells_first v w t i es h))
+    (refl, (refl, (refl, subst (λ (s : State). AsksInTurn (machine v w) s ps) (sym (told v w t i (Written (forced t i) ∷ es))) more)))
+
+commits_asked : (v : Variant) (w : Work) (n : ℕ) (t : Tally) (i : ℕ) (es : List Event) → i + n ≤ w.participants → AsksInTurn (machine v w) (at_commit v w t i es) (rounds n commit_points)
+commits_asked v w zero t i es h = tt
+commits_asked v w (suc n) t i es h = commit_asks v w t i es (rounds n commit_points) (omega arith) (commits_asked v w n t (i + 1) (Written (forced t i) ∷ es) (omega arith))
+
+pub commits_passed : (v : Variant) (w : Work) (r : Run) (t : Tally) (l : AllLogs) (i n : ℕ) → i < w.participants → i + n ≤ w.participants → Stands v w r (at_step t (SendCommit i)) l
+    → AllGo r (rounds n commit_points) → (r' : Run) → r' ≡ hits_of r (rounds n commit_points) → stopped r' ≡ None → Passing v w r' commit_points n (at_commit v w t i) l
+commits_passed v w r t l i n below h k goes r' same running =
+    passing v w r l commit_points n (at_commit v w t i) k.events (subst (Here v w r) (sym (tells_first v w t i k.events below)) k.here) k.written
+    (commits_asked v w n t i k.events h) goes r' same running
+
+pub commit_written : (v : Variant) (w : Work) (r : Run) (t : Tally) (l l' : AllLogs) (i left n : ℕ) → left ≡ suc n → i < w.participants → Passing v w r commit_points left (at_commit v w t i) l
+    → AddsEvent l l' (Written (Force (Participant i) (entry t kind.Commit))) → Passing v w r commit_points n (at_commit v w t (i + 1)) l'
+unfolding forced
+commit_written v w r t l l' i left n is h k adds = record {
+  events = Written (forced t i) ∷ k.events;
+  here = subst (Here v w r) (ap (λ (m : ℕ). gone (machine v w) (at_commit v w t i k.events) (rounds m commit_points)) is ∙ commit_gone v w t i k.events (rounds n commit_points) h) k.here;
+  written = adds w.participants k.events k.written;
+}
+
+pub commits_due : (v : Variant) (w : Work) (r : Run) (t : Tally) (l : AllLogs) (i left : ℕ) → left ≡ 0 → Passing v w r commit_points left (at_commit v w t i) l
+    → Due v w r (commit_to w t (one_of i w.participants)) (end_unless v t t.acknowledged (one_of i w.participants)) l
+commits_due v w r t l i left is k = record {
+  events = k.events;
+  here = subst (Here v w r) (ap (λ (m : ℕ). gone (machine v w) (at_commit v w t i k.events) (rounds m commit_points)) is) k.here;
+  written = k.written;
+}
+
+pub first_told : (v : Variant) (w : Work) (r : Run) (t : Tally) (l : AllLogs) → 1 ≤ w.participants → Stands v w r (at_step t (SendCommit 0)) l
+    → Due v w r (commit_to w t (one_of 0 w.participants)) (end_unless v t t.acknowledged (one_of 0 w.participants)) l
+first_told v w r t l some k =
+    subst (λ (o : Option ℕ). Due v w r (commit_to w t o) (end_unless v t t.acknowledged o) l) (sym (some_of 0 w.participants (omega arith))) k

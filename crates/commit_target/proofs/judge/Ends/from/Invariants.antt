@@ -1,0 +1,13 @@
+use Rattle.std.proofs.Common.{◌≡◌, ◌<◌, ◌+◌, ◌∷◌, ℕ, List, true, false}
+use Rattle.commit_target.specs.Judgement.{some_ends, is_committed, known, own}
+use Rattle.commit_target.specs.Marks.{among}
+use Rattle.commit_target.specs.Writes.{Event, AllRestart, LogsStandFor}
+use Rattle.commit_target.proofs.judge.Ends.from.Given as goal
+
+abbrev pub invariant-loop-participant : goal.invariant-loop-participant
+invariant-loop-participant l = record {
+  committed : (es : List Event) → LogsStandFor l.participants l.logs (AllRestart ∷ es) → (k : ℕ) → k < 64
+      → among l.committed_by k ≡ some_ends (λ n. is_committed (known es) (own es n) (l.first + k)) true l.participant;
+  aborted : (es : List Event) → LogsStandFor l.participants l.logs (AllRestart ∷ es) → (k : ℕ) → k < 64
+      → among l.aborted_by k ≡ some_ends (λ n. is_committed (known es) (own es n) (l.first + k)) false l.participant;
+}

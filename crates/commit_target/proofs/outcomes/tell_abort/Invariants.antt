@@ -1,0 +1,10 @@
+use Rattle.std.proofs.Common.{◌≡◌, length}
+use Rattle.commit_target.specs.Steps.{one_of, abort_to}
+use Rattle.commit_target.specs.Seen.{Stands}
+use Rattle.commit_target.proofs.outcomes.tell_abort.Given as goal
+
+abbrev pub invariant-loop-place : goal.invariant-loop-place
+invariant-loop-place l = record {
+  given : l.session.given ≡ l.fn.session.given;
+  stands : Stands l.variant l.workload l.session (abort_to l.workload l.progress (one_of l.place (length l.progress.yes))) l.logs;
+}

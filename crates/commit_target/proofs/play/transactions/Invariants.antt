@@ -1,0 +1,11 @@
+use Rattle.std.proofs.Common.{◌≡◌}
+use Rattle.commit_target.specs.Steps.{begun}
+use Rattle.commit_target.specs.Seen.{Stands}
+use Rattle.commit_target.proofs.play.transactions.Given as goal
+
+abbrev pub invariant-loop-number : goal.invariant-loop-number
+invariant-loop-number l = record {
+  given : l.session.given ≡ l.fn.session.given;
+  number : l.progress.begun ≡ l._number;
+  stands : Stands l.variant l.workload l.session (begun l.workload l.progress) l.logs;
+}

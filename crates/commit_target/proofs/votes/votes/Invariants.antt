@@ -1,0 +1,15 @@
+use Rattle.std.proofs.Common.{◌≡◌, ◌≤◌, ◌-◌}
+use Rattle.commit_target.specs.Steps.{one_of, prepare_to}
+use Rattle.commit_target.specs.Seen.{Stands}
+use Rattle.commit_target.proofs.votes.votes.Given as goal
+
+abbrev pub invariant-loop-participant : goal.invariant-loop-participant
+invariant-loop-participant l = record {
+  given : l.session.given ≡ l.fn.session.given;
+  begun : l.progress.begun ≡ l.fn.progress.begun;
+  few : l.participant ≤ l.workload.participants;
+  stands : Stands l.variant l.workload l.session (prepare_to l.workload l.progress (one_of l.participant l.workload.participants)) l.logs;
+}
+
+abbrev pub decreases-loop-participant : goal.decreases-loop-participant
+decreases-loop-participant l = l.workload.participants - l.participant

@@ -1,0 +1,30 @@
+-- How the judge keeps sets of transactions: a bit of a word for each of 64 transactions in a row.
+use Rattle.std.specs.Prelude.{◌≡◌, ℕ, ◌<◌, ◌+◌, ◌==◌, Bool, true, false, List, slice_index}
+use Rattle.std.specs.Int.{bit_at}
+use Rattle.commit_target.specs.declared.judge.Ends.{Ends}
+use Rattle.commit_target.specs.declared.records.Record.{Record}
+use Rattle.commit_target.specs.declared.records.Kind.{Kind}
+use Rattle.commit_target.specs.declared.records.Kind.TheVariants.{Prepare, Commit, Abort, End}
+use Rattle.commit_target.specs.Writes.{Event}
+use Rattle.commit_target.specs.Judgement.{has, some_ends, is_committed, known, own, was_told}
+
+-- whether the transaction at a place is in a set
+abbrev pub among : ℕ → ℕ → Bool
+among set place = bit_at set place == 1
+
+-- where the set of a kind stands
+abbrev pub place_of : Kind → ℕ
+place_of Prepare = 0
+place_of Commit = 1
+place_of Abort = 2
+place_of End = 3
+
+-- the sets of a log, by the places of kinds: of 64 transactions from a first one on, those of which it has a record
+abbrev pub AreMarks : List ℕ → List Record → ℕ → Type 0
+AreMarks sets log first = (kind : Kind) (k : ℕ) → k < 64 → among (slice_index sets (place_of kind)) k ≡ has log (first + k) kind
+
+-- how 64 transactions from a first one on end: which a participant commits, which one aborts, and of which the client was told
+pub record EndsOf (participants : ℕ) (told : List ℕ) (es : List Event) (ends : Ends) : Type 0 where
+  pub committed : (k : ℕ) → k < 64 → among ends.committed k ≡ some_ends (λ n. is_committed (known es) (own es n) (ends.first + k)) true participants
+  pub aborted : (k : ℕ) → k < 64 → among ends.aborted k ≡ some_ends (λ n. is_committed (known es) (own es n) (ends.first + k)) false participants
+  pub told_so : (k : ℕ) → k < 64 → among ends.told k ≡ was_told told (ends.first + k)

@@ -1,0 +1,235 @@
+//! The decision, and the second phase: the participants are told of it.
+ghost use Rattle.std.specs.Prelude.{◌≡◌, ◌<◌, ◌≤◌, ◌+◌, length, if◌then◌else◌};
+ghost use Rattle.commit_target.specs.Steps.{ForceCommit, ForceCommitAgain, SendCommit, SendAbort, Over, at_step, one_of, next_of, commit_to, abort_to, after_no_commit, unacknowledged, aborted, committed, begun, end_unless};
+ghost use Rattle.commit_target.specs.Seen.{Leads, Stands, Due, Ended};
+
+use crate::cut::{Cut, ask};
+use crate::logs::Logs;
+use crate::points::{FORCE_COMMIT, FORCE_OUTCOME, SEND_ACK, SEND_OUTCOME};
+use crate::progress::Progress;
+use crate::records::{Kind, Party, Write};
+use crate::variant::Variant;
+use crate::work::Transactions;
+use target_trait::Session;
+
+/// What is asked of a participant that is told of the commit, where nothing fails.
+const ROUND: [u32; 3] = [SEND_OUTCOME, FORCE_OUTCOME, SEND_ACK];
+
+/// The coordinator forces the commit record.
+fn force_commit(
+    variant: Variant,
+    workload: &Transactions,
+    progress: &Progress,
+    logs: &mut Logs,
+    session: &mut Session<'_>,
+) -> Result<bool, Cut>
+    requires { Stands variant workload.now session.old (at_step progress.now ForceCommit) logs.old }
+    ensures given { session.new.given ≡ session.old.given }
+    ensures led { Leads result (λ forced.
+        Stands variant workload.now session.new (if forced then committed progress.now else after_no_commit variant workload.now progress.now) logs.new)
+        (Ended variant workload.now session.new (at_step progress.now Over) logs.new) }
+{
+    if !ask(session, FORCE_COMMIT)? {
+        return Ok(false);
+    }
+    logs.write(Write::Force(Party::Coordinator, progress.entry(Kind::Commit)))?;
+    Ok(true)
+}
+
+/// It tries once more, and goes on as if the record stood.
+fn force_commit_again(
+    variant: Variant,
+    workload: &Transactions,
+    progress: &Progress,
+    logs: &mut Logs,
+    session: &mut Session<'_>,
+) -> Result<(), Cut>
+    requires { Stands variant workload.now session.old (at_step progress.now ForceCommitAgain) logs.old }
+    ensures given { session.new.given ≡ session.old.given }
+    ensures led { Leads result (λ _. Stands variant workload.now session.new (committed progress.now) logs.new)
+        (Ended variant workload.now session.new (at_step progress.now Over) logs.new) }
+{
+    if !ask(session, FORCE_COMMIT)? {
+        return Ok(());
+    }
+    logs.write(Write::Force(Party::Coordinator, progress.entry(Kind::Commit)))?;
+    Ok(())
+}
+
+/// Where every yes arrived: whether the decision is commit. The client is told of it then.
+pub fn commits(
+    variant: Variant,
+    workload: &Transactions,
+    progress: &mut Progress,
+    logs: &mut Logs,
+    session: &mut Session<'_>,
+) -> Result<bool, Cut>
+    requires { Stands variant workload.now session.old (at_step progress.old ForceCommit) logs.old }
+    ensures given { session.new.given ≡ session.old.given }
+    ensures begun { progress.new.begun ≡ progress.old.begun }
+    ensures led { Leads result (λ commits.
+        Stands variant workload.now session.new (if commits then at_step progress.new (SendCommit 0) else aborted workload.now progress.new) logs.new)
+        (Ended variant workload.now session.new (at_step progress.new Over) logs.new) }
+{
+    if !force_commit(variant, workload, progress, logs, session)? {
+        match variant {
+            Variant::TwoTries => {
+                force_commit_again(variant, workload, progress, logs, session)?;
+            }
+            Variant::Sound | Variant::LazyPrepare | Variant::EarlyEnd => return Ok(false),
+        }
+    }
+    progress.tell()?;
+    Ok(true)
+}
+
+/// The participant at this place among those whose yes arrived is told of the abort.
+fn abort_to(
+    variant: Variant,
+    workload: &Transactions,
+    place: usize,
+    progress: &Progress,
+    logs: &mut Logs,
+    session: &mut Session<'_>,
+) -> Result<(), Cut>
+    requires { Stands variant workload.now session.old (at_step progress.now (SendAbort place)) logs.old }
+    ensures given { session.new.given ≡ session.old.given }
+    ensures led { Leads result (λ _.
+        Stands variant workload.now session.new (abort_to workload.now progress.now (next_of place (length progress.now.yes))) logs.new)
+        (Ended variant workload.now session.new (at_step progress.now Over) logs.new) }
+{
+    if !ask(session, SEND_OUTCOME)? {
+        return Ok(());
+    }
+    logs.write(Write::Append(
+        Party::Participant(progress.voter(place)),
+        progress.entry(Kind::Abort),
+    ))?;
+    Ok(())
+}
+
+/// Those whose yes arrived are told of the abort.
+pub fn tell_abort(
+    variant: Variant,
+    workload: &Transactions,
+    progress: &Progress,
+    logs: &mut Logs,
+    session: &mut Session<'_>,
+) -> Result<(), Cut>
+    requires { Stands variant workload.now session.old (aborted workload.now progress.now) logs.old }
+    ensures given { session.new.given ≡ session.old.given }
+    ensures led { Leads result (λ _. Stands variant workload.now session.new (begun workload.now progress.now) logs.new)
+        (Ended variant workload.now session.new (at_step progress.now Over) logs.new) }
+{
+    for place in 0..progress.voters() {
+        abort_to(variant, workload, place, progress, logs, session)?;
+    }
+    Ok(())
+}
+
+/// A participant is told of the commit: whether it has acknowledged it.
+fn commit_to(
+    variant: Variant,
+    workload: &Transactions,
+    participant: usize,
+    progress: &Progress,
+    logs: &mut Logs,
+    session: &mut Session<'_>,
+) -> Result<bool, Cut>
+    requires { Stands variant workload.now session.old (at_step progress.now (SendCommit participant)) logs.old }
+    ensures given { session.new.given ≡ session.old.given }
+    ensures led { Leads result (λ acknowledges.
+        let t = (if acknowledges then progress.now else unacknowledged progress.now) in let next = next_of participant workload.now.participants in
+        Due variant workload.now session.new (commit_to workload.now t next) (end_unless variant t t.acknowledged next) logs.new)
+        (Ended variant workload.now session.new (at_step progress.now Over) logs.new) }
+{
+    if !ask(session, SEND_OUTCOME)? {
+        return Ok(false);
+    }
+    if !ask(session, FORCE_OUTCOME)? {
+        return Ok(false);
+    }
+    logs.write(Write::Force(
+        Party::Participant(participant),
+        progress.entry(Kind::Commit),
+    ))?;
+    ask(session, SEND_ACK)
+}
+
+/// Participants in a row, from this one on, are told of the commit where nothing comes between: how many they are.
+fn pass_commits(
+    variant: Variant,
+    workload: &Transactions,
+    participant: usize,
+    progress: &Progress,
+    logs: &mut Logs,
+    session: &mut Session<'_>,
+) -> Result<usize, Cut>
+    requires within { participant < workload.now.participants }
+    requires stands { Stands variant workload.now session.old (at_step progress.now (SendCommit participant)) logs.old }
+    ensures given { session.new.given ≡ session.old.given }
+    ensures led { Leads result (λ n. let next = one_of (participant + n) workload.now.participants in (participant + n ≤ workload.now.participants)
+        × Due variant workload.now session.new (commit_to workload.now progress.now next) (end_unless variant progress.now progress.now.acknowledged next) logs.new)
+        (Ended variant workload.now session.new (at_step progress.now Over) logs.new) }
+{
+    let left = workload.participants() - participant;
+    let passed = session.pass_rounds(&ROUND, left)?;
+    let entry = progress.entry(Kind::Commit);
+    for told in participant..participant + passed {
+        logs.write(Write::Force(Party::Participant(told), entry))?;
+    }
+    Ok(passed)
+}
+
+/// Participants from this one on are told of the commit, one at least: the next participant.
+fn some_commits(
+    variant: Variant,
+    workload: &Transactions,
+    participant: usize,
+    progress: &mut Progress,
+    logs: &mut Logs,
+    session: &mut Session<'_>,
+) -> Result<usize, Cut>
+    requires within { participant < workload.now.participants }
+    requires fits { workload.now.participants ≤ usize.MAX }
+    requires stands { Stands variant workload.now session.old (at_step progress.old (SendCommit participant)) logs.old }
+    ensures given { session.new.given ≡ session.old.given }
+    ensures begun { progress.new.begun ≡ progress.old.begun }
+    ensures led { Leads result (λ n. let next = one_of n workload.now.participants in (participant < n) × (n ≤ workload.now.participants)
+        × Due variant workload.now session.new (commit_to workload.now progress.new next) (end_unless variant progress.new progress.new.acknowledged next) logs.new)
+        (Ended variant workload.now session.new (at_step progress.new Over) logs.new) }
+{
+    let passed = pass_commits(variant, workload, participant, progress, logs, session)?;
+    if passed > 0 {
+        return Ok(participant + passed);
+    }
+    if !commit_to(variant, workload, participant, progress, logs, session)? {
+        progress.miss();
+    }
+    Ok(participant + 1)
+}
+
+/// All participants are told of the commit, and then the coordinator ends it.
+pub fn tell_commit(
+    variant: Variant,
+    workload: &Transactions,
+    progress: &mut Progress,
+    logs: &mut Logs,
+    session: &mut Session<'_>,
+) -> Result<(), Cut>
+    requires { Stands variant workload.now session.old (at_step progress.old (SendCommit 0)) logs.old }
+    ensures given { session.new.given ≡ session.old.given }
+    ensures begun { progress.new.begun ≡ progress.old.begun }
+    ensures led { Leads result (λ _. Stands variant workload.now session.new (begun workload.now progress.new) logs.new)
+        (Ended variant workload.now session.new (at_step progress.new Over) logs.new) }
+{
+    let all = workload.participants();
+    let mut participant = 0;
+    while participant < all {
+        participant = some_commits(variant, workload, participant, progress, logs, session)?;
+    }
+    if let Some(end) = progress.end_write(variant) {
+        logs.write(end)?;
+    }
+    Ok(())
+}

@@ -1,0 +1,158 @@
+//! The first phase: each participant is asked to prepare, and votes.
+ghost use Rattle.std.specs.Prelude.{◌≡◌, ◌<◌, ◌≤◌, ◌+◌};
+ghost use Rattle.commit_target.specs.Steps.{SendPrepare, ForcePrepare, SendVote, Over, at_step, one_of, prepare_to, vote_step, after_vote, decided, number};
+ghost use Rattle.commit_target.specs.Work.{wish};
+ghost use Rattle.commit_target.specs.Seen.{Leads, Stands, Ended};
+
+use crate::cut::{Cut, ask};
+use crate::logs::Logs;
+use crate::points::{FORCE_PREPARE, SEND_PREPARE, SEND_VOTE};
+use crate::progress::Progress;
+use crate::variant::Variant;
+use crate::work::{Transactions, Vote};
+use target_trait::Session;
+
+/// What is asked of a participant that wishes yes, where nothing fails.
+const ROUND: [u32; 3] = [SEND_PREPARE, FORCE_PREPARE, SEND_VOTE];
+
+/// A participant that wishes yes writes its prepare record. One that can't votes no.
+fn prepare(
+    variant: Variant,
+    workload: &Transactions,
+    participant: usize,
+    progress: &Progress,
+    logs: &mut Logs,
+    session: &mut Session<'_>,
+) -> Result<Vote, Cut>
+    requires { Stands variant workload.now session.old (at_step progress.now (ForcePrepare participant)) logs.old }
+    ensures given { session.new.given ≡ session.old.given }
+    ensures led { Leads result (λ vote. Stands variant workload.now session.new (at_step progress.now (SendVote participant vote)) logs.new)
+        (Ended variant workload.now session.new (at_step progress.now Over) logs.new) }
+{
+    if !ask(session, FORCE_PREPARE)? {
+        return Ok(Vote::No);
+    }
+    logs.write(progress.prepare_write(variant, participant))?;
+    Ok(Vote::Yes)
+}
+
+/// What a participant votes that was asked to prepare.
+fn choose(
+    variant: Variant,
+    workload: &Transactions,
+    participant: usize,
+    progress: &Progress,
+    logs: &mut Logs,
+    session: &mut Session<'_>,
+) -> Result<Vote, Cut>
+    requires { Stands variant workload.now session.old (at_step progress.now (vote_step (wish workload.now (number progress.now) participant) participant)) logs.old }
+    ensures given { session.new.given ≡ session.old.given }
+    ensures led { Leads result (λ vote. Stands variant workload.now session.new (at_step progress.now (SendVote participant vote)) logs.new)
+        (Ended variant workload.now session.new (at_step progress.now Over) logs.new) }
+{
+    match workload.wish(progress.number(), participant) {
+        Vote::Yes => prepare(variant, workload, participant, progress, logs, session),
+        Vote::No => Ok(Vote::No),
+    }
+}
+
+/// A participant is asked to prepare, and its vote is taken, if it arrives.
+fn vote(
+    variant: Variant,
+    workload: &Transactions,
+    participant: usize,
+    progress: &mut Progress,
+    logs: &mut Logs,
+    session: &mut Session<'_>,
+) -> Result<(), Cut>
+    requires { Stands variant workload.now session.old (at_step progress.old (SendPrepare participant)) logs.old }
+    ensures given { session.new.given ≡ session.old.given }
+    ensures begun { progress.new.begun ≡ progress.old.begun }
+    ensures led { Leads result (λ _. Stands variant workload.now session.new (after_vote workload.now progress.new participant) logs.new)
+        (Ended variant workload.now session.new (at_step progress.new Over) logs.new) }
+{
+    if !ask(session, SEND_PREPARE)? {
+        return Ok(());
+    }
+    let vote = choose(variant, workload, participant, progress, logs, session)?;
+    if !ask(session, SEND_VOTE)? {
+        return Ok(());
+    }
+    progress.take_vote(participant, vote)?;
+    Ok(())
+}
+
+/// The votes of participants in a row, from this one on, that wish yes and where nothing comes between: how many they are.
+fn pass_votes(
+    variant: Variant,
+    workload: &Transactions,
+    participant: usize,
+    progress: &mut Progress,
+    logs: &mut Logs,
+    session: &mut Session<'_>,
+) -> Result<usize, Cut>
+    requires within { participant < workload.now.participants }
+    requires fits { workload.now.participants ≤ usize.MAX }
+    requires stands { Stands variant workload.now session.old (at_step progress.old (SendPrepare participant)) logs.old }
+    ensures given { session.new.given ≡ session.old.given }
+    ensures begun { progress.new.begun ≡ progress.old.begun }
+    ensures led { Leads result (λ n. (participant + n ≤ workload.now.participants)
+        × Stands variant workload.now session.new (prepare_to workload.now progress.new (one_of (participant + n) workload.now.participants)) logs.new)
+        (Ended variant workload.now session.new (at_step progress.new Over) logs.new) }
+{
+    let willing = workload.willing(progress.number(), participant);
+    let passed = session.pass_rounds(&ROUND, willing)?;
+    for voter in participant..participant + passed {
+        logs.write(progress.prepare_write(variant, voter))?;
+        progress.take_vote(voter, Vote::Yes)?;
+    }
+    Ok(passed)
+}
+
+/// The votes of participants from this one on, one at least: the next participant.
+fn some_votes(
+    variant: Variant,
+    workload: &Transactions,
+    participant: usize,
+    progress: &mut Progress,
+    logs: &mut Logs,
+    session: &mut Session<'_>,
+) -> Result<usize, Cut>
+    requires within { participant < workload.now.participants }
+    requires fits { workload.now.participants ≤ usize.MAX }
+    requires stands { Stands variant workload.now session.old (at_step progress.old (SendPrepare participant)) logs.old }
+    ensures given { session.new.given ≡ session.old.given }
+    ensures begun { progress.new.begun ≡ progress.old.begun }
+    ensures led { Leads result (λ next. (participant < next) × (next ≤ workload.now.participants)
+        × Stands variant workload.now session.new (prepare_to workload.now progress.new (one_of next workload.now.participants)) logs.new)
+        (Ended variant workload.now session.new (at_step progress.new Over) logs.new) }
+{
+    let passed = pass_votes(variant, workload, participant, progress, logs, session)?;
+    if passed > 0 {
+        return Ok(participant + passed);
+    }
+    vote(variant, workload, participant, progress, logs, session)?;
+    Ok(participant + 1)
+}
+
+/// All participants are asked.
+pub fn votes(
+    variant: Variant,
+    workload: &Transactions,
+    progress: &mut Progress,
+    logs: &mut Logs,
+    session: &mut Session<'_>,
+) -> Result<(), Cut>
+    requires { Stands variant workload.now session.old (at_step progress.old (SendPrepare 0)) logs.old }
+    ensures given { session.new.given ≡ session.old.given }
+    ensures begun { progress.new.begun ≡ progress.old.begun }
+    ensures led { Leads result (λ _. Stands variant workload.now session.new (decided workload.now progress.new) logs.new)
+        (Ended variant workload.now session.new (at_step progress.new Over) logs.new) }
+{
+    let all = workload.participants();
+    let mut participant = 0;
+    while participant < all {
+        participant = some_votes(variant, workload, participant, progress, logs, session)?;
+    }
+    Ok(())
+}
