@@ -7,6 +7,3 @@
 mod transfer;
 
 pub use transfer::{Amount, Care, Transfer};
-
-#[cfg(test)]
-mod tests;

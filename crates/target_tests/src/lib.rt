@@ -1,5 +1,5 @@
-//! Tests of what the targets stand on: the devices, the sink, and the judgement of logs that no run leaves. Runs of the targets are in the
-//! sessions of tests/.
+//! Tests of what the targets stand on: the devices, the sink, and the judgement of logs that no run leaves; and runs of the targets from
+//! outside, the transfer and the journal. Runs of the bundled targets are in the sessions of tests/.
 //!
 //! Each expected value was worked out by hand from the documents of the targets.
 #![tactic(auto)]
@@ -9,4 +9,10 @@ mod commit_judgements;
 #[cfg(test)]
 mod devices;
 #[cfg(test)]
+mod journals;
+#[cfg(test)]
+mod outcomes;
+#[cfg(test)]
 mod sinks;
+#[cfg(test)]
+mod transfers;

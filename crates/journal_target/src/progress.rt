@@ -1,0 +1,158 @@
+//! How far a run has come.
+ghost use Rattle.std.specs.Prelude.{◌≡◌, ◌+◌, OnOk};
+ghost use Rattle.journal_target.specs.Steps.{last_step, append_step, at_step, appended, synced, acknowledged, begun, before_all};
+
+use crate::file::File;
+use crate::step::Step;
+use crate::variant::Variant;
+use crate::work::Transactions;
+use std::alloc::{AllocError, Global};
+use std::marker::Model;
+
+/// The step after the last record of a transaction.
+fn last_step(variant: Variant) -> Step
+    ensures { result ≡ last_step variant }
+{
+    match variant {
+        Variant::Sound | Variant::EarlyAck => Step::Committing,
+        Variant::NoCommitRecord => Step::Syncing,
+    }
+}
+
+/// The step for the record at this place of so many, or what follows the last.
+fn append_step(variant: Variant, place: usize, count: usize) -> Step
+    ensures { result ≡ append_step variant place count }
+{
+    if place < count {
+        Step::Appending(place)
+    } else {
+        last_step(variant)
+    }
+}
+
+/// The step after the record at this place of so many.
+fn next_step(variant: Variant, place: usize, count: usize) -> Step
+    ensures { result ≡ append_step variant (place + 1) count }
+{
+    // The first test bounds the sum.
+    if place < count && place + 1 < count {
+        Step::Appending(place + 1)
+    } else {
+        last_step(variant)
+    }
+}
+
+/// How far a run has come: the step whose question comes next, the transaction under way, those that were acknowledged, and the file.
+#[derive(Drop)]
+pub struct Progress {
+    step: Step,
+    number: u8,
+    acknowledged: Vec<u8>,
+    file: File,
+}
+
+impl Model for Progress {
+    ghost use Rattle.std.specs.Prelude.{◌≤◌};
+    ghost use Rattle.journal_target.specs.Steps.{Progress};
+
+    ghost Value = { Progress };
+
+    ghost view = { λ p. record { step = p.step; number = p.number; acknowledged = p.acknowledged.items; file = p.file } };
+
+    ghost invariant = { λ p. p.number ≤ 100 };
+}
+
+impl Progress {
+    /// Before the first transaction. It takes no memory.
+    pub fn new(alloc: Global) -> Self
+        ensures { result ≡ before_all }
+    {
+        Progress {
+            step: Step::Over,
+            number: 0,
+            acknowledged: Vec::new(alloc),
+            file: File::new(alloc),
+        }
+    }
+
+    /// The step whose question comes next.
+    pub fn step(&self) -> Step
+        ensures { result ≡ self.now.step }
+    {
+        self.step
+    }
+
+    /// The number of the transaction under way.
+    pub fn number(&self) -> u8
+        ensures { result ≡ self.now.number }
+    {
+        self.number
+    }
+
+    /// The transactions acknowledged so far.
+    pub fn acknowledged(&self) -> &[u8]
+        ensures { result.now ≡ self.now.acknowledged }
+    {
+        self.acknowledged.as_slice()
+    }
+
+    /// What a power cut leaves of the file.
+    pub fn lasting(&self) -> &[u8]
+        ensures { result.now ≡ self.now.file.lasting }
+    {
+        self.file.lasting()
+    }
+
+    pub fn append(&mut self, bytes: &[u8]) -> Result<(), AllocError>
+        ensures { OnOk result (self.new ≡ appended bytes.now self.old) }
+    {
+        self.file.append(bytes)
+    }
+
+    pub fn sync(&mut self)
+        ensures { self.new ≡ synced self.old }
+    {
+        self.file.sync();
+    }
+
+    /// The transaction under way is acknowledged.
+    pub fn acknowledge(&mut self) -> Result<(), AllocError>
+        ensures { OnOk result (self.new ≡ acknowledged self.old) }
+    {
+        self.acknowledged.push(self.number)?;
+        Ok(())
+    }
+
+    pub fn go_to(&mut self, step: Step)
+        ensures { self.new ≡ at_step step self.old }
+    {
+        self.step = step;
+    }
+
+    /// Goes on after the record at this place of so many.
+    pub fn go_after(&mut self, variant: Variant, place: usize, count: usize)
+        ensures { self.new ≡ at_step (append_step variant (place + 1) count) self.old }
+    {
+        self.step = next_step(variant, place, count);
+    }
+
+    /// Begins the transaction of this number, if there is one.
+    pub fn begin(&mut self, variant: Variant, workload: &Transactions, number: u8)
+        ensures { self.new ≡ begun variant workload.now number self.old }
+    {
+        if usize::from(number) < workload.as_slice().len() {
+            let count = workload.records(number).len();
+            self.number = number;
+            self.step = append_step(variant, 0, count);
+        } else {
+            self.step = Step::Over;
+        }
+    }
+
+    /// Begins the transaction after the one under way, if there is one.
+    pub fn begin_next(&mut self, variant: Variant, workload: &Transactions)
+        ensures { self.new ≡ begun variant workload.now (self.old.number + 1) self.old }
+    {
+        self.begin(variant, workload, self.number + 1);
+    }
+}
