@@ -18,10 +18,23 @@ No line of it is longer than 100 letters, as has just been seen. It says what ea
   
   Options:
     -h, --help  Print help
-  $ paklour help try | grep -e ^Usage: -e '--scenario ' -e '^A scenario has '
-  Usage: paklour try --scenario <TEXT> [FILE]
+  
+  Examples:
+    paklour run my.toml             the verdict of each plan, and what the first failures come down to
+    paklour run < my.toml           settings from standard input
+  $ paklour help try | grep -e ^Usage: -e ' --scenario <' -e ' --plan <' -e '^A scenario has '
+  Usage: paklour try <--scenario <TEXT>|--plan <N>> [FILE]
         --scenario <TEXT>  The scenario, as 'POINT=TERM->TERM;POINT=TERM'
+        --plan <N>         The scenario of plan N of the campaign, 0 to 65535, drawn as it is there
   A scenario has up to 65536 bytes, 256 entries, 256 terms in an entry, and 4096 terms besides off.
+  $ paklour help reduce | grep ^Usage:
+  Usage: paklour reduce <--scenario <TEXT>|--plan <N>> [FILE]
+
+Each option has an example.
+
+  $ paklour help try | sed -n '/^  paklour try --/p'
+    paklour try --scenario 'replace::sync=1*return' my.toml
+    paklour try --plan 10 my.toml     what the line `verdict 10 ..` of the report tells, run again
 
 The help of the program names the keys of settings, their ranges and defaults, as settings.t and settings_tables.t show them, and the exit
 statuses.

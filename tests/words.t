@@ -54,6 +54,19 @@ What words ask for
   $ asks reduce --scenario maildir::write=1*return f
   verdict fail torn
   reduced maildir::write=1*return
+  $ asks try --plan 0
+  verdict pass
+  asked 6
+  $ asks try --plan=0 f
+  verdict pass
+  asked 7
+
+The version stands on a line of its own, as the constant `VERSION` of command_words has it.
+
+  $ paklour --version
+  paklour 0.2.0
+  $ paklour -V
+  paklour 0.2.0
 
 Two commands take their settings from a file alone, since standard input has the answers of a component that somebody else runs.
 
@@ -81,9 +94,9 @@ What is wrong is told on standard error, and nothing is on standard output.
   [2]
   $ paklour try
   error: the following required arguments were not provided:
-    --scenario <TEXT>
+    <--scenario <TEXT>|--plan <N>>
   
-  Usage: paklour try --scenario <TEXT> [FILE]
+  Usage: paklour try <--scenario <TEXT>|--plan <N>> [FILE]
   
   For more information, try '--help'.
   [2]
@@ -125,6 +138,32 @@ What is wrong is told on standard error, and nothing is on standard output.
   error: unexpected argument '-x' found
   $ refused try --scenario a=off --scenario a=off
   error: the argument '--scenario <TEXT>' cannot be used multiple times
+
+A plan has one of 65536 numbers, and a scenario is given in one way.
+
+  $ refused try --plan
+  error: a value is required for '--plan <N>' but none was supplied
+  $ refused try --plan ''
+  error: invalid value '' for '--plan <N>': not a number from 0 to 65535
+  $ refused reduce --plan 65536
+  error: invalid value '65536' for '--plan <N>': not a number from 0 to 65535
+  $ refused reduce --plan=-1
+  error: invalid value '-1' for '--plan <N>': not a number from 0 to 65535
+  $ refused try --plan 1e3 f
+  error: invalid value '1e3' for '--plan <N>': not a number from 0 to 65535
+  $ refused try --plan 1 --plan 2
+  error: the argument '--plan <N>' cannot be used multiple times
+  $ refused run --plan 1
+  error: unexpected argument '--plan' found
+  $ refused try --version
+  error: unexpected argument '--version' found
+  $ paklour reduce --scenario a=off --plan 1 f
+  error: the argument '--scenario <TEXT>' cannot be used with '--plan <N>'
+  
+  Usage: paklour reduce <--scenario <TEXT>|--plan <N>> [FILE]
+  
+  For more information, try '--help'.
+  [2]
 
 Words are UTF-8.
 

@@ -5,11 +5,11 @@ use Rattle.std.specs.Str.{bytes_eq}
 use Rattle.std.proofs.lemmas.List.Elements.{All-from_recursion, recursion_from_All}
 use Rattle.scenario_values.specs.declared.term.Term.{Term}
 use Rattle.scenario_values.specs.Scenario.{Entries, New, DistinctNames}
-use Rattle.target_trait.specs.Catalogue.{HasDistinct}
-use Rattle.plan_gen.specs.declared.site.Rig.{Rig}
-use Rattle.plan_gen.specs.declared.site.Site.{Site}
-use Rattle.plan_gen.specs.declared.site.Kind.TheVariants.{OnceReturn}
-use Rattle.plan_gen.specs.Rigging.{chain_from, entry, entries_from, rig, rigging}
+use Rattle.action_eval.specs.Catalogue.{HasDistinct}
+use Rattle.action_eval.specs.declared.rig.Rig.{Rig}
+use Rattle.action_eval.specs.declared.rig.Site.{Site}
+use Rattle.action_eval.specs.declared.rig.Kind.TheVariants.{OnceReturn}
+use Rattle.action_eval.specs.Rigging.{chain_from, entry, entries_from, rig, rigging}
 use Rattle.plan_gen.specs.Census.{sites_of}
 use Rattle.plan_gen.specs.PlanList.{Asked, plan_list, site_plans, pair_plans, pairs_of, pair_part, storm, storm_part, alone, second}
 

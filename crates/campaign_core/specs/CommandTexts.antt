@@ -29,7 +29,13 @@ plan_lines n (plan ∷ plans) = plan_line n plan ∷ plan_lines (n + 1) plans
 abbrev pub plans_text : Campaign → List ℕ
 plans_text c = text_of (plan_lines 0 (plans c))
 
--- ---- one scenario tried, under stream number 0
+-- why a plan isn't looked up: the list is too long, or memory was refused
+abbrev pub IsUnlisted : Campaign → CampaignFault → Type 0
+IsUnlisted c fault.TooManyPlans = most_plans < length (plans c)
+IsUnlisted c fault.Memory = Unit {0}
+IsUnlisted c (fault.Write n) = ⊥
+
+-- ---- one scenario tried
 
 -- the verdict, how many points were asked, how many words were taken, the simulated milliseconds, and how many notes there are
 abbrev pub try_lines : (ℕ → List ℕ) → Told → List (List ℕ)
@@ -44,11 +50,11 @@ try_lines code_name told =
 abbrev pub try_text : (ℕ → List ℕ) → Told → List ℕ
 try_text code_name told = text_of (try_lines code_name told)
 
--- the outcome of a scenario on what a campaign is given
-abbrev pub tried : Campaign → Entries → Told
-tried c scenario = outcome c.asks (given_of scenario c.points c.plans.seed 0 c.limit)
+-- the outcome of a scenario under a stream number, on what a campaign is given
+abbrev pub tried : Campaign → ℕ → Entries → Told
+tried c stream scenario = outcome c.asks (given_of scenario c.points c.plans.seed stream c.limit)
 
--- ---- one scenario reduced, under stream number 0
+-- ---- one scenario reduced
 
 -- what a scenario that fails with this code under this stream number is reduced to, and how many tests that took
 abbrev pub found_lines : (ℕ → Entries → Verdict) → ℕ → ℕ → Entries → List (List ℕ)
@@ -58,21 +64,24 @@ found_lines say stream code scenario =
     ∷ []
 
 -- the same where the verdict is a failure, and nothing where it isn't
-abbrev pub reduced_lines : Campaign → Entries → Verdict → List (List ℕ)
-reduced_lines c scenario verdict.Pass = []
-reduced_lines c scenario (verdict.Fail code) = found_lines (say c) 0 code scenario
-reduced_lines c scenario verdict.Unresolved = []
+abbrev pub reduced_lines : Campaign → ℕ → Entries → Verdict → List (List ℕ)
+reduced_lines c stream scenario verdict.Pass = []
+reduced_lines c stream scenario (verdict.Fail code) = found_lines (say c) stream code scenario
+reduced_lines c stream scenario verdict.Unresolved = []
 
-abbrev pub reduce_lines : Campaign → Entries → List (List ℕ)
-reduce_lines c scenario = (codes "verdict " ++ verdict_text c.codes (say c 0 scenario)) ∷ reduced_lines c scenario (say c 0 scenario)
+-- the verdict of a scenario under a stream number, and what it is reduced to
+abbrev pub reduce_lines : Campaign → ℕ → Entries → List (List ℕ)
+reduce_lines c stream scenario =
+    (codes "verdict " ++ verdict_text c.codes (say c stream scenario)) ∷ reduced_lines c stream scenario (say c stream scenario)
 
-abbrev pub reduce_text : Campaign → Entries → List ℕ
-reduce_text c scenario = text_of (reduce_lines c scenario)
+abbrev pub reduce_text : Campaign → ℕ → Entries → List ℕ
+reduce_text c stream scenario = text_of (reduce_lines c stream scenario)
 
 -- where the scenario fails, what it is reduced to fails with the same code, under the same seed, stream number and limit, and no single
 -- fault can be left out of it
-abbrev pub IsReducedToMinimal : Campaign → Entries → Type 0
-IsReducedToMinimal c scenario = (code : ℕ) → say c 0 scenario ≡ verdict.Fail code → IsMinimal (say c 0) code (reduced (say c) 0 code scenario)
+abbrev pub IsReducedToMinimal : Campaign → ℕ → Entries → Type 0
+IsReducedToMinimal c stream scenario =
+    (code : ℕ) → say c stream scenario ≡ verdict.Fail code → IsMinimal (say c stream) code (reduced (say c) stream code scenario)
 
 -- ---- faults
 

@@ -1,7 +1,7 @@
 //! What the reduced scenarios in a text are, as contracts of a function that does nothing.
-ghost use Rattle.std.specs.Prelude.{All};
+ghost use Rattle.std.specs.Prelude.{ℕ, All};
 ghost use Rattle.scenario_values.specs.Scenario.{Entries, DistinctNames};
-ghost use Rattle.target_trait.specs.Catalogue.{HasDistinct};
+ghost use Rattle.action_eval.specs.Catalogue.{HasDistinct};
 ghost use Rattle.campaign_core.specs.Headline.{Campaign, EachIsMinimal};
 ghost use Rattle.campaign_core.specs.CommandTexts.{IsReducedToMinimal};
 
@@ -12,5 +12,5 @@ ghost use Rattle.campaign_core.specs.CommandTexts.{IsReducedToMinimal};
 /// reduced, as those of each `Scenario` are.
 pub fn reduced_scenarios_are_minimal()
     ensures report { (c : Campaign) → HasDistinct c.points → All (λ s. DistinctNames s) c.plans.listed → EachIsMinimal c }
-    ensures reduce { (c : Campaign) (scenario : Entries) → DistinctNames scenario → IsReducedToMinimal c scenario }
+    ensures reduce { (c : Campaign) (stream : ℕ) (scenario : Entries) → DistinctNames scenario → IsReducedToMinimal c stream scenario }
 {}

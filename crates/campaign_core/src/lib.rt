@@ -15,7 +15,8 @@ mod workers;
 
 pub use ending::{CampaignFault, Ending};
 pub use laws::reduced_scenarios_are_minimal;
-pub use listing::{plan_list, plans_text};
+pub use listing::{plan_list, plan_scenario, plans_text};
+pub use planned::asked_of;
 pub use probe::{fails_with, fault_count};
 pub use reducing::reduce_one;
 pub use running::campaign;

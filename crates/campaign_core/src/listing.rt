@@ -1,10 +1,10 @@
 //! The list of a campaign's plans.
-ghost use Rattle.std.specs.Prelude.{◌≡◌, ◌++◌, ◌≤◌, false, length, string_bytes, IfOk, IfErr, OnOk};
+ghost use Rattle.std.specs.Prelude.{◌≡◌, ◌++◌, ◌≤◌, false, length, slice_get, string_bytes, IfOk, IfErr, OnOk};
 ghost use Rattle.std.specs.Io.KnownBytes.{Appends};
 ghost use Rattle.plan_gen.specs.PlanList.{most_plans};
 ghost use Rattle.report.specs.ReportText.{ended, text_of};
 ghost use Rattle.campaign_core.specs.Headline.{campaign_on, plans};
-ghost use Rattle.campaign_core.specs.CommandTexts.{plan_line, plan_lines, plans_text, IsFault};
+ghost use Rattle.campaign_core.specs.CommandTexts.{plan_line, plan_lines, plans_text, IsFault, IsUnlisted};
 
 use crate::ending::CampaignFault;
 use crate::planned::planned;
@@ -38,6 +38,28 @@ pub fn plans_text(alloc: Global, plans: &[Plan<'_>]) -> Result<String, AllocErro
         write_plan(alloc, &mut text, number, &plan.scenario(alloc)?)?;
     }
     Ok(text)
+}
+
+/// The scenario of the plan of this number of a campaign; `None` where the list has no such number.
+///
+/// One run without faults counts how often each point is asked, on a twin of the target; the caller's target isn't touched. The answer is
+/// `TooManyPlans` only where the list has more than 65536 plans, otherwise an error is `Memory`.
+pub fn plan_scenario<T: Target>(
+    alloc: Global,
+    target: &T,
+    workload: &T::Workload,
+    settings: &Settings,
+    number: u32,
+) -> Result<Option<Scenario>, CampaignFault>
+    ensures plan { IfOk result (λ plan. plan ≡ slice_get (plans (campaign_on T.Target target.now workload.now settings.now)) number) }
+    ensures few { OnOk result (length (plans (campaign_on T.Target target.now workload.now settings.now)) ≤ most_plans) }
+    ensures fault { IfErr result (IsUnlisted (campaign_on T.Target target.now workload.now settings.now)) }
+{
+    let (_, plans) = planned(alloc, target, workload, settings)?;
+    match plans.get(number as usize) {
+        Some(plan) => Ok(Some(plan.scenario(alloc)?)),
+        None => Ok(None),
+    }
 }
 
 /// Writes the list of plans of a campaign, a line for each: its number and its scenario. One run without faults counts how often each

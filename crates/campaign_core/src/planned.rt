@@ -9,7 +9,7 @@ use std::alloc::Global;
 use target_trait::Target;
 
 /// What the settings ask of the list of plans.
-fn asked_of(settings: &Settings) -> PlanSettings<'_>
+pub fn asked_of(settings: &Settings) -> PlanSettings<'_>
     ensures { result ≡ asked_of settings.now }
 {
     PlanSettings {

@@ -47,20 +47,21 @@ where
     Ok((tidy(alloc, &kept)?, reduction.tests))
 }
 
-/// The verdict of a scenario under stream number 0, with a twin of the target. An error means that memory was refused.
+/// The verdict of a scenario under a stream number, with a twin of the target. An error means that memory was refused.
 fn verdict_of<T: Target>(
     alloc: Global,
     target: &T,
     workload: &T::Workload,
     settings: &Settings,
+    stream: u64,
     scenario: &Scenario,
 ) -> Result<Verdict, AllocError>
-    ensures { IfOk result (λ verdict. verdict ≡ verdict_with (T.asks target.now workload.now) T.names settings.now.seed settings.now.max_hits 0 scenario.now) }
+    ensures { IfOk result (λ verdict. verdict ≡ verdict_with (T.asks target.now workload.now) T.names settings.now.seed settings.now.max_hits stream scenario.now) }
 {
     let case = Case {
         scenario,
         seed: settings.seed,
-        stream: 0,
+        stream,
         max_hits: settings.max_hits,
     };
     let mut twin = target.twin()?;
@@ -111,14 +112,15 @@ fn reduce_text<T: Target + Send, G: Gate, R: Threads + Wait + Sync>(
     target: &T,
     workload: &T::Workload,
     settings: &Settings,
+    stream: u64,
     scenario: &Scenario,
     verdict: Verdict,
 ) -> Result<String, AllocError>
 where
     T::Workload: Sync,
-    requires { verdict ≡ verdict_with (T.asks target.now workload.now) T.names settings.now.seed settings.now.max_hits 0 scenario.now }
-    ensures text { IfOk result (λ text. string_bytes text ≡ reduce_text (campaign_on T.Target target.now workload.now settings.now) scenario.now) }
-    ensures minimal { OnOk result (IsReducedToMinimal (campaign_on T.Target target.now workload.now settings.now) scenario.now) }
+    requires { verdict ≡ verdict_with (T.asks target.now workload.now) T.names settings.now.seed settings.now.max_hits stream scenario.now }
+    ensures text { IfOk result (λ text. string_bytes text ≡ reduce_text (campaign_on T.Target target.now workload.now settings.now) stream scenario.now) }
+    ensures minimal { OnOk result (IsReducedToMinimal (campaign_on T.Target target.now workload.now settings.now) stream scenario.now) }
 {
     let mut text = String::new(alloc);
     text.push_str("verdict ")?;
@@ -130,7 +132,7 @@ where
             scenario,
             faults: fault_count(alloc, scenario)?,
             seed: settings.seed,
-            stream: 0,
+            stream,
             max_hits: settings.max_hits,
             code,
         };
@@ -140,11 +142,11 @@ where
     Ok(text)
 }
 
-/// Runs a scenario under stream number 0 and, where it fails, reduces it, and writes the lines of `reduce`: the verdict, and of a failure
+/// Runs a scenario under a stream number, as a plan under its own, and, where it fails, reduces it, and writes the lines of `reduce`: the verdict, and of a failure
 /// the scenario that is left and how many sets of faults were tested.
 ///
 /// As many threads as the settings say test sets of faults, each on a twin of the target; the text is that of one thread, and the
-/// caller's target isn't touched. The scenario that is left fails with the same code, and no single fault can be left out of it. Nothing
+/// caller's target isn't touched. The scenario that is left fails with the same code under the same stream number, and no single fault can be left out of it. Nothing
 /// is written before the text stands whole: for want of memory the sink is unchanged and hasn't failed. A failed write tells how many
 /// bytes of the text, fewer than all, went out.
 pub fn reduce_one<T: Target + Send, G: Gate, W: Sink, R: Threads + Wait + Sync>(
@@ -153,6 +155,7 @@ pub fn reduce_one<T: Target + Send, G: Gate, W: Sink, R: Threads + Wait + Sync>(
     target: &T,
     workload: &T::Workload,
     settings: &Settings,
+    stream: u64,
     scenario: &Scenario,
     gate: &G,
     sink: &mut W,
@@ -160,15 +163,15 @@ pub fn reduce_one<T: Target + Send, G: Gate, W: Sink, R: Threads + Wait + Sync>(
 where
     T::Workload: Sync,
     requires { W.has_failed sink.old ≡ false }
-    ensures verdict { IfOk result (λ verdict. verdict ≡ say (campaign_on T.Target target.now workload.now settings.now) 0 scenario.now) }
-    ensures text { OnOk result (Appends (W.told sink.old) (W.told sink.new) (reduce_text (campaign_on T.Target target.now workload.now settings.now) scenario.now)) }
-    ensures minimal { OnOk result (IsReducedToMinimal (campaign_on T.Target target.now workload.now settings.now) scenario.now) }
+    ensures verdict { IfOk result (λ verdict. verdict ≡ say (campaign_on T.Target target.now workload.now settings.now) stream scenario.now) }
+    ensures text { OnOk result (Appends (W.told sink.old) (W.told sink.new) (reduce_text (campaign_on T.Target target.now workload.now settings.now) stream scenario.now)) }
+    ensures minimal { OnOk result (IsReducedToMinimal (campaign_on T.Target target.now workload.now settings.now) stream scenario.now) }
     ensures sound { OnOk result (W.has_failed sink.new ≡ false) }
-    ensures fault { IfErr result (LeavesOnly (W.told sink.old) (W.told sink.new) (W.has_failed sink.new) (reduce_text (campaign_on T.Target target.now workload.now settings.now) scenario.now)) }
+    ensures fault { IfErr result (LeavesOnly (W.told sink.old) (W.told sink.new) (W.has_failed sink.new) (reduce_text (campaign_on T.Target target.now workload.now settings.now) stream scenario.now)) }
 {
-    let verdict = verdict_of(alloc, target, workload, settings, scenario)?;
+    let verdict = verdict_of(alloc, target, workload, settings, stream, scenario)?;
     let text = reduce_text(
-        rt, alloc, gate, target, workload, settings, scenario, verdict,
+        rt, alloc, gate, target, workload, settings, stream, scenario, verdict,
     )?;
     write_report(text.as_bytes(), sink)?;
     Ok(verdict)

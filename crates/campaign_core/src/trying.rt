@@ -30,10 +30,10 @@ fn try_text<N: Names>(alloc: Global, names: &N, outcome: &Outcome) -> Result<Str
     Ok(text)
 }
 
-/// Runs the scenario on the target, with stream number 0, and writes the five lines of `try`: the verdict, the number of
-/// points asked, the words taken, the simulated milliseconds and the number of notes.
+/// Runs the scenario on the target, and writes the five lines of `try`: the verdict, the number of points asked, the words taken, the
+/// simulated milliseconds and the number of notes.
 ///
-/// The seed is that of the run's words; after `max_hits` answered hits the run is stopped and unresolved. Nothing is
+/// The seed and the stream number are those of the run's words: a plan of a campaign runs under its own number. After `max_hits` answered hits the run is stopped and unresolved. Nothing is
 /// written before the text stands whole: for want of memory the sink is unchanged and hasn't failed. A failed write tells
 /// how many bytes of the text, fewer than all, went out. The target keeps its setup in every case.
 pub fn try_one<T: Target, W: Sink>(
@@ -41,21 +41,22 @@ pub fn try_one<T: Target, W: Sink>(
     target: &mut T,
     workload: &T::Workload,
     seed: u64,
+    stream: u64,
     max_hits: u32,
     scenario: &Scenario,
     sink: &mut W,
 ) -> Result<Verdict, CampaignFault>
     requires { W.has_failed sink.old ≡ false }
-    ensures verdict { IfOk result (λ verdict. verdict ≡ (outcome (T.asks target.old workload.now) (given_of scenario.now T.names seed 0 max_hits)).verdict) }
-    ensures text { OnOk result (Appends (W.told sink.old) (W.told sink.new) (try_text T.code_text (outcome (T.asks target.old workload.now) (given_of scenario.now T.names seed 0 max_hits)))) }
+    ensures verdict { IfOk result (λ verdict. verdict ≡ (outcome (T.asks target.old workload.now) (given_of scenario.now T.names seed stream max_hits)).verdict) }
+    ensures text { OnOk result (Appends (W.told sink.old) (W.told sink.new) (try_text T.code_text (outcome (T.asks target.old workload.now) (given_of scenario.now T.names seed stream max_hits)))) }
     ensures sound { OnOk result (W.has_failed sink.new ≡ false) }
-    ensures fault { IfErr result (LeavesOnly (W.told sink.old) (W.told sink.new) (W.has_failed sink.new) (try_text T.code_text (outcome (T.asks target.old workload.now) (given_of scenario.now T.names seed 0 max_hits)))) }
+    ensures fault { IfErr result (LeavesOnly (W.told sink.old) (W.told sink.new) (W.has_failed sink.new) (try_text T.code_text (outcome (T.asks target.old workload.now) (given_of scenario.now T.names seed stream max_hits)))) }
     ensures setup { target.new ≡ target.old }
 {
     let case = Case {
         scenario,
         seed,
-        stream: 0,
+        stream,
         max_hits,
     };
     let outcome = run_case(alloc, target, workload, &case)?;

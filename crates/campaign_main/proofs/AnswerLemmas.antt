@@ -1,12 +1,12 @@
 -- Answers, by what a command did.
-use Rattle.std.proofs.Common.{◌≡◌, ◌≤◌, ◌<◌, ◌∙◌, ℕ, Bool, true, false, List, Option, Some, None, Result, Ok, Err, IfOk, IsErrAnd, length, refl, sym, ap, is_some, option_map, subst, take, if◌then◌else◌}
+use Rattle.std.proofs.Common.{◌≡◌, ◌≤◌, ◌<◌, ◌∙◌, ℕ, Bool, true, false, List, Option, Some, None, Result, Ok, Err, IfOk, IsErrAnd, length, refl, sym, ap, is_some, option_map, slice_get, subst, take, if◌then◌else◌}
 use Rattle.std.proofs.lemmas.Bool.{le-ltb, lt-ltb}
 use Rattle.std.specs.Io.KnownBytes.{Appends}
 use Rattle.scenario_values.specs.Scenario.{Entries}
-use Rattle.scenario_grammar.specs.FirstFault.{Fault}
+use Rattle.scenario_grammar.specs.declared.fault.ScenarioFault.TheVariants as scenario
 use Rattle.plan_gen.specs.PlanList.{most_plans}
 use Rattle.campaign_core.specs.Headline.{Campaign, say, plans, report_text, first_failure}
-use Rattle.campaign_core.specs.CommandTexts.{IsFault, IsReducedToMinimal, LeavesOnly, plan_lines, plans_text, reduce_text, tried, try_text}
+use Rattle.campaign_core.specs.CommandTexts.{IsFault, IsReducedToMinimal, IsUnlisted, LeavesOnly, plan_lines, plans_text, reduce_text, tried, try_text}
 use Rattle.campaign_core.specs.declared.ending.CampaignFault.{CampaignFault}
 use Rattle.campaign_core.specs.declared.ending.CampaignFault.TheVariants as campaign
 use Rattle.command_words.specs.declared.words.Order.TheVariants as order
@@ -15,8 +15,8 @@ use Rattle.report.specs.ReportText.{text_of}
 use Rattle.campaign_main.specs.declared.fault.CommandFault.{CommandFault}
 use Rattle.campaign_main.specs.declared.fault.CommandFault.TheVariants as faults
 use Rattle.campaign_main.specs.Exit.{is_fail}
-use Rattle.campaign_main.specs.Commands.{Answer, of_few_plans, outside_answer, plans_answer, reduce_answer, run_answer, spelled_answer, too_many_plans, try_answer}
-use Rattle.campaign_main.specs.Ends.{ComesTo, FallsShort, IsCutOff, IsUntouched, IsWritten}
+use Rattle.campaign_main.specs.Commands.{Answer, Refusal, numbered, of_few_plans, outside_answer, planned, plans_answer, reduce_answer, run_answer, taken_answer, too_many_plans, try_answer}
+use Rattle.campaign_main.specs.Ends.{ComesTo, FallsShort, IsCutOff, IsUntaken, IsUntouched, IsWritten}
 
 module _ (plans : List Entries) (a : List ℕ × Bool) where
   few_plans : length plans ≤ most_plans → of_few_plans plans a ≡ Ok a
@@ -88,33 +88,63 @@ module _ (c : Campaign) (old new : Option (List ℕ)) where
   unfolding plans_answer
   plans-short failed f h = short_of_plans c (plans_answer c) (plans_text c) false refl old new failed f h
 
-module _ (c : Campaign) (read : Result Entries Fault) (s : Entries) (spelled : read ≡ Ok s) (old new : Option (List ℕ)) where
-  tried-is : spelled_answer (try_answer c) read ≡ Ok (try_text c.codes (tried c s), is_fail (tried c s).verdict)
+module _ (c : Campaign) (read : Result (ℕ × Entries) Refusal) (t : ℕ × Entries) (takes : read ≡ Ok t) (old new : Option (List ℕ)) where
+  tried-is : taken_answer (try_answer c) read ≡ Ok (try_text c.codes (tried c t.0 t.1), is_fail (tried c t.0 t.1).verdict)
   unfolding try_answer
-  tried-is = ap (spelled_answer (try_answer c)) spelled
+  tried-is = ap (taken_answer (try_answer c)) takes
 
-  pub try-written : (failed found : Bool) → Appends old new (try_text c.codes (tried c s)) → failed ≡ false → found ≡ is_fail (tried c s).verdict → IsWritten (spelled_answer (try_answer c) read) old new failed found
+  pub try-written : (failed found : Bool) → Appends old new (try_text c.codes (tried c t.0 t.1)) → failed ≡ false → found ≡ is_fail (tried c t.0 t.1).verdict
+      → IsWritten (taken_answer (try_answer c) read) old new failed found
   try-written failed found written sound is =
-      let P : Bool → Type 0 = λ b. IsWritten (spelled_answer (try_answer c) read) old new failed b in
+      let P : Bool → Type 0 = λ b. IsWritten (taken_answer (try_answer c) read) old new failed b in
       subst P (sym is) (of_scenario _ _ _ tried-is old new failed written sound)
 
-  pub try-short : (failed : Bool) (f : CampaignFault) → LeavesOnly old new failed (try_text c.codes (tried c s)) f → FallsShort (spelled_answer (try_answer c) read) old new failed (faults.Campaign f)
+  pub try-short : (failed : Bool) (f : CampaignFault) → LeavesOnly old new failed (try_text c.codes (tried c t.0 t.1)) f → FallsShort (taken_answer (try_answer c) read) old new failed (faults.Campaign f)
   try-short failed f h = short_of_scenario _ _ _ tried-is old new failed f h
 
-  reduced-is : spelled_answer (reduce_answer c) read ≡ Ok (reduce_text c s, is_fail (say c 0 s))
+  reduced-is : taken_answer (reduce_answer c) read ≡ Ok (reduce_text c t.0 t.1, is_fail (say c t.0 t.1))
   unfolding reduce_answer
-  reduced-is = ap (spelled_answer (reduce_answer c)) spelled
+  reduced-is = ap (taken_answer (reduce_answer c)) takes
 
-  pub reduce-written : (failed found : Bool) → Appends old new (reduce_text c s) → failed ≡ false → found ≡ is_fail (say c 0 s) → IsWritten (spelled_answer (reduce_answer c) read) old new failed found
+  pub reduce-written : (failed found : Bool) → Appends old new (reduce_text c t.0 t.1) → failed ≡ false → found ≡ is_fail (say c t.0 t.1) → IsWritten (taken_answer (reduce_answer c) read) old new failed found
   reduce-written failed found written sound is =
-      let P : Bool → Type 0 = λ b. IsWritten (spelled_answer (reduce_answer c) read) old new failed b in
+      let P : Bool → Type 0 = λ b. IsWritten (taken_answer (reduce_answer c) read) old new failed b in
       subst P (sym is) (of_scenario _ _ _ reduced-is old new failed written sound)
 
-  pub reduce-short : (failed : Bool) (f : CampaignFault) → LeavesOnly old new failed (reduce_text c s) f → FallsShort (spelled_answer (reduce_answer c) read) old new failed (faults.Campaign f)
+  pub reduce-short : (failed : Bool) (f : CampaignFault) → LeavesOnly old new failed (reduce_text c t.0 t.1) f → FallsShort (taken_answer (reduce_answer c) read) old new failed (faults.Campaign f)
   reduce-short failed f h = short_of_scenario _ _ _ reduced-is old new failed f h
 
-  pub reduce-minimal : IsReducedToMinimal c s → IfOk read (IsReducedToMinimal c)
-  reduce-minimal minimal = let P : Result Entries Fault → Type 0 = λ r. IfOk r (IsReducedToMinimal c) in subst P (sym spelled) minimal
+  pub reduce-minimal : IsReducedToMinimal c t.0 t.1 → IfOk read (λ t. IsReducedToMinimal c t.0 t.1)
+  reduce-minimal minimal = let P : Result (ℕ × Entries) Refusal → Type 0 = λ r. IfOk r (λ t. IsReducedToMinimal c t.0 t.1) in subst P (sym takes) minimal
+
+-- ---- the scenario that a command takes
+
+module _ (plans : List Entries) (number : ℕ) where
+  pub planned-few : (plan : Option Entries) → length plans ≤ most_plans → plan ≡ slice_get plans number → planned number plans ≡ numbered number plan
+  planned-few plan few is =
+      let f : Bool → Result (ℕ × Entries) Refusal = λ b. if b then Err too_many_plans else numbered number (slice_get plans number) in
+      ap f (le-ltb most_plans (length plans) few) ∙ ap (numbered number) (sym is)
+
+  planned-many : most_plans < length plans → planned number plans ≡ Err too_many_plans
+  planned-many many =
+      let f : Bool → Result (ℕ × Entries) Refusal = λ b. if b then Err too_many_plans else numbered number (slice_get plans number) in
+      ap f (lt-ltb most_plans (length plans) many)
+
+pub unplanned : (c : Campaign) (number : ℕ) (f : CampaignFault) → IsUnlisted c f → IsUntaken (planned number (plans c)) (faults.Campaign f)
+unplanned c number campaign.TooManyPlans h = planned-many (plans c) number h
+unplanned c number campaign.Memory h = tt
+unplanned c number (campaign.Write n) h = absurd h
+
+-- a command that takes no scenario wrote nothing
+pub untaken-short : (answer : ℕ → Entries → Answer) (read : Result (ℕ × Entries) Refusal) (old : Option (List ℕ)) (failed : Bool) (fault : CommandFault) → failed ≡ false → IsUntaken read fault
+    → FallsShort (taken_answer answer read) old old failed fault
+untaken-short answer read old failed (faults.Scenario scenario.Memory) sound h = (refl, sound)
+untaken-short answer read old failed (faults.Scenario (scenario.Bad kind entry term)) sound h = ((refl, sound), ap (taken_answer answer) h)
+untaken-short answer read old failed (faults.Plan number) sound h = ((refl, sound), ap (taken_answer answer) h)
+untaken-short answer read old failed (faults.Campaign campaign.TooManyPlans) sound h = ((refl, sound), ap (taken_answer answer) h)
+untaken-short answer read old failed (faults.Campaign campaign.Memory) sound h = (refl, sound)
+untaken-short answer read old failed (faults.Campaign (campaign.Write n)) sound h = absurd h
+untaken-short answer read old failed faults.Outside sound h = absurd h
 
 -- ---- the plans of a component that somebody else runs
 

@@ -19,8 +19,8 @@ use Rattle.campaign_main.specs.declared.exit.Exit.{Exit}
 use Rattle.campaign_main.specs.declared.exit.Exit.TheVariants as exit
 use Rattle.campaign_main.specs.declared.input.ReadFault.{ReadFault}
 use Rattle.campaign_main.specs.declared.input.ReadFault.TheVariants as read
-use Rattle.campaign_main.specs.Commands.{Answer, Refusal, answer_of, bad_scenario, bad_settings, campaign_for, choice_answer, chosen_answer, given_answer, not_text, of_text, text_answer}
-use Rattle.campaign_main.specs.Ends.{EndsAs, FallsShort, IsCutOff, IsEndOf, IsRefused, IsWritten, Leaves, OnWhole, RefusesWith, Tells, TellsARefusal, TellsBy, TellsRefusal}
+use Rattle.campaign_main.specs.Commands.{Answer, Refusal, answer_of, bad_scenario, bad_settings, campaign_for, choice_answer, chosen_answer, given_answer, no_plan, not_text, of_text, text_answer}
+use Rattle.campaign_main.specs.Ends.{EndsAs, FallsShort, IsCutOff, IsEndOf, IsRefused, IsUntouched, IsWritten, Leaves, OnWhole, RefusesWith, Tells, TellsARefusal, TellsBy, TellsRefusal}
 use Rattle.campaign_main.specs.Exit.{exit_of}
 use Rattle.campaign_main.specs.Minimal.{ReducesToMinimal, TextReducesToMinimal}
 use Rattle.campaign_main.specs.FaultLines.{refusal_line, scenario_line, settings_line, read_fault_line, unreadable_line}
@@ -105,13 +105,17 @@ module _ (answer : Answer) (old new : Option (List ℕ)) (failed : Bool) where
   found-ends true h = h
 
   module _ (line line' : Option (List ℕ)) (broken : Bool) where
+    unwritten-ends : (told : List ℕ) (end : Exit) → IsUntouched old new failed → RefusesWith told end line line' broken → EndsAs end answer old new failed
+    unwritten-ends told exit.Kept short is = absurd is
+    unwritten-ends told exit.Found short is = absurd is
+    unwritten-ends told exit.Refused short is = short
+    unwritten-ends told exit.Memory short is = short
+    unwritten-ends told (exit.Write n) short is = absurd is
+
     pub fault-ends : (fault : CommandFault) (end : Exit) → FallsShort answer old new failed fault → IsEndOf fault end line line' broken → EndsAs end answer old new failed
     fault-ends (command.Scenario scenario.Memory) end short is = let P : Exit → Type 0 = λ e. EndsAs e answer old new failed in subst P (sym is.0) short
-    fault-ends (command.Scenario (scenario.Bad kind entry term)) exit.Kept short is = absurd is
-    fault-ends (command.Scenario (scenario.Bad kind entry term)) exit.Found short is = absurd is
-    fault-ends (command.Scenario (scenario.Bad kind entry term)) exit.Refused short is = short.0
-    fault-ends (command.Scenario (scenario.Bad kind entry term)) exit.Memory short is = short.0
-    fault-ends (command.Scenario (scenario.Bad kind entry term)) (exit.Write n) short is = absurd is
+    fault-ends (command.Scenario (scenario.Bad kind entry term)) end short is = unwritten-ends (scenario_line (scenario.Bad kind entry term)) end short.0 is
+    fault-ends (command.Plan number) end short is = unwritten-ends (refusal_line (no_plan number)) end short.0 is
     fault-ends (command.Campaign campaign.TooManyPlans) end short is = let P : Exit → Type 0 = λ e. EndsAs e answer old new failed in subst P (sym is.0) short.0
     fault-ends (command.Campaign campaign.Memory) end short is = let P : Exit → Type 0 = λ e. EndsAs e answer old new failed in subst P (sym is.0) short
     fault-ends (command.Campaign (campaign.Write n)) end short is = let P : Exit → Type 0 = λ e. EndsAs e answer old new failed in subst P (sym is.0) short
@@ -122,6 +126,9 @@ module _ (answer : Answer) (old new : Option (List ℕ)) (failed : Bool) where
     fault-tells (command.Scenario (scenario.Bad kind entry term)) end short is =
         tells-by (TellsRefusal answer line line' broken) (scenario_line (scenario.Bad kind entry term)) end line line' broken is
         (λ refused. tells-refusal answer (bad_scenario (record { kind = kind; entry = entry; term = term })) end line line' broken short.1 refused is)
+    fault-tells (command.Plan number) end short is =
+        tells-by (TellsRefusal answer line line' broken) (refusal_line (no_plan number)) end line line' broken is
+        (λ refused. tells-refusal answer (no_plan number) end line line' broken short.1 refused is)
     fault-tells (command.Campaign campaign.TooManyPlans) end short is =
         let P : Exit → Type 0 = λ e. TellsBy (TellsRefusal answer line line' broken) e line line' broken in
         let Q : Answer → Type 0 = λ a. TellsRefusal a line line' broken in
@@ -137,6 +144,7 @@ module _ (answer : Answer) (old new : Option (List ℕ)) (failed : Bool) where
 pub fault-whole : (line line' : Option (List ℕ)) (broken : Bool) (claim : Type 0) (fault : CommandFault) (end : Exit) → IsEndOf fault end line line' broken → OnWhole end claim
 fault-whole line line' broken claim (command.Scenario scenario.Memory) end is = let P : Exit → Type 0 = λ e. OnWhole e claim in subst P (sym is.0) tt
 fault-whole line line' broken claim (command.Scenario (scenario.Bad kind entry term)) end is = refuses-whole (scenario_line (scenario.Bad kind entry term)) end line line' broken claim is
+fault-whole line line' broken claim (command.Plan number) end is = refuses-whole (refusal_line (no_plan number)) end line line' broken claim is
 fault-whole line line' broken claim (command.Campaign campaign.TooManyPlans) end is = let P : Exit → Type 0 = λ e. OnWhole e claim in subst P (sym is.0) tt
 fault-whole line line' broken claim (command.Campaign campaign.Memory) end is = let P : Exit → Type 0 = λ e. OnWhole e claim in subst P (sym is.0) tt
 fault-whole line line' broken claim (command.Campaign (campaign.Write n)) end is = let P : Exit → Type 0 = λ e. OnWhole e claim in subst P (sym is.0) tt

@@ -1,6 +1,5 @@
 -- Ends of questions, by what they came to and by what was read.
-use Rattle.std.proofs.Common.{◌≡◌, ◌≤◌, ◌<◌, ◌∙◌, ◌==◌, [], ◌∷◌, ℕ, Bool, true, false, List, Option, Some, None, IfSome, IfErr, IsErrAnd, Result, Ok, Err, length, is_some, refl, sym, ap, inl, inr, subst, if◌then◌else◌}
-use Rattle.std.specs.Io.KnownBytes.{Appends}
+use Rattle.std.proofs.Common.{◌≡◌, ◌≤◌, ◌<◌, ◌==◌, [], ℕ, Bool, true, false, List, Option, Some, None, IfSome, IsErrAnd, Result, Ok, Err, length, refl, sym, ap, inl, inr, subst, if◌then◌else◌}
 use Rattle.std.specs.Str.{IsUtf8}
 use Rattle.answer_text.specs.Answers.{Answer as Told, most_bytes}
 use Rattle.answer_text.specs.FirstFault.{pieces_from, reading_of}
@@ -9,15 +8,10 @@ use Rattle.answer_text.specs.declared.fault.AnswersFault.TheVariants as answers
 use Rattle.std.specs.List.{slice_split}
 use Rattle.std.proofs.lemmas.Bool.{lt-ltb}
 use Rattle.campaign_settings.specs.Description.{Description}
-use Rattle.campaign_settings.specs.Settings.{Cause, Read, Given, RefusedBy, given_of, settings_of, too_long, wrong}
-use Rattle.campaign_settings.specs.declared.choice.Choice.{Choice}
-use Rattle.campaign_settings.specs.declared.choice.Choice.TheVariants as choice
+use Rattle.campaign_settings.specs.Settings.{Cause, Read, Given, RefusedBy, given_of, settings_of, too_long}
 use Rattle.campaign_settings.specs.declared.fault.SettingsFault.{SettingsFault}
 use Rattle.campaign_settings.specs.declared.fault.SettingsFault.TheVariants as settings
-use Rattle.campaign_settings.specs.declared.keys.Key.TheVariants as key
-use Rattle.campaign_settings.specs.declared.keys.KeyFault.TheVariants as fault
 use Rattle.campaign_settings.specs.declared.settings.Settings.{Settings}
-use Rattle.campaign_core.specs.declared.ending.CampaignFault.{CampaignFault}
 use Rattle.campaign_core.specs.declared.ending.CampaignFault.TheVariants as campaign
 use Rattle.command_words.specs.declared.words.Question.{Question}
 use Rattle.command_words.specs.declared.words.Question.TheVariants.{Asks, Report}
@@ -28,11 +22,11 @@ use Rattle.campaign_main.specs.declared.exit.Exit.{Exit}
 use Rattle.campaign_main.specs.declared.exit.Exit.TheVariants as exit
 use Rattle.campaign_main.specs.declared.input.ReadFault.{ReadFault}
 use Rattle.campaign_main.specs.declared.input.ReadFault.TheVariants as read
-use Rattle.campaign_main.specs.Commands.{Refusal, bad_answers, bad_settings, bundled_target, not_answered, not_text, of_text, too_many_plans}
-use Rattle.campaign_main.specs.Ends.{IsEndOf, IsTold, IsUntouched, Leaves, RefusesWith, TellsBy}
+use Rattle.campaign_main.specs.Commands.{Refusal, bad_answers, bad_settings, not_answered, not_text, too_many_plans}
+use Rattle.campaign_main.specs.Ends.{IsUntouched, Leaves, RefusesWith, TellsBy}
 use Rattle.campaign_main.specs.Exit.{exit_of}
 use Rattle.campaign_main.specs.FaultLines.{answers_read_line, read_fault_line, refusal_line, settings_line, unreadable_answers_line, unreadable_line}
-use Rattle.campaign_main.specs.Questions.{ComesToText, EndsAnswered, EndsQuestion, EndsUnanswered, FallsShortOf, IsAnswered, IsEndOfQuestion, IsNotAnswered, IsPart, RefusesQuestion, Subject, TellsOfQuestion, TellsWhy, chosen_subject, given_subject, subject_of, text_subject}
+use Rattle.campaign_main.specs.Questions.{ComesToText, EndsAnswered, EndsQuestion, FallsShortOf, IsAnswered, IsEndOfQuestion, IsNotAnswered, IsPart, RefusesQuestion, Subject, TellsOfQuestion, TellsWhy, chosen_subject, given_subject, subject_of, text_subject}
 use Rattle.campaign_main.proofs.EndLemmas.{broken-meaning, if_some, long-meaning, memory-apart, read-meaning, tells-by, text-meaning, unset-cause}
 
 -- ---- by what the lower crate came to

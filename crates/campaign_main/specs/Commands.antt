@@ -1,5 +1,5 @@
 -- What a command answers to the bytes of its settings: its text and its end, or why it is refused.
-use Rattle.std.specs.Prelude.{ℕ, Bool, false, List, length, Option, Some, None, is_some, Result, Ok, Err, nat_lt, if◌then◌else◌, string_bytes}
+use Rattle.std.specs.Prelude.{ℕ, Bool, false, List, length, Option, Some, None, is_some, Result, Ok, Err, nat_lt, if◌then◌else◌, slice_get, string_bytes}
 use Rattle.std.specs.Str.{is_utf8}
 use Rattle.scenario_values.specs.Scenario.{Entries}
 use Rattle.scenario_grammar.specs.FirstFault.{Fault, reading}
@@ -24,17 +24,21 @@ use Rattle.campaign_core.specs.Headline.{Campaign, say, plans, report_text, firs
 use Rattle.campaign_core.specs.CommandTexts.{plan_lines, plans_text, try_text, tried, reduce_text}
 use Rattle.command_words.specs.declared.words.Order.{Order}
 use Rattle.command_words.specs.declared.words.Order.TheVariants as order
+use Rattle.command_words.specs.declared.words.Which.{Which}
+use Rattle.command_words.specs.declared.words.Which.TheVariants.{Scenario, Plan}
 use Rattle.campaign_main.specs.Exit.{is_fail}
 
 -- ---- answers
 
--- why a command is refused: its settings are no UTF-8 or have a fault, its scenario has one, or there are too many plans; it would run a
--- component from outside, or asks about a target that isn't from outside; the answers have a fault, or lack this scenario
+-- why a command is refused: its settings are no UTF-8 or have a fault, its scenario has one, there are too many plans, or none of this
+-- number; it would run a component from outside, or asks about a target that isn't from outside; the answers have a fault, or lack this
+-- scenario
 pub data Refusal : Type 0 where
   not_text : Refusal
   bad_settings : Cause → Refusal
   bad_scenario : Fault → Refusal
   too_many_plans : Refusal
+  no_plan : ℕ → Refusal
   outside_target : Refusal
   bundled_target : Refusal
   bad_answers : AnswersFault → Refusal
@@ -58,24 +62,41 @@ run_answer c = of_few_plans (plans c) (report_text c, is_some (first_failure c))
 unfoldable pub plans_answer : Campaign → Answer
 plans_answer c = of_few_plans (plans c) (plans_text c, false)
 
--- a scenario tried, and whether it fails
-unfoldable pub try_answer : Campaign → Entries → Answer
-try_answer c scenario = Ok (try_text c.codes (tried c scenario), is_fail (tried c scenario).verdict)
+-- a scenario tried under a stream number, and whether it fails
+unfoldable pub try_answer : Campaign → ℕ → Entries → Answer
+try_answer c stream scenario = Ok (try_text c.codes (tried c stream scenario), is_fail (tried c stream scenario).verdict)
 
--- a scenario reduced, and whether it fails
-unfoldable pub reduce_answer : Campaign → Entries → Answer
-reduce_answer c scenario = Ok (reduce_text c scenario, is_fail (say c 0 scenario))
+-- a scenario reduced under a stream number, and whether it fails
+unfoldable pub reduce_answer : Campaign → ℕ → Entries → Answer
+reduce_answer c stream scenario = Ok (reduce_text c stream scenario, is_fail (say c stream scenario))
 
--- what comes of a scenario, where a text spells one
-abbrev pub spelled_answer : (Entries → Answer) → Result Entries Fault → Answer
-spelled_answer answer (Ok scenario) = answer scenario
-spelled_answer answer (Err f) = Err (bad_scenario f)
+-- the stream number and the scenario that a command takes: of a text the one that it spells, under 0
+abbrev pub spelled : Result Entries Fault → Result (ℕ × Entries) Refusal
+spelled (Ok scenario) = Ok (0, scenario)
+spelled (Err f) = Err (bad_scenario f)
+
+-- of a number the plan's, under the number, as the campaign runs it
+abbrev pub numbered : ℕ → Option Entries → Result (ℕ × Entries) Refusal
+numbered number (Some scenario) = Ok (number, scenario)
+numbered number None = Err (no_plan number)
+
+abbrev pub planned : ℕ → List Entries → Result (ℕ × Entries) Refusal
+planned number plans = if nat_lt most_plans (length plans) then Err too_many_plans else numbered number (slice_get plans number)
+
+abbrev pub taken : Campaign → Which → Result (ℕ × Entries) Refusal
+taken c (Scenario text) = spelled (reading (string_bytes text))
+taken c (Plan number) = planned number (plans c)
+
+-- what comes of it
+abbrev pub taken_answer : (ℕ → Entries → Answer) → Result (ℕ × Entries) Refusal → Answer
+taken_answer answer (Ok t) = answer t.0 t.1
+taken_answer answer (Err refusal) = Err refusal
 
 abbrev pub order_answer : Order → Campaign → Answer
 order_answer order.Run c = run_answer c
 order_answer order.Plans c = plans_answer c
-order_answer (order.Try text) c = spelled_answer (try_answer c) (reading (string_bytes text))
-order_answer (order.Reduce text) c = spelled_answer (reduce_answer c) (reading (string_bytes text))
+order_answer (order.Try which) c = taken_answer (try_answer c) (taken c which)
+order_answer (order.Reduce which) c = taken_answer (reduce_answer c) (taken c which)
 
 -- ---- a command on a component that somebody else runs
 
@@ -83,8 +104,8 @@ order_answer (order.Reduce text) c = spelled_answer (reduce_answer c) (reading (
 unfoldable pub outside_answer : Order → List Entries → Answer
 outside_answer order.Plans plans = of_few_plans plans (text_of (plan_lines 0 plans), false)
 outside_answer order.Run plans = Err outside_target
-outside_answer (order.Try text) plans = Err outside_target
-outside_answer (order.Reduce text) plans = Err outside_target
+outside_answer (order.Try which) plans = Err outside_target
+outside_answer (order.Reduce which) plans = Err outside_target
 
 -- ---- by the settings
 

@@ -2,14 +2,15 @@
 use Rattle.std.specs.Prelude.{◌≡◌, ◌<◌, ◌⊎◌, ℕ, Bool, true, false, List, Option, Result, Ok, Err, IsErrAnd, IsOkAnd, length, take}
 use Rattle.std.specs.Io.KnownBytes.{Appends}
 use Rattle.scenario_grammar.specs.declared.fault.ScenarioFault.TheVariants as scenario
+use Rattle.scenario_values.specs.Scenario.{Entries}
 use Rattle.campaign_core.specs.declared.ending.CampaignFault.TheVariants as campaign
-use Rattle.command_words.specs.Words.{AsksForHelp}
+use Rattle.command_words.specs.Words.{AsksToSee}
 use Rattle.command_words.specs.declared.words.WordsFault.{WordsFault}
 use Rattle.campaign_main.specs.declared.exit.Exit.{Exit}
 use Rattle.campaign_main.specs.declared.exit.Exit.TheVariants.{Kept, Found, Refused, Memory, Write}
 use Rattle.campaign_main.specs.declared.fault.CommandFault.{CommandFault}
-use Rattle.campaign_main.specs.declared.fault.CommandFault.TheVariants.{Scenario, Campaign, Outside}
-use Rattle.campaign_main.specs.Commands.{Answer, Refusal, bad_scenario, outside_target, too_many_plans}
+use Rattle.campaign_main.specs.declared.fault.CommandFault.TheVariants.{Scenario, Plan, Campaign, Outside}
+use Rattle.campaign_main.specs.Commands.{Answer, Refusal, bad_scenario, no_plan, outside_target, too_many_plans}
 use Rattle.campaign_main.specs.FaultLines.{cut_off_line, memory_line, refusal_line, scenario_line, unreadable_line}
 
 -- nothing was written, and the sink hasn't failed
@@ -56,10 +57,21 @@ abbrev pub FallsShort : Answer → Option (List ℕ) → Option (List ℕ) → B
 FallsShort answer old new failed (Scenario scenario.Memory) = IsUntouched old new failed
 FallsShort answer old new failed (Scenario (scenario.Bad kind entry term)) =
     IsUntouched old new failed × (answer ≡ Err (bad_scenario (record { kind = kind; entry = entry; term = term })))
+FallsShort answer old new failed (Plan number) = IsUntouched old new failed × (answer ≡ Err (no_plan number))
 FallsShort answer old new failed (Campaign campaign.TooManyPlans) = IsUntouched old new failed × (answer ≡ Err too_many_plans)
 FallsShort answer old new failed (Campaign campaign.Memory) = IsUntouched old new failed
 FallsShort answer old new failed (Campaign (campaign.Write written)) = IsCutOff answer old new failed written
 FallsShort answer old new failed Outside = IsUntouched old new failed × (answer ≡ Err outside_target)
+
+-- why a command takes no scenario
+abbrev pub IsUntaken : Result (ℕ × Entries) Refusal → CommandFault → Type 0
+IsUntaken taken (Scenario scenario.Memory) = Unit {0}
+IsUntaken taken (Scenario (scenario.Bad kind entry term)) = taken ≡ Err (bad_scenario (record { kind = kind; entry = entry; term = term }))
+IsUntaken taken (Plan number) = taken ≡ Err (no_plan number)
+IsUntaken taken (Campaign campaign.TooManyPlans) = taken ≡ Err too_many_plans
+IsUntaken taken (Campaign campaign.Memory) = Unit {0}
+IsUntaken taken (Campaign (campaign.Write written)) = ⊥
+IsUntaken taken Outside = ⊥
 
 -- what a command came to: whether a verdict in its text is fail, or a fault
 abbrev pub ComesTo : Answer → Option (List ℕ) → Option (List ℕ) → Bool → Result Bool CommandFault → Type 0
@@ -103,11 +115,12 @@ RefusesWith line Refused old new failed = IsTold line old new failed
 RefusesWith line Memory old new failed = IsTold memory_line old new failed
 RefusesWith line _ old new failed = ⊥
 
--- how a command ends that came to a fault, and what it tells; the line for a scenario takes memory
+-- how a command ends that came to a fault, and what it tells; the line for a scenario, or for a plan, takes memory
 abbrev pub IsEndOf : CommandFault → Exit → Option (List ℕ) → Option (List ℕ) → Bool → Type 0
 IsEndOf (Scenario scenario.Memory) end old new failed = (end ≡ Memory) × IsTold memory_line old new failed
 IsEndOf (Scenario (scenario.Bad kind entry term)) end old new failed =
     RefusesWith (scenario_line (scenario.Bad kind entry term)) end old new failed
+IsEndOf (Plan number) end old new failed = RefusesWith (refusal_line (no_plan number)) end old new failed
 IsEndOf (Campaign campaign.TooManyPlans) end old new failed = (end ≡ Refused) × IsTold (refusal_line too_many_plans) old new failed
 IsEndOf (Campaign campaign.Memory) end old new failed = (end ≡ Memory) × IsTold memory_line old new failed
 IsEndOf (Campaign (campaign.Write written)) end old new failed = (end ≡ Write written) × IsTold (cut_off_line written) old new failed
@@ -115,14 +128,14 @@ IsEndOf Outside end old new failed = (end ≡ Refused) × IsTold (refusal_line o
 
 -- ---- words
 
--- How the program ends that doesn't take its words: help was written, or a part of it before the output failed; or the words are refused,
--- or memory was, and nothing was written to the output. The texts are those of clap, which has no definition of them.
+-- How the program ends that doesn't take its words: help or the version was written, or a part of it before the output failed; or the words
+-- are refused, or memory was, and nothing was written to the output. The texts are those of clap, which has no definition of them.
 abbrev pub EndsWords : Exit → WordsFault → Option (List ℕ) → Option (List ℕ) → Bool → Type 0
-EndsWords Kept fault old new failed = AsksForHelp fault × ((help : List ℕ) × Appends old new help) × (failed ≡ false)
+EndsWords Kept fault old new failed = AsksToSee fault × ((help : List ℕ) × Appends old new help) × (failed ≡ false)
 EndsWords Found fault old new failed = ⊥
-EndsWords Refused fault old new failed = (¬ AsksForHelp fault) × IsUntouched old new failed
+EndsWords Refused fault old new failed = (¬ AsksToSee fault) × IsUntouched old new failed
 EndsWords Memory fault old new failed = IsUntouched old new failed
-EndsWords (Write written) fault old new failed = AsksForHelp fault
+EndsWords (Write written) fault old new failed = AsksToSee fault
     × ((help : List ℕ) × Appends old new (take written help) × (written < length help)) × (failed ≡ true)
 
 -- what it tells on the sink of faults; of refused words, some lines

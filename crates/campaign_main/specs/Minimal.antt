@@ -1,20 +1,19 @@
 -- Of each reduced scenario in the text that a command writes: it fails with its code, under the same seed and limit and its own stream
 -- number, and no single fault can be left out of it.
-use Rattle.std.specs.Prelude.{List, ℕ, IfOk, IfSome, string_bytes}
-use Rattle.scenario_grammar.specs.FirstFault.{reading}
+use Rattle.std.specs.Prelude.{List, ℕ, IfOk, IfSome}
 use Rattle.campaign_settings.specs.Settings.{settings_of}
 use Rattle.campaign_core.specs.Headline.{Campaign, EachIsMinimal}
 use Rattle.campaign_core.specs.CommandTexts.{IsReducedToMinimal}
 use Rattle.command_words.specs.declared.words.Order.{Order}
 use Rattle.command_words.specs.declared.words.Order.TheVariants as order
-use Rattle.campaign_main.specs.Commands.{campaign_for}
+use Rattle.campaign_main.specs.Commands.{campaign_for, taken}
 
--- by what a campaign is given: of `run` the scenarios of the first failures, of `reduce` the one that its text spells
+-- by what a campaign is given: of `run` the scenarios of the first failures, of `reduce` the one that it takes
 abbrev pub ReducesToMinimal : Order → Campaign → Type 0
 ReducesToMinimal order.Run c = EachIsMinimal c
 ReducesToMinimal order.Plans c = Unit {0}
-ReducesToMinimal (order.Try text) c = Unit {0}
-ReducesToMinimal (order.Reduce text) c = IfOk (reading (string_bytes text)) (IsReducedToMinimal c)
+ReducesToMinimal (order.Try which) c = Unit {0}
+ReducesToMinimal (order.Reduce which) c = IfOk (taken c which) (λ t. IsReducedToMinimal c t.0 t.1)
 
 -- by the text of the settings, where it gives settings and they choose a bundled target
 abbrev pub TextReducesToMinimal : Order → List ℕ → Type 0

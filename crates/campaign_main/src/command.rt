@@ -1,18 +1,17 @@
 //! The commands over one target.
-ghost use Rattle.std.specs.Prelude.{◌≡◌, false, IfOk, OnOk, string_bytes};
+ghost use Rattle.std.specs.Prelude.{◌≡◌, false, IfErr, IfOk, Ok, OnOk};
 ghost use Rattle.campaign_core.specs.CommandTexts.{IsReducedToMinimal};
 ghost use Rattle.campaign_core.specs.Headline.{campaign_on, EachIsMinimal};
-ghost use Rattle.campaign_main.specs.Commands.{order_answer, plans_answer, reduce_answer, run_answer, spelled_answer, try_answer};
-ghost use Rattle.campaign_main.specs.Ends.{ComesTo};
+ghost use Rattle.campaign_main.specs.Commands.{order_answer, plans_answer, reduce_answer, run_answer, taken, taken_answer, try_answer};
+ghost use Rattle.campaign_main.specs.Ends.{ComesTo, IsUntaken};
 ghost use Rattle.campaign_main.specs.Minimal.{ReducesToMinimal};
-ghost use Rattle.scenario_grammar.specs.FirstFault.{reading};
 
 use crate::exit::is_fail;
 use crate::fault::CommandFault;
-use campaign_core::{campaign, plan_list, reduce_one, try_one};
+use campaign_core::{campaign, plan_list, plan_scenario, reduce_one, try_one};
 use campaign_settings::Settings;
-use command_words::Order;
-use scenario_grammar::parse;
+use command_words::{Order, Which};
+use scenario_grammar::{Scenario, parse};
 use std::alloc::Global;
 use std::sync::Wait;
 use std::thread::Threads;
@@ -52,45 +51,73 @@ fn list_plans<T: Target, W: Sink>(
     Ok(false)
 }
 
-/// Tries the scenario that a text spells.
-fn try_text<T: Target, W: Sink>(
+/// The stream number and the scenario that a command takes. Nothing is written.
+fn take_scenario<T: Target>(
+    alloc: Global,
+    target: &T,
+    workload: &T::Workload,
+    settings: &Settings,
+    which: &Which,
+) -> Result<(u64, Scenario), CommandFault>
+    ensures ok { IfOk result (λ t. taken (campaign_on T.Target target.now workload.now settings.now) which.now ≡ Ok t) }
+    ensures fault { IfErr result (IsUntaken (taken (campaign_on T.Target target.now workload.now settings.now) which.now)) }
+{
+    match which {
+        Which::Scenario(text) => Ok((0, parse(alloc, text.as_str())?)),
+        Which::Plan(number) => {
+            let number = *number;
+            match plan_scenario(alloc, target, workload, settings, u32::from(number))? {
+                Some(scenario) => Ok((u64::from(number), scenario)),
+                None => Err(CommandFault::Plan(number)),
+            }
+        }
+    }
+}
+
+/// Tries the scenario that the command takes.
+fn try_which<T: Target, W: Sink>(
     alloc: Global,
     target: &mut T,
     workload: &T::Workload,
     settings: &Settings,
-    text: &str,
+    which: &Which,
     output: &mut W,
 ) -> Result<bool, CommandFault>
     requires { W.has_failed output.old ≡ false }
-    ensures { ComesTo (spelled_answer (try_answer (campaign_on T.Target target.old workload.now settings.now)) (reading text.now)) (W.told output.old) (W.told output.new) (W.has_failed output.new) result }
+    ensures { let c = campaign_on T.Target target.old workload.now settings.now in
+        ComesTo (taken_answer (try_answer c) (taken c which.now)) (W.told output.old) (W.told output.new) (W.has_failed output.new) result }
 {
-    let scenario = parse(alloc, text)?;
+    let (stream, scenario) = take_scenario(alloc, target, workload, settings, which)?;
     let seed = settings.seed;
     let max_hits = settings.max_hits;
-    let verdict = try_one(alloc, target, workload, seed, max_hits, &scenario, output)?;
+    let verdict = try_one(
+        alloc, target, workload, seed, stream, max_hits, &scenario, output,
+    )?;
     Ok(is_fail(verdict))
 }
 
-/// Reduces the scenario that a text spells.
-fn reduce_text<T: Target + Send, W: Sink, H: Threads + Wait + Sync>(
+/// Reduces the scenario that the command takes.
+fn reduce_which<T: Target + Send, W: Sink, H: Threads + Wait + Sync>(
     rt: &H,
     alloc: Global,
     target: &T,
     workload: &T::Workload,
     settings: &Settings,
-    text: &str,
+    which: &Which,
     output: &mut W,
 ) -> Result<bool, CommandFault>
 where
     T::Workload: Sync,
     requires { W.has_failed output.old ≡ false }
-    ensures text { ComesTo (spelled_answer (reduce_answer (campaign_on T.Target target.now workload.now settings.now)) (reading text.now)) (W.told output.old) (W.told output.new) (W.has_failed output.new) result }
-    ensures minimal { OnOk result (IfOk (reading text.now) (IsReducedToMinimal (campaign_on T.Target target.now workload.now settings.now))) }
+    ensures text { let c = campaign_on T.Target target.now workload.now settings.now in
+        ComesTo (taken_answer (reduce_answer c) (taken c which.now)) (W.told output.old) (W.told output.new) (W.has_failed output.new) result }
+    ensures minimal { let c = campaign_on T.Target target.now workload.now settings.now in
+        OnOk result (IfOk (taken c which.now) (λ t. IsReducedToMinimal c t.0 t.1)) }
 {
-    let scenario = parse(alloc, text)?;
+    let (stream, scenario) = take_scenario(alloc, target, workload, settings, which)?;
     let gate = FreeGate;
     let verdict = reduce_one(
-        rt, alloc, target, workload, settings, &scenario, &gate, output,
+        rt, alloc, target, workload, settings, stream, &scenario, &gate, output,
     )?;
     Ok(is_fail(verdict))
 }
@@ -117,9 +144,7 @@ where
     match order {
         Order::Run => run_plans(rt, alloc, target, workload, settings, output),
         Order::Plans => list_plans(alloc, target, workload, settings, output),
-        Order::Try(text) => try_text(alloc, target, workload, settings, text.as_str(), output),
-        Order::Reduce(text) => {
-            reduce_text(rt, alloc, target, workload, settings, text.as_str(), output)
-        }
+        Order::Try(which) => try_which(alloc, target, workload, settings, which, output),
+        Order::Reduce(which) => reduce_which(rt, alloc, target, workload, settings, which, output),
     }
 }

@@ -10,6 +10,8 @@ use scenario_grammar::ScenarioFault;
 pub enum CommandFault {
     /// Its own text spells no scenario.
     Scenario(ScenarioFault),
+    /// The campaign has no plan of this number. Nothing was written.
+    Plan(u16),
     /// What it does with the target came to no text, or the text wasn't written whole.
     Campaign(CampaignFault),
     /// Somebody else runs the component, and the command would run it. Nothing was written.

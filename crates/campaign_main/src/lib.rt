@@ -13,11 +13,13 @@ mod performing;
 mod questions;
 mod refusals;
 
-pub use campaign_core::{CampaignFault, Ending, campaign, plan_list, reduce_one, try_one};
+pub use campaign_core::{
+    CampaignFault, Ending, campaign, plan_list, plan_scenario, reduce_one, try_one,
+};
 pub use campaign_settings::{
     Choice, Key, LIMIT, Outside, Place, Settings, SettingsFault, TargetName,
 };
-pub use command_words::{Line, Order, Question, WordsFault, read_words};
+pub use command_words::{Line, Order, Question, VERSION, Which, WordsFault, read_words};
 pub use commit_target::{Transactions, Variant as CommitVariant, Vote, Votes};
 pub use exit::{Exit, status};
 pub use file_replace::{Chunks, Replacements, Variant as ReplaceVariant};

@@ -1,7 +1,7 @@
 //! The ends of a command that failed, and the line that says why. A line that can't be written changes no end.
 ghost use Rattle.std.specs.Prelude.{◌≡◌, ℕ, List, false, IfOk, string_bytes};
 ghost use Rattle.campaign_settings.specs.declared.fault.SettingsFault.TheVariants as settings;
-ghost use Rattle.campaign_main.specs.Commands.{bad_answers, bundled_target, not_answered};
+ghost use Rattle.campaign_main.specs.Commands.{bad_answers, bundled_target, no_plan, not_answered};
 ghost use Rattle.campaign_main.specs.Ends.{IsEndOf, IsTold, RefusesWith};
 ghost use Rattle.campaign_main.specs.FaultLines.{answers_read_line, cut_off_line, memory_line, read_fault_line, refusal_line, scenario_line, settings_line};
 ghost use Rattle.campaign_main.specs.Questions.{IsEndOfQuestion};
@@ -109,6 +109,13 @@ fn unspelled<E: Sink>(alloc: Global, fault: &ScenarioFault, faults: &mut E) -> E
     refused_by(scenario_line(alloc, fault), faults)
 }
 
+/// The line for a number that no plan has.
+fn plan_line(alloc: Global, number: u16) -> Result<String, AllocError>
+    ensures { IfOk result (λ line. string_bytes line ≡ refusal_line (no_plan number)) }
+{
+    format!(in alloc; "plan: out of range {number}\n")
+}
+
 /// Writes the line for a write that failed after so many bytes, or as much of it as the sink takes. It takes no memory.
 fn write_cut_off<E: Sink>(written: u64, faults: &mut E) -> Result<(), WriteFault>
     requires { E.has_failed faults.old ≡ false }
@@ -149,6 +156,7 @@ pub fn unanswered<E: Sink>(alloc: Global, fault: &CommandFault, faults: &mut E) 
 {
     match fault {
         CommandFault::Scenario(cause) => unspelled(alloc, cause, faults),
+        CommandFault::Plan(number) => refused_by(plan_line(alloc, *number), faults),
         CommandFault::Campaign(cause) => unwritten(*cause, faults),
         CommandFault::Outside => refused(
             "settings: target outside: only plans, asks and report\n",

@@ -70,9 +70,10 @@ fn perform_text<W: Sink, E: Sink, H: Threads + Wait + Sync>(
 ///
 /// It answers Kept, or Found where a verdict in the text is fail, where the whole text stands in the output. Else one line on the
 /// sink of faults says why there is none: Refused for settings that can't be read or have a fault, for a scenario with a fault, for
-/// more than 65536 plans, and where a component that somebody else runs isn't only to have its plans listed; and Memory where memory was refused, both with the output unchanged; or Write, which tells how many
-/// bytes of the text, fewer than all, went out before the output failed. Where that line can't be written whole the answer stays. The
-/// line of a refusal names the first fault in the order in which faults are looked for.
+/// a number that no plan has, for more than 65536 plans, and where a component that somebody else runs isn't only to have its plans
+/// listed; and Memory where memory was refused, both with the output unchanged; or Write, which tells how many bytes of the text,
+/// fewer than all, went out before the output failed. Where that line can't be written whole the answer stays. The line of a refusal
+/// names the first fault in the order in which faults are looked for.
 ///
 /// Each reduced scenario in a text that was written whole fails with its code, under the same seed, stream number and limit as what it
 /// was reduced from, and no single fault can be left out of it.

@@ -50,7 +50,7 @@ fn unreadable<E: Sink>(error: &io::Error, line: &str, faults: &mut E) -> Exit
 
 /// Writes what the program answers to words that it doesn't take, and ends.
 ///
-/// Help that was asked for goes to the output, and the end is Kept, or Write where the output failed after a part of the help. Any other
+/// Help and the version that were asked for go to the output, and the end is Kept, or Write where the output failed after a part. Any other
 /// refusal goes to the sink of faults, with the output unchanged, and the end is Refused. Where memory was refused the end is Memory,
 /// with the output unchanged. On the sink of faults nothing is written for Kept, and for Memory and Write the line that says so.
 pub fn refuse_words<W: Sink, E: Sink>(
@@ -71,7 +71,7 @@ pub fn refuse_words<W: Sink, E: Sink>(
     let Ok(lines) = format!(in alloc; "{fault}") else {
         return no_memory(faults);
     };
-    if !fault.is_help() {
+    if !fault.is_shown() {
         return refused(lines.as_str(), faults);
     }
     match write_report(lines.as_bytes(), output) {

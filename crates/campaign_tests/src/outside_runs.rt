@@ -189,7 +189,16 @@ fn a_broken_target_is_found_by_one_try(rt: HostRuntime) -> Result<(), Fail> {
     let alloc = rt.alloc();
     let scenario = parse(alloc, "broken::point=return").map_err(|_| "a scenario")?;
     let mut sink = Out::new(Vec::new(alloc));
-    let verdict = try_one(alloc, &mut AlwaysBroken, &(), 7, 1000, &scenario, &mut sink);
+    let verdict = try_one(
+        alloc,
+        &mut AlwaysBroken,
+        &(),
+        7,
+        0,
+        1000,
+        &scenario,
+        &mut sink,
+    );
     assert_eq!(rt; verdict, Ok(Verdict::Fail(0)));
     assert_eq!(rt;
         sink.into_writer().as_slice(),

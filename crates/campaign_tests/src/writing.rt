@@ -2,7 +2,7 @@
 
 use crate::late_sync::{LATE_SYNC, LATE_SYNC_REPORT};
 use crate::streams::{Answered, Narrow, Trouble, answer};
-use campaign_main::{Exit, Order, Out, perform, status};
+use campaign_main::{Exit, Order, Out, Which, perform, status};
 use std::alloc::Global;
 use std::process::Abort;
 use std::sync::Wait;
@@ -55,8 +55,14 @@ fn each_command_tells_what_was_written(rt: HostRuntime) -> Result<(), Fail> {
     let orders = [
         (Order::Run, "target rep"),
         (Order::Plans, "plan 0 non"),
-        (Order::Try(String::new(alloc)), "verdict pa"),
-        (Order::Reduce(String::new(alloc)), "verdict pa"),
+        (
+            Order::Try(Which::Scenario(String::new(alloc))),
+            "verdict pa",
+        ),
+        (
+            Order::Reduce(Which::Scenario(String::new(alloc))),
+            "verdict pa",
+        ),
     ];
     for (order, front) in &orders {
         let did = cut_off(&rt, alloc, order, 10, 2, Trouble::Broken);

@@ -1,4 +1,4 @@
-use Rattle.std.proofs.Common.{◌≡◌, ◌⊎◌, ◌∙◌, List, [], ◌∷◌, Bool, Option, Some, None, Box, ap, ap₂, codes, cond, find, inl, inr, option_map, refl, sym, true, false}
+use Rattle.std.proofs.Common.{◌≡◌, ◌⊎◌, ◌∙◌, ◌<◌, ◌≤◌, ℕ, List, [], ◌∷◌, Bool, Option, Some, None, Result, Ok, Err, IfErr, Box, ap, ap₂, arith, codes, cond, find, inl, inr, option_map, refl, subst, sym, true, false}
 use Rattle.std.proofs.lemmas.Option.{same_Some}
 use Rattle.std.specs.Box.{box_value}
 use Rattle.std.proofs.lemmas.Slice.Eq.{bytes_eq-Decides}
@@ -11,10 +11,15 @@ use Rattle.std.specs.Str.{bytes_eq}
 use Rattle.std.specs.Prelude.{is_some, not, ◌||◌, if◌then◌else◌}
 use Rattle.std.proofs.lemmas.Bool.{false≢true}
 use Rattle.clap.specs.Faults.{check_fault, defaults_fault, entered_fault, fault_of, is_simple_and_free, level_fault, settle_fault, walk_fault}
-use Rattle.clap.specs.Kinds.{HasKind, IsAmong}
-use Rattle.clap.specs.Values.{kind_of}
+use Rattle.clap.specs.Kinds.{HasKind, IsAmong, Kinds, or_else, value_kinds}
+use Rattle.clap.specs.Values.{IsUnsignedIn, kind_of}
+use Rattle.clap.specs.ValueTests.{accepts}
+use Rattle.clap.specs.declared.builder.value_parser.ValueParser.TheVariants.{Unsigned}
+use Rattle.clap.proofs.ValueTestLemmas.{Accepts-accepts, accepts-Accepts}
+use Rattle.std.specs.Str.Parse.{IsNumeral, digits_value, without_leading_plus}
 use Rattle.clap.specs.declared.error.Error.{Error}
-use Rattle.clap.specs.declared.error.kind.ErrorKind.TheVariants.{MissingRequiredArgument}
+use Rattle.clap.specs.declared.error.kind.ErrorKind.{ErrorKind}
+use Rattle.clap.specs.declared.error.kind.ErrorKind.TheVariants.{MissingRequiredArgument, ValueValidation}
 use Rattle.clap.specs.declared.builder.command.Command.{Command}
 use Rattle.clap.specs.declared.parser.matches.Found.{Found}
 use Rattle.clap.proofs.WalkLemmas.{first_value-rows}
@@ -26,7 +31,7 @@ use Rattle.clap.specs.declared.parser.matches.SubCommand.{SubCommand}
 use Rattle.clap.proofs.OnLiterals.{clap_on_literals}
 use Rattle.command_words.proofs.HelpLemmas.{NotHelp, no_faults, not-help}
 use Rattle.command_words.proofs.ValueLemmas.{all_have, first-there, level-has}
-use Rattle.command_words.specs.Words.{HasNeeded, IsFaultOf, IsLine, IsLineOf, IsName, IsRefusedFor, needs_file, needs_text, paklour}
+use Rattle.command_words.specs.Words.{HasNeeded, IsFaultOf, IsLine, IsLineOf, IsName, IsRefusedFor, Spells, Values, choice_fault, choice_kinds, needs_file, paklour, values_in, values_of, words_fault}
 use Rattle.command_words.specs.declared.words.WordsFault.{WordsFault}
 use Rattle.command_words.specs.declared.words.WordsFault.TheVariants.{Refused, Memory}
 
@@ -66,19 +71,19 @@ unfolding paklour
 entered-name None name rows n e = cc
 entered-name (Some p) name rows n e =
     elim (entered-named (λ s. answers_to p.0 (label_of s)) (built paklour).subs p.1 name rows e) [
-      | inl is ↦ inl (inl is.0)
-      | inr plans ↦ elim plans [
-        | inl is ↦ inl (inr (inl is.0))
-        | inr try ↦ elim try [
-          | inl is ↦ inl (inr (inr (inl is.0)))
-          | inr reduce ↦ elim reduce [
-            | inl is ↦ inl (inr (inr (inr is.0)))
-            | inr asks ↦ elim asks [
-              | inl is ↦ inr (inl is.0)
-              | inr report ↦ elim report [
-                | inl is ↦ inr (inr is.0)
-                | inr help ↦ elim help [
-                  | inl is ↦ absurd (help-only p.0 n is.1)
+      | inl run ↦ inl (inl (inl run.0))
+      | inr a ↦ elim a [
+        | inl plans ↦ inl (inl (inr plans.0))
+        | inr b ↦ elim b [
+          | inl try ↦ inl (inr (inl try.0))
+          | inr c ↦ elim c [
+            | inl reduce ↦ inl (inr (inr reduce.0))
+            | inr d ↦ elim d [
+              | inl asks ↦ inr (inl asks.0)
+              | inr e ↦ elim e [
+                | inl report ↦ inr (inr report.0)
+                | inr f ↦ elim f [
+                  | inl help ↦ absurd (help-only p.0 n help.1)
                   | inr none ↦ absurd none
                 ]
               ]
@@ -127,12 +132,21 @@ pub name-entered : (words : List Text) (name : Text) (rows : List Row) → fault
 name-entered words name rows none e =
     entered-name (stop_after (built paklour).top.rules (names_of (built paklour)) (argument_words paklour words)) name rows (no-help words none) e
 
-pub line-read : (o : Option (Text × List Row)) (name : Text) (f : Found) (line : Line) → o ≡ Some (name, rows_of f)
-    → IsLineOf name (first_value f (codes "scenario")) (first_value f (codes "file")) line → IsLine o line
-line-read o name f line e h =
-    rw (e, ← first_value-rows f (codes "scenario"), ← first_value-rows f (codes "file")) h
+-- a parse's values are those among its rows
+values-rows : (f : Found) → values_of f ≡ values_in (rows_of f)
+values-rows f =
+    rw (first_value-rows f (codes "scenario"), first_value-rows f (codes "plan"), first_value-rows f (codes "file")) refl
 
--- ---- a command that takes a scenario has its TEXT where the words have no fault
+pub line-read : (o : Option (Text × List Row)) (name : Text) (f : Found) (line : Line) → o ≡ Some (name, rows_of f) → IsLineOf name (values_of f) line → IsLine o line
+line-read o name f line e h =
+    let P : Values → Type 0 = λ v. IsLineOf name v line in
+    let Q : Option (Text × List Row) → Type 0 = λ x. IsLine x line in
+    subst Q (sym e) (subst P (values-rows f) h)
+
+pub choice-read : (o : Option (Text × List Row)) (name : Text) (f : Found) → o ≡ Some (name, rows_of f) → choice_fault o ≡ choice_kinds name (values_of f)
+choice-read o name f e = ap choice_fault e ∙ ap (choice_kinds name) (sym (values-rows f))
+
+-- ---- a question has its FILE where the words have no fault
 
 -- a subcommand that a walk enters, and that has no fault, is one of the command's
 abbrev Passed : Text → List Row → List Text → List Shape → Type 0
@@ -174,39 +188,24 @@ needed-first id rows have none = first-there id rows have (given-row id rows (gi
     given true none = refl
     given false none = cc
 
--- what the command of the name needs is among the rows
-abbrev NeededIn : Text → List Row → Type 0
-NeededIn name rows = HasNeeded name (first_of (codes "scenario") rows) (first_of (codes "file") rows)
-
-module _ (name word : Text) (is : name ≡ word) (rows : List Row) where
-  nothing-needed : needs_text word ≡ false → needs_file word ≡ false → NeededIn name rows
-  nothing-needed no_text no_file =
-      rw is ((λ t. absurd (false≢true (sym no_text ∙ t))), (λ t. absurd (false≢true (sym no_file ∙ t))))
-
-  text-needed : needs_file word ≡ false → is_some (first_of (codes "scenario") rows) ≡ true → NeededIn name rows
-  text-needed no_file here = rw is ((λ t. here), (λ t. absurd (false≢true (sym no_file ∙ t))))
-
-  file-needed : needs_text word ≡ false → is_some (first_of (codes "file") rows) ≡ true → NeededIn name rows
-  file-needed no_text here = rw is ((λ t. absurd (false≢true (sym no_text ∙ t))), (λ t. here))
-
-needed-at : (stop : Option (Text × List Text)) (name : Text) (rows : List Row) → entered (built paklour) stop ≡ Some (name, rows) → entered_fault (built paklour) stop ≡ [] → NeededIn name rows
+needed-at : (stop : Option (Text × List Text)) (name : Text) (rows : List Row) → entered (built paklour) stop ≡ Some (name, rows) → entered_fault (built paklour) stop ≡ [] → HasNeeded name (first_of (codes "file") rows)
 unfolding paklour
 needed-at None name rows e t = cc
 needed-at (Some p) name rows e t =
     elim (passed-in (λ s. answers_to p.0 (label_of s)) (built paklour).subs p.1 name rows e t) [
-      | inl run ↦ nothing-needed name (codes "run") run.0 rows refl refl
+      | inl run ↦ not-needed (codes "run") run.0 refl
       | inr a ↦ elim a [
-        | inl plans ↦ nothing-needed name (codes "plans") plans.0 rows refl refl
+        | inl plans ↦ not-needed (codes "plans") plans.0 refl
         | inr b ↦ elim b [
-          | inl try ↦ text-needed name (codes "try") try.0 rows refl (needed-first _ rows (rw try.1 (level-has _ p.1 refl try.2)) (rw try.1 (level-given _ p.1 try.2)))
+          | inl try ↦ not-needed (codes "try") try.0 refl
           | inr c ↦ elim c [
-            | inl reduce ↦ text-needed name (codes "reduce") reduce.0 rows refl (needed-first _ rows (rw reduce.1 (level-has _ p.1 refl reduce.2)) (rw reduce.1 (level-given _ p.1 reduce.2)))
+            | inl reduce ↦ not-needed (codes "reduce") reduce.0 refl
             | inr d ↦ elim d [
-              | inl asks ↦ file-needed name (codes "asks") asks.0 rows refl (needed-first _ rows (rw asks.1 (level-has _ p.1 refl asks.2)) (rw asks.1 (level-given _ p.1 asks.2)))
+              | inl asks ↦ λ _. needed-first _ rows (rw asks.1 (level-has _ p.1 refl asks.2)) (rw asks.1 (level-given _ p.1 asks.2))
               | inr e ↦ elim e [
-                | inl report ↦ file-needed name (codes "report") report.0 rows refl (needed-first _ rows (rw report.1 (level-has _ p.1 refl report.2)) (rw report.1 (level-given _ p.1 report.2)))
+                | inl report ↦ λ _. needed-first _ rows (rw report.1 (level-has _ p.1 refl report.2)) (rw report.1 (level-given _ p.1 report.2))
                 | inr f ↦ elim f [
-                  | inl help ↦ nothing-needed name (codes "help") help.0 rows refl refl
+                  | inl help ↦ not-needed (codes "help") help.0 refl
                   | inr none ↦ absurd none
                 ]
               ]
@@ -215,13 +214,16 @@ needed-at (Some p) name rows e t =
         ]
       ]
     ]
+  where
+    not-needed : (word : Text) → name ≡ word → needs_file word ≡ false → HasNeeded name (first_of (codes "file") rows)
+    not-needed word is free = rw is (λ t. absurd (false≢true (sym free ∙ t)))
 
-pub needed-given : (words : List Text) (name : Text) (f : Found) → fault_of paklour words ≡ [] → subcommand_of paklour words ≡ Some (name, rows_of f) → HasNeeded name (first_value f (codes "scenario")) (first_value f (codes "file"))
+pub needed-given : (words : List Text) (name : Text) (f : Found) → fault_of paklour words ≡ [] → subcommand_of paklour words ≡ Some (name, rows_of f) → HasNeeded name (first_value f (codes "file"))
 needed-given words name f none e =
     let top = built paklour in
     let given = argument_words paklour words in
     let after_walk = no_faults (walk_fault top.top (names_of top) (walk_from nothing_held) given) _ none in
-    rw (first_value-rows f (codes "scenario"), first_value-rows f (codes "file"))
+    rw (first_value-rows f (codes "file"))
     (needed-at (stop_after top.top.rules (names_of top) given) name (rows_of f) e (no_faults (entered_fault top (stop_after top.top.rules (names_of top) given)) _ after_walk.1).0)
 
 pub taken : (command : Command) (words : List Text) → app_of command ≡ paklour → takes paklour words ≡ true → takes (app_of command) words ≡ true
@@ -239,12 +241,54 @@ no-fault command words a kinds = rw (← a) (kinds (ap is_simple_and_free a ∙ 
 
 -- a refusal of clap has a kind that it defines for the words
 pub refused-for : (command : Command) (words : List Text) (error : Error) (fault : WordsFault) → app_of command ≡ paklour → (is_simple_and_free (app_of command) ≡ true → HasKind (fault_of (app_of command) words) error)
-    → IsFaultOf error fault → IsRefusedFor (fault_of paklour words) fault
+    → IsFaultOf error fault → IsRefusedFor (words_fault words) fault
 refused-for command words error Memory a kinds is = tt
 refused-for command words error (Refused cause) a kinds is =
     elim (kinds (ap is_simple_and_free a ∙ paklour-free)) [
       | inl memory ↦ absurd (is.1 memory)
       | inr among ↦
           let here : IsAmong (kind_of error) (fault_of paklour words) = rw (← a) among in
-          rw is.0 here
+          rw is.0 (among-first _ (fault_of paklour words) (choice_fault (subcommand_of paklour words)) here)
     ]
+  where
+    among-first : (k : ErrorKind) (a b : Kinds) → IsAmong k a → IsAmong k (or_else a b)
+    among-first k [] b h = absurd h
+    among-first k (x ∷ xs) b h = h
+
+-- where clap finds no fault, the words have that of TEXT and N
+pub choice-fault : (words : List Text) (name : Text) (f : Found) → fault_of paklour words ≡ [] → subcommand_of paklour words ≡ Some (name, rows_of f) → words_fault words ≡ choice_kinds name (values_of f)
+choice-fault words name f none e = ap (λ a. or_else a (choice_fault (subcommand_of paklour words))) none ∙ choice-read (subcommand_of paklour words) name f e
+
+pub choice-free : (words : List Text) → fault_of paklour words ≡ [] → subcommand_of paklour words ≡ None → words_fault words ≡ []
+choice-free words none e = ap (λ a. or_else a (choice_fault (subcommand_of paklour words))) none ∙ ap choice_fault e
+
+-- where no kind can come, what fails is want of memory
+pub memory-only : (T : Type 0) (r : Result Line WordsFault) (choice kinds : Kinds) → choice ≡ kinds → IfErr r (IsRefusedFor kinds) → IfErr r (λ fault. T → choice ≡ [] → fault ≡ Memory)
+memory-only T (Ok line) choice kinds is h = tt
+memory-only T (Err Memory) choice kinds is h = λ _ _. refl
+memory-only T (Err (Refused e)) choice kinds is h = λ _ none. absurd (subst (IsAmong (kind_of e)) (sym is ∙ none) h)
+
+-- ---- N, read as a number
+
+abbrev NumberKinds : Text → Kinds
+NumberKinds text = value_kinds false (Unsigned 0 65535) text
+
+abbrev FitsPlan : Text → Type 0
+FitsPlan text = IsNumeral 10 (without_leading_plus text) × (digits_value 10 (without_leading_plus text) < 65536)
+
+pub number-read : (text : Text) (n : ℕ) → FitsPlan text × (n ≡ digits_value 10 (without_leading_plus text)) → Spells text n × (NumberKinds text ≡ [])
+number-read text n h =
+    let small : digits_value 10 (without_leading_plus text) < 65536 = h.0.1 in
+    let fits : IsUnsignedIn 0 65535 text = (h.0.0, omega (arith, small), omega arith, omega (arith, small)) in
+    ((h.0.0, sym h.1), ap (λ b. if b then [] else ValueValidation ∷ []) (Accepts-accepts false (Unsigned 0 65535) text fits))
+
+pub number-refused : (text : Text) → ¬ (FitsPlan text) → NumberKinds text ≡ ValueValidation ∷ []
+number-refused text h = of (accepts false (Unsigned 0 65535) text) refl
+  where
+    of : (b : Bool) → accepts false (Unsigned 0 65535) text ≡ b → (if accepts false (Unsigned 0 65535) text then [] else ValueValidation ∷ []) ≡ ValueValidation ∷ []
+    of false is = ap (λ b. if b then [] else ValueValidation ∷ []) is
+    of true is =
+        let fits = accepts-Accepts false (Unsigned 0 65535) text is in
+        let most : digits_value 10 (without_leading_plus text) ≤ 65535 = fits.3 in
+        let small : digits_value 10 (without_leading_plus text) < 65536 = omega (arith, most) in
+        absurd (h (fits.0, small))

@@ -1,70 +1,123 @@
 -- The program's command line: the command that clap builds, and what its matches mean.
-use Rattle.std.specs.Prelude.{◌≡◌, ◌⊎◌, ◌||◌, Bool, List, true, Option, Some, None, Result, Ok, Err, codes, is_some, option_map, string_bytes}
+use Rattle.std.specs.Prelude.{◌≡◌, ◌⊎◌, ◌||◌, ◌++◌, ℕ, Bool, List, [], ◌∷◌, true, false, Option, Some, None, Result, Ok, Err, codes, if◌then◌else◌, is_some, option_map, string_bytes}
 use Rattle.std.specs.Str.{bytes_eq}
+use Rattle.std.specs.Str.Parse.{IsNumeral, digits_value, without_leading_plus}
 use Rattle.std.specs.declared.alloc.AllocError.{AllocError}
-use Rattle.clap.specs.Words.{App, IsAmong, Kinds, Row, Rule, Text, app_of, first_of, new_app, new_rule, with_rule, with_subcommand}
+use Rattle.clap.specs.Words.{App, IsAmong, Kinds, Row, Rule, Shape, Text, app_of, fault_of, first_of, first_value, new_app, new_rule, subcommand_of, with_rule, with_subcommand}
+use Rattle.clap.specs.Kinds.{or_else, value_kinds}
 use Rattle.clap.specs.Values.{kind_of}
 use Rattle.clap.specs.declared.builder.command.Command.{Command}
+use Rattle.clap.specs.declared.builder.value_parser.ValueParser.TheVariants.{Unsigned}
 use Rattle.clap.specs.declared.error.Error.{Error}
-use Rattle.clap.specs.declared.error.kind.ErrorKind.TheVariants.{DisplayHelp, OutOfMemory}
+use Rattle.clap.specs.declared.error.kind.ErrorKind.TheVariants.{ArgumentConflict, DisplayHelp, DisplayVersion, MissingRequiredArgument, OutOfMemory}
+use Rattle.clap.specs.declared.parser.matches.Found.{Found}
 use Rattle.command_words.specs.declared.words.Line.{Line}
 use Rattle.command_words.specs.declared.words.Line.TheVariants.{Own, Outside}
+use Rattle.command_words.specs.declared.words.Order.{Order}
+use Rattle.command_words.specs.declared.words.Order.TheVariants as order
 use Rattle.command_words.specs.declared.words.Question.{Question}
 use Rattle.command_words.specs.declared.words.Question.TheVariants.{Asks, Report}
-use Rattle.command_words.specs.declared.words.Order.{Order}
-use Rattle.command_words.specs.declared.words.Order.TheVariants.{Run, Plans, Try, Reduce}
+use Rattle.command_words.specs.declared.words.Which.{Which}
+use Rattle.command_words.specs.declared.words.Which.TheVariants.{Scenario, Plan}
 use Rattle.command_words.specs.declared.words.WordsFault.{WordsFault}
 use Rattle.command_words.specs.declared.words.WordsFault.TheVariants.{Refused, Memory}
+
+-- ---- arguments
 
 -- FILE
 abbrev pub file_rule : Rule
 file_rule = record (new_rule (codes "file")) { value_names = 1 }
 
--- --scenario TEXT, which has to be there
-abbrev pub scenario_rule : Rule
-scenario_rule = record (new_rule (codes "scenario")) {
-  long = Some (codes "scenario");
-  value_names = 1;
-  required = true;
-}
-
 -- FILE, which has to be there
 abbrev pub needed_file_rule : Rule
 needed_file_rule = record (new_rule (codes "file")) { value_names = 1; required = true }
+
+-- --scenario TEXT
+abbrev pub scenario_rule : Rule
+scenario_rule = record (new_rule (codes "scenario")) { long = Some (codes "scenario"); value_names = 1 }
+
+-- --plan N
+abbrev pub plan_rule : Rule
+plan_rule = record (new_rule (codes "plan")) { long = Some (codes "plan"); value_names = 1 }
+
+-- ---- commands
 
 -- a command that takes FILE alone
 abbrev pub file_app : Text → App
 file_app name = with_rule (new_app name) file_rule
 
--- a command that takes a scenario and FILE
+-- a command that takes a scenario, by its text or as the plan of a number
 abbrev pub scenario_app : Text → App
-scenario_app name = with_rule (with_rule (new_app name) scenario_rule) file_rule
+scenario_app name = with_rule (with_rule (with_rule (new_app name) scenario_rule) plan_rule) file_rule
 
--- a command that takes FILE alone, which has to be there since standard input has the answers
+-- a command that takes FILE, which has to be there since standard input has the answers
 abbrev pub question_app : Text → App
 question_app name = with_rule (new_app name) needed_file_rule
 
+abbrev pub with_commands : App → List Shape → App
+with_commands app [] = app
+with_commands app (s ∷ rest) = with_commands (with_subcommand app s) rest
+
+abbrev pub campaign_commands : List Shape
+campaign_commands = (file_app (codes "run")).top ∷ (file_app (codes "plans")).top ∷ []
+
+abbrev pub scenario_commands : List Shape
+scenario_commands = (scenario_app (codes "try")).top ∷ (scenario_app (codes "reduce")).top ∷ []
+
+abbrev pub question_commands : List Shape
+question_commands = (question_app (codes "asks")).top ∷ (question_app (codes "report")).top ∷ []
+
+-- the program without a command, which has a version
+abbrev pub bare_app : App
+bare_app = let app = new_app (codes "paklour") in record app { top = record app.top { has_version = true } }
+
 -- the program's command, to which clap adds the subcommand `help`
 unfoldable pub paklour : App
-paklour = with_subcommand (with_subcommand (with_subcommand (with_subcommand (with_subcommand (with_subcommand (new_app (codes "paklour"))
-    (file_app (codes "run")).top)
-    (file_app (codes "plans")).top)
-    (scenario_app (codes "try")).top)
-    (scenario_app (codes "reduce")).top)
-    (question_app (codes "asks")).top)
-    (question_app (codes "report")).top
+paklour = with_commands bare_app (campaign_commands ++ scenario_commands ++ question_commands)
 
 -- a command that came of the first with one more subcommand, which there was
 abbrev pub HasAlso : App → Result Command AllocError → Command → Type 0
 HasAlso app (Ok sub) command = app_of command ≡ with_subcommand app (app_of sub).top
 HasAlso app (Err fault) command = ⊥
 
--- the order that a command's name and its TEXT give
-abbrev pub IsOrder : Text → Option Text → Order → Type 0
-IsOrder name text Run = name ≡ codes "run"
-IsOrder name text Plans = name ≡ codes "plans"
-IsOrder name text (Try scenario) = (name ≡ codes "try") × (text ≡ Some (string_bytes scenario))
-IsOrder name text (Reduce scenario) = (name ≡ codes "reduce") × (text ≡ Some (string_bytes scenario))
+-- ---- what the words mean
+
+-- the values that a command was given: TEXT, N and FILE
+pub record Values : Type 0 where
+  pub scenario : Option Text
+  pub plan : Option Text
+  pub file : Option Text
+
+abbrev pub values_in : List Row → Values
+values_in rows = record {
+  scenario = first_of (codes "scenario") rows;
+  plan = first_of (codes "plan") rows;
+  file = first_of (codes "file") rows;
+}
+
+-- the same of what a parse found
+abbrev pub values_of : Found → Values
+values_of f = record {
+  scenario = first_value f (codes "scenario");
+  plan = first_value f (codes "plan");
+  file = first_value f (codes "file");
+}
+
+-- the text is a numeral, and this is its number
+abbrev pub Spells : Text → ℕ → Type 0
+Spells text number = IsNumeral 10 (without_leading_plus text) × (digits_value 10 (without_leading_plus text) ≡ number)
+
+-- a command takes the scenario of TEXT, or of the plan of number N
+abbrev pub IsWhich : Values → Which → Type 0
+IsWhich v (Scenario text) = (v.scenario ≡ Some (string_bytes text)) × (v.plan ≡ None)
+IsWhich v (Plan number) = (v.scenario ≡ None) × ((text : Text) × (v.plan ≡ Some text) × Spells text number)
+
+-- the order that a command's name and its values give
+abbrev pub IsOrder : Text → Values → Order → Type 0
+IsOrder name v order.Run = name ≡ codes "run"
+IsOrder name v order.Plans = name ≡ codes "plans"
+IsOrder name v (order.Try which) = (name ≡ codes "try") × IsWhich v which
+IsOrder name v (order.Reduce which) = (name ≡ codes "reduce") × IsWhich v which
 
 -- the question that a command's name gives
 abbrev pub IsQuestion : Text → Question → Type 0
@@ -73,23 +126,28 @@ IsQuestion name Report = name ≡ codes "report"
 
 -- the order of no command is Run, on the settings that come from standard input
 abbrev pub IsRun : Line → Type 0
-IsRun (Own Run file) = file ≡ None
+IsRun (Own order.Run file) = file ≡ None
 IsRun _ = ⊥
 
--- the line of a command's name, its TEXT and its FILE
-abbrev pub IsLineOf : Text → Option Text → Option Text → Line → Type 0
-IsLineOf name text file (Own order own) = IsOrder name text order × (option_map string_bytes own ≡ file)
-IsLineOf name text file (Outside question own) = IsQuestion name question × (file ≡ Some (string_bytes own))
+-- the line of a command's name and its values
+abbrev pub IsLineOf : Text → Values → Line → Type 0
+IsLineOf name v (Own order own) = IsOrder name v order × (option_map string_bytes own ≡ v.file)
+IsLineOf name v (Outside question own) = IsQuestion name question × (v.file ≡ Some (string_bytes own))
 
 -- the line that the matches give
 abbrev pub IsLine : Option (Text × List Row) → Line → Type 0
 IsLine None line = IsRun line
-IsLine (Some p) line =
-    IsLineOf p.0 (first_of (codes "scenario") p.1) (first_of (codes "file") p.1) line
+IsLine (Some p) line = IsLineOf p.0 (values_in p.1) line
+
+-- ---- names
+
+-- the names of the commands that take a scenario
+abbrev pub IsScenarioName : Text → Type 0
+IsScenarioName name = (name ≡ codes "try") ⊎ (name ≡ codes "reduce")
 
 -- the names of the commands over a target
 abbrev pub IsOrderName : Text → Type 0
-IsOrderName name = (name ≡ codes "run") ⊎ ((name ≡ codes "plans") ⊎ ((name ≡ codes "try") ⊎ (name ≡ codes "reduce")))
+IsOrderName name = ((name ≡ codes "run") ⊎ (name ≡ codes "plans")) ⊎ IsScenarioName name
 
 -- the names of the questions
 abbrev pub IsQuestionName : Text → Type 0
@@ -99,16 +157,38 @@ IsQuestionName name = (name ≡ codes "asks") ⊎ (name ≡ codes "report")
 abbrev pub IsName : Text → Type 0
 IsName name = IsOrderName name ⊎ IsQuestionName name
 
--- whether the command of the name needs a scenario, or FILE
-abbrev pub needs_text : Text → Bool
-needs_text name = bytes_eq name (codes "try") || bytes_eq name (codes "reduce")
+-- whether the command of the name takes a scenario, or needs FILE
+abbrev pub takes_scenario : Text → Bool
+takes_scenario name = bytes_eq name (codes "try") || bytes_eq name (codes "reduce")
 
 abbrev pub needs_file : Text → Bool
 needs_file name = bytes_eq name (codes "asks") || bytes_eq name (codes "report")
 
 -- what the command of the name needs is there
-abbrev pub HasNeeded : Text → Option Text → Option Text → Type 0
-HasNeeded name text file = (needs_text name ≡ true → is_some text ≡ true) × (needs_file name ≡ true → is_some file ≡ true)
+abbrev pub HasNeeded : Text → Option Text → Type 0
+HasNeeded name file = needs_file name ≡ true → is_some file ≡ true
+
+-- ---- refusals
+
+-- which kind a refusal of TEXT and N has: one of the two has to be there, and N is a number from 0 to 65535
+abbrev pub which_kinds : Option Text → Option Text → Kinds
+which_kinds None None = MissingRequiredArgument ∷ []
+which_kinds (Some text) None = []
+which_kinds None (Some number) = value_kinds false (Unsigned 0 65535) number
+which_kinds (Some text) (Some number) = ArgumentConflict ∷ []
+
+-- the same of a command's name and its values
+abbrev pub choice_kinds : Text → Values → Kinds
+choice_kinds name v = if takes_scenario name then which_kinds v.scenario v.plan else []
+
+-- the same of the matches
+abbrev pub choice_fault : Option (Text × List Row) → Kinds
+choice_fault None = []
+choice_fault (Some p) = choice_kinds p.0 (values_in p.1)
+
+-- the kinds of refusal that the words may come to: what clap finds, and else what is wrong with TEXT and N
+abbrev pub words_fault : List Text → Kinds
+words_fault words = or_else (fault_of paklour words) (choice_fault (subcommand_of paklour words))
 
 -- what the program makes of an error of clap
 abbrev pub IsFaultOf : Error → WordsFault → Type 0
@@ -120,7 +200,7 @@ abbrev pub IsRefusedFor : Kinds → WordsFault → Type 0
 IsRefusedFor kinds (Refused error) = IsAmong (kind_of error) kinds
 IsRefusedFor kinds Memory = Unit {0}
 
--- the words asked for help
-abbrev pub AsksForHelp : WordsFault → Type 0
-AsksForHelp (Refused error) = kind_of error ≡ DisplayHelp
-AsksForHelp Memory = ⊥
+-- the words asked for help, or for the version
+abbrev pub AsksToSee : WordsFault → Type 0
+AsksToSee (Refused error) = (kind_of error ≡ DisplayHelp) ⊎ (kind_of error ≡ DisplayVersion)
+AsksToSee Memory = ⊥

@@ -8,6 +8,18 @@ pub const RUN: &str = "Run a campaign and write its report; with no command at a
 
 pub const PLANS: &str = "Write the plans of a campaign, one scenario each, without running them";
 
+/// How a campaign is run.
+pub const RUN_EXAMPLES: &str = "\
+Examples:
+  paklour run my.toml             the verdict of each plan, and what the first failures come down to
+  paklour run < my.toml           settings from standard input";
+
+/// How plans are listed.
+pub const PLANS_EXAMPLES: &str = "\
+Example:
+  paklour plans my.toml
+writes `plan 0 none`, `plan 1 replace::create=1*return` and so on; `--plan` takes the numbers.";
+
 pub const TRY: &str = "Try one scenario and write its verdict";
 
 pub const REDUCE: &str = "Reduce a scenario that fails to the faults that it needs to fail";
@@ -23,6 +35,8 @@ pub const NEEDED_FILE: &str =
     "TOML settings, of which `paklour help` lists the keys; standard input has the answers";
 
 pub const SCENARIO: &str = "The scenario, as 'POINT=TERM->TERM;POINT=TERM'";
+
+pub const PLAN: &str = "The scenario of plan N of the campaign, 0 to 65535, drawn as it is there";
 
 /// What a scenario's text is, for the commands that take one.
 pub const SCENARIO_TEXT: &str = "\
@@ -44,7 +58,10 @@ A scenario has up to 65536 bytes, 256 entries, 256 terms in an entry, and 4096 t
 Examples:
   replace::sync=1*return            the first sync fails
   replace::write=2*off->1*panic     the component stops at the third write
-  replace::create=20%return;replace::unlink=return";
+  replace::create=20%return;replace::unlink=return
+
+  paklour try --scenario 'replace::sync=1*return' my.toml
+  paklour try --plan 10 my.toml     what the line `verdict 10 ..` of the report tells, run again";
 
 /// What answers are, for the commands that read them.
 pub const ANSWERS: &str = "\
@@ -59,7 +76,7 @@ and again; two that contradict each other are refused.
 known; its exit status is 0. `report` writes the report, or that a scenario is `not answered`.
 
 Example:
-  paklour asks my.toml < answers | xargs -d '\\n' -n 1 ./try.sh >> answers
+  paklour asks my.toml < answers | xargs -r -d '\\n' -n 1 ./try.sh >> answers
   paklour report my.toml < answers
 with settings as
   target = \"outside\"

@@ -1,8 +1,10 @@
-ghost use Rattle.std.specs.Prelude.{◌≡◌, ◌↔◌, [], IsTrue, Some, None, option_map, is_some, false, true, IfOk, IfErr, IfSome, map, codes, string_bytes};
-ghost use Rattle.clap.specs.Words.{app_of, fault_of, first_value, found_of, new_app, rule_of, subcommand_of, takes};
+ghost use Rattle.std.specs.Prelude.{◌≡◌, ◌↔◌, ◌∷◌, [], IsTrue, Some, None, option_map, is_some, true, false, IfOk, IfErr, IfSome, map, codes, string_bytes};
+ghost use Rattle.clap.specs.Words.{app_of, fault_of, first_value, found_of, rule_of, subcommand_of, takes};
 ghost use Rattle.clap.specs.declared.builder.command.Command.TheViews.{out-Command as fields_of};
-ghost use Rattle.command_words.specs.Words.{AsksForHelp, HasAlso, HasNeeded, IsFaultOf, IsLine, IsLineOf, IsName, IsOrder, IsOrderName, IsQuestion, IsQuestionName, IsRefusedFor, file_app, file_rule, needed_file_rule, needs_text, paklour, question_app, scenario_app, scenario_rule};
+ghost use Rattle.command_words.specs.Words.{AsksToSee, HasAlso, HasNeeded, IsFaultOf, IsLine, IsLineOf, IsName, IsOrder, IsOrderName, IsQuestion, IsQuestionName, IsRefusedFor, IsScenarioName, IsWhich, Spells, bare_app, campaign_commands, choice_fault, choice_kinds, file_app, file_rule, needed_file_rule, paklour, plan_rule, question_app, question_commands, scenario_app, scenario_commands, scenario_rule, values_of, which_kinds, with_commands, words_fault};
 ghost use Rattle.command_words.specs.declared.words.WordsFault.TheVariants.{Memory};
+ghost use Rattle.clap.specs.Kinds.{value_kinds};
+ghost use Rattle.clap.specs.declared.builder.value_parser.ValueParser.TheVariants.{Unsigned};
 
 use crate::help;
 use clap::error::ErrorKind;
@@ -11,6 +13,18 @@ use std::alloc::{AllocError, Global};
 use std::error::Error;
 use std::fmt;
 
+/// The version of the program, as `paklour --version` writes it.
+pub const VERSION: &str = "0.2.0";
+
+/// Which scenario a command takes.
+#[derive(Debug, Drop)]
+pub enum Which {
+    /// The scenario of this text, under stream number 0.
+    Scenario(String),
+    /// The scenario of the plan of this number, under the number as its stream number.
+    Plan(u16),
+}
+
 /// What the program is to do.
 #[derive(Debug, Drop)]
 pub enum Order {
@@ -18,10 +32,10 @@ pub enum Order {
     Run,
     /// List a campaign's plans.
     Plans,
-    /// Try the scenario of this text.
-    Try(String),
-    /// Reduce the scenario of this text.
-    Reduce(String),
+    /// Try a scenario.
+    Try(Which),
+    /// Reduce a scenario.
+    Reduce(Which),
 }
 
 /// What is asked of the answers on standard input, about a component that somebody else runs.
@@ -45,20 +59,23 @@ pub enum Line {
 /// Why the words give no line.
 #[derive(Debug, Drop)]
 pub enum WordsFault {
-    /// The words ask for help, or the reader of command lines refuses them.
+    /// The words ask for help or for the version, or are refused.
     Refused(clap::Error),
     /// Memory was refused.
     Memory,
 }
 
 impl WordsFault {
-    /// Whether the words asked for help. Its text goes to standard output, and the program ends with status 0; any other
-    /// refusal goes to standard error.
-    pub fn is_help(&self) -> bool
-        ensures { IsTrue result ↔ AsksForHelp self.now }
+    /// Whether the words asked for help, or for the version. Its text goes to standard output, and the program ends with status 0; any
+    /// other refusal goes to standard error.
+    pub fn is_shown(&self) -> bool
+        ensures { IsTrue result ↔ AsksToSee self.now }
     {
         match self {
-            WordsFault::Refused(error) => error.kind() == ErrorKind::DisplayHelp,
+            WordsFault::Refused(error) => matches!(
+                error.kind(),
+                ErrorKind::DisplayHelp | ErrorKind::DisplayVersion
+            ),
             WordsFault::Memory => false,
         }
     }
@@ -108,15 +125,32 @@ fn scenario_arg<'a>(alloc: Global) -> Arg<'a>
     Arg::new(alloc, "scenario")
         .long("scenario")
         .value_name("TEXT")
-        .required(true)
         .help(help::SCENARIO)
 }
 
-fn file_command<'a>(alloc: Global, name: &'a str, about: &'a str) -> Result<Command<'a>, AllocError>
+fn plan_arg<'a>(alloc: Global) -> Arg<'a>
+    ensures rule { rule_of result ≡ plan_rule }
+    ensures local { result.global ≡ false }
+{
+    Arg::new(alloc, "plan")
+        .long("plan")
+        .value_name("N")
+        .help(help::PLAN)
+}
+
+fn file_command<'a>(
+    alloc: Global,
+    name: &'a str,
+    about: &'a str,
+    examples: &'a str,
+) -> Result<Command<'a>, AllocError>
     ensures app { IfOk result (λ command. app_of command ≡ file_app name.entry.now) }
     ensures local { IfOk result (λ command. (fields_of command).has_globals ≡ false) }
 {
-    Command::new(alloc, name).about(about).arg(file_arg(alloc))
+    Command::new(alloc, name)
+        .about(about)
+        .after_help(examples)
+        .arg(file_arg(alloc))
 }
 
 fn scenario_command<'a>(
@@ -129,8 +163,10 @@ fn scenario_command<'a>(
 {
     Command::new(alloc, name)
         .about(about)
+        .override_usage(usage(name))
         .after_help(help::SCENARIO_TEXT)
         .arg(scenario_arg(alloc))?
+        .arg(plan_arg(alloc))?
         .arg(file_arg(alloc))
 }
 
@@ -161,33 +197,59 @@ fn with<'a>(
 
 // The command without its subcommands.
 fn bare<'a>(alloc: Global) -> Command<'a>
-    ensures { app_of result ≡ new_app (codes "paklour") }
+    ensures { app_of result ≡ bare_app }
 {
     Command::new(alloc, "paklour")
+        .version(VERSION)
         .about(help::ABOUT)
         .after_help(help::SETTINGS)
+}
+
+// The command with what is done over a whole campaign.
+fn with_campaigns<'a>(alloc: Global, command: Command<'a>) -> Result<Command<'a>, AllocError>
+    ensures { IfOk result (λ more. app_of more ≡ with_commands (app_of command.entry) campaign_commands) }
+{
+    let run = file_command(alloc, "run", help::RUN, help::RUN_EXAMPLES);
+    let command = with(command, run)?;
+    let plans = file_command(alloc, "plans", help::PLANS, help::PLANS_EXAMPLES);
+    with(command, plans)
+}
+
+// The command with what is done over one scenario.
+fn with_scenarios<'a>(alloc: Global, command: Command<'a>) -> Result<Command<'a>, AllocError>
+    ensures { IfOk result (λ more. app_of more ≡ with_commands (app_of command.entry) scenario_commands) }
+{
+    let command = with(command, scenario_command(alloc, "try", help::TRY))?;
+    with(command, scenario_command(alloc, "reduce", help::REDUCE))
+}
+
+// The command with the questions on a component that somebody else runs.
+fn with_questions<'a>(alloc: Global, command: Command<'a>) -> Result<Command<'a>, AllocError>
+    ensures { IfOk result (λ more. app_of more ≡ with_commands (app_of command.entry) question_commands) }
+{
+    let command = with(command, question_command(alloc, "asks", help::ASKS))?;
+    with(command, question_command(alloc, "report", help::REPORT))
 }
 
 fn command<'a>(alloc: Global) -> Result<Command<'a>, AllocError>
     ensures { IfOk result (λ command. app_of command ≡ paklour) }
 {
-    let command = with(bare(alloc), file_command(alloc, "run", help::RUN))?;
-    let command = with(command, file_command(alloc, "plans", help::PLANS))?;
-    let command = with(command, scenario_command(alloc, "try", help::TRY))?;
-    let command = with(command, scenario_command(alloc, "reduce", help::REDUCE))?;
-    let command = with(command, question_command(alloc, "asks", help::ASKS))?;
-    with(command, question_command(alloc, "report", help::REPORT))
+    let command = with_campaigns(alloc, bare(alloc))?;
+    let command = with_scenarios(alloc, command)?;
+    with_questions(alloc, command)
 }
 
 /// The command that the words give, of which the first is the program's name.
 ///
-/// Words give one only where the reader of command lines finds no fault in them. `Err` is a fault that it finds, as which it
-/// also tells help that was asked for, or that memory ran out.
+/// Words give one only where the reader of command lines finds no fault in them, and where a command that takes a scenario has
+/// one: a text, or the number of a plan from 0 to 65535, and not both. `Err` is the fault, as which help and the version are also told
+/// where the words ask for them, or that memory ran out.
 pub fn read_words(alloc: Global, words: &[String]) -> Result<Line, WordsFault>
     ensures ok { IfOk result (IsLine (subcommand_of paklour (map string_bytes words.now))) }
-    ensures taken { IfOk result (λ _. fault_of paklour (map string_bytes words.now) ≡ []) }
-    ensures refused { IfErr result (IsRefusedFor (fault_of paklour (map string_bytes words.now))) }
-    ensures memory { IfErr result (λ fault. takes paklour (map string_bytes words.now) ≡ true → fault ≡ Memory) }
+    ensures taken { IfOk result (λ _. words_fault (map string_bytes words.now) ≡ []) }
+    ensures refused { IfErr result (IsRefusedFor (words_fault (map string_bytes words.now))) }
+    ensures memory { IfErr result (λ fault. takes paklour (map string_bytes words.now) ≡ true
+        → choice_fault (subcommand_of paklour (map string_bytes words.now)) ≡ [] → fault ≡ Memory) }
 {
     let command = command(alloc)?;
     let matches = match command.try_get_matches_from(words) {
@@ -195,7 +257,7 @@ pub fn read_words(alloc: Global, words: &[String]) -> Result<Line, WordsFault>
         Err(error) => return Err(refusal(error)),
     };
     match matches.subcommand() {
-        Some((name, own)) => Ok(line_of(alloc, name, own)?),
+        Some((name, own)) => line_of(alloc, name, own),
         None => Ok(Line::Own {
             order: Order::Run,
             file: None,
@@ -214,10 +276,12 @@ fn refusal(error: clap::Error) -> WordsFault
 }
 
 // The line of a command's name and its matches.
-fn line_of<'a>(alloc: Global, name: &str, own: &ArgMatches<'a>) -> Result<Line, AllocError>
+fn line_of<'a>(alloc: Global, name: &str, own: &ArgMatches<'a>) -> Result<Line, WordsFault>
     requires name { IsName name.now }
-    requires needed { HasNeeded name.now (first_value (found_of own.now) (codes "scenario")) (first_value (found_of own.now) (codes "file")) }
-    ensures { IfOk result (IsLineOf name.now (first_value (found_of own.now) (codes "scenario")) (first_value (found_of own.now) (codes "file"))) }
+    requires needed { HasNeeded name.now (first_value (found_of own.now) (codes "file")) }
+    ensures ok { IfOk result (IsLineOf name.now (values_of (found_of own.now))) }
+    ensures taken { IfOk result (λ _. choice_kinds name.now (values_of (found_of own.now)) ≡ []) }
+    ensures refused { IfErr result (IsRefusedFor (choice_kinds name.now (values_of (found_of own.now)))) }
 {
     match question_of(name) {
         Some(question) => Ok(Line::Outside {
@@ -243,17 +307,88 @@ fn question_of(name: &str) -> Option<Question>
 }
 
 // The order of a command's name and its matches.
-fn order_of<'a>(alloc: Global, name: &str, own: &ArgMatches<'a>) -> Result<Order, AllocError>
+fn order_of<'a>(alloc: Global, name: &str, own: &ArgMatches<'a>) -> Result<Order, WordsFault>
     requires name { IsOrderName name.now }
-    requires text { needs_text name.now ≡ true → is_some (first_value (found_of own.now) (codes "scenario")) ≡ true }
-    ensures { IfOk result (IsOrder name.now (first_value (found_of own.now) (codes "scenario"))) }
+    ensures ok { IfOk result (IsOrder name.now (values_of (found_of own.now))) }
+    ensures taken { IfOk result (λ _. choice_kinds name.now (values_of (found_of own.now)) ≡ []) }
+    ensures refused { IfErr result (IsRefusedFor (choice_kinds name.now (values_of (found_of own.now)))) }
 {
     match name {
         "run" => Ok(Order::Run),
         "plans" => Ok(Order::Plans),
-        "try" => Ok(Order::Try(given(alloc, own, "scenario")?)),
-        "reduce" => Ok(Order::Reduce(given(alloc, own, "scenario")?)),
+        "try" => Ok(Order::Try(which_of(alloc, name, own)?)),
+        "reduce" => Ok(Order::Reduce(which_of(alloc, name, own)?)),
         _ => unreachable!(),
+    }
+}
+
+// The scenario that a command of this name takes.
+fn which_of<'a>(alloc: Global, name: &str, own: &ArgMatches<'a>) -> Result<Which, WordsFault>
+    requires { IsScenarioName name.now }
+    ensures ok { IfOk result (IsWhich (values_of (found_of own.now))) }
+    ensures taken { IfOk result (λ _. (let v = values_of (found_of own.now) in which_kinds v.scenario v.plan) ≡ []) }
+    ensures refused { IfErr result (IsRefusedFor (let v = values_of (found_of own.now) in which_kinds v.scenario v.plan)) }
+{
+    match (own.get_str("scenario"), own.get_str("plan")) {
+        (Some(text), None) => Ok(Which::Scenario(String::from_str(alloc, text)?)),
+        (None, Some(text)) => match plan_number(text) {
+            Some(number) => Ok(Which::Plan(number)),
+            None => Err(no_number(alloc, name, text)),
+        },
+        (None, None) => Err(unfit(
+            alloc,
+            name,
+            ErrorKind::MissingRequiredArgument,
+            "the following required arguments were not provided:\n  <--scenario <TEXT>|--plan <N>>",
+        )),
+        (Some(_), Some(_)) => Err(unfit(
+            alloc,
+            name,
+            ErrorKind::ArgumentConflict,
+            "the argument '--scenario <TEXT>' cannot be used with '--plan <N>'",
+        )),
+    }
+}
+
+// The number that N spells, from 0 to 65535.
+fn plan_number(text: &str) -> Option<u16>
+    ensures some { IfSome result (λ n. Spells text.now n × (value_kinds false (Unsigned 0 65535) text.now ≡ [])) }
+    ensures none { result ≡ None → value_kinds false (Unsigned 0 65535) text.now ≡ ErrorKind.ValueValidation ∷ [] }
+{
+    match text.parse::<u16>() {
+        Ok(number) => Some(number),
+        Err(_) => None,
+    }
+}
+
+// The refusal of an N that is no number of a plan.
+fn no_number(alloc: Global, name: &str, text: &str) -> WordsFault
+    ensures { IsRefusedFor (ErrorKind.ValueValidation ∷ []) result }
+{
+    let Ok(message) = format!(in alloc;
+        "invalid value '{text}' for '--plan <N>': not a number from 0 to 65535"
+    ) else {
+        return WordsFault::Memory;
+    };
+    unfit(alloc, name, ErrorKind::ValueValidation, message.as_str())
+}
+
+// A refusal of the words for the command of this name, in the form of those of clap.
+fn unfit(alloc: Global, name: &str, kind: ErrorKind, message: &str) -> WordsFault
+    ensures { IsRefusedFor (kind ∷ []) result }
+{
+    let mut command = Command::new(alloc, name).override_usage(usage(name));
+    match command.error(kind, message) {
+        Ok(error) => WordsFault::Refused(error),
+        Err(_) => WordsFault::Memory,
+    }
+}
+
+// How a command that takes a scenario is used.
+fn usage(name: &str) -> &'static str {
+    match name {
+        "try" => "paklour try <--scenario <TEXT>|--plan <N>> [FILE]",
+        _ => "paklour reduce <--scenario <TEXT>|--plan <N>> [FILE]",
     }
 }
 

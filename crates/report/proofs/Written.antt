@@ -5,7 +5,7 @@ use Rattle.std.proofs.lemmas.List.Concat.{flat_map-append}
 use Rattle.report.specs.Reports.{FindingFacts}
 use Rattle.report.specs.ReportText.{census_line, census_lines, finding_lines, ended, text_of}
 
-goes_on : {A : Type 0} (old new here rest whole : List A) → old ++ (here ++ rest) ≡ whole → new ≡ old ++ here → new ++ rest ≡ whole
+pub goes_on : {A : Type 0} (old new here rest whole : List A) → old ++ (here ++ rest) ≡ whole → new ≡ old ++ here → new ++ rest ≡ whole
 goes_on old new here rest whole h e = ap (λ r. r ++ rest) e ∙ append_assoc old here rest ∙ h
 
 pub next_of : {A : Type 0} (xs : List A) (i : ℕ) (d : A) → i < length xs → drop i xs ≡ get_or xs i d ∷ drop (i + 1) xs

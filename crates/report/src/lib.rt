@@ -1,12 +1,14 @@
 //! Reports: what they tell, their text, and writing it.
 #![tactic(auto)]
 
+mod brief;
 mod facts;
 mod lines;
 mod names;
 mod verdicts;
 mod writing;
 
+pub use brief::brief_text;
 pub use facts::{Finding, Report};
 pub use lines::{text, write_scenario};
 pub use names::Names;

@@ -16,7 +16,7 @@ use target_trait::Verdict;
 /// The bytes of the line of a verdict that passes, the line of most plans, with five digits and a few to spare.
 const LINE_ROOM: usize = 20;
 
-fn write_head<N: Names>(
+pub(crate) fn write_head<N: Names>(
     out: &mut String,
     names: &N,
     label: &str,
@@ -36,7 +36,11 @@ fn write_point(out: &mut String, name: &str, count: u32) -> Result<(), AllocErro
     writeln!(out, "census {name} {count}")
 }
 
-fn write_census<N: Names>(out: &mut String, names: &N, counts: &[u32]) -> Result<(), AllocError>
+pub(crate) fn write_census<N: Names>(
+    out: &mut String,
+    names: &N,
+    counts: &[u32],
+) -> Result<(), AllocError>
     requires { length counts.now ≡ length (N.points names.now) }
     ensures { OnOk result (string_bytes out.new ≡ string_bytes out.old ++ text_of (census_lines (N.points names.now) counts.now)) }
 {
@@ -110,7 +114,7 @@ fn write_finding<N: Names>(
     writeln!(out, "\ntests {tests}")
 }
 
-fn write_findings<N: Names>(
+pub(crate) fn write_findings<N: Names>(
     alloc: Global,
     out: &mut String,
     names: &N,
@@ -127,7 +131,7 @@ fn write_findings<N: Names>(
     Ok(())
 }
 
-fn write_count(out: &mut String, plans: usize) -> Result<(), AllocError>
+pub(crate) fn write_count(out: &mut String, plans: usize) -> Result<(), AllocError>
     ensures { OnOk result (string_bytes out.new ≡ string_bytes out.old ++ ended (codes "plans " ++ decimal plans)) }
 {
     writeln!(out, "plans {plans}")

@@ -15,5 +15,5 @@ returns-clause-report a = λ c points listed.
     (plans_distinct c.points (census c) c.plans points listed) (each_fails (say c) (plans c) _ (firsts_of (verdicts_from (say c) 0 (plans c))))
 
 pub returns-clause-reduce : goal.returns-clause-reduce
-returns-clause-reduce a = λ c scenario distinct code fails.
-    reduced_minimal c.asks c.points c.plans.seed c.limit 0 code scenario distinct (ap (fails_with code) fails ∙ eq-eqb code code refl)
+returns-clause-reduce a = λ c stream scenario distinct code fails.
+    reduced_minimal c.asks c.points c.plans.seed c.limit stream code scenario distinct (ap (fails_with code) fails ∙ eq-eqb code code refl)

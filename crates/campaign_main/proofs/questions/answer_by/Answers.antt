@@ -1,5 +1,4 @@
-use Rattle.campaign_main.proofs.QuestionLemmas.{answered-ends, short-ends, short-tells}
-use Rattle.campaign_main.proofs.EndLemmas.{found-tells}
+use Rattle.campaign_main.proofs.QuestionLemmas.{short-ends, short-tells}
 use Rattle.campaign_main.proofs.questions.answer_by.Goals as goal
 
 pub returns-in-Err-clause-end : goal.returns-in-Err-clause-end

@@ -1,4 +1,4 @@
-use Rattle.std.proofs.Common.{◌∙◌, IfSome, Option, Result, Some, ap, subst, sym}
+use Rattle.std.proofs.Common.{◌∙◌, IfSome, Option, Result, ap, subst, sym}
 use Rattle.campaign_settings.specs.Settings.{given_of}
 use Rattle.campaign_settings.specs.declared.choice.Choice.{Choice}
 use Rattle.campaign_settings.specs.Settings.{wrong}

@@ -1,0 +1,62 @@
+-- The lines of a brief report: one line of counts in place of the verdicts that pass, and its scenario beside each other verdict.
+use Rattle.std.specs.Prelude.{ℕ, ◌+◌, ◌==◌, Bool, true, false, List, [], ◌∷◌, ◌++◌, codes, flat_map, count_by}
+use Rattle.std.specs.Fmt.{decimal}
+use Rattle.scenario_values.specs.Scenario.{Entries}
+use Rattle.target_trait.specs.declared.judgement.Verdict.{Verdict}
+use Rattle.target_trait.specs.declared.judgement.Verdict.TheVariants as verdict
+use Rattle.report.specs.Reports.{FindingFacts, ReportFacts}
+use Rattle.report.specs.ReportText.{verdict_text, scenario_text, head_lines, census_lines, count_line, findings_lines}
+
+abbrev pub is_pass : Verdict → Bool
+is_pass verdict.Pass = true
+is_pass (verdict.Fail code) = false
+is_pass verdict.Unresolved = false
+
+abbrev pub is_unresolved : Verdict → Bool
+is_unresolved verdict.Pass = false
+is_unresolved (verdict.Fail code) = false
+is_unresolved verdict.Unresolved = true
+
+-- whether a verdict is a failure with this code
+abbrev pub is_fail_with : ℕ → Verdict → Bool
+is_fail_with code verdict.Pass = false
+is_fail_with code (verdict.Fail other) = other == code
+is_fail_with code verdict.Unresolved = false
+
+-- the name of a code, and how many verdicts fail with it
+abbrev pub code_count : (ℕ → List ℕ) → List Verdict → FindingFacts → List ℕ
+code_count code_name verdicts finding =
+    codes " " ++ code_name finding.code ++ codes " " ++ decimal (count_by (is_fail_with finding.code) verdicts)
+
+-- how many verdicts pass, how many are unresolved, and how many fail with each code, in the order of the first failures
+abbrev pub counts_line : (ℕ → List ℕ) → List Verdict → List FindingFacts → List ℕ
+counts_line code_name verdicts findings =
+    codes "counts pass " ++ decimal (count_by is_pass verdicts)
+    ++ codes " unresolved " ++ decimal (count_by is_unresolved verdicts)
+    ++ flat_map (code_count code_name verdicts) findings
+
+-- the plan's number, verdict and scenario
+abbrev pub told_line : (ℕ → List ℕ) → ℕ → Verdict → Entries → List ℕ
+told_line code_name number verdict plan =
+    codes "verdict " ++ decimal number ++ codes " " ++ verdict_text code_name verdict ++ codes " " ++ scenario_text plan
+
+-- no line for a verdict that passes
+abbrev pub told_line_of : (ℕ → List ℕ) → ℕ → Verdict → Entries → List (List ℕ)
+told_line_of code_name n verdict.Pass plan = []
+told_line_of code_name n (verdict.Fail code) plan = told_line code_name n (verdict.Fail code) plan ∷ []
+told_line_of code_name n verdict.Unresolved plan = told_line code_name n verdict.Unresolved plan ∷ []
+
+-- the lines of plans numbered from n on, with their verdicts
+abbrev pub told_lines : (ℕ → List ℕ) → ℕ → List Verdict → List Entries → List (List ℕ)
+told_lines code_name n [] plans = []
+told_lines code_name n (v ∷ vs) [] = []
+told_lines code_name n (v ∷ vs) (plan ∷ plans) = told_line_of code_name n v plan ++ told_lines code_name (n + 1) vs plans
+
+-- all lines, by the names of the points and codes, of a report over these plans
+abbrev pub brief_lines : List (List ℕ) → (ℕ → List ℕ) → ReportFacts → List Entries → List (List ℕ)
+brief_lines names code_name report plans =
+    head_lines code_name report
+    ++ census_lines names report.census
+    ++ count_line report.verdicts ∷ counts_line code_name report.verdicts report.findings ∷ []
+    ++ told_lines code_name 0 report.verdicts plans
+    ++ findings_lines code_name report.findings

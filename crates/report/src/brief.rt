@@ -1,0 +1,167 @@
+//! The lines of a brief report.
+ghost use Rattle.std.specs.Prelude.{◌≡◌, ◌++◌, ◌∷◌, [], length, string_bytes, codes, count_by, flat_map, IfOk, OnOk};
+ghost use Rattle.report.specs.ReportText.{ended, text_of};
+ghost use Rattle.report.specs.BriefText.{is_pass, is_unresolved, is_fail_with, code_count, counts_line, told_line, told_line_of, told_lines, brief_lines};
+
+use crate::facts::{Finding, Report};
+use crate::lines::{write_census, write_count, write_findings, write_head, write_scenario};
+use crate::names::Names;
+use crate::verdicts::write_verdict;
+use plan_gen::Plan;
+use std::alloc::{AllocError, Global};
+use std::fmt::Write;
+use target_trait::Verdict;
+
+fn is_fail_with(code: u32, verdict: Verdict) -> bool
+    ensures { result ≡ is_fail_with code verdict }
+{
+    match verdict {
+        Verdict::Fail(other) => other == code,
+        Verdict::Pass | Verdict::Unresolved => false,
+    }
+}
+
+fn passing(verdicts: &[Verdict]) -> usize
+    ensures { result ≡ count_by is_pass verdicts.now }
+{
+    verdicts
+        .iter()
+        .filter(|verdict| matches!(verdict, Verdict::Pass))
+        .count()
+}
+
+fn unresolved(verdicts: &[Verdict]) -> usize
+    ensures { result ≡ count_by is_unresolved verdicts.now }
+{
+    verdicts
+        .iter()
+        .filter(|verdict| matches!(verdict, Verdict::Unresolved))
+        .count()
+}
+
+fn failing(verdicts: &[Verdict], code: u32) -> usize
+    ensures { result ≡ count_by (is_fail_with code) verdicts.now }
+{
+    verdicts
+        .iter()
+        .filter(|verdict| is_fail_with(code, **verdict))
+        .count()
+}
+
+fn write_code_count<N: Names>(
+    out: &mut String,
+    names: &N,
+    verdicts: &[Verdict],
+    finding: &Finding,
+) -> Result<(), AllocError>
+    ensures { OnOk result (string_bytes out.new ≡ string_bytes out.old ++ code_count (N.code_text names.now) verdicts.now finding.now) }
+{
+    let name = names.code(finding.code);
+    let count = failing(verdicts, finding.code);
+    write!(out, " {name} {count}")
+}
+
+fn write_code_counts<N: Names>(
+    out: &mut String,
+    names: &N,
+    verdicts: &[Verdict],
+    findings: &[Finding],
+) -> Result<(), AllocError>
+    ensures { OnOk result (string_bytes out.new ≡ string_bytes out.old ++ flat_map (code_count (N.code_text names.now) verdicts.now) findings.now) }
+{
+    for finding in findings {
+        write_code_count(out, names, verdicts, finding)?;
+    }
+    Ok(())
+}
+
+fn write_counts<N: Names>(
+    out: &mut String,
+    names: &N,
+    verdicts: &[Verdict],
+    findings: &[Finding],
+) -> Result<(), AllocError>
+    ensures { OnOk result (string_bytes out.new ≡ string_bytes out.old ++ ended (counts_line (N.code_text names.now) verdicts.now findings.now)) }
+{
+    let pass = passing(verdicts);
+    let open = unresolved(verdicts);
+    write!(out, "counts pass {pass} unresolved {open}")?;
+    write_code_counts(out, names, verdicts, findings)?;
+    out.push_str("\n")
+}
+
+fn write_told<N: Names>(
+    alloc: Global,
+    out: &mut String,
+    names: &N,
+    number: usize,
+    verdict: Verdict,
+    plan: &Plan<'_>,
+) -> Result<(), AllocError>
+    ensures { OnOk result (string_bytes out.new ≡ string_bytes out.old ++ ended (told_line (N.code_text names.now) number verdict plan.now)) }
+{
+    write!(out, "verdict {number} ")?;
+    write_verdict(out, names, verdict)?;
+    out.push_str(" ")?;
+    write_scenario(alloc, out, &plan.scenario(alloc)?)?;
+    out.push_str("\n")
+}
+
+fn write_told_of<N: Names>(
+    alloc: Global,
+    out: &mut String,
+    names: &N,
+    number: usize,
+    verdict: Verdict,
+    plan: &Plan<'_>,
+) -> Result<(), AllocError>
+    ensures { OnOk result (string_bytes out.new ≡ string_bytes out.old ++ text_of (told_line_of (N.code_text names.now) number verdict plan.now)) }
+{
+    match verdict {
+        Verdict::Pass => Ok(()),
+        Verdict::Fail(_) | Verdict::Unresolved => {
+            write_told(alloc, out, names, number, verdict, plan)
+        }
+    }
+}
+
+fn write_all_told<N: Names>(
+    alloc: Global,
+    out: &mut String,
+    names: &N,
+    verdicts: &[Verdict],
+    plans: &[Plan<'_>],
+) -> Result<(), AllocError>
+    requires { length verdicts.now ≡ length plans.now }
+    ensures { OnOk result (string_bytes out.new ≡ string_bytes out.old ++ text_of (told_lines (N.code_text names.now) 0 verdicts.now plans.now)) }
+{
+    for (number, verdict) in verdicts.iter().enumerate() {
+        write_told_of(alloc, out, names, number, *verdict, &plans[number])?;
+    }
+    Ok(())
+}
+
+/// The text of a brief report over these plans, each line with its line feed, by these names of points and codes: one line of counts in
+/// place of the verdicts that pass, and its scenario beside each other verdict. The rest is as in the whole report.
+///
+/// The census has to have a count for each of the points, and there has to be a verdict for each plan. An error means that memory was
+/// refused.
+pub fn brief_text<N: Names>(
+    alloc: Global,
+    names: &N,
+    report: &Report<'_>,
+    plans: &[Plan<'_>],
+) -> Result<Vec<u8>, AllocError>
+    requires counts { length report.now.census ≡ length (N.points names.now) }
+    requires verdicts { length report.now.verdicts ≡ length plans.now }
+    ensures { IfOk result (λ text. text.items ≡ text_of (brief_lines (N.points names.now) (N.code_text names.now) report.now plans.now)) }
+{
+    let mut out = String::new(alloc);
+    write_head(&mut out, names, report.label, report.seed, report.clean)?;
+    write_census(&mut out, names, report.census)?;
+    write_count(&mut out, report.verdicts.len())?;
+    write_counts(&mut out, names, report.verdicts, &report.findings)?;
+    write_all_told(alloc, &mut out, names, report.verdicts, plans)?;
+    write_findings(alloc, &mut out, names, &report.findings)?;
+    Ok(out.into_bytes())
+}
