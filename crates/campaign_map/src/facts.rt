@@ -1,0 +1,37 @@
+//! What a map shows.
+
+use plan_gen::Plan;
+use std::marker::Model;
+use target_trait::Verdict;
+
+/// What a campaign comes to, as a map shows it.
+#[derive(Drop)]
+pub struct MapFacts<'a> {
+    /// The label of the target's setup.
+    pub label: &'a str,
+    /// How often each point is asked in the run without faults, in the order of the target's catalogue.
+    pub census: &'a [u32],
+    /// Whether each two sites make two plans.
+    pub pairs: bool,
+    /// The plans, in the order of their numbers, from 0.
+    pub plans: &'a [Plan<'a>],
+    /// The verdict of each plan.
+    pub verdicts: &'a [Verdict],
+    /// For each code with which a plan fails, the least number of one that does, and the code.
+    pub firsts: &'a [(u32, u32)],
+}
+
+impl<'a> Model for MapFacts<'a> {
+    ghost use Rattle.campaign_map.specs.Mapped.{Mapped};
+
+    ghost Value = { Mapped };
+
+    ghost view = { λ f. record {
+      label = f.label.now;
+      census = f.census.now;
+      pairs = f.pairs;
+      plans = f.plans.now;
+      verdicts = f.verdicts.now;
+      firsts = f.firsts.now;
+    } };
+}
