@@ -19,7 +19,7 @@ use Rattle.answer_text.specs.declared.known.Told.{Told}
 use Rattle.answer_text.specs.Answers.{Answer, SpellsAnswer, SpellsAnswers, Says, has_control, most_bytes}
 use Rattle.answer_text.specs.FirstFault.{same_verdict, told_from, with_answer, on_line, with_line, pieces_from, reading_of, answer_in, parts_in, verdict_in as verdict_of_word, scenario_in, or_fault, failed_by, failure_in, of_scenario}
 use Rattle.answer_text.specs.Known.{Book, verdict_in, known_of, known_by, Agrees, AgreesWithLine, AgreesWithText}
-use Rattle.answer_text.specs.Books.{IsBookOf, Holds}
+use Rattle.answer_text.specs.inside.Books.{IsBookOf, Holds}
 use Rattle.answer_text.proofs.Members.{Has, same_as_itself, told_gives, told_has, same_printed, AreLawful, lawful_has, lawful_push, HasOne, told_is, has_left, has_right, has_either}
 use Rattle.answer_text.proofs.AnswerLaws.{line_gives, line_read, IsRead}
 use Rattle.answer_text.proofs.TextLaws.{Read, text_gives, text_read, Adds, with_line_gives}

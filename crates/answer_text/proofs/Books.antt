@@ -9,7 +9,7 @@ use Rattle.answer_text.specs.declared.known.Told.{Told}
 use Rattle.answer_text.specs.Answers.{Answer}
 use Rattle.answer_text.specs.FirstFault.{told_from}
 use Rattle.answer_text.specs.Known.{Book}
-use Rattle.answer_text.specs.Books.{IsBookOf}
+use Rattle.answer_text.specs.inside.Books.{IsBookOf}
 
 or_told : Option Told → Option Told → Option Told
 or_told None o = o

@@ -23,7 +23,7 @@ use Rattle.answer_text.specs.declared.known.Told.{Told}
 use Rattle.answer_text.specs.Answers.{Answer, SpellsAnswer, SpellsAnswers, Says, most_bytes}
 use Rattle.answer_text.specs.FirstFault.{same_verdict, told_from, with_answer, on_line, with_line, ended, pieces_from, reading_of, answer_in, Tells, Fails}
 use Rattle.answer_text.specs.Known.{Book, verdict_in, Knows}
-use Rattle.answer_text.specs.Books.{IsBookOf, noted, noted_by, read_line, fault_at, Holds}
+use Rattle.answer_text.specs.inside.Books.{IsBookOf, noted, noted_by, read_line, fault_at, Holds}
 use Rattle.answer_text.proofs.Members.{Has, has_of, contains_of, has_left, has_right, verdict_is, same_as_itself, told_gives, told_has, same_printed, AreLawful, lawful_has, lawful_push, HasOne, consistent_of, one_of, told_is, Allows, one_push}
 use Rattle.answer_text.proofs.Lines.{split_one, split_first, shorter}
 use Rattle.answer_text.proofs.Books.{book_grows, book_stays}

@@ -2,4 +2,4 @@ pub mod Answers
 pub mod FirstFault
 pub mod FaultText
 pub mod Known
-pub mod Books
+pub mod inside

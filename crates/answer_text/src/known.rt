@@ -6,7 +6,7 @@ ghost use Rattle.scenario_values.specs.Printed.{printed};
 ghost use Rattle.scenario_values.specs.Tidied.{tidied};
 ghost use Rattle.answer_text.specs.Known.{verdict_in};
 ghost use Rattle.answer_text.specs.FirstFault.{Gives};
-ghost use Rattle.answer_text.specs.Books.{noted};
+ghost use Rattle.answer_text.specs.inside.Books.{noted};
 
 use crate::fault::{LineError, LineFault};
 use indexmap::IndexMap;
@@ -64,7 +64,7 @@ impl Known {
     }
 
     /// Takes the answer of a line: its tidied scenario and the verdict. An `Err` changes nothing.
-    #[tactic(auto, unfolding(crate::specs::Books::noted))]
+    #[tactic(auto, unfolding(crate::specs::inside::Books::noted))]
     pub(crate) fn note(
         &mut self,
         alloc: Global,

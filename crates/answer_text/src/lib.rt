@@ -2,7 +2,6 @@
 //! and what is then known of each scenario.
 #![tactic(auto)]
 
-mod cuts;
 mod fault;
 mod known;
 mod laws;

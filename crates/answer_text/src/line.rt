@@ -3,11 +3,10 @@ ghost use Rattle.std.specs.Prelude.{◌≡◌, ◌<◌, ◌^◌, length};
 ghost use Rattle.answer_text.specs.Answers.{has_control};
 ghost use Rattle.answer_text.specs.FirstFault.{Gives, parts_in, scenario_in, answer_in};
 
-use crate::cuts::cut_once;
 use crate::fault::{LineError, LineFault};
 use crate::verdicts::verdict_in;
 use indexmap::IndexMap;
-use scenario_grammar::{Scenario, ScenarioFault, Text, parse, tidy};
+use scenario_grammar::{Scenario, ScenarioFault, Text, cut_once, parse, tidy};
 use std::alloc::Global;
 use std::str;
 use target_trait::Verdict;

@@ -5,7 +5,7 @@ ghost use Rattle.answer_text.specs.declared.fault.AnswersFault.TheVariants.{Memo
 ghost use Rattle.answer_text.specs.Answers.{Answer, Says};
 ghost use Rattle.answer_text.specs.FirstFault.{Gives, Tells};
 ghost use Rattle.answer_text.specs.Known.{Knows, verdict_in, known_by};
-ghost use Rattle.answer_text.specs.Books.{Holds, fault_at, read_line};
+ghost use Rattle.answer_text.specs.inside.Books.{Holds, fault_at, read_line};
 
 use crate::fault::{AnswersFault, LineError, LineFault};
 use crate::known::Known;
@@ -34,7 +34,7 @@ fn cut_line(text: &[u8]) -> Option<(&[u8], &[u8])>
 }
 
 /// Reads one line. An `Err` changes nothing.
-#[tactic(auto, unfolding(crate::specs::Books::read_line))]
+#[tactic(auto, unfolding(crate::specs::inside::Books::read_line))]
 fn read_line(
     alloc: Global,
     codes: &[Text],

@@ -3,8 +3,8 @@ ghost use Rattle.std.specs.Prelude.{◌≡◌, ◌<◌, ◌^◌, length, map, po
 ghost use Rattle.std.specs.Str.{bytes_eq};
 ghost use Rattle.answer_text.specs.FirstFault.{Gives, verdict_in, same_verdict};
 
-use crate::cuts::cut_once;
 use crate::fault::{LineError, LineFault};
+use scenario_grammar::cut_once;
 use scenario_values::Text;
 use target_trait::Verdict;
 

@@ -8,13 +8,13 @@ use Rattle.std.specs.Cmp.{eq_by_cmp_equiv}
 use Rattle.ddmin_parallel.specs.Rounds.{Candidate, round}
 use Rattle.ddmin_parallel.specs.Ddmin.{Decision, Fails, NoneFails, counted, Reduced}
 use Rattle.ddmin_parallel.specs.CoreEvents.{Known, Answers, State, same_set, without, Position, Empty, Round, End, furthest, step, decided, after_decision, start, option_then, after_empty, position, next, or_else, first_open, is_out, round_at, hoping, next_round}
-use Rattle.ddmin_parallel.specs.CoreStates.{AreOpen, IsSettled, IsLawful, IsSmall}
+use Rattle.ddmin_parallel.specs.inside.CoreStates.{AreOpen, IsSettled, IsLawful, IsSmall}
 use Rattle.ddmin_parallel.proofs.KnownLemmas.{exact_sets, is_equal}
 use Rattle.ddmin_parallel.proofs.Walk.{furthest_more, furthest_lawful, furthest_small, furthest_stop, furthest_stuck, start_lawful, start_small}
 use Rattle.std.specs.Prelude.{is_some, Result, Ok, Err, IfOk, OnErr}
-use Rattle.ddmin_parallel.specs.Candidates.{candidate}
-use Rattle.ddmin_parallel.specs.Stages.{position_of}
-use Rattle.ddmin_parallel.specs.Cursors.{is_shut, is_among, IsShutBelow, IsCounted, IsReached, IsAdvanced, onward, moved, stage_after, next_at, out_after}
+use Rattle.ddmin_parallel.specs.inside.Candidates.{candidate}
+use Rattle.ddmin_parallel.specs.inside.Stages.{position_of}
+use Rattle.ddmin_parallel.specs.inside.Cursors.{is_shut, is_among, IsShutBelow, IsCounted, IsReached, IsAdvanced, onward, moved, stage_after, next_at, out_after}
 use Rattle.ddmin_parallel.specs.declared.stage.Cursor.{Cursor}
 use Rattle.ddmin_parallel.specs.declared.stage.Stage.{Stage}
 use Rattle.ddmin_parallel.proofs.Counted.{counted_more}

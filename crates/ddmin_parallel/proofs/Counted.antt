@@ -3,9 +3,9 @@ use Rattle.std.proofs.lemmas.Bool.{ltb-true}
 use Rattle.std.proofs.lemmas.Bool.Decides.{nat_tests}
 use Rattle.ddmin_parallel.specs.Rounds.{round}
 use Rattle.ddmin_parallel.specs.Ddmin.{counted}
-use Rattle.ddmin_parallel.specs.Candidates.{candidate, candidates}
+use Rattle.ddmin_parallel.specs.inside.Candidates.{candidate, candidates}
 use Rattle.ddmin_parallel.specs.CoreEvents.{Answers, decided, Position, Empty, Round, End}
-use Rattle.ddmin_parallel.specs.Cursors.{IsCounted}
+use Rattle.ddmin_parallel.specs.inside.Cursors.{IsCounted}
 use Rattle.ddmin_parallel.proofs.Steps.{from, from_all}
 use Rattle.ddmin_parallel.proofs.KnownSteps.{decided_pass}
 

@@ -9,7 +9,7 @@ use Rattle.std.proofs.lemmas.Cmp.{nat_list_cmp_total}
 use Rattle.std.specs.FinMap.{find, get, insert, from_entries, get-from_entries, get-insert, same_map, slice_cmp-IsAntisymmetric, nat_cmp-IsAntisymmetric}
 use Rattle.std.specs.BTreeMap.{insert_entry, is_at}
 use Rattle.std.specs.Map.{lookup}
-use Rattle.ddmin_parallel.specs.Entries.{plain}
+use Rattle.ddmin_parallel.specs.inside.Entries.{plain}
 
 abbrev pub set_cmp : List ℕ → List ℕ → Ordering
 set_cmp = slice_cmp nat_cmp

@@ -1,7 +1,7 @@
 use Rattle.std.proofs.Common.{◌≡◌, ℕ, ◌+◌, ◌-◌, ◌<◌, ◌≤◌, Bool, true, false, List, map, refl, ◌∙◌, ap, arith, None, Some}
 use Rattle.std.specs.List.{range_with_len}
 use Rattle.ddmin_parallel.specs.Ddmin.{Fails, NoneFails, counted}
-use Rattle.ddmin_parallel.specs.Candidates.{candidate, candidates}
+use Rattle.ddmin_parallel.specs.inside.Candidates.{candidate, candidates}
 use Rattle.ddmin_parallel.specs.CoreEvents.{Answers, decided, first_open}
 use Rattle.ddmin_parallel.proofs.Steps.{from, from_step}
 

@@ -3,7 +3,7 @@ use Rattle.std.specs.Prelude.{Vec, remove, is_some}
 use Rattle.std.specs.Global.{Global}
 use Rattle.std.specs.List.{list_any}
 use Rattle.ddmin_parallel.specs.CoreEvents.{same_set, without}
-use Rattle.ddmin_parallel.specs.CoreStates.{IsPlaceOf}
+use Rattle.ddmin_parallel.specs.inside.CoreStates.{IsPlaceOf}
 
 abbrev pub sets : List (Vec ℕ Global) → List (List ℕ)
 sets out = map {A = Vec ℕ Global} {B = List ℕ} (λ s. s.items) out

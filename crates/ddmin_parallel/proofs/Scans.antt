@@ -4,10 +4,10 @@ use Rattle.std.proofs.lemmas.Cmp.{nat_list_cmp_total}
 use Rattle.std.specs.Cmp.{eq_by_cmp_equiv}
 use Rattle.ddmin_parallel.specs.Rounds.{Candidate, round}
 use Rattle.ddmin_parallel.specs.Ddmin.{Fails, counted, kept_after, Reduced}
-use Rattle.ddmin_parallel.specs.Candidates.{candidate, candidates, found}
+use Rattle.ddmin_parallel.specs.inside.Candidates.{candidate, candidates, found}
 use Rattle.ddmin_parallel.specs.CoreEvents.{Answers, decided, Position, Empty, Round, End, after_empty, after_decision, option_then, step, same_set, first_open, round_at, hoping, next_round, or_else}
-use Rattle.ddmin_parallel.specs.CoreStates.{IsLawful, IsSmall}
-use Rattle.ddmin_parallel.specs.Cursors.{is_shut, IsShutBelow, IsCounted, onward, follow, Leads, is_among, with_set, out_after, next_at, IsReached, IsFurther, IsOpened}
+use Rattle.ddmin_parallel.specs.inside.CoreStates.{IsLawful, IsSmall}
+use Rattle.ddmin_parallel.specs.inside.Cursors.{is_shut, IsShutBelow, IsCounted, onward, follow, Leads, is_among, with_set, out_after, next_at, IsReached, IsFurther, IsOpened}
 use Rattle.ddmin_parallel.specs.declared.stage.Cursor.{Cursor}
 use Rattle.ddmin_parallel.proofs.Steps.{from, from_all}
 use Rattle.ddmin_parallel.proofs.KnownSteps.{open_pass, open_out, open_fails, open_here, open_end, decided_fail, decided_end}

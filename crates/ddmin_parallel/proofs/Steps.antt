@@ -4,7 +4,7 @@ use Rattle.std.proofs.lemmas.Bool.{le-leb, lt-ltb}
 use Rattle.std.proofs.lemmas.Bool.Decides.{nat_tests}
 use Rattle.std.proofs.lemmas.List.FromFn.{length-range_with_len}
 use Rattle.ddmin_parallel.specs.Rounds.{part, complement, Candidate, round}
-use Rattle.ddmin_parallel.specs.Candidates.{candidate, candidates}
+use Rattle.ddmin_parallel.specs.inside.Candidates.{candidate, candidates}
 use Rattle.ddmin_parallel.specs.Ddmin.{Fails, NoneFails, counted, decide, kept_after, after_round, one_round, Fits, ddmin2, ddmin}
 use Rattle.ddmin_parallel.proofs.Rounds.{IsNext, IfFails, decide_all, round_next, ddmin2_is}
 

@@ -6,7 +6,7 @@ use Rattle.std.proofs.lemmas.List.FromFn.{length-range_with_len}
 use Rattle.ddmin_parallel.specs.Rounds.{Candidate, round}
 use Rattle.ddmin_parallel.specs.Ddmin.{Decision, Fails, NoneFails, counted, decide, Reduced, kept_after, rank, Fits, ddmin2, ddmin}
 use Rattle.ddmin_parallel.specs.CoreEvents.{Answers, decided, Position, Empty, Round, End, at_round, start, after_empty, after_decision, option_then, step, position_rank, walk, furthest, finish, Agrees}
-use Rattle.ddmin_parallel.specs.CoreStates.{IsLawful, IsSmall}
+use Rattle.ddmin_parallel.specs.inside.CoreStates.{IsLawful, IsSmall}
 use Rattle.ddmin_parallel.proofs.Rounds.{IsNext, IfFails, round_next, rank_next}
 use Rattle.ddmin_parallel.proofs.Steps.{one_left, on_failing, on_finer, finer_fits, on_end, ddmin_none, ddmin_empty, ddmin_begins, begins_fits}
 

@@ -3,12 +3,7 @@ pub mod Ddmin
 pub mod OneMinimal
 pub mod Sublists
 pub mod CoreEvents
-pub mod Candidates
-pub mod CoreStates
 pub mod Cards
-pub mod Entries
-pub mod Stages
-pub mod Cursors
-pub mod Inside
 pub mod Logs
 pub mod InsideBoard
+pub mod inside

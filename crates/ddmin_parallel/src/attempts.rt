@@ -1,7 +1,7 @@
 ghost use Rattle.std.specs.Prelude.{◌≡◌, ℕ, ◌+◌, ◌*◌, ◌^◌, ◌<◌, ◌≤◌, List, length, IfOk, max};
 ghost use Rattle.std.specs.List.{range_with_len};
 ghost use Rattle.ddmin_parallel.specs.Rounds.{part, complement, Candidate};
-ghost use Rattle.ddmin_parallel.specs.Candidates.{candidate, candidates};
+ghost use Rattle.ddmin_parallel.specs.inside.Candidates.{candidate, candidates};
 
 use std::alloc::{AllocError, Global};
 use std::marker::Model;

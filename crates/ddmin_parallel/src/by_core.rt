@@ -8,14 +8,6 @@ use crate::reducer_core::{CardFault, Core};
 use crate::reduction::Reduction;
 use std::alloc::{AllocError, Global};
 
-fn copied(alloc: Global, reduction: &Reduction) -> Result<Reduction, AllocError>
-    ensures { IfOk result (λ r. r ≡ reduction.now) }
-{
-    let tests = reduction.tests;
-    let kept = Vec::from_slice(alloc, reduction.kept.as_slice())?;
-    Ok(Reduction { kept, tests })
-}
-
 /// Answers the next card by the probe. False where there is none.
 fn answer_next<P: Probe>(alloc: Global, core: &mut Core, probe: &mut P) -> Result<bool, AllocError>
     ensures tells { (faults : ℕ) → Tells faults (P.answers probe.old) core.old → IfOk result (λ more. IsTrue more → Tells faults (P.answers probe.old) core.new) }
@@ -47,7 +39,7 @@ pub(crate) fn finish<P: Probe>(
     let mut core = core;
     for _ in 0..u64::MAX {
         if let Some(reduction) = core.finished() {
-            return copied(alloc, reduction);
+            return reduction.copied(alloc);
         }
         if !answer_next(alloc, &mut core, probe)? {
             break;

@@ -22,7 +22,7 @@ impl Model for Known {
 
     ghost coded = { map.code (coded_list coded_ℕ) coded_bool };
 
-    ghost use Rattle.ddmin_parallel.specs.Entries.{plain};
+    ghost use Rattle.ddmin_parallel.specs.inside.Entries.{plain};
 
     ghost view = { λ k. map.from_entries (plain k.answers.entries) };
 }

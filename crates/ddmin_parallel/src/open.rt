@@ -1,9 +1,9 @@
 ghost use Rattle.std.specs.Prelude.{◌≡◌, ℕ, ◌^◌, ◌<◌, ◌≤◌, List, length, map, IfOk, Option, None, Bool};
 ghost use Rattle.std.specs.FinMap as known_map;
 ghost use Rattle.ddmin_parallel.specs.CoreEvents.{Round, step, option_then, first_open, round_at};
-ghost use Rattle.ddmin_parallel.specs.CoreStates.{IsLawful, IsSmall};
-ghost use Rattle.ddmin_parallel.specs.Stages.{position_of};
-ghost use Rattle.ddmin_parallel.specs.Cursors.{IsShutBelow, IsScan, IsReached, IsFurther, IsOpened, Leads, onward, is_among};
+ghost use Rattle.ddmin_parallel.specs.inside.CoreStates.{IsLawful, IsSmall};
+ghost use Rattle.ddmin_parallel.specs.inside.Stages.{position_of};
+ghost use Rattle.ddmin_parallel.specs.inside.Cursors.{IsShutBelow, IsScan, IsReached, IsFurther, IsOpened, Leads, onward, is_among};
 
 use crate::attempts::{Attempt, attempt_at, candidate_count};
 use crate::known::Known;

@@ -1,7 +1,7 @@
 ghost use Rattle.std.specs.Prelude.{◌≡◌, ℕ, ◌+◌, ◌*◌, ◌^◌, ◌<◌, ◌≤◌, List, length, IfOk, Bool, true};
 ghost use Rattle.std.specs.List.{range_with_len};
 ghost use Rattle.ddmin_parallel.specs.Rounds.{round};
-ghost use Rattle.ddmin_parallel.specs.Candidates.{found};
+ghost use Rattle.ddmin_parallel.specs.inside.Candidates.{found};
 ghost use Rattle.ddmin_parallel.specs.Ddmin.{decide, ddmin};
 ghost use Rattle.ddmin_parallel.specs.OneMinimal.{IsOneMinimal};
 

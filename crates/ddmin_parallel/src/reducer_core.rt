@@ -2,10 +2,10 @@ ghost use Rattle.std.specs.Prelude.{◌≡◌, ℕ, ◌≤◌, List, [], ◌∷�
 ghost use Rattle.std.specs.List.{list_any};
 ghost use Rattle.std.specs.FinMap as known_map;
 ghost use Rattle.ddmin_parallel.specs.CoreEvents.{State, begin, apply, position, next, after_take, option_then, is_out, same_set, step, Put, Take, GiveBack, Recall, End};
-ghost use Rattle.ddmin_parallel.specs.CoreStates.{IsLawful, IsSmall, IsSettled, AreOpen};
+ghost use Rattle.ddmin_parallel.specs.inside.CoreStates.{IsLawful, IsSmall, IsSettled, AreOpen};
 ghost use Rattle.ddmin_parallel.specs.Cards.{IsPutFault, IsFault, IsFinished};
-ghost use Rattle.ddmin_parallel.specs.Stages.{position_of};
-ghost use Rattle.ddmin_parallel.specs.Cursors.{IsReached, is_among, next_at, out_after, moved, stage_after};
+ghost use Rattle.ddmin_parallel.specs.inside.Stages.{position_of};
+ghost use Rattle.ddmin_parallel.specs.inside.Cursors.{IsReached, is_among, next_at, out_after, moved, stage_after};
 
 use crate::known::Known;
 use crate::open::open_set;
@@ -66,13 +66,13 @@ pub struct Core {
 
 impl Model for Core {
     ghost use Rattle.ddmin_parallel.specs.CoreEvents.{State};
-    ghost use Rattle.ddmin_parallel.specs.CoreStates.{state_code};
+    ghost use Rattle.ddmin_parallel.specs.inside.CoreStates.{state_code};
 
     ghost Value = { State };
 
     ghost coded = { state_code };
 
-    ghost use Rattle.ddmin_parallel.specs.Inside.{state_of, IsCore};
+    ghost use Rattle.ddmin_parallel.specs.inside.Inside.{state_of, IsCore};
 
     ghost view = { state_of };
 

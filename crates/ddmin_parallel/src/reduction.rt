@@ -1,5 +1,7 @@
+ghost use Rattle.std.specs.Prelude.{◌≡◌, IfOk};
 ghost use Rattle.ddmin_parallel.specs.Ddmin.{Reduced};
 
+use std::alloc::{AllocError, Global};
 use std::marker::Model;
 
 /// What a reduction found.
@@ -15,4 +17,17 @@ impl Model for Reduction {
     ghost Value = { Reduced };
 
     ghost view = { λ r. record { kept = r.kept.items; tests = r.tests } };
+}
+
+impl Reduction {
+    /// The same reduction once more. An error means that memory was refused.
+    pub fn copied(&self, alloc: Global) -> Result<Self, AllocError>
+        ensures { IfOk result (λ copy. copy ≡ self.now) }
+    {
+        let kept = Vec::from_slice(alloc, self.kept.as_slice())?;
+        Ok(Reduction {
+            kept,
+            tests: self.tests,
+        })
+    }
 }

@@ -2,7 +2,7 @@ ghost use Rattle.std.specs.Prelude.{◌≡◌, ℕ, List, Bool, map, filter, not
 ghost use Rattle.std.specs.List.{list_any};
 ghost use Rattle.std.specs.FinMap as known_map;
 ghost use Rattle.ddmin_parallel.specs.CoreEvents.{same_set, without};
-ghost use Rattle.ddmin_parallel.specs.CoreStates.{IsPlaceOf};
+ghost use Rattle.ddmin_parallel.specs.inside.CoreStates.{IsPlaceOf};
 
 use crate::known::Known;
 

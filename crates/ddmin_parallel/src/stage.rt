@@ -1,11 +1,11 @@
 ghost use Rattle.std.specs.Prelude.{◌≡◌, ℕ, ◌+◌, ◌*◌, ◌^◌, ◌<◌, ◌≤◌, List, length, IfOk, Option, Bool};
 ghost use Rattle.std.specs.FinMap as known_map;
 ghost use Rattle.ddmin_parallel.specs.Rounds.{Candidate};
-ghost use Rattle.ddmin_parallel.specs.Candidates.{found as decision_of};
+ghost use Rattle.ddmin_parallel.specs.inside.Candidates.{found as decision_of};
 ghost use Rattle.ddmin_parallel.specs.CoreEvents.{Position, Round, after_decision, after_empty, at_round};
-ghost use Rattle.ddmin_parallel.specs.CoreStates.{IsLawful, IsSmall};
-ghost use Rattle.ddmin_parallel.specs.Stages.{position_of};
-ghost use Rattle.ddmin_parallel.specs.Cursors.{IsCounted, IsLook, IsStep, IsAdvanced, follow};
+ghost use Rattle.ddmin_parallel.specs.inside.CoreStates.{IsLawful, IsSmall};
+ghost use Rattle.ddmin_parallel.specs.inside.Stages.{position_of};
+ghost use Rattle.ddmin_parallel.specs.inside.Cursors.{IsCounted, IsLook, IsStep, IsAdvanced, follow};
 
 use crate::attempts::{Attempt, all_faults, attempt_at, candidate_count};
 use crate::known::Known;

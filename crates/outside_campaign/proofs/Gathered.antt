@@ -19,7 +19,7 @@ use Rattle.campaign_core.specs.Findings.{reduction, plan_at, finding}
 use Rattle.outside_campaign.specs.Outside.{Component, say}
 use Rattle.outside_campaign.specs.Reached.{known_tests, place_of, open_sets, open_candidates}
 use Rattle.outside_campaign.specs.Asked.{open_cards}
-use Rattle.outside_campaign.specs.Told.{told_of, IsLook, IsGathered}
+use Rattle.outside_campaign.specs.inside.Told.{told_of, IsLook, IsGathered}
 use Rattle.outside_campaign.specs.declared.findings.Look.{Look}
 use Rattle.outside_campaign.specs.declared.findings.Look.TheVariants as look
 use Rattle.outside_campaign.proofs.Running.{reduced_is}

@@ -24,7 +24,7 @@ use Rattle.campaign_core.specs.Findings.{finding}
 use Rattle.outside_campaign.specs.Outside.{Component, say}
 use Rattle.outside_campaign.specs.Asked.{open_plans, open_cards, plan_verdicts, known_failures, lines_for}
 use Rattle.outside_campaign.specs.Campaigns.{plans as plans_of, code_name, asks_text, report_text, first_failure, untried, untried_by, AsksFault, ReportFault}
-use Rattle.outside_campaign.specs.Results.{AreOf, IsFirst, AreWithVerdicts, AreResults, facts_of}
+use Rattle.outside_campaign.specs.inside.Results.{AreOf, IsFirst, AreWithVerdicts, AreResults, facts_of}
 use Rattle.campaign_core.specs.declared.ending.CampaignFault.TheVariants as campaign
 use Rattle.outside_campaign.specs.declared.refusal.OutsideFault.{OutsideFault}
 use Rattle.outside_campaign.specs.declared.refusal.OutsideFault.TheVariants as refusal

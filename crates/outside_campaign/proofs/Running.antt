@@ -23,7 +23,7 @@ use Rattle.campaign_core.specs.FaultTest.{fails_with, fault_test}
 use Rattle.campaign_core.specs.Findings.{reduction}
 use Rattle.outside_campaign.specs.Outside.{Component, say}
 use Rattle.outside_campaign.specs.Reached.{known_tests, place_of, unknown_sets, open_sets, open_candidates, ComesTo, IsReached}
-use Rattle.outside_campaign.specs.Tests.{IsTested, IsSettled, IsEnded}
+use Rattle.outside_campaign.specs.inside.Tests.{IsTested, IsSettled, IsEnded}
 use Rattle.outside_campaign.specs.declared.reduction.Test.{Test}
 use Rattle.outside_campaign.specs.declared.reduction.Test.TheVariants.{Told, Untold}
 use Rattle.outside_campaign.specs.declared.reduction.Reached.{Reached}

@@ -1,8 +1,6 @@
 pub mod Outside
 pub mod Reached
-pub mod Tests
-pub mod Told
 pub mod Asked
-pub mod Verdicts
 pub mod Campaigns
 pub mod Results
+pub mod inside

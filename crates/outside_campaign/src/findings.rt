@@ -1,7 +1,7 @@
 //! What is told of failures, by what is known.
 ghost use Rattle.std.specs.Prelude.{◌≡◌, ◌<◌, All, length, IfOk, OnOk};
 ghost use Rattle.answer_text.specs.Known.{verdict_in};
-ghost use Rattle.outside_campaign.specs.Told.{IsLook, IsGathered, AreFindings};
+ghost use Rattle.outside_campaign.specs.inside.Told.{IsLook, IsGathered, AreFindings};
 
 use crate::reduction::{Reached, reduce_known};
 use answer_text::Known;

@@ -3,12 +3,11 @@ ghost use Rattle.std.specs.Prelude.{◌≡◌, ◌<◌, ◌≤◌, false, length
 ghost use Rattle.std.specs.Io.KnownBytes.{Appends};
 ghost use Rattle.action_eval.specs.Answers.{texts};
 ghost use Rattle.plan_gen.specs.PlanList.{most_plans};
-ghost use Rattle.campaign_core.specs.Headline.{asked_of};
 ghost use Rattle.outside_campaign.specs.Campaigns.{plans, plans_text, IsCut, IsUnwritten};
 
-use campaign_core::{CampaignFault, plans_text};
+use campaign_core::{CampaignFault, asked_of, plans_text};
 use campaign_settings::{Outside, Settings};
-use plan_gen::{Census, Plan, PlanFault, PlanSettings, plans};
+use plan_gen::{Census, Plan, PlanFault, plans};
 use report::write_report;
 use scenario_values::Text;
 use std::alloc::{AllocError, Global};
@@ -23,19 +22,6 @@ pub fn borrowed(alloc: Global, from: &[Text]) -> Result<Vec<&str>, AllocError>
         names.push(name.as_str())?;
     }
     Ok(names)
-}
-
-/// What the settings ask of the list of plans.
-fn asked_of(settings: &Settings) -> PlanSettings<'_>
-    ensures { result ≡ asked_of settings.now }
-{
-    PlanSettings {
-        pairs: settings.pairs,
-        storms: settings.storms,
-        rate: settings.rate,
-        listed: settings.scenarios.as_slice(),
-        seed: settings.seed,
-    }
 }
 
 /// The list of plans, over the names of the settings' points.

@@ -3,7 +3,7 @@ ghost use Rattle.std.specs.Prelude.{◌≡◌, IfOk, OnOk};
 ghost use Rattle.scenario_values.specs.Scenario.{all_faults};
 ghost use Rattle.answer_text.specs.Known.{verdict_in};
 ghost use Rattle.outside_campaign.specs.Reached.{IsReached};
-ghost use Rattle.outside_campaign.specs.Tests.{IsTested, IsSettled, IsEnded};
+ghost use Rattle.outside_campaign.specs.inside.Tests.{IsTested, IsSettled, IsEnded};
 
 use answer_text::Known;
 use campaign_core::{fails_with, fault_count};
@@ -53,14 +53,6 @@ fn look_up(
     }
 }
 
-fn copied(alloc: Global, reduction: &Reduction) -> Result<Reduction, AllocError>
-    ensures { IfOk result (λ r. r ≡ reduction.now) }
-{
-    let tests = reduction.tests;
-    let kept = Vec::from_slice(alloc, reduction.kept.as_slice())?;
-    Ok(Reduction { kept, tests })
-}
-
 /// Takes what is known of a card that is out: puts its answer, or adds its scenario to those that are to be tried.
 fn settle(
     alloc: Global,
@@ -88,7 +80,7 @@ fn ended(alloc: Global, core: &Core, untried: Vec<Scenario>) -> Result<Reached, 
     ensures { IfOk result (IsEnded core.now untried.items) }
 {
     match core.finished() {
-        Some(reduction) => Ok(Reached::Reduced(copied(alloc, reduction)?)),
+        Some(reduction) => Ok(Reached::Reduced(reduction.copied(alloc)?)),
         None => Ok(Reached::Open(untried)),
     }
 }

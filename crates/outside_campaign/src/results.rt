@@ -4,7 +4,7 @@ ghost use Rattle.std.specs.List.{AllByRecursion};
 ghost use Rattle.scenario_values.specs.Scenario.{IsScenario};
 ghost use Rattle.answer_text.specs.Known.{KnownVerdicts, verdict_in};
 ghost use Rattle.outside_campaign.specs.Asked.{plan_verdicts};
-ghost use Rattle.outside_campaign.specs.Results.{IsFirst, AreWithVerdicts, AreResults};
+ghost use Rattle.outside_campaign.specs.inside.Results.{IsFirst, AreWithVerdicts, AreResults};
 
 use crate::findings::{Findings, findings_known};
 use crate::verdicts::{Verdicts, plan_verdicts, verdicts_known};

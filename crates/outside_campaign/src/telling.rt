@@ -2,7 +2,7 @@
 ghost use Rattle.std.specs.Prelude.{◌≡◌, ◌<◌, length, IfOk, option_map, slice_get, slice_index_or};
 ghost use Rattle.report.specs.ReportText.{report_lines, text_of};
 ghost use Rattle.outside_campaign.specs.Campaigns.{code_name};
-ghost use Rattle.outside_campaign.specs.Results.{facts_of};
+ghost use Rattle.outside_campaign.specs.inside.Results.{facts_of};
 
 use campaign_settings::Outside;
 use report::{Finding, Names, Report, text};

@@ -4,7 +4,7 @@ ghost use Rattle.std.specs.List.{AllByRecursion};
 ghost use Rattle.scenario_values.specs.Scenario.{IsScenario};
 ghost use Rattle.answer_text.specs.Known.{KnownVerdicts, verdict_in};
 ghost use Rattle.outside_campaign.specs.Asked.{plan_verdicts};
-ghost use Rattle.outside_campaign.specs.Verdicts.{AreVerdicts};
+ghost use Rattle.outside_campaign.specs.inside.Verdicts.{AreVerdicts};
 
 use answer_text::Known;
 use plan_gen::Plan;

@@ -4,7 +4,7 @@ use Rattle.std.specs.List.{flat_map}
 use Rattle.scenario_values.specs.declared.term.Term.{Term}
 use Rattle.scenario_values.specs.Scenario.{Entries}
 use Rattle.scenario_values.specs.Printed.{entry_text, printed}
-use Rattle.scenario_grammar.specs.Built.{entry_after}
+use Rattle.scenario_grammar.specs.inside.Built.{entry_after}
 
 -- the text of what is left
 abbrev pub left_text : Bool → Entries → List ℕ

@@ -3,9 +3,9 @@ pub mod FirstFault
 pub mod FirstPieces
 pub mod Spelling
 pub mod FaultText
-pub mod Built
 pub use Rattle.scenario_values.specs.Scenario
 pub use Rattle.scenario_values.specs.Printed
 pub use Rattle.scenario_values.specs.Faults
 pub use Rattle.scenario_values.specs.Keep
 pub use Rattle.scenario_values.specs.Tidied
+pub mod inside

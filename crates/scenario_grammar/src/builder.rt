@@ -21,7 +21,7 @@ pub struct Builder {
 impl Builder {
     ghost use Rattle.std.specs.Prelude.{◌≡◌, ◌+◌};
     ghost use Rattle.scenario_grammar.specs.FirstFault.{Reads, piece_in, nothing};
-    ghost use Rattle.scenario_grammar.specs.Built.{progress};
+    ghost use Rattle.scenario_grammar.specs.inside.Built.{progress};
 
     pub fn new(alloc: Global) -> Builder
         ensures { progress result ≡ nothing }

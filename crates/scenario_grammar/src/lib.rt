@@ -13,6 +13,7 @@ mod printing;
 mod reading;
 mod terms;
 
+pub use cuts::cut_once;
 pub use fault::{Kind, ScenarioFault};
 pub use laws::{
     faults_tell, first_fault_is_local, percentages_are_read, printed_scenarios_are_read,

@@ -5,7 +5,7 @@ ghost use Rattle.scenario_grammar.specs.Spelling.{Spells, Writes, Within};
 ghost use Rattle.scenario_grammar.specs.FirstFault.{Tells, fault};
 ghost use Rattle.scenario_values.specs.Scenario.{entries_of};
 ghost use Rattle.scenario_values.specs.declared.term.Term.{Term};
-ghost use Rattle.scenario_grammar.specs.Built.{progress};
+ghost use Rattle.scenario_grammar.specs.inside.Built.{progress};
 
 use crate::builder::Builder;
 use crate::cuts::{pieces, trim};

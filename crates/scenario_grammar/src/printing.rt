@@ -2,7 +2,7 @@
 ghost use Rattle.std.specs.Prelude.{◌≡◌, ◌+◌, ◌<◌, ◌++◌, OnOk, IfOk, IfErr, None};
 ghost use Rattle.std.specs.String.{string_bytes};
 ghost use Rattle.scenario_values.specs.Printed.{share_text, count_text, argument_text, task_text, decimals_of, point_and, term_text, chain_text, printed};
-ghost use Rattle.scenario_grammar.specs.Built.{entry_after};
+ghost use Rattle.scenario_grammar.specs.inside.Built.{entry_after};
 ghost use Rattle.scenario_grammar.specs.FirstFault.{fault};
 ghost use Rattle.scenario_grammar.specs.Spelling.{Spells};
 

@@ -1,19 +1,12 @@
 //! Chains of terms, read.
 ghost use Rattle.std.specs.Prelude.{◌≡◌, ◌+◌, ◌<◌, ◌≤◌, map, IfOk, Ok, Err};
 ghost use Rattle.scenario_grammar.specs.FirstFault.{Reads, term_in, chain_from};
-ghost use Rattle.scenario_values.specs.Scenario.{is_off};
 
 use crate::cuts::trim;
 use crate::fault::{Kind, ScenarioFault, TermError};
 use crate::reading::term_of;
-use scenario_values::{Task, Term};
+use scenario_values::{Term, is_off};
 use std::alloc::Global;
-
-fn is_off(task: &Task) -> bool
-    ensures { result ≡ is_off task.now }
-{
-    matches!(task, Task::Off)
-}
 
 /// A term of a chain, and how many faults there are with it.
 #[tactic(auto, unfolding(crate::specs::FirstFault::term_in))]

@@ -7,7 +7,7 @@ use Rattle.scenario_values.specs.declared.place.Place.{Place}
 use Rattle.scenario_values.specs.Faults.{place_of, chain_faults}
 use Rattle.scenario_values.specs.Keep.{kept_term, after_term, kept_chain, after_chain}
 use Rattle.scenario_values.specs.Tidied.{joint, joined_onto}
-use Rattle.scenario_values.specs.Walks.{StandsAt}
+use Rattle.scenario_values.specs.inside.Walks.{StandsAt}
 
 -- the rest of a list, by its first element
 pub rest_is : {A : Type 0} (xs : List A) (i : ℕ) (x : A) → i < length xs → x ≡ get_or xs i x → drop i xs ≡ x ∷ drop (i + 1) xs

@@ -5,7 +5,7 @@ use Rattle.std.specs.List.{AllByRecursion, range_with_len}
 use Rattle.scenario_values.specs.declared.term.Term.{Term}
 use Rattle.scenario_values.specs.Scenario.{Entries, is_off, fault_of, faults_in, all_faults}
 use Rattle.scenario_values.specs.Keep.{holds, are_faults, members_at, switched_off, kept_term, after_term, kept_chain, after_chain, kept_from, kept}
-use Rattle.scenario_values.specs.Walks.{Ascends}
+use Rattle.scenario_values.specs.inside.Walks.{Ascends}
 use Rattle.scenario_values.proofs.Walking.{ascends_from}
 use Rattle.scenario_values.proofs.Sets.{rank, rank_absent, rank_present, rank_zero, rank_high, within, holds_members, members_without, range_within, remove_all, holds_range}
 

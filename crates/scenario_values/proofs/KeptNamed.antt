@@ -9,7 +9,7 @@ use Rattle.scenario_values.specs.declared.place.Place.{Place}
 use Rattle.scenario_values.specs.Scenario.{Entries, is_off, faults_in, all_faults}
 use Rattle.scenario_values.specs.Faults.{chain_faults, faults_from, faults, chain_named, named_faults, fault_at}
 use Rattle.scenario_values.specs.Keep.{holds, are_faults, switched_off, after_term, kept_chain, after_chain, kept_from, kept}
-use Rattle.scenario_values.specs.Walks.{Ascends}
+use Rattle.scenario_values.specs.inside.Walks.{Ascends}
 use Rattle.scenario_values.proofs.Walking.{from, from_absent, from_present, walk_starts, ascends_from}
 use Rattle.scenario_values.proofs.Sets.{within}
 use Rattle.scenario_values.proofs.KeptAgain.{after_is}

@@ -15,7 +15,7 @@ use Rattle.std.specs.Option.{option_map_or}
 use Rattle.scenario_values.specs.Scenario.{Entries, New, DistinctNames, IsScenario, is_off, is_name, is_lawful_term, is_lawful_task, entries_of}
 use Rattle.scenario_values.proofs.Weights.{kept_width, kept_faults, tidied_width, tidied_faults, printed_shorter}
 use Rattle.scenario_values.specs.Keep.{switched_off, holds, after_term, kept_chain, after_chain, kept_from, kept}
-use Rattle.scenario_values.specs.Walks.{StandsAt}
+use Rattle.scenario_values.specs.inside.Walks.{StandsAt}
 use Rattle.scenario_values.specs.Tidied.{is_live, is_idle, is_endless, joined_counts, joint, join_by, with_count, joined_onto, joined, without_used, up_to_endless, without_idle_end, tidied_chain, tidied, with_entry}
 use Rattle.scenario_values.proofs.Walking.{walk_starts}
 

@@ -14,7 +14,7 @@ use Rattle.scenario_values.specs.Faults.{chain_faults, faults_from as faults_by,
 use Rattle.scenario_values.specs.Keep.{holds, ascend_from, are_faults, members_at, after_term, after_chain}
 use Rattle.scenario_values.specs.Tidied.{is_used, is_idle, is_endless, joined_counts, joint, join_by, with_count, joined_onto, joined, without_used, up_to_endless, without_idle_end, tidied_chain, tidied, put}
 use Rattle.scenario_values.specs.Origins.{number_of, left_numbers, all_left_numbers, origins, SameFaults}
-use Rattle.scenario_values.specs.Walks.{Ascends}
+use Rattle.scenario_values.specs.inside.Walks.{Ascends}
 use Rattle.scenario_values.proofs.Walking.{both, ascends_from, absent}
 use Rattle.scenario_values.proofs.Sets.{rank, member_is, holds_members, holds_range, faults_from, from_lower, within, range_ascends_above}
 use Rattle.scenario_values.proofs.KeptAgain.{after_is}

@@ -4,7 +4,7 @@ use Rattle.std.specs.Prelude.{nat_le, remove, slice_index}
 use Rattle.std.specs.List.{AllByRecursion, range_with_len}
 use Rattle.std.proofs.lemmas.Bool.Decides.{nat_tests}
 use Rattle.scenario_values.specs.Keep.{holds, ascend_from, are_faults, members_at}
-use Rattle.scenario_values.specs.Walks.{Ascends}
+use Rattle.scenario_values.specs.inside.Walks.{Ascends}
 use Rattle.scenario_values.proofs.Walking.{both, absent, below}
 
 -- how many of these are below k

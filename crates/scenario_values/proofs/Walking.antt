@@ -5,7 +5,7 @@ use Rattle.std.specs.List.{AllByRecursion}
 use Rattle.std.proofs.lemmas.List.{drop_all}
 use Rattle.std.proofs.lemmas.Bool.Decides.{nat_tests}
 use Rattle.scenario_values.specs.Keep.{holds, ascend_from}
-use Rattle.scenario_values.specs.Walks.{Ascends, StandsAt}
+use Rattle.scenario_values.specs.inside.Walks.{Ascends, StandsAt}
 
 -- the numbers of a set from one on
 abbrev pub from : ℕ → List ℕ → List ℕ

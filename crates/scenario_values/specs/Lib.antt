@@ -4,6 +4,6 @@ pub mod Printed
 pub mod Faults
 pub mod Keep
 pub mod Tidied
-pub mod Walks
 pub mod Built
 pub mod Origins
+pub mod inside

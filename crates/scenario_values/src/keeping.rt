@@ -1,7 +1,7 @@
 //! Scenarios with fewer faults.
 ghost use Rattle.std.specs.Prelude.{◌≡◌, ◌+◌, ◌<◌, ◌≤◌, ◌^◌, true, IsTrue, IfOk, length};
 ghost use Rattle.scenario_values.specs.Scenario.{IsScenario, entries_of, all_faults};
-ghost use Rattle.scenario_values.specs.Walks.{Ascends, StandsAt};
+ghost use Rattle.scenario_values.specs.inside.Walks.{Ascends, StandsAt};
 ghost use Rattle.scenario_values.specs.Keep.{holds, are_faults, kept_term, after_term, kept_chain, after_chain, kept};
 
 use crate::chain::Chain;

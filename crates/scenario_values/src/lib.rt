@@ -24,6 +24,6 @@ pub use laws::{
 pub use numbering::faults;
 pub use place::Place;
 pub use scenario::Scenario;
-pub use term::{Task, Term};
+pub use term::{Task, Term, is_off};
 pub use text::Text;
 pub use tidying::tidy;

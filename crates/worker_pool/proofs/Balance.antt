@@ -4,10 +4,10 @@ use Rattle.crossbeam_deque.specs.Handles.{worker_view}
 use Rattle.worker_pool.specs.declared.desk.Next.{Next}
 use Rattle.worker_pool.specs.declared.desk.Desk.{Desk}
 use Rattle.worker_pool.specs.declared.station.Station.{Station}
-use Rattle.worker_pool.specs.Desks.{took, taken_next, kept_by, SameDesk}
-use Rattle.worker_pool.specs.Ring.{Fresh, TakenIn, SameOwn, stolen_by, stolen_from}
+use Rattle.worker_pool.specs.inside.Desks.{took, taken_next, kept_by, SameDesk}
+use Rattle.worker_pool.specs.inside.Ring.{Fresh, TakenIn, SameOwn, stolen_by, stolen_from}
 use Rattle.worker_pool.specs.Hands.{answered_at}
-use Rattle.worker_pool.specs.Stations.{answered_by, answers_of, IsBalanced}
+use Rattle.worker_pool.specs.inside.Stations.{answered_by, answers_of, IsBalanced}
 use Rattle.worker_pool.proofs.Places.{map_get}
 use Rattle.worker_pool.proofs.Same.{none_kept}
 

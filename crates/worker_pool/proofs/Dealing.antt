@@ -5,7 +5,7 @@ use Rattle.std.proofs.Math.Nat.{lt_of_mul-lt-mul_right, mul-le-mul_right}
 use Rattle.std.proofs.lemmas.List.Elements.{All-same, All-push}
 use Rattle.crossbeam_deque.specs.Handles.{worker_index, worker_capacity, worker_view}
 use Rattle.worker_pool.specs.declared.desk.Desk.{Desk}
-use Rattle.worker_pool.specs.Ring.{DealtRound}
+use Rattle.worker_pool.specs.inside.Ring.{DealtRound}
 use Rattle.worker_pool.proofs.Places.{holds_set}
 
 -- a desk that was dealt i tickets, r of them being its own number, has had no more than the rounds that are over

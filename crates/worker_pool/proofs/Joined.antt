@@ -4,11 +4,11 @@ use Rattle.std.proofs.lemmas.List.Elements.{All-same}
 use Rattle.crossbeam_deque.specs.Handles.{worker_view}
 use Rattle.worker_pool.specs.declared.desk.Desk.{Desk}
 use Rattle.worker_pool.specs.declared.station.Station.{Station}
-use Rattle.worker_pool.specs.Desks.{kept_by}
+use Rattle.worker_pool.specs.inside.Desks.{kept_by}
 use Rattle.worker_pool.specs.Hands.{answered_at, SharesAll, SharesPart}
-use Rattle.worker_pool.specs.Parts.{IsWhole}
-use Rattle.worker_pool.specs.Ring.{next_of, AreDealtRound, Fresh, IsDone, IsSettled, PushedOnce, SameOwn, TakenIn, pushed_by, stolen_by, stolen_from}
-use Rattle.worker_pool.specs.Stations.{answered_by, answers_of, Finishes, Worked}
+use Rattle.worker_pool.specs.inside.Parts.{IsWhole}
+use Rattle.worker_pool.specs.inside.Ring.{next_of, AreDealtRound, Fresh, IsDone, IsSettled, PushedOnce, SameOwn, TakenIn, pushed_by, stolen_by, stolen_from}
+use Rattle.worker_pool.specs.inside.Stations.{answered_by, answers_of, Finishes, Worked}
 use Rattle.worker_pool.proofs.Places.{sums_by_place}
 use Rattle.worker_pool.proofs.Rings.{next_of-within}
 use Rattle.worker_pool.proofs.Rounds.{pick}

@@ -7,7 +7,7 @@ use Rattle.std.proofs.lemmas.List.Sums.{sum_by-cons, sum_by-append, sum_by_push}
 use Rattle.crossbeam_deque.specs.Tasks.{Pushes, Takes, Finds, Forks, Merges, Learns}
 use Rattle.crossbeam_deque.proofs.Lists.{at_set, at_snoc}
 use Rattle.worker_pool.specs.declared.rule.Seat.{Seat}
-use Rattle.worker_pool.specs.Parts.{Taker, owner, thief, Move, add, take, Part, taken, front_taken, moved, part_after, seat, Knows, Dealt, IsWhole}
+use Rattle.worker_pool.specs.inside.Parts.{Taker, owner, thief, Move, add, take, Part, taken, front_taken, moved, part_after, seat, Knows, Dealt, IsWhole}
 
 module _ {A : Type 0} (f : A → ℕ) where
   -- the total after a change at one place

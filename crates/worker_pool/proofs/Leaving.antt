@@ -6,7 +6,7 @@ use Rattle.std.proofs.lemmas.List.Sums.{sum_by-cons}
 use Rattle.worker_pool.specs.declared.hand.Hand.{Hand}
 use Rattle.worker_pool.specs.declared.station.Station.{Station}
 use Rattle.worker_pool.specs.Hands.{hand_job, hand_performed, PerformsPart, SharesAll, SharesPart}
-use Rattle.worker_pool.specs.Stations.{GoesOn, answers_of}
+use Rattle.worker_pool.specs.inside.Stations.{GoesOn, answers_of}
 use Rattle.worker_pool.specs.Tickets.{IsStepOf, IsDealtRound, count_below}
 use Rattle.worker_pool.proofs.Sharing.{once_of_all, once_of_part}
 use Rattle.std.proofs.lemmas.List.Elements.{All-nil}

@@ -9,7 +9,7 @@ use Rattle.crossbeam_deque.specs.Handles.{view, stealer_deque, worker_deque, wor
 use Rattle.worker_pool.specs.declared.rule.Seat.{Seat}
 use Rattle.worker_pool.specs.declared.desk.Next.{Next}
 use Rattle.worker_pool.specs.declared.desk.Desk.{Desk}
-use Rattle.worker_pool.specs.Ring.{next_of, Link, IsRing, stolen_by, stolen_from}
+use Rattle.worker_pool.specs.inside.Ring.{next_of, Link, IsRing, stolen_by, stolen_from}
 
 pub next_of-within : (n k : ℕ) → k < n → next_of n k < n
 next_of-within n k within = grind (arith, nat_tests)

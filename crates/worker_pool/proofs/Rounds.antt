@@ -3,10 +3,10 @@ use Rattle.std.proofs.Common.{◌≡◌, ℕ, ◌<◌, List, [], ◌∷◌, leng
 use Rattle.crossbeam_deque.specs.Handles.{worker_deque, worker_view}
 use Rattle.worker_pool.specs.declared.desk.Next.{Next}
 use Rattle.worker_pool.specs.declared.desk.Desk.{Desk}
-use Rattle.worker_pool.specs.Desks.{SameNext, SameDesk}
+use Rattle.worker_pool.specs.inside.Desks.{SameNext, SameDesk}
 use Rattle.worker_pool.specs.declared.station.Station.{Station}
-use Rattle.worker_pool.specs.Stations.{WorkedAt}
-use Rattle.worker_pool.specs.Ring.{next_of, Link, IsRing}
+use Rattle.worker_pool.specs.inside.Stations.{WorkedAt}
+use Rattle.worker_pool.specs.inside.Ring.{next_of, Link, IsRing}
 use Rattle.worker_pool.proofs.Rings.{next_of-within}
 
 pub pick : {A : Type 0} (xs : List A) (k : ℕ) → k < length xs → A

@@ -4,7 +4,7 @@ use Rattle.std.proofs.lemmas.List.Elements.{All-same}
 use Rattle.worker_pool.specs.declared.desk.Next.{Next}
 use Rattle.worker_pool.specs.declared.desk.Desk.{Desk}
 use Rattle.crossbeam_deque.specs.Handles.{view, worker_view}
-use Rattle.worker_pool.specs.Desks.{SameNext, SameDesk, NextBelow, Below}
+use Rattle.worker_pool.specs.inside.Desks.{SameNext, SameDesk, NextBelow, Below}
 
 NextBelow-same : (count : ℕ) (n m : Option Next) → SameNext n m → NextBelow count n → NextBelow count m
 NextBelow-same count None m same below = subst (NextBelow count) (sym same) tt

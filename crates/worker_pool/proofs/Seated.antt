@@ -5,9 +5,9 @@ use Rattle.crossbeam_deque.specs.Handles.{view, worker_view}
 use Rattle.worker_pool.specs.declared.rule.Seat.{Seat}
 use Rattle.worker_pool.specs.declared.desk.Next.{Next}
 use Rattle.worker_pool.specs.declared.desk.Desk.{Desk}
-use Rattle.worker_pool.specs.Parts.{seat}
-use Rattle.worker_pool.specs.Desks.{taken_next, NextBelow}
-use Rattle.worker_pool.specs.Ring.{Fresh}
+use Rattle.worker_pool.specs.inside.Parts.{seat}
+use Rattle.worker_pool.specs.inside.Desks.{taken_next, NextBelow}
+use Rattle.worker_pool.specs.inside.Ring.{Fresh}
 
 pub fresh_shared : (count : ℕ) (old mid : Desk) → worker_view mid.own ≡ seat (worker_view old.own).pop_right 0 (worker_view old.own).pushed (worker_view old.own).popped [] → mid.next ≡ old.next → mid.kept ≡ old.kept → Fresh count old → Fresh count mid
 fresh_shared count old mid own next kept was = record {

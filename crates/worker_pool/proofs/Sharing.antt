@@ -13,9 +13,9 @@ use Rattle.crossbeam_deque.specs.Handles.{worker_view}
 use Rattle.worker_pool.specs.declared.desk.Desk.{Desk}
 use Rattle.worker_pool.specs.Tickets.{Step, push, pop, steal, State, of_hand, added, taken_from, stepped, after, IsStepOf, IsDealtRound, number_of, pushed, count_below}
 use Rattle.worker_pool.specs.Tickets.{front_taken as front_to}
-use Rattle.worker_pool.specs.Parts.{Taker, owner, thief, Move, add, Part, front_taken, moved, part_after, IsWhole}
-use Rattle.worker_pool.specs.Parts.{take as take_by}
-use Rattle.worker_pool.specs.Ring.{next_of, pushed_by, gone_by}
+use Rattle.worker_pool.specs.inside.Parts.{Taker, owner, thief, Move, add, Part, front_taken, moved, part_after, IsWhole}
+use Rattle.worker_pool.specs.inside.Parts.{take as take_by}
+use Rattle.worker_pool.specs.inside.Ring.{next_of, pushed_by, gone_by}
 use Rattle.worker_pool.specs.Hands.{answered_at, SharesAll, SharesPart}
 use Rattle.worker_pool.proofs.Keeps.{balanced}
 use Rattle.worker_pool.proofs.Law.{lengths, law}

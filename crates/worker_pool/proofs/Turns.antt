@@ -5,9 +5,9 @@ use native.Mathlib.Decide.{ℕ_discrete}
 use Rattle.worker_pool.specs.declared.hand.Hand.{Hand}
 use Rattle.worker_pool.specs.declared.desk.Desk.{Desk}
 use Rattle.worker_pool.specs.declared.station.Station.{Station}
-use Rattle.worker_pool.specs.Desks.{KeptBelow}
-use Rattle.worker_pool.specs.Ring.{TakenIn}
-use Rattle.worker_pool.specs.Stations.{IsRight, SameWork, GoesOn, Worked, WorkedAt, Finishes}
+use Rattle.worker_pool.specs.inside.Desks.{KeptBelow}
+use Rattle.worker_pool.specs.inside.Ring.{TakenIn}
+use Rattle.worker_pool.specs.inside.Stations.{IsRight, SameWork, GoesOn, Worked, WorkedAt, Finishes}
 use Rattle.worker_pool.proofs.Same.{SameDesk-trans}
 
 -- o, m and n: a count before, on the way and after, with the lengths a, b and d

@@ -1,6 +1,3 @@
 pub mod Hands
 pub mod Tickets
-pub mod Parts
-pub mod Desks
-pub mod Ring
-pub mod Stations
+pub mod inside

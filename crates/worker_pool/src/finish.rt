@@ -1,9 +1,9 @@
 //! What the caller's thread does after the joins.
 ghost use Rattle.std.specs.Prelude.{◌≡◌, ◌≢◌, ℕ, ◌+◌, ◌<◌, Bool, [], ◌∷◌, None, OnOk, Ok, false, count_by, vec_len, slice_index_or};
 ghost use Rattle.worker_pool.specs.declared.desk.Desk.{Desk};
-ghost use Rattle.worker_pool.specs.Desks.{kept_by, KeptBelow};
-ghost use Rattle.worker_pool.specs.Ring.{IsDone, pushed_by, gone_by};
-ghost use Rattle.worker_pool.specs.Stations.{answered_by, Finishes, GoesOn, IsLeft};
+ghost use Rattle.worker_pool.specs.inside.Desks.{kept_by, KeptBelow};
+ghost use Rattle.worker_pool.specs.inside.Ring.{IsDone, pushed_by, gone_by};
+ghost use Rattle.worker_pool.specs.inside.Stations.{answered_by, Finishes, GoesOn, IsLeft};
 
 use crate::desk::Desk;
 use crate::job::Job;

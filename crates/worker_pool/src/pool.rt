@@ -2,8 +2,8 @@
 ghost use Rattle.std.specs.Prelude.{◌≡◌, ℕ, ◌+◌, ◌<◌, ◌≤◌, ◌^◌, [], All, IfOk, IfErr, OnOk, MatchResult, map, vec_len, vec_capacity, slice_index_or};
 ghost use Rattle.std.specs.List.{sum_by};
 ghost use Rattle.worker_pool.specs.Hands.{hand_job, hand_performed, setups_of, EachOnce, PerformsPart, SharesAll, SharesPart};
-ghost use Rattle.worker_pool.specs.Ring.{AreDealtRound, Fresh, IsRing, PushedOnce};
-ghost use Rattle.worker_pool.specs.Stations.{GoesOn, answers_of};
+ghost use Rattle.worker_pool.specs.inside.Ring.{AreDealtRound, Fresh, IsRing, PushedOnce};
+ghost use Rattle.worker_pool.specs.inside.Stations.{GoesOn, answers_of};
 
 use crate::desk::Desk;
 use crate::finish::finish_all;

@@ -3,8 +3,8 @@ ghost use Rattle.std.specs.Prelude.{◌≡◌, ℕ, ◌+◌, ◌/◌, ◌%◌, �
 ghost use Rattle.std.specs.List.{sum_by};
 ghost use Rattle.crossbeam_deque.specs.Handles.{worker_view};
 ghost use Rattle.worker_pool.specs.declared.desk.Desk.{Desk};
-ghost use Rattle.worker_pool.specs.Ring.{next_of, IsRing, Fresh, Whole, TakenIn, IsSettled, SameOwn, pushed_by, stolen_by, stolen_from};
-ghost use Rattle.worker_pool.specs.Ring.{AreDealtRound, DealtRound, PushedOnce};
+ghost use Rattle.worker_pool.specs.inside.Ring.{next_of, IsRing, Fresh, Whole, TakenIn, IsSettled, SameOwn, pushed_by, stolen_by, stolen_from};
+ghost use Rattle.worker_pool.specs.inside.Ring.{AreDealtRound, DealtRound, PushedOnce};
 
 use crate::desk::Desk;
 use crate::ticket::Ticket;

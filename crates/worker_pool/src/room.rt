@@ -1,6 +1,6 @@
 //! What a run takes of memory before its first ticket is performed, and how hands come and go.
 ghost use Rattle.std.specs.Prelude.{◌≡◌, ◌+◌, ◌<◌, ◌≤◌, [], ◌∷◌, ◌++◌, All, IfOk, map, vec_len, vec_capacity};
-ghost use Rattle.worker_pool.specs.Ring.{AreDealtRound, Fresh, IsRing, PushedOnce};
+ghost use Rattle.worker_pool.specs.inside.Ring.{AreDealtRound, Fresh, IsRing, PushedOnce};
 
 use crate::desk::Desk;
 use crate::hand::Hand;

@@ -1,7 +1,7 @@
 //! The rule of one deque, and the kinds of step that keep it: what was pushed is, each once, what its owner popped, what its
 //! thief stole and what it holds.
 ghost use Rattle.std.specs.Prelude.{◌≡◌, ◌<◌};
-ghost use Rattle.worker_pool.specs.Parts.{more_pushed, more_popped, more_stolen, AllTaken, IsAmong, IsWhole};
+ghost use Rattle.worker_pool.specs.inside.Parts.{more_pushed, more_popped, more_stolen, AllTaken, IsAmong, IsWhole};
 
 use crate::ticket::Ticket;
 use crossbeam_deque::protocol::{Join, Lesson, Outcome, Protocol, Split};
@@ -24,7 +24,7 @@ pub struct Fair;
 
 impl Protocol<Ticket, Seat> for Fair {
     ghost use Rattle.std.specs.Prelude.{[]};
-    ghost use Rattle.worker_pool.specs.Parts.{seat, Dealt};
+    ghost use Rattle.worker_pool.specs.inside.Parts.{seat, Dealt};
 
     ghost holds = { Dealt };
 
@@ -61,7 +61,7 @@ impl Outcome<Ticket, Seat> for Steals {
 pub struct Shared;
 
 impl Split<Seat> for Shared {
-    ghost use Rattle.worker_pool.specs.Parts.{owner_of, thief_of};
+    ghost use Rattle.worker_pool.specs.inside.Parts.{owner_of, thief_of};
 
     ghost left = { owner_of };
 
@@ -70,7 +70,7 @@ impl Split<Seat> for Shared {
 
 impl Join<Seat> for Shared {
     ghost use Rattle.std.specs.Prelude.{[]};
-    ghost use Rattle.worker_pool.specs.Parts.{seat, joined};
+    ghost use Rattle.worker_pool.specs.inside.Parts.{seat, joined};
 
     ghost both = { joined };
 

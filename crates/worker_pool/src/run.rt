@@ -1,9 +1,9 @@
 //! All stations at work, each in a thread of its own.
 ghost use Rattle.std.specs.Prelude.{◌≡◌, ℕ, ◌<◌, ◌≤◌, [], Some, All, IsSome, vec_len, vec_capacity, slice_index_or, length};
 ghost use Rattle.worker_pool.specs.declared.desk.Desk.{Desk};
-ghost use Rattle.worker_pool.specs.Desks.{IsReady};
-ghost use Rattle.worker_pool.specs.Ring.{IsRing};
-ghost use Rattle.worker_pool.specs.Stations.{IsReadyAt, SameWork, Worked, WorkedAt};
+ghost use Rattle.worker_pool.specs.inside.Desks.{IsReady};
+ghost use Rattle.worker_pool.specs.inside.Ring.{IsRing};
+ghost use Rattle.worker_pool.specs.inside.Stations.{IsReadyAt, SameWork, Worked, WorkedAt};
 
 use crate::desk::Desk;
 use crate::job::Job;

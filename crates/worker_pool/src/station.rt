@@ -1,7 +1,7 @@
 //! A hand at work.
 ghost use Rattle.std.specs.Prelude.{◌≡◌, ℕ, ◌+◌, ◌<◌, Bool, [], ◌∷◌, None, IfErr, OnOk, count_by, vec_len, vec_capacity};
 ghost use Rattle.worker_pool.specs.Hands.{hand_job};
-ghost use Rattle.worker_pool.specs.Stations.{answered_by, GoesOn, SameWork};
+ghost use Rattle.worker_pool.specs.inside.Stations.{answered_by, GoesOn, SameWork};
 
 use crate::desk::Desk;
 use crate::hand::Hand;

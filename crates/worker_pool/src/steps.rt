@@ -1,9 +1,9 @@
 //! The steps at a desk.
 ghost use Rattle.std.specs.Prelude.{◌≡◌, ℕ, ◌+◌, ◌<◌, ◌≤◌, Bool, [], ◌∷◌, count_by, IfOk, OnOk, IfSome, IfNone};
 ghost use Rattle.crossbeam_deque.specs.Handles.{view, IsPassOf, stealer_deque, worker_deque, worker_view, worker_index, worker_capacity};
-ghost use Rattle.worker_pool.specs.Desks.{took, Below, SameButOwn, SameDesk};
-ghost use Rattle.worker_pool.specs.Parts.{seat as seat_of, owner_of, thief_of, joined, more_pushed, more_popped, more_stolen, AllTaken, IsAmong};
-ghost use Rattle.worker_pool.specs.Ring.{IsSettled, TakenIn};
+ghost use Rattle.worker_pool.specs.inside.Desks.{took, Below, SameButOwn, SameDesk};
+ghost use Rattle.worker_pool.specs.inside.Parts.{seat as seat_of, owner_of, thief_of, joined, more_pushed, more_popped, more_stolen, AllTaken, IsAmong};
+ghost use Rattle.worker_pool.specs.inside.Ring.{IsSettled, TakenIn};
 
 use crate::desk::{Desk, Next};
 use crate::rule::{Owner, Pops, Puts, SeatPass, Shared, Steals, Thief, Total};

@@ -1,7 +1,7 @@
 //! A station at work, in a thread of its own.
 ghost use Rattle.std.specs.Prelude.{◌≡◌, IsTrue, None};
-ghost use Rattle.worker_pool.specs.Desks.{IsReady};
-ghost use Rattle.worker_pool.specs.Stations.{IsReadyAt, Worked, WorkedAt};
+ghost use Rattle.worker_pool.specs.inside.Desks.{IsReady};
+ghost use Rattle.worker_pool.specs.inside.Stations.{IsReadyAt, Worked, WorkedAt};
 
 use crate::desk::Desk;
 use crate::job::Job;

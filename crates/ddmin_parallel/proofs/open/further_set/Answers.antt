@@ -2,9 +2,9 @@ use Rattle.std.proofs.Common.{◌≡◌, ℕ, List, Bool, Option, sym, subst, No
 use Rattle.std.specs.FinMap.{get}
 use Rattle.ddmin_parallel.specs.Rounds.{Candidate}
 use Rattle.ddmin_parallel.specs.CoreEvents.{Answers, Position, step}
-use Rattle.ddmin_parallel.specs.CoreStates.{IsLawful, IsSmall}
-use Rattle.ddmin_parallel.specs.Stages.{position_of}
-use Rattle.ddmin_parallel.specs.Cursors.{Leads, follow, is_among}
+use Rattle.ddmin_parallel.specs.inside.CoreStates.{IsLawful, IsSmall}
+use Rattle.ddmin_parallel.specs.inside.Stages.{position_of}
+use Rattle.ddmin_parallel.specs.inside.Cursors.{Leads, follow, is_among}
 use Rattle.ddmin_parallel.proofs.Places.{sets}
 use Rattle.ddmin_parallel.proofs.Scans.{IsFollowed, followed}
 use Rattle.ddmin_parallel.proofs.open.further_set.Goals as goal

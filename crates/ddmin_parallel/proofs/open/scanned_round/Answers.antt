@@ -2,8 +2,8 @@ use Rattle.std.proofs.Common.{◌≡◌, ℕ, true, false, List, sym, ◌∙◌,
 use Rattle.std.specs.Prelude.{is_some}
 use Rattle.std.specs.FinMap.{get}
 use Rattle.ddmin_parallel.specs.CoreEvents.{Round}
-use Rattle.ddmin_parallel.specs.CoreStates.{IsPlaceOf}
-use Rattle.ddmin_parallel.specs.Cursors.{is_among, IsShutBelow}
+use Rattle.ddmin_parallel.specs.inside.CoreStates.{IsPlaceOf}
+use Rattle.ddmin_parallel.specs.inside.Cursors.{is_among, IsShutBelow}
 use Rattle.ddmin_parallel.proofs.Places.{sets}
 use Rattle.ddmin_parallel.proofs.Scans.{found_open, found_failing, found_none}
 use Rattle.ddmin_parallel.proofs.open.scanned_round.Goals as goal

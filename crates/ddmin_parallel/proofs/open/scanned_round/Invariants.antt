@@ -1,6 +1,6 @@
 use Rattle.std.specs.FinMap.{get}
 use Rattle.ddmin_parallel.specs.CoreEvents.{Round}
-use Rattle.ddmin_parallel.specs.Cursors.{IsShutBelow, is_among}
+use Rattle.ddmin_parallel.specs.inside.Cursors.{IsShutBelow, is_among}
 use Rattle.ddmin_parallel.proofs.Places.{sets}
 use Rattle.ddmin_parallel.proofs.open.scanned_round.Given as goal
 

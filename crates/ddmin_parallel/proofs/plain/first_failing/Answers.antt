@@ -1,5 +1,5 @@
 use Rattle.std.proofs.Common.{◌≡◌, ◌+◌, false, refl, sym, ◌∙◌, ap, arith}
-use Rattle.ddmin_parallel.specs.Candidates.{candidate}
+use Rattle.ddmin_parallel.specs.inside.Candidates.{candidate}
 use Rattle.ddmin_parallel.specs.Ddmin.{decide}
 use Rattle.ddmin_parallel.proofs.Steps.{from, from_all, decide_pass}
 use Rattle.ddmin_parallel.proofs.plain.first_failing.Goals as goal

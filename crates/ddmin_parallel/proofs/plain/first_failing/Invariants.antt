@@ -1,7 +1,7 @@
 use Rattle.std.proofs.Common.{◌≡◌}
 use Rattle.ddmin_parallel.specs.Ddmin.{decide}
 use Rattle.ddmin_parallel.specs.Rounds.{round}
-use Rattle.ddmin_parallel.specs.Candidates.{candidates}
+use Rattle.ddmin_parallel.specs.inside.Candidates.{candidates}
 use Rattle.ddmin_parallel.proofs.Steps.{from}
 use Rattle.ddmin_parallel.proofs.plain.first_failing.Given as goal
 

@@ -2,7 +2,7 @@ use Rattle.std.proofs.Common.{◌≡◌, ℕ, ◌*◌, ◌<◌, List, length, Bo
 use Rattle.std.proofs.lemmas.List.FromFn.{length-range_with_len}
 use Rattle.ddmin_parallel.specs.Rounds.{Candidate, round}
 use Rattle.ddmin_parallel.specs.Ddmin.{Fails, NoneFails, decide, Fits, ddmin2, ddmin, kept_after}
-use Rattle.ddmin_parallel.specs.Candidates.{found}
+use Rattle.ddmin_parallel.specs.inside.Candidates.{found}
 use Rattle.ddmin_parallel.proofs.Rounds.{rank_next}
 use Rattle.ddmin_parallel.proofs.Minimal.{minimal_result}
 use Rattle.ddmin_parallel.proofs.Steps.{one_left, on_failing, next_of, on_finer, finer_fits, on_end, ddmin_none, ddmin_empty, ddmin_begins, begins_fits}

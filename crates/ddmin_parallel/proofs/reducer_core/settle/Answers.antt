@@ -4,9 +4,9 @@ use Rattle.std.specs.Prelude.{Vec, is_some}
 use Rattle.std.specs.Global.{Global}
 use Rattle.std.specs.List.{list_any}
 use Rattle.ddmin_parallel.specs.CoreEvents.{Known, same_set, without}
-use Rattle.ddmin_parallel.specs.CoreStates.{IsPlaceOf, AreOpen}
-use Rattle.ddmin_parallel.specs.Stages.{position_of}
-use Rattle.ddmin_parallel.specs.Cursors.{is_among, IsReached, IsAdvanced, moved, stage_after}
+use Rattle.ddmin_parallel.specs.inside.CoreStates.{IsPlaceOf, AreOpen}
+use Rattle.ddmin_parallel.specs.inside.Stages.{position_of}
+use Rattle.ddmin_parallel.specs.inside.Cursors.{is_among, IsReached, IsAdvanced, moved, stage_after}
 use Rattle.ddmin_parallel.specs.declared.stage.Cursor.{Cursor}
 use Rattle.ddmin_parallel.specs.declared.stage.Stage.{Stage}
 use Rattle.ddmin_parallel.proofs.Places.{sets, placed}

@@ -1,9 +1,9 @@
 use Rattle.std.proofs.Common.{◌≡◌, ℕ, sym, ◌∙◌, subst}
 use Rattle.std.specs.FinMap.{get, insert}
 use Rattle.ddmin_parallel.specs.CoreEvents.{Position, Answers, furthest}
-use Rattle.ddmin_parallel.specs.CoreStates.{IsLawful, IsSmall}
-use Rattle.ddmin_parallel.specs.Stages.{position_of}
-use Rattle.ddmin_parallel.specs.Cursors.{IsStep, IsCounted}
+use Rattle.ddmin_parallel.specs.inside.CoreStates.{IsLawful, IsSmall}
+use Rattle.ddmin_parallel.specs.inside.Stages.{position_of}
+use Rattle.ddmin_parallel.specs.inside.Cursors.{IsStep, IsCounted}
 use Rattle.ddmin_parallel.specs.declared.stage.Stage.{Stage}
 use Rattle.ddmin_parallel.specs.declared.stage.Step.{Step}
 use Rattle.ddmin_parallel.specs.declared.stage.Step.TheVariants.{Stays, Moves}

@@ -1,8 +1,8 @@
 use Rattle.std.proofs.Common.{◌≡◌}
 use Rattle.std.specs.FinMap.{get, insert}
 use Rattle.ddmin_parallel.specs.CoreEvents.{furthest, position_rank}
-use Rattle.ddmin_parallel.specs.CoreStates.{IsLawful, IsSmall}
-use Rattle.ddmin_parallel.specs.Stages.{position_of}
+use Rattle.ddmin_parallel.specs.inside.CoreStates.{IsLawful, IsSmall}
+use Rattle.ddmin_parallel.specs.inside.Stages.{position_of}
 use Rattle.ddmin_parallel.proofs.stage.advanced.Given as goal
 
 abbrev pub invariant-loop-current : goal.invariant-loop-current

@@ -1,6 +1,6 @@
 use Rattle.std.proofs.Common.{◌≡◌, ◌+◌, false, sym, ◌∙◌, ap, arith, Some}
 use Rattle.std.specs.FinMap.{get, insert}
-use Rattle.ddmin_parallel.specs.Candidates.{candidate}
+use Rattle.ddmin_parallel.specs.inside.Candidates.{candidate}
 use Rattle.ddmin_parallel.specs.CoreEvents.{decided}
 use Rattle.ddmin_parallel.proofs.Steps.{from}
 use Rattle.ddmin_parallel.proofs.KnownSteps.{decided_pass}

@@ -1,9 +1,9 @@
 use Rattle.std.proofs.Common.{◌≡◌}
 use Rattle.std.specs.FinMap.{get, insert}
 use Rattle.ddmin_parallel.specs.Rounds.{round}
-use Rattle.ddmin_parallel.specs.Candidates.{candidates}
+use Rattle.ddmin_parallel.specs.inside.Candidates.{candidates}
 use Rattle.ddmin_parallel.specs.CoreEvents.{decided, Round}
-use Rattle.ddmin_parallel.specs.Cursors.{IsCounted}
+use Rattle.ddmin_parallel.specs.inside.Cursors.{IsCounted}
 use Rattle.ddmin_parallel.proofs.Steps.{from}
 use Rattle.ddmin_parallel.proofs.stage.looked_at.Given as goal
 

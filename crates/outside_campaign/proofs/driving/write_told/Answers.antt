@@ -6,7 +6,7 @@ use Rattle.report.specs.ReportText.{report_lines, text_of}
 use Rattle.answer_text.specs.Known.{verdict_in, known_by}
 use Rattle.campaign_settings.specs.Description.{Description}
 use Rattle.outside_campaign.specs.Campaigns.{plans, code_name}
-use Rattle.outside_campaign.specs.Results.{facts_of}
+use Rattle.outside_campaign.specs.inside.Results.{facts_of}
 use Rattle.outside_campaign.proofs.ResultLemmas.{report_cut, report_written, first_told, verdicts_some, some_component}
 use Rattle.outside_campaign.proofs.driving.write_told.Goals as goal
 

@@ -3,7 +3,7 @@ use Rattle.std.proofs.lemmas.Result.{IfOk-weaker}
 use Rattle.answer_text.specs.Known.{verdict_in}
 use Rattle.ddmin_parallel.specs.CoreEvents.{after_take, next}
 use Rattle.outside_campaign.specs.Reached.{IsReached}
-use Rattle.outside_campaign.specs.Tests.{IsTested, IsEnded}
+use Rattle.outside_campaign.specs.inside.Tests.{IsTested, IsEnded}
 use Rattle.outside_campaign.proofs.Running.{begins, settle_keeps, end_reached}
 use Rattle.outside_campaign.proofs.reduction.reduce_known.Goals as goal
 

@@ -5,7 +5,7 @@ use Rattle.result_book.specs.FirstFailures.{first_failures}
 use Rattle.result_book.specs.Slots.{in_book}
 use Rattle.answer_text.specs.Known.{verdict_in}
 use Rattle.outside_campaign.specs.Asked.{plan_verdicts, known_failures}
-use Rattle.outside_campaign.specs.Results.{IsFirst, AreResults}
+use Rattle.outside_campaign.specs.inside.Results.{IsFirst, AreResults}
 use Rattle.outside_campaign.proofs.ResultLemmas.{all_below, failures_are, open_first, told_all}
 use Rattle.outside_campaign.proofs.results.results_known.Goals as goal
 

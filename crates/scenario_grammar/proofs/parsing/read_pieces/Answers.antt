@@ -1,6 +1,6 @@
 use Rattle.std.proofs.Common.{◌+◌, arith, drop, Bor, List, ℕ, []}
 use Rattle.std.proofs.lemmas.Result.{err_from_is_err_and}
-use Rattle.scenario_grammar.specs.Built.{progress}
+use Rattle.scenario_grammar.specs.inside.Built.{progress}
 use Rattle.scenario_grammar.proofs.Chains.{next_of, none_left, bytes_of}
 use Rattle.scenario_grammar.proofs.Pieces.{goes_on, ends, is_done}
 use Rattle.scenario_grammar.proofs.parsing.read_pieces.Goals as goal

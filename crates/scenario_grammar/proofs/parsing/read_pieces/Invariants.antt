@@ -1,6 +1,6 @@
 use Rattle.std.proofs.Common.{◌≡◌, ◌+◌, drop}
 use Rattle.scenario_grammar.specs.FirstFault.{pieces_from, nothing}
-use Rattle.scenario_grammar.specs.Built.{progress}
+use Rattle.scenario_grammar.specs.inside.Built.{progress}
 use Rattle.scenario_grammar.proofs.Chains.{bytes_of}
 use Rattle.scenario_grammar.proofs.parsing.read_pieces.Given as goal
 

@@ -3,8 +3,8 @@ use mathlib.Core.Logic.{dite}
 use native.Mathlib.Decide.{ℕ_discrete}
 use Rattle.worker_pool.specs.declared.desk.Desk.{Desk}
 use Rattle.worker_pool.specs.declared.station.Station.{Station}
-use Rattle.worker_pool.specs.Ring.{IsDone}
-use Rattle.worker_pool.specs.Stations.{IsLeft}
+use Rattle.worker_pool.specs.inside.Ring.{IsDone}
+use Rattle.worker_pool.specs.inside.Stations.{IsLeft}
 use Rattle.worker_pool.proofs.Turns.{finished_next, finished_all}
 use Rattle.worker_pool.proofs.finish.finish_all.Goals as goal
 

@@ -1,7 +1,7 @@
 use Rattle.std.proofs.Common.{◌≡◌, ℕ, ◌<◌, ◌≤◌, vec_len, slice_index_or}
 use Rattle.worker_pool.specs.declared.desk.Desk.{Desk}
-use Rattle.worker_pool.specs.Ring.{IsDone}
-use Rattle.worker_pool.specs.Stations.{Finishes}
+use Rattle.worker_pool.specs.inside.Ring.{IsDone}
+use Rattle.worker_pool.specs.inside.Stations.{Finishes}
 use Rattle.worker_pool.proofs.finish.finish_all.Given as goal
 
 abbrev pub invariant-loop-k : goal.invariant-loop-k

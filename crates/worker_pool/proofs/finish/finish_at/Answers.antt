@@ -1,7 +1,7 @@
 use Rattle.std.proofs.Common.{slice_index_or, sym, subst}
 use Rattle.worker_pool.specs.declared.desk.Desk.{Desk}
 use Rattle.worker_pool.specs.declared.station.Station.{Station}
-use Rattle.worker_pool.specs.Stations.{IsLeft}
+use Rattle.worker_pool.specs.inside.Stations.{IsLeft}
 use Rattle.worker_pool.proofs.finish.finish_at.Goals as goal
 
 pub finish_one-requires-after_bounds : goal.finish_one-requires-after_bounds

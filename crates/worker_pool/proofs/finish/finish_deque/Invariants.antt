@@ -1,5 +1,5 @@
 use Rattle.std.proofs.Common.{◌≡◌, None}
-use Rattle.worker_pool.specs.Stations.{Finishes, IsLeft}
+use Rattle.worker_pool.specs.inside.Stations.{Finishes, IsLeft}
 use Rattle.worker_pool.proofs.finish.finish_deque.Given as goal
 
 abbrev pub invariant-loop : goal.invariant-loop

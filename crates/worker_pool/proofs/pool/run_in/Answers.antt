@@ -4,7 +4,7 @@ use Rattle.std.proofs.lemmas.List.{length-map}
 use Rattle.worker_pool.specs.declared.hand.Hand.{Hand}
 use Rattle.worker_pool.specs.declared.station.Station.{Station}
 use Rattle.worker_pool.specs.Hands.{hand_performed, SharesAll, SharesPart}
-use Rattle.worker_pool.specs.Stations.{answers_of}
+use Rattle.worker_pool.specs.inside.Stations.{answers_of}
 use Rattle.worker_pool.proofs.Places.{map_at, performed_sum, count_below_all, sum_len}
 use Rattle.worker_pool.proofs.Rounds.{pick}
 use Rattle.worker_pool.proofs.Seated.{Fresh-weaker}

@@ -3,8 +3,8 @@ use Rattle.std.proofs.lemmas.List.Elements.{All-same}
 use Rattle.crossbeam_deque.specs.Handles.{worker_view}
 use Rattle.worker_pool.specs.declared.desk.Desk.{Desk}
 use Rattle.worker_pool.specs.declared.station.Station.{Station}
-use Rattle.worker_pool.specs.Desks.{KeptBelow}
-use Rattle.worker_pool.specs.Ring.{next_of, IsDone, stolen_by, stolen_from}
+use Rattle.worker_pool.specs.inside.Desks.{KeptBelow}
+use Rattle.worker_pool.specs.inside.Ring.{next_of, IsDone, stolen_by, stolen_from}
 use Rattle.worker_pool.proofs.Rounds.{pick}
 use Rattle.worker_pool.proofs.Turns.{GoesOn-trans}
 use Rattle.worker_pool.proofs.Joined.{part_shared, all_shared}

@@ -3,7 +3,7 @@ use mathlib.Core.Logic.{dite}
 use native.Mathlib.Decide.{ℕ_discrete}
 use Rattle.crossbeam_deque.specs.Handles.{worker_view}
 use Rattle.worker_pool.specs.declared.desk.Desk.{Desk}
-use Rattle.worker_pool.specs.Ring.{next_of, SameOwn, stolen_by, stolen_from}
+use Rattle.worker_pool.specs.inside.Ring.{next_of, SameOwn, stolen_by, stolen_from}
 use Rattle.worker_pool.proofs.Rings.{next_of-apart, ring_whole, stolen_along}
 use Rattle.worker_pool.proofs.ring.absorb_all.Goals as goal
 

@@ -1,7 +1,7 @@
 use Rattle.std.proofs.Common.{◌≡◌, ℕ, ◌<◌, ◌≤◌, Bool, None, vec_len, slice_index_or}
 use Rattle.crossbeam_deque.specs.Handles.{worker_view}
 use Rattle.worker_pool.specs.declared.desk.Desk.{Desk}
-use Rattle.worker_pool.specs.Ring.{next_of, IsRing, SameOwn, stolen_by, stolen_from}
+use Rattle.worker_pool.specs.inside.Ring.{next_of, IsRing, SameOwn, stolen_by, stolen_from}
 use Rattle.worker_pool.proofs.ring.absorb_all.Given as goal
 
 abbrev pub invariant-loop-k : goal.invariant-loop-k

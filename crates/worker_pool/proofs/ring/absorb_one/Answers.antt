@@ -1,7 +1,7 @@
 use Rattle.std.proofs.Common.{ℕ, ◌<◌, ap, refl, length, vec_len, arith, ◌∙◌, sym}
 use Rattle.std.proofs.lemmas.List.{get_or-set_other}
 use Rattle.crossbeam_deque.specs.Handles.{worker_view}
-use Rattle.worker_pool.specs.Ring.{next_of}
+use Rattle.worker_pool.specs.inside.Ring.{next_of}
 use Rattle.worker_pool.specs.declared.rule.Seat.{Seat}
 use Rattle.worker_pool.specs.declared.desk.Desk.{Desk}
 use Rattle.worker_pool.proofs.Rings.{next_of-within, ring_absorbed, absorbed_stolen, same_at, kept_at_set}

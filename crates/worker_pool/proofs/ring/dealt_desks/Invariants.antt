@@ -2,7 +2,7 @@ use Rattle.std.proofs.Common.{◌≡◌, ◌<◌, ◌+◌, ◌/◌, ℕ, Bool, A
 use Rattle.std.specs.List.{sum_by}
 use Rattle.worker_pool.specs.declared.desk.Desk.{Desk}
 use Rattle.worker_pool.specs.Tickets.{count_below}
-use Rattle.worker_pool.specs.Ring.{Whole, DealtRound, pushed_by}
+use Rattle.worker_pool.specs.inside.Ring.{Whole, DealtRound, pushed_by}
 use Rattle.worker_pool.proofs.ring.dealt_desks.Given as goal
 
 abbrev pub invariant-loop-number : goal.invariant-loop-number

@@ -6,9 +6,9 @@ use Rattle.std.proofs.lemmas.List.Sums.{sum_by_push}
 use Rattle.crossbeam_deque.specs.Handles.{worker_index, worker_capacity, worker_view}
 use Rattle.worker_pool.specs.declared.rule.Seat.{Seat}
 use Rattle.worker_pool.specs.declared.desk.Desk.{Desk}
-use Rattle.worker_pool.specs.Parts.{seat}
-use Rattle.worker_pool.specs.Desks.{taken_next, NextBelow}
-use Rattle.worker_pool.specs.Ring.{Whole, pushed_by}
+use Rattle.worker_pool.specs.inside.Parts.{seat}
+use Rattle.worker_pool.specs.inside.Desks.{taken_next, NextBelow}
+use Rattle.worker_pool.specs.inside.Ring.{Whole, pushed_by}
 use Rattle.worker_pool.proofs.ring.empty_desks.Goals as goal
 
 whole_new : (count : ℕ) (d : Desk) → worker_view d.own ≡ seat 1 1 [] [] [] → d.next ≡ None → d.kept ≡ None → Whole count d

@@ -2,7 +2,7 @@ use Rattle.std.proofs.Common.{◌≡◌, ◌≤◌, ◌<◌, ℕ, Bool, [], All,
 use Rattle.std.specs.List.{sum_by}
 use Rattle.crossbeam_deque.specs.Handles.{worker_index, worker_capacity, worker_view}
 use Rattle.worker_pool.specs.declared.desk.Desk.{Desk}
-use Rattle.worker_pool.specs.Ring.{Whole, pushed_by}
+use Rattle.worker_pool.specs.inside.Ring.{Whole, pushed_by}
 use Rattle.worker_pool.proofs.ring.empty_desks.Given as goal
 
 abbrev pub invariant-loop-made : goal.invariant-loop-made

@@ -1,7 +1,7 @@
 use Rattle.std.proofs.Common.{◌≡◌, ℕ, ◌<◌, ◌≤◌, None, IsSome, All, vec_len, slice_index_or}
 use Rattle.crossbeam_deque.specs.Handles.{worker_view}
 use Rattle.worker_pool.specs.declared.desk.Desk.{Desk}
-use Rattle.worker_pool.specs.Ring.{IsRing, Fresh}
+use Rattle.worker_pool.specs.inside.Ring.{IsRing, Fresh}
 use Rattle.worker_pool.proofs.ring.link_all.Given as goal
 
 abbrev pub invariant-loop-k : goal.invariant-loop-k

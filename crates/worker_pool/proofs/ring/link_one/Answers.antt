@@ -3,7 +3,7 @@ use Rattle.std.proofs.Math.ListN.{length-set}
 use Rattle.std.proofs.lemmas.List.Elements.{All-set}
 use Rattle.crossbeam_deque.specs.Handles.{worker_view}
 use Rattle.worker_pool.specs.declared.desk.Desk.{Desk}
-use Rattle.worker_pool.specs.Ring.{next_of, Fresh}
+use Rattle.worker_pool.specs.inside.Ring.{next_of, Fresh}
 use Rattle.worker_pool.specs.declared.rule.Seat.{Seat}
 use Rattle.worker_pool.proofs.Rings.{next_of-within, ring_linked, same_at}
 use Rattle.worker_pool.proofs.Seated.{fresh_shared, fresh_seated}

@@ -1,5 +1,5 @@
 use Rattle.std.proofs.lemmas.List.Elements.{All-push}
-use Rattle.worker_pool.specs.Ring.{IsSettled}
+use Rattle.worker_pool.specs.inside.Ring.{IsSettled}
 use Rattle.worker_pool.proofs.ring.settle_all.Goals as goal
 
 pub loop-desk-preserved : goal.loop-desk-preserved

@@ -1,5 +1,5 @@
 use Rattle.std.proofs.Common.{All}
-use Rattle.worker_pool.specs.Ring.{IsSettled}
+use Rattle.worker_pool.specs.inside.Ring.{IsSettled}
 use Rattle.worker_pool.proofs.ring.settle_all.Given as goal
 
 abbrev pub invariant-loop-desk : goal.invariant-loop-desk

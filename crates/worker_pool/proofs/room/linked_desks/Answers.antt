@@ -2,7 +2,7 @@ use Rattle.std.proofs.Common.{◌≡◌, ◌∙◌, ℕ, ◌%◌, List, count_by
 use Rattle.std.proofs.lemmas.List.Elements.{All-same}
 use Rattle.crossbeam_deque.specs.Handles.{worker_view}
 use Rattle.worker_pool.specs.declared.desk.Desk.{Desk}
-use Rattle.worker_pool.specs.Ring.{AreDealtRound, PushedOnce, pushed_by}
+use Rattle.worker_pool.specs.inside.Ring.{AreDealtRound, PushedOnce, pushed_by}
 use Rattle.worker_pool.proofs.Places.{sums_by_place}
 use Rattle.worker_pool.proofs.room.linked_desks.Goals as goal
 

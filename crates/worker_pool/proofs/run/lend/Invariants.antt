@@ -1,6 +1,6 @@
 use Rattle.std.proofs.Common.{◌≡◌, ℕ, ◌<◌, ◌≤◌, Some, take, vec_len, slice_index_or}
 use Rattle.worker_pool.specs.declared.desk.Desk.{Desk}
-use Rattle.worker_pool.specs.Stations.{SameWork}
+use Rattle.worker_pool.specs.inside.Stations.{SameWork}
 use Rattle.worker_pool.proofs.run.lend.Given as goal
 
 abbrev pub invariant-loop-desk : goal.invariant-loop-desk

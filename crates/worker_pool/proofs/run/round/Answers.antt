@@ -2,8 +2,8 @@ use Rattle.std.proofs.Common.{◌<◌, Option, length, vec_len, slice_index_or, 
 use Rattle.worker_pool.specs.declared.hand.Hand.{Hand}
 use Rattle.worker_pool.specs.declared.desk.Desk.{Desk}
 use Rattle.worker_pool.specs.declared.station.Station.{Station}
-use Rattle.worker_pool.specs.Desks.{IsReady}
-use Rattle.worker_pool.specs.Stations.{IsReadyAt}
+use Rattle.worker_pool.specs.inside.Desks.{IsReady}
+use Rattle.worker_pool.specs.inside.Stations.{IsReadyAt}
 use Rattle.worker_pool.proofs.Rounds.{pick, some_from_worked, ring_same}
 use Rattle.worker_pool.proofs.Turns.{Worked-along, Worked-from}
 use Rattle.worker_pool.proofs.run.round.Goals as goal

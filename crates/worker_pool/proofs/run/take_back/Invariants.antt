@@ -1,6 +1,6 @@
 use Rattle.std.proofs.Common.{◌≡◌, ℕ, ◌<◌, ◌≤◌, Some, vec_len, vec_capacity, slice_index_or}
 use Rattle.worker_pool.specs.declared.desk.Desk.{Desk}
-use Rattle.worker_pool.specs.Stations.{SameWork}
+use Rattle.worker_pool.specs.inside.Stations.{SameWork}
 use Rattle.worker_pool.proofs.run.take_back.Given as goal
 
 abbrev pub invariant-loop-k : goal.invariant-loop-k

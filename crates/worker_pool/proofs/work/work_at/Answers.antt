@@ -1,5 +1,5 @@
 use Rattle.std.proofs.Common.{sym, subst}
-use Rattle.worker_pool.specs.Desks.{Below}
+use Rattle.worker_pool.specs.inside.Desks.{Below}
 use Rattle.worker_pool.proofs.Same.{Below-same}
 use Rattle.worker_pool.proofs.Turns.{Worked-trans}
 use Rattle.worker_pool.proofs.work.work_at.Goals as goal

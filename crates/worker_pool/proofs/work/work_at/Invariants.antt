@@ -1,5 +1,5 @@
-use Rattle.worker_pool.specs.Desks.{IsReady}
-use Rattle.worker_pool.specs.Stations.{Worked}
+use Rattle.worker_pool.specs.inside.Desks.{IsReady}
+use Rattle.worker_pool.specs.inside.Stations.{Worked}
 use Rattle.worker_pool.proofs.work.work_at.Given as goal
 
 abbrev pub invariant-loop : goal.invariant-loop

@@ -1,6 +1,6 @@
 use Rattle.std.proofs.Common.{◌∙◌, ap}
 use Rattle.std.specs.FinMap as map
-use Rattle.ddmin_parallel.specs.Entries.{plain}
+use Rattle.ddmin_parallel.specs.inside.Entries.{plain}
 use Rattle.ddmin_parallel.proofs.KnownLemmas.{insert_plain, set_cmp}
 use Rattle.ddmin_parallel.proofs.known.Known.insert.Goals as goal
 use Rattle.ddmin_parallel.proofs.known.Known.insert.Goals.{in-Ok, in-Err}

@@ -1,9 +1,9 @@
 use Rattle.std.proofs.Common.{sym, subst}
 use Rattle.std.specs.FinMap.{get}
 use Rattle.ddmin_parallel.specs.CoreEvents.{position}
-use Rattle.ddmin_parallel.specs.CoreStates.{AreOpen}
-use Rattle.ddmin_parallel.specs.Stages.{position_of}
-use Rattle.ddmin_parallel.specs.Cursors.{IsReached, is_among}
+use Rattle.ddmin_parallel.specs.inside.CoreStates.{AreOpen}
+use Rattle.ddmin_parallel.specs.inside.Stages.{position_of}
+use Rattle.ddmin_parallel.specs.inside.Cursors.{IsReached, is_among}
 use Rattle.ddmin_parallel.proofs.Places.{sets}
 use Rattle.ddmin_parallel.proofs.CoreLemmas.{open_without}
 use Rattle.ddmin_parallel.proofs.Scans.{reset}

@@ -1,7 +1,7 @@
 use Rattle.std.proofs.Common.{sym, subst, ◌≡◌, ℕ, Bool, List, Result, Ok, Err, OnOk, OnErr}
 use Rattle.ddmin_parallel.specs.CoreEvents.{position, Known, Position}
-use Rattle.ddmin_parallel.specs.CoreStates.{IsSettled}
-use Rattle.ddmin_parallel.specs.Stages.{position_of}
+use Rattle.ddmin_parallel.specs.inside.CoreStates.{IsSettled}
+use Rattle.ddmin_parallel.specs.inside.Stages.{position_of}
 use Rattle.ddmin_parallel.proofs.Places.{sets}
 use Rattle.ddmin_parallel.proofs.CoreLemmas.{IsGood, good_lawful, good_small, good_settled}
 use Rattle.ddmin_parallel.proofs.reducer_core.Core.put.Goals as goal

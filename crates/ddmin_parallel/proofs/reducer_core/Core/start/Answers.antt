@@ -1,11 +1,11 @@
 use Rattle.std.proofs.Common.{refl, sym, ◌∙◌, ap, subst, ◌≡◌, ℕ, zero, suc, ◌<◌, arith, []}
 use Rattle.ddmin_parallel.specs.Ddmin.{kept_after}
 use Rattle.ddmin_parallel.specs.CoreEvents.{position, Empty, End, start}
-use Rattle.ddmin_parallel.specs.Stages.{position_of}
+use Rattle.ddmin_parallel.specs.inside.Stages.{position_of}
 use Rattle.ddmin_parallel.proofs.Places.{sets}
 use Rattle.ddmin_parallel.proofs.CoreLemmas.{IsGood, good_start}
 use Rattle.std.specs.FinMap.{get}
-use Rattle.ddmin_parallel.specs.Cursors.{IsReached, is_among}
+use Rattle.ddmin_parallel.specs.inside.Cursors.{IsReached, is_among}
 use Rattle.ddmin_parallel.proofs.Counted.{counted_none}
 use Rattle.ddmin_parallel.proofs.Scans.{reset}
 use Rattle.ddmin_parallel.proofs.reducer_core.Core.start.Goals as goal

@@ -1,10 +1,10 @@
 use Rattle.std.proofs.Common.{◌∙◌, ap, ◌≡◌}
 use Rattle.ddmin_parallel.specs.CoreEvents.{position, next, option_then}
-use Rattle.ddmin_parallel.specs.Stages.{position_of}
+use Rattle.ddmin_parallel.specs.inside.Stages.{position_of}
 use Rattle.std.specs.FinMap.{get}
 use Rattle.std.proofs.lemmas.Result.{IfOk-weaker}
-use Rattle.ddmin_parallel.specs.Inside.{state_of}
-use Rattle.ddmin_parallel.specs.Cursors.{is_among, next_at}
+use Rattle.ddmin_parallel.specs.inside.Inside.{state_of}
+use Rattle.ddmin_parallel.specs.inside.Cursors.{is_among, next_at}
 use Rattle.ddmin_parallel.proofs.Places.{sets}
 use Rattle.ddmin_parallel.proofs.CoreLemmas.{good_lawful, good_small, good_stuck, next_is, handed_open}
 use Rattle.ddmin_parallel.proofs.reducer_core.Core.take_two.Goals as goal

@@ -1,6 +1,6 @@
 use Rattle.std.proofs.Common.{◌≡◌, ◌∙◌, Some, sym, subst}
 use Rattle.worker_pool.proofs.Below.{below_found}
-use Rattle.worker_pool.specs.Desks.{NextBelow}
+use Rattle.worker_pool.specs.inside.Desks.{NextBelow}
 use Rattle.worker_pool.proofs.desk.Desk.find.Goals as goal
 
 pub returns-then-is_some-clause-below : goal.returns-then-is_some-clause-below

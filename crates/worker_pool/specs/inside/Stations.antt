@@ -3,8 +3,8 @@ use Rattle.std.specs.Prelude.{◌≡◌, ℕ, ◌+◌, ◌<◌, ◌≤◌, ◌^�
 use Rattle.crossbeam_deque.specs.Handles.{worker_view}
 use Rattle.worker_pool.specs.declared.desk.Desk.{Desk}
 use Rattle.worker_pool.specs.declared.station.Station.{Station}
-use Rattle.worker_pool.specs.Desks.{took, kept_by, SameDesk, IsReady, KeptBelow}
-use Rattle.worker_pool.specs.Ring.{TakenIn}
+use Rattle.worker_pool.specs.inside.Desks.{took, kept_by, SameDesk, IsReady, KeptBelow}
+use Rattle.worker_pool.specs.inside.Ring.{TakenIn}
 
 -- how many answers are of a number that passes the test
 abbrev pub answered_by : {J A S : Type 0} → (ℕ → Bool) → Station J A S → ℕ

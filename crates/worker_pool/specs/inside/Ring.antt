@@ -4,9 +4,9 @@ use Rattle.std.specs.List.{sum_by}
 use Rattle.crossbeam_deque.specs.Handles.{view, stealer_deque, worker_deque, worker_view, worker_index, worker_capacity}
 use Rattle.worker_pool.specs.declared.desk.Next.{Next}
 use Rattle.worker_pool.specs.declared.desk.Desk.{Desk}
-use Rattle.worker_pool.specs.Parts.{IsWhole}
+use Rattle.worker_pool.specs.inside.Parts.{IsWhole}
 use Rattle.worker_pool.specs.Tickets.{count_below}
-use Rattle.worker_pool.specs.Desks.{took, Below}
+use Rattle.worker_pool.specs.inside.Desks.{took, Below}
 
 abbrev pub next_of : ℕ → ℕ → ℕ
 next_of n k = cond (k + 1 == n) 0 (k + 1)

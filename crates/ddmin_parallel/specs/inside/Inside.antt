@@ -2,9 +2,9 @@ use Rattle.std.specs.Prelude.{◌≡◌, ℕ, ◌≤◌, List, map, Vec}
 use Rattle.std.specs.Global.{Global}
 use Rattle.std.specs.FinMap.{get}
 use Rattle.ddmin_parallel.specs.CoreEvents.{State, position}
-use Rattle.ddmin_parallel.specs.CoreStates.{AreOpen}
-use Rattle.ddmin_parallel.specs.Stages.{position_of}
-use Rattle.ddmin_parallel.specs.Cursors.{IsReached, is_among}
+use Rattle.ddmin_parallel.specs.inside.CoreStates.{AreOpen}
+use Rattle.ddmin_parallel.specs.inside.Stages.{position_of}
+use Rattle.ddmin_parallel.specs.inside.Cursors.{IsReached, is_among}
 use Rattle.ddmin_parallel.specs.declared.reducer_core.Core.TheInside.{Inside}
 
 abbrev pub state_of : Inside → State

@@ -1,0 +1,7 @@
+-- What the code keeps. No clause that a caller sees names any of it.
+pub mod Candidates
+pub mod CoreStates
+pub mod Entries
+pub mod Stages
+pub mod Cursors
+pub mod Inside

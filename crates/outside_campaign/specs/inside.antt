@@ -1,0 +1,5 @@
+-- What the code keeps. No clause that a caller sees names any of it.
+pub mod Results
+pub mod Tests
+pub mod Told
+pub mod Verdicts

@@ -1,0 +1,50 @@
+-- What answers come to; the contracts cite it.
+use Rattle.std.specs.Prelude.{◌≡◌, ℕ, List, [], ◌∷◌, map, slice_index_or}
+use Rattle.scenario_values.specs.Scenario.{Entries}
+use Rattle.target_trait.specs.declared.judgement.Verdict.{Verdict}
+use Rattle.target_trait.specs.declared.judgement.Verdict.TheVariants as verdict
+use Rattle.result_book.specs.Verdicts.{verdicts_from, numbered}
+use Rattle.result_book.specs.FirstFailures.{first_failures}
+use Rattle.report.specs.Reports.{FindingFacts, ReportFacts}
+use Rattle.answer_text.specs.Known.{KnownVerdicts, Agrees}
+use Rattle.campaign_core.specs.Findings.{finding}
+use Rattle.campaign_settings.specs.Description.{Description}
+use Rattle.outside_campaign.specs.Outside.{Component, say}
+use Rattle.outside_campaign.specs.inside.Verdicts.{AreVerdicts}
+use Rattle.outside_campaign.specs.Campaigns.{untried}
+use Rattle.outside_campaign.specs.declared.verdicts.Verdicts.TheVariants as verdicts
+use Rattle.outside_campaign.specs.declared.results.Results.{Results}
+use Rattle.outside_campaign.specs.declared.results.Results.TheVariants.{Told, NotAnswered}
+
+-- these verdicts and findings are those of a component
+pub record AreOf (component : Component) (plans : List Entries) (verdicts : List Verdict) (findings : List FindingFacts) : Type 0 where
+  pub verdicts_are : verdicts ≡ verdicts_from (say component) 0 plans
+  pub findings_are : findings ≡ map (finding (say component) plans) (first_failures (numbered (verdicts_from (say component) 0 plans)))
+
+-- the first of these
+abbrev pub IsFirst : List Entries → Results → Type 0
+IsFirst cards (Told verdicts findings) = ⊥
+IsFirst cards (NotAnswered t) = (more : List Entries) × (cards ≡ t ∷ more)
+
+-- no plan is open, and these are the verdicts of each component that agrees with what is known, with these findings; or the first open plan
+abbrev pub AreWithVerdicts : KnownVerdicts → List Entries → List FindingFacts → Results → Type 0
+AreWithVerdicts known plans findings (Told all told) =
+    (told.items ≡ findings) × AreVerdicts known plans (verdicts.All all)
+AreWithVerdicts known plans findings (NotAnswered t) = AreVerdicts known plans (verdicts.NotAnswered t)
+
+-- nothing is to be tried, and the results are those of each component that agrees with what is known; or this is the first to be tried
+abbrev pub AreResults : KnownVerdicts → List Entries → Results → Type 0
+AreResults known plans (Told verdicts findings) =
+    (untried known plans ≡ []) × ((component : Component) → Agrees component known → AreOf component plans verdicts.items findings.items)
+AreResults known plans (NotAnswered t) = (more : List Entries) × (untried known plans ≡ t ∷ more)
+
+-- what a report tells, by the settings' words and numbers and by the results
+abbrev pub facts_of : Description → ℕ → List Verdict → List FindingFacts → ReportFacts
+facts_of outside seed verdicts findings = record {
+  label = outside.label;
+  seed = seed;
+  clean = slice_index_or verdicts 0 verdict.Unresolved;
+  census = outside.hits;
+  verdicts = verdicts;
+  findings = findings;
+}

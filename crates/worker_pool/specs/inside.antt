@@ -1,0 +1,5 @@
+-- What the code keeps. No clause that a caller sees names any of it.
+pub mod Parts
+pub mod Desks
+pub mod Ring
+pub mod Stations
