@@ -14,6 +14,7 @@ pub mod Renumbered
 pub mod Histories
 pub mod Rests
 pub mod Steps
+pub mod Replays
 pub mod Heads
 pub mod CallerLemmas
 pub mod PassedHits

@@ -9,3 +9,4 @@ pub mod LeftTerms
 pub mod LeftFrom
 pub mod Session
 pub mod Quiet
+pub mod inside

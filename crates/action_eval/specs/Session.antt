@@ -110,3 +110,8 @@ pub record Keeps (r : Run) (found : List (Option (List Term × ℕ))) (left : Li
   pub few_hits : length r.hits ≤ r.given.limit + 1
   pub few_words : words_of (history_of r) ≤ 256 * length r.hits
   pub few_millis : total_millis (history_of r) ≤ 2 ^ 32 * length r.hits
+
+-- how many hits are answered, until something stops the run all within the limit; and no point was hit after that
+pub record IsOpen (stop : Option Stop) (limit answerable : ℕ) (late : Bool) : Type 0 where
+  pub answerable_is : stop ≡ None → answerable ≡ limit
+  pub never_late : late ≡ false

@@ -77,7 +77,7 @@ pub fn start_of(scenario: &Scenario, entry: usize) -> usize
 }
 
 /// Where the chain of a name stands.
-fn find<'a>(scenario: &'a Scenario, name: &str) -> Option<Found<'a>>
+pub fn find<'a>(scenario: &'a Scenario, name: &str) -> Option<Found<'a>>
     ensures { seen result ≡ found_of scenario.now name.now }
 {
     let entry = scenario.entry_of(name)?;

@@ -7,6 +7,7 @@ mod draws;
 mod found;
 mod laws;
 mod quiet;
+mod replay;
 mod rig;
 mod session;
 mod terms;
@@ -17,5 +18,6 @@ pub use laws::{
     faults_left_by_tidying, history_of_a_part, keep_of_tidied, keep_then_tidy,
     tidied_without_a_fault, tidy_keeps_meaning,
 };
+pub use replay::{Answered, history, name_of};
 pub use rig::{Kind, Rig, Site};
 pub use session::Session;

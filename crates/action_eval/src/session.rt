@@ -1,6 +1,5 @@
 //! A session: one run, hit by hit.
-ghost use Rattle.std.specs.Prelude.{◌≡◌, ◌+◌, ◌^◌, ◌<◌, ◌≤◌, [], All, replicate, length, IfOk, OnOk, OnErr, None, Some, ◌++◌, ◌∷◌};
-ghost use Rattle.std.specs.Option.{ForSome};
+ghost use Rattle.std.specs.Prelude.{◌≡◌, ◌+◌, ◌^◌, ◌<◌, ◌≤◌, [], All, replicate, length, IfOk, OnOk, OnErr, None, Some, false, ◌++◌, ◌∷◌};
 ghost use Rattle.action_eval.specs.Answers.{AllGo, hits_of, rounds, SameCourse, did, task_at, replies, GoesOn, reply_to, reply_of_answer, hit, stopped, notes_of_task, asked, history_of, notes_of, total_millis, words_of, start, given_of, texts, name_of};
 ghost use Rattle.action_eval.specs.Session.{found_of, seen, left_counts, IsRest};
 
@@ -9,8 +8,8 @@ use crate::counts::{fill_counts, spend};
 use crate::draws::Draws;
 use crate::found::{Found, Head, find_all, head_of, without_spent};
 use crate::quiet::{pass_hits, push_rounds, rounds_left, take_rounds};
-use crate::terms::try_terms;
-use scenario_values::{Scenario, Task, Term};
+use crate::terms::{task_at, try_terms};
+use scenario_values::{Scenario, Task};
 use std::alloc::{AllocError, Global};
 use std::marker::Model;
 
@@ -19,13 +18,14 @@ fn first_room(max_hits: u32) -> usize {
     (max_hits as usize + 1).min(256)
 }
 
-/// What the term of a place does; without one, nothing.
-fn task_at(chain: &[Term], place: Option<usize>) -> Option<&Task>
-    requires { ForSome place (λ i. i < length chain.now) }
-    ensures { did result ≡ task_at chain.now place }
+/// How many hits are answered, by what stopped the run: none more where something did.
+fn answerable_after(stopped: Option<Stop>, answerable: u32) -> u32
+    ensures { stopped ≡ None → result ≡ answerable }
 {
-    let term = chain.get(place?)?;
-    Some(&term.task)
+    match stopped {
+        None => answerable,
+        Some(_) => 0,
+    }
 }
 
 /// Keeps a hit and its note, or neither.
@@ -67,12 +67,16 @@ pub struct Session<'a> {
     notes: Vec<Note>,
     millis: u64,
     stopped: Option<Stop>,
+    /// How many hits are answered: `max_hits`, and no more once the run was stopped.
+    answerable: u32,
+    /// Whether a point was hit after the run was stopped.
+    asked_after_stop: bool,
 }
 
 impl<'a> Model for Session<'a> {
     ghost use Rattle.std.specs.Prelude.{◌≡◌, map};
     ghost use Rattle.action_eval.specs.Answers.{Run};
-    ghost use Rattle.action_eval.specs.Session.{Keeps, seen, head_of};
+    ghost use Rattle.action_eval.specs.Session.{IsOpen, Keeps, seen, head_of};
 
     ghost Value = { Run };
 
@@ -97,7 +101,8 @@ impl<'a> Model for Session<'a> {
       };
       hits = s.hits.items;
     }) (map seen s.found.items) s.left.items s.draws.taken s.notes.items s.millis s.stopped
-        × (s.heads.items ≡ map head_of (map seen s.found.items)) };
+        × (s.heads.items ≡ map head_of (map seen s.found.items))
+        × IsOpen s.stopped s.max_hits s.answerable s.asked_after_stop };
 }
 
 impl<'a> Session<'a> {
@@ -133,6 +138,8 @@ impl<'a> Session<'a> {
             notes: Vec::new(alloc),
             millis: 0,
             stopped: None,
+            answerable: max_hits,
+            asked_after_stop: false,
         })
     }
 
@@ -151,10 +158,8 @@ impl<'a> Session<'a> {
         ensures goes_on { IfOk result (λ a. GoesOn (reply_of_answer a) self.new) }
         ensures err { OnErr result (self.new ≡ self.old) }
     {
-        if self.hits.len() >= self.max_hits as usize {
-            self.hits.push(point)?;
-            self.stopped = Some(Stop::Limit);
-            return Ok(Answer::Halt);
+        if self.hits.len() >= self.answerable as usize {
+            return self.hit_closed(point);
         }
         match self.heads[point as usize] {
             Head::Nothing => {
@@ -168,6 +173,28 @@ impl<'a> Session<'a> {
             }
             _ => self.hit_terms(point),
         }
+    }
+
+    /// Hits a point past the limit; or after the run was stopped, which no proved caller does: such a hit is answered `Halt` too, and leaves
+    /// the run unresolved.
+    #[cold]
+    fn hit_closed(&mut self, point: u32) -> Result<Answer<'a>, AllocError>
+        requires closed { self.old.given.limit ≤ length self.old.hits }
+        requires running { stopped self.old ≡ None }
+        ensures answer { IfOk result (λ a. reply_of_answer a ≡ reply_to self.old point) }
+        ensures ok { OnOk result (self.new ≡ hit self.old point) }
+        ensures told { IfOk result (λ a. replies self.new ≡ replies self.old ++ reply_of_answer a ∷ []) }
+        ensures goes_on { IfOk result (λ a. GoesOn (reply_of_answer a) self.new) }
+        ensures err { OnErr result (self.new ≡ self.old) }
+    {
+        if self.stopped.is_none() {
+            self.hits.push(point)?;
+        } else {
+            self.asked_after_stop = true;
+        }
+        self.stopped = Some(Stop::Limit);
+        self.answerable = 0;
+        Ok(Answer::Halt)
     }
 
     /// Hits a point, where nothing is known of what the hit comes to.
@@ -217,6 +244,7 @@ impl<'a> Session<'a> {
         self.heads[point as usize] = head_of(Some(found));
         self.millis += u64::from(millis_of(task));
         self.stopped = stop_of(task);
+        self.answerable = answerable_after(self.stopped, self.answerable);
         Ok(answer_of(task))
     }
 
@@ -233,7 +261,7 @@ impl<'a> Session<'a> {
         ensures goes_on { OnOk result (stopped self.new ≡ None) }
         ensures err { OnErr result (self.new ≡ self.old) }
     {
-        let room = (self.max_hits as usize).saturating_sub(self.hits.len());
+        let room = (self.answerable as usize).saturating_sub(self.hits.len());
         let most = most.min(room);
         let count = pass_hits(&self.heads, &mut self.left, &mut self.hits, point, most)?;
         Ok(count)
@@ -255,7 +283,7 @@ impl<'a> Session<'a> {
         if points.is_empty() {
             return Ok(0);
         }
-        let room = (self.max_hits as usize).saturating_sub(self.hits.len()) / points.len();
+        let room = (self.answerable as usize).saturating_sub(self.hits.len()) / points.len();
         let count = (rounds_left(&self.left, &self.heads, points) as usize)
             .min(most)
             .min(room);
@@ -283,6 +311,8 @@ impl<'a> Session<'a> {
         self.notes.clear();
         self.millis = 0;
         self.stopped = None;
+        self.answerable = self.max_hits;
+        self.asked_after_stop = false;
         Ok(())
     }
 
@@ -332,5 +362,12 @@ impl<'a> Session<'a> {
         ensures { result ≡ stopped self.now }
     {
         self.stopped
+    }
+    /// Whether a point was hit after the run was stopped. No proved caller does that: it is for targets that aren't proved, whose run is then
+    /// unresolved.
+    pub fn was_asked_after_stop(&self) -> bool
+        ensures { result ≡ false }
+    {
+        self.asked_after_stop
     }
 }

@@ -1,8 +1,9 @@
 //! How the terms of a chain are tried.
+ghost use Rattle.std.specs.Option.{ForSome};
 ghost use Rattle.std.specs.Prelude.{◌≡◌, ◌+◌, ◌<◌, ◌^◌, ℕ, Bool, length, IfSome};
 ghost use Rattle.action_eval.specs.Words.{word};
 ghost use Rattle.action_eval.specs.Trial.{tried, is_spent};
-ghost use Rattle.action_eval.specs.Answers.{task_at};
+ghost use Rattle.action_eval.specs.Answers.{did, task_at};
 ghost use Rattle.action_eval.specs.Session.{StartsUnspent};
 ghost use Rattle.scenario_values.specs.declared.term.Task.TheVariants.{Off};
 ghost use Rattle.scenario_values.specs.declared.term.Term.{Term};
@@ -39,4 +40,13 @@ pub fn try_terms(terms: &[Term], left: &[u32], draws: &mut Draws) -> Option<usiz
     }
     draws.skip(unseen);
     None
+}
+
+/// What the term of a place does; without one, nothing.
+pub fn task_at(chain: &[Term], place: Option<usize>) -> Option<&Task>
+    requires { ForSome place (λ i. i < length chain.now) }
+    ensures { did result ≡ task_at chain.now place }
+{
+    let term = chain.get(place?)?;
+    Some(&term.task)
 }

@@ -22,7 +22,7 @@ pub use laws::{
 };
 pub use names::{is_argument, is_name};
 pub use parsing::parse;
-pub use printing::{parse_printed, print};
+pub use printing::{parse_printed, print, write_task, write_term};
 pub use scenario_values::{
     Chain, Place, Scenario, Task, Term, Text, are_faults, build, faults, keep, tidy,
 };

@@ -24,7 +24,10 @@ fn write_argument(out: &mut String, argument: &Option<Text>) -> Result<(), Alloc
     }
 }
 
-fn write_task(out: &mut String, task: &Task) -> Result<(), AllocError>
+/// Appends a task as the grammar spells it: its word, and its argument in parentheses.
+///
+/// An error means that memory was refused; the text may then have some of the bytes.
+pub fn write_task(out: &mut String, task: &Task) -> Result<(), AllocError>
     ensures { OnOk result (string_bytes out.new ≡ string_bytes out.old ++ task_text task.now) }
 {
     match task {
@@ -105,8 +108,11 @@ fn write_share(out: &mut String, share: u32) -> Result<(), AllocError>
     out.push_str("%")
 }
 
+/// Appends a term in its printed form: its share where that isn't full, its count where it has one, and its task.
+///
+/// An error means that memory was refused; the text may then have some of the bytes.
 #[tactic(auto, unfolding(scenario_values::specs::Printed::term_text))]
-fn write_term(out: &mut String, t: &Term) -> Result<(), AllocError>
+pub fn write_term(out: &mut String, t: &Term) -> Result<(), AllocError>
     ensures { OnOk result (string_bytes out.new ≡ string_bytes out.old ++ term_text t.now) }
 {
     write_share(out, t.share)?;

@@ -1,7 +1,7 @@
 use Rattle.std.proofs.Common.{◌≡◌, ◌<◌, ◌^◌, ℕ, length, Some, refl, ap, sym, ◌∙◌, arith, subst, slice_set}
 use Rattle.action_eval.specs.Answers.{Run, given_of, texts, stopped, replies, GoesOn, reply_to, reply_of_answer, did, millis_of}
 use Rattle.action_eval.specs.Words.{Drawn}
-use Rattle.action_eval.proofs.Steps.{finds_some, keeps_hit, keeps_same, reply_found, found_within, room_of, limit_of, rest_of_point, known_found, rests_after}
+use Rattle.action_eval.proofs.Steps.{open_of, finds_some, keeps_hit, keeps_same, reply_found, found_within, room_of, limit_of, rest_of_point, known_found, rests_after}
 use Rattle.action_eval.proofs.Heads.{heads_length, heads_with}
 use Rattle.action_eval.proofs.CallerLemmas.{told_by, goes_by}
 use Rattle.action_eval.proofs.session.Session.hit_chain.Goals as goal
@@ -65,6 +65,7 @@ invariant_of-self-2 c =
       keeps_same _ _ _ _ _ _ _ _ (record { seed = c.self.inside.draws.seed; stream = c.self.inside.draws.stream; taken = c.try_terms-place.new.draws.taken }) c.try_terms-place.new.draws _ _ _ _ _ _
           (sym c.in_default.ensures.ok_hits) (sym c.spend.ensures) (drawn_on c.self.inside.draws c.try_terms-place.new.draws _ c.try_terms-place.ensures.next) (sym c.in_default.ensures.ok_notes) (omega (arith, c.millis_of.ensures, c.from.ensures)) (sym c.stop_of-self-inside.ensures) kept,
       heads,
+      record { answerable_is = λ s. c.answerable_after-self-inside.ensures s ∙ open_of _ _ _ _ _ _ _ _ c.self.invariant.0 _ _ _ c.self.invariant.2 c.self.view_is c.requires.running; never_late = c.self.invariant.2.never_late },
     )
 
 pub returns-clause-answer : goal.returns-clause-answer

@@ -13,7 +13,7 @@ pub invariant_of-self-in_default : goal.invariant_of-self-in_default
 invariant_of-self-in_default c =
     let k = c.self.invariant.0 in
     let at = point_none _ _ _ _ _ _ _ _ k c.self.view_is c.args.point c.requires.known _ _ c.index.ensures c.in_default.is in
-    (keeps_idle _ c.args.point _ _ _ _ _ _ k (room_of _ _ c.self.view_is c.requires.room) (ap stopped c.self.view_is ∙ c.requires.running) at _ c.in_ok-push.ensures.items, c.self.invariant.1)
+    (keeps_idle _ c.args.point _ _ _ _ _ _ k (room_of _ _ c.self.view_is c.requires.room) (ap stopped c.self.view_is ∙ c.requires.running) at _ c.in_ok-push.ensures.items, c.self.invariant.1, c.self.invariant.2)
 
 pub returns-in_default-clause-answer : goal.returns-in_default-clause-answer
 returns-in_default-clause-answer c =

@@ -16,4 +16,4 @@ find_all-requires-clause-heads c = ap length c.self.invariant.1 ∙ heads_length
 
 pub invariant_of-self-2 : goal.invariant_of-self-2
 invariant_of-self-2 c =
-    (keeps_start _ _ _ _ _ _ c.clear.ensures.items c.in_ok-fill_counts.ensures.limits c.find_all.ensures.found c.in_ok-fill_counts.ensures.counts (ap (λ (d : Drawn). d.taken) c.restart.ensures) c.clear-2.ensures.items, c.find_all.ensures.heads)
+    (keeps_start _ _ _ _ _ _ c.clear.ensures.items c.in_ok-fill_counts.ensures.limits c.find_all.ensures.found c.in_ok-fill_counts.ensures.counts (ap (λ (d : Drawn). d.taken) c.restart.ensures) c.clear-2.ensures.items, c.find_all.ensures.heads, record { answerable_is = λ _. refl; never_late = refl })
