@@ -2,6 +2,7 @@
 -- appended to one file, then a commit record, and the file is synced. A step that fails gives the transaction up, and the next is begun.
 use Rattle.std.specs.Prelude.{ℕ, ◌+◌, nat_lt, if◌then◌else◌, List, [], ◌∷◌, ◌++◌, Option, Some, None, length}
 use Rattle.std.proofs.Common.{arith}
+use Rattle.sim_device.specs.Disk.{Held}
 use Rattle.target_trait.specs.declared.judgement.Judgement.{Judgement}
 use Rattle.target_trait.specs.Play.{IsWithin, move_by}
 use Rattle.target_trait.specs.Protocol.{Table}
@@ -14,11 +15,6 @@ use Rattle.journal_target.specs.Work.{records_of, record_at}
 use Rattle.journal_target.specs.Frames.{record_frame, commit_frame, half}
 use Rattle.journal_target.specs.Judgement.{judged_from}
 
--- a file of a disk with a cache: its bytes now, and those that a power cut leaves, which are the bytes of the last sync
-pub record File : Type 0 where
-  pub live : List ℕ
-  pub lasting : List ℕ
-
 -- how far a run has come
 pub record Progress : Type 0 where
   -- the step whose question comes next
@@ -27,7 +23,7 @@ pub record Progress : Type 0 where
   pub number : ℕ
   -- the transactions acknowledged so far
   pub acknowledged : List ℕ
-  pub file : File
+  pub file : Held
 
 -- ---- what a step may do
 
@@ -40,6 +36,10 @@ appended bytes p =
 
 abbrev pub synced : Progress → Progress
 synced p = record { step = p.step; number = p.number; acknowledged = p.acknowledged; file = record { live = p.file.live; lasting = p.file.live } }
+
+-- what a power cut leaves
+abbrev pub cut : Progress → Progress
+cut p = record { step = p.step; number = p.number; acknowledged = p.acknowledged; file = record { live = p.file.lasting; lasting = p.file.lasting } }
 
 abbrev pub acknowledged : Progress → Progress
 acknowledged p = record { step = p.step; number = p.number; acknowledged = p.acknowledged ++ p.number ∷ []; file = p.file }
@@ -106,7 +106,7 @@ on_fail v w p Over = p
 
 -- the power is cut, and what lasts is judged
 abbrev pub judged : Variant → List (List (List ℕ)) → Progress → Judgement
-judged v w p = judged_from v p.acknowledged p.file.lasting 0 w
+judged v w p = judged_from v p.acknowledged (cut p).file.live 0 w
 
 abbrev pub steps : Variant → List (List (List ℕ)) → Table Progress
 steps v w = record {

@@ -164,11 +164,12 @@ impl Protocol for Journal {
         Ok(())
     }
 
-    fn judge(&self, workload: &Transactions, progress: Progress) -> Judgement {
+    fn judge(&self, workload: &Transactions, mut progress: Progress) -> Judgement {
+        progress.power_cut();
         judged_all(
             self.variant,
             progress.acknowledged(),
-            progress.lasting(),
+            progress.contents(),
             workload.as_slice(),
         )
     }

@@ -1,7 +1,6 @@
 //! A write-ahead journal, as a target that is told by a table of its steps, in three variants: the one that docs/OWN_TARGET.md builds.
 #![tactic(auto)]
 
-mod file;
 mod frame;
 mod journal;
 mod judge;

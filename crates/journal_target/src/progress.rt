@@ -1,11 +1,11 @@
 //! How far a run has come.
 ghost use Rattle.std.specs.Prelude.{◌≡◌, ◌+◌, OnOk};
-ghost use Rattle.journal_target.specs.Steps.{last_step, append_step, at_step, appended, synced, acknowledged, begun, before_all};
+ghost use Rattle.journal_target.specs.Steps.{last_step, append_step, at_step, appended, synced, cut, acknowledged, begun, before_all};
 
-use crate::file::File;
 use crate::step::Step;
 use crate::variant::Variant;
 use crate::work::Transactions;
+use sim_device::File;
 use std::alloc::{AllocError, Global};
 use std::marker::Model;
 
@@ -96,11 +96,17 @@ impl Progress {
         self.acknowledged.as_slice()
     }
 
-    /// What a power cut leaves of the file.
-    pub fn lasting(&self) -> &[u8]
-        ensures { result.now ≡ self.now.file.lasting }
+    /// What is in the file.
+    pub fn contents(&self) -> &[u8]
+        ensures { result.now ≡ self.now.file.live }
     {
-        self.file.lasting()
+        self.file.read()
+    }
+
+    pub fn power_cut(&mut self)
+        ensures { self.new ≡ cut self.old }
+    {
+        self.file.cut();
     }
 
     pub fn append(&mut self, bytes: &[u8]) -> Result<(), AllocError>

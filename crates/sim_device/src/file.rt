@@ -3,7 +3,11 @@ ghost use Rattle.std.specs.Prelude.{◌≡◌, ◌++◌, [], OnOk, OnErr};
 use std::alloc::{AllocError, Global};
 use std::marker::Model;
 
-/// What a file holds. A file only grows between power cuts, so what lasts is always a front of what is there now.
+/// A file by itself, under no name: what it holds, and how much of that lasts. It is the device of a component that keeps all in one file,
+/// and `FileDevice` is made of such files.
+///
+/// It is a file of a disk with a cache, as a program sees it that calls write(2) and fsync(2) of Linux. Between power cuts it only grows, so
+/// what lasts is always a front of what is there now.
 #[derive(Drop)]
 pub struct File {
     contents: Vec<u8>,
@@ -22,7 +26,7 @@ impl Model for File {
 }
 
 impl File {
-    /// A file that holds nothing.
+    /// A file that holds nothing. It takes no memory.
     pub fn new(alloc: Global) -> Self
         ensures { result ≡ record { live = []; lasting = [] } }
     {
@@ -32,7 +36,7 @@ impl File {
         }
     }
 
-    /// Holds nothing from here on, and keeps its memory.
+    /// Holds nothing from here on, and keeps its memory for the bytes to come.
     pub fn clear(&mut self)
         ensures { self.new ≡ record { live = []; lasting = [] } }
     {
@@ -40,7 +44,11 @@ impl File {
         self.lasting = 0;
     }
 
-    /// Adds bytes at the end.
+    /// Adds bytes at the end. They do not last yet.
+    ///
+    /// # Errors
+    ///
+    /// Only want of memory. The file is then as it was.
     // A single byte is added within the caller's loop, and only more of them by a call.
     #[inline]
     pub fn append(&mut self, bytes: &[u8]) -> Result<(), AllocError>
@@ -63,21 +71,21 @@ impl File {
         self.contents.extend_from_slice(bytes)
     }
 
-    /// What is there lasts.
+    /// Makes all that is there last. It takes no memory.
     pub fn sync(&mut self)
         ensures { self.new ≡ record { live = self.old.live; lasting = self.old.live } }
     {
         self.lasting = self.contents.len();
     }
 
-    /// Only what lasts is left.
+    /// Leaves only what lasts, as a power cut does. It takes no memory.
     pub fn cut(&mut self)
         ensures { self.new ≡ record { live = self.old.lasting; lasting = self.old.lasting } }
     {
         self.contents.truncate(self.lasting);
     }
 
-    /// All that is there.
+    /// Lends all that is there. It takes no memory.
     pub fn read(&self) -> &[u8]
         ensures { result.now ≡ self.now.live }
     {

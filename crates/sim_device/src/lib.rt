@@ -1,5 +1,5 @@
 //! Simulated devices for components that must survive faults: a disk of files that forgets at a power cut what was not
-//! synced, and a log of records that forgets at a restart what was not forced.
+//! synced, a single file of such a disk, and a log of records that forgets at a restart what was not forced.
 #![tactic(auto)]
 
 mod device;
@@ -7,10 +7,12 @@ mod fault;
 mod file;
 mod laws;
 mod log;
+mod must;
 mod names;
 
 pub use device::FileDevice;
 pub use fault::DeviceFault;
+pub use file::File;
 pub use laws::{
     append_adds, contents_last, create_names_a_new_file, forced_record_survives,
     forced_records_stay, link_adds_a_name, names_last, names_lead_to_files, new_files_are_empty,

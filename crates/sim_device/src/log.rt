@@ -10,13 +10,13 @@ use std::marker::Model;
 /// A log stands for the list of the effects that it accepted since it was made or cleared. A call that is refused
 /// changes nothing, and adds no effect.
 #[derive(Drop)]
-pub struct RecordLog<R: Copy> {
+pub struct RecordLog<R: Drop> {
     records: Vec<R>,
     // Records are only added between restarts, so those that last are always a front of all.
     lasting: usize,
 }
 
-impl<R: Copy> Model for RecordLog<R> {
+impl<R: Drop> Model for RecordLog<R> {
     ghost use Rattle.std.specs.Prelude.{◌≤◌, take, vec_len};
     ghost use Rattle.sim_device.specs.LogEffects.{Log};
 
@@ -27,7 +27,7 @@ impl<R: Copy> Model for RecordLog<R> {
     ghost invariant = { λ l. l.lasting ≤ vec_len l.records };
 }
 
-impl<R: Copy> RecordLog<R> {
+impl<R: Drop> RecordLog<R> {
     /// A log with no records. It takes no memory.
     pub fn new(alloc: Global) -> Self
         ensures { LogStandsFor result [] }
