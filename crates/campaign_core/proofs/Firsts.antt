@@ -1,5 +1,5 @@
 -- The first failures, and what a report says of them.
-use Rattle.std.proofs.Common.{◌≡◌, ℕ, zero, suc, ◌+◌, ◌<◌, true, List, [], ◌∷◌, length, get_or, map, All, refl, sym, ap, ◌∙◌, arith, eq-eqb, zero-add, add-zero}
+use Rattle.std.proofs.Common.{◌≡◌, ℕ, zero, suc, ◌+◌, ◌<◌, true, Bool, Option, option_map, slice_get, List, [], ◌∷◌, length, get_or, map, All, refl, sym, ap, ◌∙◌, arith, eq-eqb, zero-add, add-zero}
 use Rattle.std.proofs.lemmas.List.Elements.{All-map}
 use Rattle.scenario_values.specs.Scenario.{Entries, DistinctNames}
 use Rattle.action_eval.specs.Answers.{Reply}
@@ -11,6 +11,7 @@ use Rattle.result_book.specs.Verdicts.{verdicts_from, numbered}
 use Rattle.result_book.specs.FirstFailure.{FailsAt}
 use Rattle.result_book.specs.FirstFailures.{first_failures, AreFirstFailures}
 use Rattle.report.specs.Reports.{FindingFacts, ReportFacts}
+use Rattle.campaign_map.specs.Mapped.{Mapped}
 use Rattle.campaign_core.specs.FaultTest.{fails_with}
 use Rattle.campaign_core.specs.Findings.{finding, reduced, reduction, report_of, IsFailure, ReducesToMinimal}
 use Rattle.campaign_core.proofs.Minimal.{reduced_minimal}
@@ -69,3 +70,22 @@ report_is say label seed census plans name s clean counts vs told same_name same
     let made : List ℕ → ℕ → Verdict → List ℕ → List Verdict → List FindingFacts → ReportFacts = λ n s c k v f. record { label = n; seed = s; clean = c; census = k; verdicts = v; findings = f } in
     ap (λ n. made n s clean counts vs told) same_name ∙ ap (λ z. made label z clean counts vs told) same_seed ∙ ap (λ c. made label seed c counts vs told) same_clean ∙ ap (λ k. made label seed (get_or vs 0 verdict.Unresolved) k vs told) same_counts
     ∙ ap (λ v. made label seed (get_or v 0 verdict.Unresolved) census v told) same ∙ ap (made label seed (get_or (verdicts_from say 0 plans) 0 verdict.Unresolved) census (verdicts_from say 0 plans)) same_told
+
+-- the first of the first failures, by results over the same plans
+pub first_is : (say : ℕ → Entries → Verdict) (given plans : List Entries) (firsts : List (ℕ × ℕ)) (number : Option ℕ)
+    → number ≡ option_map (λ (f : ℕ × ℕ). f.0) (slice_get firsts 0) → firsts ≡ first_failures (numbered (verdicts_from say 0 given)) → given ≡ plans
+    → number ≡ option_map (λ (f : ℕ × ℕ). f.0) (slice_get (first_failures (numbered (verdicts_from say 0 plans))) 0)
+first_is say given plans firsts number is are same =
+    is ∙ ap (λ (fs : List (ℕ × ℕ)). option_map (λ (f : ℕ × ℕ). f.0) (slice_get fs 0)) (are ∙ ap (λ ps. first_failures (numbered (verdicts_from say 0 ps))) same)
+
+-- what a map is made of is what the definition says
+pub mapped_is : (say : ℕ → Entries → Verdict) (label : List ℕ) (census : List ℕ) (pairs : Bool) (plans : List Entries)
+    (name : List ℕ) (counts : List ℕ) (shown given : List Entries) (vs : List Verdict) (firsts : List (ℕ × ℕ))
+    → name ≡ label → counts ≡ census → shown ≡ plans → given ≡ plans → vs ≡ verdicts_from say 0 given → firsts ≡ first_failures (numbered (verdicts_from say 0 given))
+    → (let m : Mapped = record { label = name; census = counts; pairs = pairs; plans = shown; verdicts = vs; firsts = firsts } in m)
+    ≡ record { label = label; census = census; pairs = pairs; plans = plans; verdicts = verdicts_from say 0 plans; firsts = first_failures (numbered (verdicts_from say 0 plans)) }
+mapped_is say label census pairs plans name counts shown given vs firsts same_name same_counts same_shown same_given same are =
+    let made : List ℕ → List ℕ → List Entries → List Verdict → List (ℕ × ℕ) → Mapped = λ n c p v f. record { label = n; census = c; pairs = pairs; plans = p; verdicts = v; firsts = f } in
+    ap (λ n. made n counts shown vs firsts) same_name ∙ ap (λ k. made label k shown vs firsts) same_counts ∙ ap (λ p. made label census p vs firsts) same_shown
+    ∙ ap (λ v. made label census plans v firsts) (same ∙ ap (verdicts_from say 0) same_given)
+    ∙ ap (made label census plans (verdicts_from say 0 plans)) (are ∙ ap (λ ps. first_failures (numbered (verdicts_from say 0 ps))) same_given)

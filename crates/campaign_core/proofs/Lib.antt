@@ -2,3 +2,4 @@ pub mod Minimal
 pub mod Firsts
 pub mod PlanNames
 pub mod Gathered
+pub mod Sites

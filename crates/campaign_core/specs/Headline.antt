@@ -11,7 +11,10 @@ use Rattle.plan_gen.specs.PlanList.{Asked, plan_list}
 use Rattle.result_book.specs.Verdicts.{verdicts_from, numbered}
 use Rattle.result_book.specs.FirstFailures.{first_failures as first_of_each}
 use Rattle.report.specs.ReportText.{report_lines, text_of}
+use Rattle.report.specs.BriefText.{brief_lines}
 use Rattle.report.specs.Reports.{ReportFacts}
+use Rattle.campaign_map.specs.Mapped.{Mapped}
+use Rattle.campaign_map.specs.Map.{map_text}
 use Rattle.campaign_core.specs.Findings.{report_of, ReducesToMinimal}
 use Rattle.campaign_settings.specs.declared.settings.Settings.{Settings}
 
@@ -63,6 +66,10 @@ report c = report_of (say c) c.label c.plans.seed (census c) (plans c)
 abbrev pub report_text : Campaign → List ℕ
 report_text c = text_of (report_lines c.points c.codes (report c))
 
+-- the brief report's text
+abbrev pub brief_report_text : Campaign → List ℕ
+brief_report_text c = text_of (brief_lines c.points c.codes (report c) (plans c))
+
 -- for each code with which a plan fails, the least number of a plan that fails with it, and the code; in the order of the numbers
 abbrev pub first_failures : Campaign → List (ℕ × ℕ)
 first_failures c = first_of_each (numbered (verdicts_from (say c) 0 (plans c)))
@@ -75,3 +82,18 @@ first_failure c = slice_get (first_failures c) 0
 -- number as the stream number, and no single fault can be left out of it
 abbrev pub EachIsMinimal : Campaign → Type 0
 EachIsMinimal c = All (ReducesToMinimal (say c)) (report c).findings
+
+-- what the map shows
+abbrev pub mapped : Campaign → Mapped
+mapped c = record {
+  label = c.label;
+  census = census c;
+  pairs = c.plans.pairs;
+  plans = plans c;
+  verdicts = verdicts_from (say c) 0 (plans c);
+  firsts = first_failures c;
+}
+
+-- the map's text
+abbrev pub campaign_map_text : Campaign → List ℕ
+campaign_map_text c = map_text c.points c.codes (mapped c)

@@ -3,3 +3,4 @@ pub mod Says
 pub mod Findings
 pub mod Headline
 pub mod CommandTexts
+pub mod inside

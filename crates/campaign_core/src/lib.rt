@@ -2,20 +2,25 @@
 //! scenario tried; and one scenario reduced. Each writes one text over a sink.
 #![tactic(auto)]
 
+mod brief;
 mod ending;
 mod laws;
 mod listing;
+mod mapping;
 mod planned;
 mod probe;
 mod reducing;
+mod results;
 mod runner;
 mod running;
 mod trying;
 mod workers;
 
+pub use brief::brief_campaign;
 pub use ending::{CampaignFault, Ending};
 pub use laws::reduced_scenarios_are_minimal;
 pub use listing::{plan_list, plan_scenario, plans_text};
+pub use mapping::map_campaign;
 pub use planned::asked_of;
 pub use probe::{fails_with, fault_count};
 pub use reducing::reduce_one;

@@ -30,6 +30,7 @@ pub fn planned<'a, T: Target>(
 ) -> Result<(Census, Vec<Plan<'a>>), PlanFault>
     ensures census { IfOk result (λ r. r.0.counts.items ≡ census (campaign_on T.Target target.now workload.now settings.now)) }
     ensures counts { IfOk result (λ r. length r.0.counts.items ≡ length T.names) }
+    ensures points { IfOk result (λ r. length r.0.counts.items ≤ 64) }
     ensures plans { IfOk result (λ r. r.1.items ≡ plans (campaign_on T.Target target.now workload.now settings.now)) }
     ensures few { OnOk result (length (plans (campaign_on T.Target target.now workload.now settings.now)) ≤ most_plans) }
     ensures some { IfOk result (λ r. 0 < length r.1.items) }

@@ -1,23 +1,21 @@
 //! A whole campaign.
-ghost use Rattle.std.specs.Prelude.{◌≡◌, ◌<◌, ◌≤◌, false, length, map, option_map, slice_get, All, IfOk, IfErr, OnOk};
+ghost use Rattle.std.specs.Prelude.{◌≡◌, ◌<◌, ◌≤◌, false, length, map, option_map, All, IfOk, IfErr, OnOk};
 ghost use Rattle.std.specs.Io.KnownBytes.{Appends};
 ghost use Rattle.plan_gen.specs.PlanList.{most_plans};
-ghost use Rattle.result_book.specs.Verdicts.{verdicts_from, numbered};
-ghost use Rattle.result_book.specs.FirstFailures.{first_failures};
-ghost use Rattle.report.specs.ReportText.{report_lines, text_of};
 ghost use Rattle.campaign_core.specs.Findings.{finding, report_of, IsFailure, ReducesToMinimal};
 ghost use Rattle.campaign_core.specs.Headline.{campaign_on, plans, report_text, first_failure, EachIsMinimal};
 ghost use Rattle.campaign_core.specs.CommandTexts.{IsFault};
 ghost use Rattle.campaign_core.specs.Says.{course_says};
+ghost use Rattle.campaign_core.specs.inside.Results.{AreResults};
 
 use crate::ending::{CampaignFault, Ending};
 use crate::planned::planned;
 use crate::probe::{Failure, fault_count};
 use crate::reducing::reduced_scenario;
-use crate::workers::run_plans;
+use crate::results::{Results, run_course};
 use campaign_settings::Settings;
 use report::{Finding, Report, text, write_report};
-use result_book::{Course, first_failures_are_the_least, full_books_tell_their_verdicts};
+use result_book::{Course, first_failures_are_the_least};
 use std::alloc::{AllocError, Global};
 use std::sync::Wait;
 use std::thread::Threads;
@@ -89,55 +87,38 @@ where
     Ok(all)
 }
 
-/// The number of a failure, without its code.
-fn number_of(first: Option<(u32, u32)>) -> Option<u32>
-    ensures { result ≡ option_map (λ f. f.0) first }
-{
-    match first {
-        Some((number, _)) => Some(number),
-        None => None,
-    }
-}
-
-/// The text of the report over a list of plans, and the first failure's number. An error means that memory was refused.
-fn text_over<T: Target + Send, G: Gate, R: Threads + Wait + Sync>(
+/// The report over a list of plans, by what its plans come to. An error means that memory was refused.
+pub fn report_over<'a, T: Target + Send, G: Gate, R: Threads + Wait + Sync>(
     rt: &R,
     alloc: Global,
     gate: &G,
     target: &T,
     course: &Course<'_, T>,
-    census: &[u32],
+    census: &'a [u32],
+    results: &'a Results,
     workers: usize,
-) -> Result<(Vec<u8>, Option<u32>), AllocError>
+) -> Result<Report<'a>, AllocError>
 where
     T::Workload: Sync,
     requires workers { 0 < workers }
-    requires few { length course.now.plans.now ≤ 65536 }
     requires some { 0 < length course.now.plans.now }
-    requires counts { length census.now ≡ length T.names }
-    ensures text { IfOk result (λ r. r.0.items ≡ text_of (report_lines T.names T.code_text (report_of
+    requires results { AreResults (course_says T.Target target.now course.now) course.now.plans.now results.now }
+    ensures report { IfOk result (λ report. report ≡ report_of
         (course_says T.Target target.now course.now)
-        (T.label_of target.now) course.now.seed census.now course.now.plans.now))) }
-    ensures first { IfOk result (λ r. r.1 ≡ option_map (λ f. f.0) (slice_get (first_failures (numbered (verdicts_from (course_says T.Target target.now course.now) 0 course.now.plans.now))) 0)) }
-    ensures minimal { OnOk result (All (λ found. ReducesToMinimal (course_says T.Target target.now course.now) found)
-        (report_of (course_says T.Target target.now course.now) (T.label_of target.now) course.now.seed census.now course.now.plans.now).findings) }
+        (T.label_of target.now) course.now.seed census.now course.now.plans.now) }
+    ensures minimal { IfOk result (λ report. All (λ found. ReducesToMinimal (course_says T.Target target.now course.now) found) report.findings) }
 {
-    let book = run_plans(rt, alloc, gate, target, course, workers)?;
-    let verdicts = book.verdicts(alloc)?;
-    let firsts = book.first_failures(alloc)?;
-    full_books_tell_their_verdicts();
     first_failures_are_the_least();
-    let findings = findings(rt, alloc, gate, target, course, firsts.as_slice(), workers)?;
-    let report = Report {
+    let firsts = results.firsts.as_slice();
+    let findings = findings(rt, alloc, gate, target, course, firsts, workers)?;
+    Ok(Report {
         label: target.label(),
         seed: course.seed,
-        clean: verdicts[0],
+        clean: results.verdicts[0],
         census,
-        verdicts: verdicts.as_slice(),
+        verdicts: results.verdicts.as_slice(),
         findings,
-    };
-    let text = text(alloc, target, &report)?;
-    Ok((text, number_of(book.first_failure())))
+    })
 }
 
 /// Runs a campaign, and writes its report: the census and the plans of a twin of the target, the verdict of each plan, and for each code
@@ -177,9 +158,11 @@ where
         seed: settings.seed,
         max_hits: settings.max_hits,
     };
-    let counts = census.counts.as_slice();
     let workers = settings.workers as usize;
-    let (text, first) = text_over(rt, alloc, gate, target, &course, counts, workers)?;
+    let results = run_course(rt, alloc, gate, target, &course, workers)?;
+    let counts = census.counts.as_slice();
+    let report = report_over(rt, alloc, gate, target, &course, counts, &results, workers)?;
+    let text = text(alloc, target, &report)?;
     write_report(text.as_slice(), sink)?;
-    Ok(Ending { first })
+    Ok(results.ending())
 }

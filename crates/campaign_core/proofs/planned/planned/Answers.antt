@@ -1,4 +1,4 @@
-use Rattle.std.proofs.Common.{◌≡◌, ℕ, List, length, ap, sym, ◌∙◌}
+use Rattle.std.proofs.Common.{◌≡◌, ◌≤◌, ℕ, List, length, ap, sym, ◌∙◌, arith}
 use Rattle.std.proofs.lemmas.List.{length-map}
 use Rattle.std.proofs.lemmas.List.FromFn.{length-map-range_with_len}
 use Rattle.action_eval.specs.Answers.{Reply}
@@ -19,3 +19,9 @@ plans-requires-clause-counts g c =
 pub returns-in-Ok-plans-clause-counts : goal.returns-in-Ok-plans-clause-counts
 returns-in-Ok-plans-clause-counts g c =
     ap length c.in-Ok-by_census.ensures.ok ∙ length_census (g.T.Target.asks c.in-Ok.twin c.args.workload.now) g.T.Target.names _ _
+
+pub returns-in-Ok-plans-clause-points : goal.returns-in-Ok-plans-clause-points
+returns-in-Ok-plans-clause-points g c =
+    let counted = ap length c.in-Ok-by_census.ensures.ok ∙ length_census (g.T.Target.asks c.in-Ok.twin c.args.workload.now) g.T.Target.names _ _ in
+    let few = g.met.T.Target.lawful.few in
+    omega (arith, counted, few)

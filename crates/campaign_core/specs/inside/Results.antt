@@ -1,0 +1,13 @@
+-- What the plans of a course come to; the private contracts cite it.
+use Rattle.std.specs.Prelude.{◌≡◌, ℕ, List}
+use Rattle.scenario_values.specs.Scenario.{Entries}
+use Rattle.target_trait.specs.declared.judgement.Verdict.{Verdict}
+use Rattle.result_book.specs.Verdicts.{verdicts_from, numbered}
+use Rattle.result_book.specs.FirstFailures.{first_failures}
+use Rattle.campaign_core.specs.declared.results.Results.{Results}
+
+-- these are the verdicts of the plans, and the first failure of each code that one fails with
+abbrev pub AreResults : (ℕ → Entries → Verdict) → List Entries → Results → Type 0
+AreResults say plans results =
+    (results.verdicts.items ≡ verdicts_from say 0 plans)
+    × (results.firsts.items ≡ first_failures (numbered (verdicts_from say 0 plans)))

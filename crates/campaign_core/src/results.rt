@@ -1,0 +1,57 @@
+//! What the plans of a campaign come to.
+ghost use Rattle.std.specs.Prelude.{◌≡◌, ◌<◌, ◌≤◌, length, option_map, slice_get, IfOk};
+ghost use Rattle.campaign_core.specs.Says.{course_says};
+ghost use Rattle.campaign_core.specs.inside.Results.{AreResults};
+
+use crate::ending::Ending;
+use crate::workers::run_plans;
+use result_book::{Course, full_books_tell_their_verdicts};
+use std::alloc::{AllocError, Global};
+use std::sync::Wait;
+use std::thread::Threads;
+use target_trait::{Gate, Target, Verdict};
+
+/// What the plans of a course come to.
+#[derive(Drop)]
+pub struct Results {
+    /// The verdict of each plan.
+    pub verdicts: Vec<Verdict>,
+    /// For each code with which a plan fails, the least number of one that does, and the code; in the order of the numbers.
+    pub firsts: Vec<(u32, u32)>,
+}
+
+impl Results {
+    /// How a campaign with these results ends.
+    pub fn ending(&self) -> Ending
+        ensures { result.first ≡ option_map (λ f. f.0) (slice_get self.now.firsts.items 0) }
+    {
+        let first = match self.firsts.as_slice().first() {
+            Some((number, _)) => Some(*number),
+            None => None,
+        };
+        Ending { first }
+    }
+}
+
+/// Runs each plan of a course once, with a thread for each worker and a twin of the target for each. The results are those of one thread.
+/// An error means that memory was refused.
+pub fn run_course<T: Target + Send, G: Gate, R: Threads + Wait + Sync>(
+    rt: &R,
+    alloc: Global,
+    gate: &G,
+    target: &T,
+    course: &Course<'_, T>,
+    workers: usize,
+) -> Result<Results, AllocError>
+where
+    T::Workload: Sync,
+    requires few { length course.now.plans.now ≤ 65536 }
+    requires some { 0 < workers }
+    ensures { IfOk result (AreResults (course_says T.Target target.now course.now) course.now.plans.now) }
+{
+    let book = run_plans(rt, alloc, gate, target, course, workers)?;
+    let verdicts = book.verdicts(alloc)?;
+    let firsts = book.first_failures(alloc)?;
+    full_books_tell_their_verdicts();
+    Ok(Results { verdicts, firsts })
+}
