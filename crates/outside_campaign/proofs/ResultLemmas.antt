@@ -1,5 +1,5 @@
 -- What answers come to.
-use Rattle.std.proofs.Common.{◌≡◌, ℕ, zero, suc, ◌<◌, List, [], ◌∷◌, ◌++◌, Bool, true, Option, Some, None, Result, Ok, Err, length, take, get_or, map, All, refl, ap, sym, ◌∙◌, arith, subst, option_map}
+use Rattle.std.proofs.Common.{◌≡◌, ℕ, zero, suc, ◌<◌, List, [], ◌∷◌, ◌++◌, Bool, true, false, Option, Some, None, Result, Ok, Err, length, take, get_or, map, All, refl, ap, sym, ◌∙◌, arith, subst, option_map}
 use Rattle.std.specs.Prelude.{◌≤◌, slice_get, IfErr, IsErrAnd}
 use Rattle.std.proofs.lemmas.List.{length-map}
 use Rattle.std.specs.Io.KnownBytes.{Appends}
@@ -14,7 +14,7 @@ use Rattle.result_book.proofs.EachCodeLemmas.{firsts_in, firsts_full}
 use Rattle.result_book.proofs.SlotLemmas.{length_verdicts}
 use Rattle.plan_gen.specs.PlanList.{most_plans}
 use Rattle.report.specs.Reports.{FindingFacts}
-use Rattle.report.specs.ReportText.{report_lines, text_of}
+use Rattle.report.specs.ReportText.{text_of}
 use Rattle.answer_text.specs.Known.{KnownVerdicts, known_by, Agrees, AgreesWithText}
 use Rattle.answer_text.specs.Answers.{Answer, Says}
 use Rattle.answer_text.proofs.Agreement.{agrees_by, some_agrees}
@@ -23,8 +23,10 @@ use Rattle.campaign_settings.specs.declared.settings.Settings.{Settings}
 use Rattle.campaign_core.specs.Findings.{finding}
 use Rattle.outside_campaign.specs.Outside.{Component, say}
 use Rattle.outside_campaign.specs.Asked.{open_plans, open_cards, plan_verdicts, known_failures, lines_for}
-use Rattle.outside_campaign.specs.Campaigns.{plans as plans_of, code_name, asks_text, report_text, first_failure, untried, untried_by, AsksFault, ReportFault}
-use Rattle.outside_campaign.specs.inside.Results.{AreOf, IsFirst, AreWithVerdicts, AreResults, facts_of}
+use Rattle.outside_campaign.specs.Campaigns.{plans as plans_of, asks_text, first_failure, untried, untried_by, AsksFault}
+use Rattle.outside_campaign.specs.inside.Results.{AreOf, IsFirst, AreWithVerdicts, AreResults, text_in, report_in}
+use Rattle.outside_campaign.specs.declared.telling.Form.{Form}
+use Rattle.outside_campaign.specs.declared.telling.Form.TheVariants.{Whole, Brief}
 use Rattle.campaign_core.specs.declared.ending.CampaignFault.TheVariants as campaign
 use Rattle.outside_campaign.specs.declared.refusal.OutsideFault.{OutsideFault}
 use Rattle.outside_campaign.specs.declared.refusal.OutsideFault.TheVariants as refusal
@@ -79,12 +81,20 @@ told_all known plans failures findings (NotAnswered t) fe h w = (w.0, none_open 
 pub agrees_with_known : (names : List (List ℕ)) (text : List ℕ) (known : KnownVerdicts) (component : Component) → known ≡ known_by names text → AgreesWithText names text component → Agrees component known
 agrees_with_known names text known component is agrees = subst (Agrees component) (sym is) (agrees_by names text component agrees)
 
-pub report_is : (outside : Description) (settings : Settings) (component : Component) (plans : List Entries) (verdicts : List Verdict) (findings : List FindingFacts) → plans ≡ plans_of outside settings → AreOf component plans verdicts findings
-    → text_of (report_lines outside.points (code_name outside.codes) (facts_of outside settings.seed verdicts findings)) ≡ report_text outside settings component
-report_is outside settings component plans verdicts findings is of =
-    let text : List Verdict → List FindingFacts → List ℕ = λ vs fs. text_of (report_lines outside.points (code_name outside.codes) (facts_of outside settings.seed vs fs)) in
-    let whole : List Entries → List ℕ = λ ps. text (verdicts_from (say component) 0 ps) (map (finding (say component) ps) (first_failures (numbered (verdicts_from (say component) 0 ps)))) in
-    ap (λ (vs : List Verdict). text vs findings) of.verdicts_are ∙ ap (text (verdicts_from (say component) 0 plans)) of.findings_are ∙ ap whole is
+report_in_is : (form : Form) (outside : Description) (settings : Settings) (component : Component)
+    → text_in form outside settings.seed (verdicts_from (say component) 0 (plans_of outside settings)) (map (finding (say component) (plans_of outside settings)) (first_failures (numbered (verdicts_from (say component) 0 (plans_of outside settings))))) (plans_of outside settings)
+    ≡ report_in form outside settings component
+report_in_is Whole outside settings component = refl
+report_in_is Brief outside settings component = refl
+
+pub report_is : (form : Form) (outside : Description) (settings : Settings) (component : Component) (plans : List Entries) (verdicts : List Verdict) (findings : List FindingFacts) → plans ≡ plans_of outside settings → AreOf component plans verdicts findings
+    → text_in form outside settings.seed verdicts findings plans ≡ report_in form outside settings component
+report_is form outside settings component plans verdicts findings is of =
+    let text : List Verdict → List FindingFacts → List Entries → List ℕ = text_in form outside settings.seed in
+    let whole : List Entries → List ℕ = λ ps. text (verdicts_from (say component) 0 ps) (map (finding (say component) ps) (first_failures (numbered (verdicts_from (say component) 0 ps)))) ps in
+    ap (λ (vs : List Verdict). text vs findings plans) of.verdicts_are
+    ∙ ap (λ (fs : List FindingFacts). text (verdicts_from (say component) 0 plans) fs plans) of.findings_are
+    ∙ ap whole is ∙ report_in_is form outside settings component
 
 first_of : (f : ℕ × ℕ → FindingFacts) (fs : List (ℕ × ℕ)) → ((x : ℕ × ℕ) → (f x).number ≡ x.0) → option_map (λ x. x.number) (slice_get (map f fs) 0) ≡ option_map (λ x. x.0) (slice_get fs 0)
 first_of f [] own = refl
@@ -113,31 +123,13 @@ asks_cut outside settings answers old new failed known plans bytes n (Err f) is 
     let Q : List ℕ → Type 0 = λ t. Appends old new (take n t) × (n < length t) in
     subst P (sym is) (subst Q whole (wrote, less), bad, few)
 
--- of a report's bytes
-pub report_cut : {X : Type 0} (outside : Description) (settings : Settings) (answers : List ℕ) (old new : Option (List ℕ)) (failed : Bool) (known : KnownVerdicts) (plans : List Entries) (verdicts : List Verdict) (findings : List FindingFacts) (bytes : List ℕ) (n : ℕ) (result : Result X OutsideFault)
-    → IsErrAnd result (λ f. f ≡ refusal.Campaign (campaign.Write n)) → known ≡ known_by outside.codes answers → plans ≡ plans_of outside settings
-    → ((component : Component) → Agrees component known → AreOf component plans verdicts findings)
-    → bytes ≡ text_of (report_lines outside.points (code_name outside.codes) (facts_of outside settings.seed verdicts findings))
-    → Appends old new (take n bytes) → n < length bytes → failed ≡ true → length (plans_of outside settings) ≤ most_plans → IfErr result (ReportFault outside settings answers old new failed)
-report_cut outside settings answers old new failed known plans verdicts findings bytes n (Ok x) is k p own b wrote less bad few = tt
-report_cut outside settings answers old new failed known plans verdicts findings bytes n (Err f) is k p own b wrote less bad few =
-    let P : OutsideFault → Type 0 = λ x. ReportFault outside settings answers old new failed x in
-    subst P (sym is) (
-      (λ component agrees.
-          let whole : bytes ≡ report_text outside settings component = b ∙ report_is outside settings component plans verdicts findings p (own component (agrees_with_known outside.codes answers known component k agrees)) in
-          let Q : List ℕ → Type 0 = λ t. Appends old new (take n t) × (n < length t) in
-          subst Q whole (wrote, less)),
-      bad,
-      few,
-    )
-
-pub report_written : (outside : Description) (settings : Settings) (answers : List ℕ) (old new : Option (List ℕ)) (known : KnownVerdicts) (plans : List Entries) (verdicts : List Verdict) (findings : List FindingFacts) (bytes : List ℕ)
+-- what is told is the report of each component that agrees
+pub report_told : (form : Form) (outside : Description) (settings : Settings) (answers : List ℕ) (known : KnownVerdicts) (plans : List Entries) (verdicts : List Verdict) (findings : List FindingFacts) (bytes : List ℕ)
     → known ≡ known_by outside.codes answers → plans ≡ plans_of outside settings → ((component : Component) → Agrees component known → AreOf component plans verdicts findings)
-    → bytes ≡ text_of (report_lines outside.points (code_name outside.codes) (facts_of outside settings.seed verdicts findings)) → Appends old new bytes
-    → (component : Component) → AgreesWithText outside.codes answers component → Appends old new (report_text outside settings component)
-report_written outside settings answers old new known plans verdicts findings bytes k p own b wrote component agrees =
-    let Q : List ℕ → Type 0 = λ t. Appends old new t in
-    subst Q (b ∙ report_is outside settings component plans verdicts findings p (own component (agrees_with_known outside.codes answers known component k agrees))) wrote
+    → bytes ≡ text_in form outside settings.seed verdicts findings plans
+    → (component : Component) → AgreesWithText outside.codes answers component → bytes ≡ report_in form outside settings component
+report_told form outside settings answers known plans verdicts findings bytes k p own b component agrees =
+    b ∙ report_is form outside settings component plans verdicts findings p (own component (agrees_with_known outside.codes answers known component k agrees))
 
 pub first_told : (outside : Description) (settings : Settings) (answers : List ℕ) (known : KnownVerdicts) (plans : List Entries) (verdicts : List Verdict) (findings : List FindingFacts) (first : Option ℕ)
     → known ≡ known_by outside.codes answers → plans ≡ plans_of outside settings → ((component : Component) → Agrees component known → AreOf component plans verdicts findings)
@@ -146,10 +138,10 @@ first_told outside settings answers known plans verdicts findings first k p own 
     is ∙ first_is outside settings component plans verdicts findings p (own component (agrees_with_known outside.codes answers known component k agrees))
 
 -- there is a verdict for each plan
-pub verdicts_some : (known : KnownVerdicts) (plans : List Entries) (verdicts : List Verdict) (findings : List FindingFacts) → ((component : Component) → Agrees component known → AreOf component plans verdicts findings) → 0 < length plans → 0 < length verdicts
-verdicts_some known plans verdicts findings own some =
+pub verdicts_each : (known : KnownVerdicts) (plans : List Entries) (verdicts : List Verdict) (findings : List FindingFacts) → ((component : Component) → Agrees component known → AreOf component plans verdicts findings) → length verdicts ≡ length plans
+verdicts_each known plans verdicts findings own =
     let of = own (by_known known) (by_known_agrees known) in
-    omega (arith, ap length of.verdicts_are, length_verdicts (say (by_known known)) 0 plans)
+    ap length of.verdicts_are ∙ length_verdicts (say (by_known known)) 0 plans
 
 pub some_component : (outside : Description) (text : List ℕ) (codes : List (List ℕ)) → codes ≡ outside.codes → (answers : List Answer) → Says codes text answers → (component : Component) × AgreesWithText outside.codes text component
 some_component outside text codes is answers says =

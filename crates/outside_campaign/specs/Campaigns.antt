@@ -6,6 +6,7 @@ use Rattle.scenario_values.specs.Scenario.{Entries}
 use Rattle.plan_gen.specs.PlanList.{most_plans, plan_list}
 use Rattle.result_book.specs.Verdicts.{verdicts_from, numbered}
 use Rattle.result_book.specs.FirstFailures.{first_failures}
+use Rattle.report.specs.BriefText.{brief_lines}
 use Rattle.report.specs.ReportText.{report_lines, text_of}
 use Rattle.answer_text.specs.FirstFault.{reading_of}
 use Rattle.answer_text.specs.Known.{KnownVerdicts, known_by, AgreesWithText}
@@ -36,6 +37,11 @@ code_name codes number = slice_index_or codes number []
 abbrev pub report_text : Description → Settings → Component → List ℕ
 report_text outside settings component = text_of (report_lines outside.points (code_name outside.codes)
     (report_of (say component) outside.label settings.seed outside.hits (plans outside settings)))
+
+-- the same of the brief report
+abbrev pub brief_report_text : Description → Settings → Component → List ℕ
+brief_report_text outside settings component = text_of (brief_lines outside.points (code_name outside.codes)
+    (report_of (say component) outside.label settings.seed outside.hits (plans outside settings)) (plans outside settings))
 
 -- the least number of a plan that fails
 abbrev pub first_failure : Description → Settings → Component → Option ℕ
@@ -75,14 +81,21 @@ AsksFault outside settings answers old new failed (refusal.NotAnswered t) = ⊥
 AsksFault outside settings answers old new failed (refusal.Campaign fault) =
     IsUnwritten (plans outside settings) (IsCut old new (asks_text outside settings answers)) old new failed fault
 
--- the same of the report, for each component that agrees with the answers; and it isn't written where something is to be tried, of which
+-- the same of a text on a component, for each that agrees with the answers; and it isn't written where something is to be tried, of which
 -- this is the first
-abbrev pub ReportFault : Description → Settings → List ℕ → Option (List ℕ) → Option (List ℕ) → Bool → OutsideFault → Type 0
-ReportFault outside settings answers old new failed (refusal.Answers fault) =
+abbrev pub TextFault : (Component → List ℕ) → Description → Settings → List ℕ → Option (List ℕ) → Option (List ℕ) → Bool → OutsideFault → Type 0
+TextFault text outside settings answers old new failed (refusal.Answers fault) =
     (new ≡ old) × (failed ≡ false) × (reading_of outside.codes answers ≡ Err fault)
-ReportFault outside settings answers old new failed (refusal.NotAnswered t) =
+TextFault text outside settings answers old new failed (refusal.NotAnswered t) =
     (new ≡ old) × (failed ≡ false) × ((more : List Entries) × (untried_by outside settings answers ≡ t ∷ more))
-ReportFault outside settings answers old new failed (refusal.Campaign fault) =
+TextFault text outside settings answers old new failed (refusal.Campaign fault) =
     IsUnwritten (plans outside settings)
-    (λ n. (component : Component) → AgreesWithText outside.codes answers component → IsCut old new (report_text outside settings component) n)
+    (λ n. (component : Component) → AgreesWithText outside.codes answers component → IsCut old new (text component) n)
     old new failed fault
+
+-- of the report, and of the brief one
+abbrev pub ReportFault : Description → Settings → List ℕ → Option (List ℕ) → Option (List ℕ) → Bool → OutsideFault → Type 0
+ReportFault outside settings = TextFault (report_text outside settings) outside settings
+
+abbrev pub BriefFault : Description → Settings → List ℕ → Option (List ℕ) → Option (List ℕ) → Bool → OutsideFault → Type 0
+BriefFault outside settings = TextFault (brief_report_text outside settings) outside settings

@@ -1,19 +1,14 @@
-//! Campaigns on components that somebody else runs, by the settings and a text of answers.
-ghost use Rattle.std.specs.Prelude.{◌≡◌, ◌≤◌, [], false, length, IfOk, IfErr, List, OnOk};
+//! Campaigns on components that somebody else runs, by the settings and a text of answers: what is still to be tried.
+ghost use Rattle.std.specs.Prelude.{◌≡◌, ◌≤◌, false, length, IfErr, List, OnOk};
 ghost use Rattle.std.specs.Io.KnownBytes.{Appends};
 ghost use Rattle.plan_gen.specs.PlanList.{most_plans};
 ghost use Rattle.answer_text.specs.Answers.{Answer, Says};
-ghost use Rattle.answer_text.specs.Known.{AgreesWithText};
-ghost use Rattle.outside_campaign.specs.Outside.{Component};
-ghost use Rattle.outside_campaign.specs.Campaigns.{plans, asks_text, report_text, first_failure, untried_by, AsksFault, ReportFault};
+ghost use Rattle.outside_campaign.specs.Campaigns.{plans, asks_text, AsksFault};
 
 use crate::asking::asks_text;
 use crate::planned::{borrowed, planned};
 use crate::refusal::OutsideFault;
-use crate::results::{Results, results_known};
-use crate::telling::{first_number, told_text};
 use answer_text::read;
-use campaign_core::Ending;
 use campaign_settings::{Outside, Settings};
 use report::write_report;
 use std::alloc::Global;
@@ -48,46 +43,4 @@ pub fn write_asks<W: Sink>(
     let text = asks_text(alloc, &known, plans.as_slice())?;
     write_report(text.as_bytes(), sink)?;
     Ok(())
-}
-
-/// Writes the report of a campaign on a component that somebody else runs, by the answers: for every component that agrees with them, a
-/// function from tidied scenarios to verdicts, it is the report over all plans, with the first failure of each code reduced by what that
-/// component says.
-///
-/// Nothing is written before the whole text stands. `Answers` is the answers' first fault; `NotAnswered` is the first scenario that is
-/// still to be tried, where one is; and of a fault as of a campaign, `TooManyPlans` comes only where the list has more than 65536 plans.
-/// After each of these, and where memory was refused, the sink is as it was and hasn't failed; `Write` tells how many bytes of the text,
-/// fewer than all, went out before the sink failed.
-pub fn write_told<W: Sink>(
-    alloc: Global,
-    outside: &Outside,
-    settings: &Settings,
-    answers: &[u8],
-    sink: &mut W,
-) -> Result<Ending, OutsideFault>
-    requires { W.has_failed sink.old ≡ false }
-    // The promise: for every component that agrees with the answers.
-    ensures text { OnOk result ((component : Component) → AgreesWithText outside.now.codes answers.now component
-        → Appends (W.told sink.old) (W.told sink.new) (report_text outside.now settings.now component)) }
-    ensures first { IfOk result (λ ending. (component : Component) → AgreesWithText outside.now.codes answers.now component
-        → ending.first ≡ first_failure outside.now settings.now component) }
-    // Some component agrees with the answers, and nothing is still to be tried.
-    ensures some { OnOk result ((component : Component) × AgreesWithText outside.now.codes answers.now component) }
-    ensures all { OnOk result (untried_by outside.now settings.now answers.now ≡ []) }
-    ensures few { OnOk result (length (plans outside.now settings.now) ≤ most_plans) }
-    ensures sound { OnOk result (W.has_failed sink.new ≡ false) }
-    ensures fault { IfErr result (ReportFault outside.now settings.now answers.now (W.told sink.old) (W.told sink.new) (W.has_failed sink.new)) }
-{
-    let known = read(alloc, outside.codes.as_slice(), answers)?;
-    let points = borrowed(alloc, outside.points.as_slice())?;
-    let plans = planned(alloc, points.as_slice(), outside, settings)?;
-    match results_known(alloc, &known, plans.as_slice())? {
-        Results::NotAnswered(scenario) => Err(OutsideFault::NotAnswered(scenario)),
-        Results::Told(verdicts, findings) => {
-            let first = first_number(&findings);
-            let text = told_text(alloc, outside, settings.seed, verdicts.as_slice(), findings)?;
-            write_report(text.as_slice(), sink)?;
-            Ok(Ending { first })
-        }
-    }
 }

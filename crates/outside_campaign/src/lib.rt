@@ -8,14 +8,16 @@ mod laws;
 mod planned;
 mod reduction;
 mod refusal;
+mod reporting;
 mod results;
 mod telling;
 mod verdicts;
 
-pub use driving::{write_asks, write_told};
+pub use driving::write_asks;
 pub use laws::{
     nothing_is_asked_where_nothing_is_to_be_tried, reductions_come_to_what_is_asked,
     what_is_asked_is_unanswered,
 };
 pub use planned::list_plans;
 pub use refusal::OutsideFault;
+pub use reporting::{write_brief, write_told};

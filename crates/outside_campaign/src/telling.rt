@@ -1,13 +1,21 @@
-//! The report's text, by the words of the settings.
-ghost use Rattle.std.specs.Prelude.{◌≡◌, ◌<◌, length, IfOk, option_map, slice_get, slice_index_or};
-ghost use Rattle.report.specs.ReportText.{report_lines, text_of};
-ghost use Rattle.outside_campaign.specs.Campaigns.{code_name};
-ghost use Rattle.outside_campaign.specs.inside.Results.{facts_of};
+//! The text of a report, by the words of the settings.
+ghost use Rattle.std.specs.Prelude.{◌≡◌, ◌<◌, length, IfOk, option_map, slice_get};
+ghost use Rattle.outside_campaign.specs.inside.Results.{text_in};
 
 use campaign_settings::Outside;
-use report::{Finding, Names, Report, text};
+use plan_gen::Plan;
+use report::{Finding, Names, Report, brief_text, text};
 use std::alloc::{AllocError, Global};
 use target_trait::Verdict;
+
+/// How much a report tells of the verdicts.
+#[derive(Clone, Copy, Debug, PartialEq, Eq)]
+pub enum Form {
+    /// A line for each.
+    Whole,
+    /// One line of counts, and its scenario beside each that isn't pass.
+    Brief,
+}
 
 /// The names of the points and codes of a component that somebody else runs.
 #[derive(Drop)]
@@ -37,16 +45,19 @@ impl<'a> Names for Words<'a> {
     }
 }
 
-/// The text of the report with these verdicts and findings. An error means that memory was refused.
+/// The text of the report with these verdicts and findings on these plans. An error means that memory was refused.
 pub fn told_text(
     alloc: Global,
+    form: Form,
     outside: &Outside,
     seed: u64,
     verdicts: &[Verdict],
     findings: Vec<Finding>,
+    plans: &[Plan<'_>],
 ) -> Result<Vec<u8>, AllocError>
-    requires { 0 < length verdicts.now }
-    ensures { IfOk result (λ text. text.items ≡ text_of (report_lines outside.now.points (code_name outside.now.codes) (facts_of outside.now seed verdicts.now findings.items))) }
+    requires some { 0 < length verdicts.now }
+    requires each { length verdicts.now ≡ length plans.now }
+    ensures { IfOk result (λ text. text.items ≡ text_in form outside.now seed verdicts.now findings.items plans.now) }
 {
     let report = Report {
         label: outside.label.as_str(),
@@ -56,7 +67,11 @@ pub fn told_text(
         verdicts,
         findings,
     };
-    text(alloc, &Words { outside }, &report)
+    let words = Words { outside };
+    match form {
+        Form::Whole => text(alloc, &words, &report),
+        Form::Brief => brief_text(alloc, &words, &report, plans),
+    }
 }
 
 /// The number of the first of these findings.

@@ -1,5 +1,5 @@
 -- What answers come to; the contracts cite it.
-use Rattle.std.specs.Prelude.{◌≡◌, ℕ, List, [], ◌∷◌, map, slice_index_or}
+use Rattle.std.specs.Prelude.{◌≡◌, ◌<◌, ℕ, List, [], ◌∷◌, Err, length, map, slice_index_or}
 use Rattle.scenario_values.specs.Scenario.{Entries}
 use Rattle.target_trait.specs.declared.judgement.Verdict.{Verdict}
 use Rattle.target_trait.specs.declared.judgement.Verdict.TheVariants as verdict
@@ -11,7 +11,17 @@ use Rattle.campaign_core.specs.Findings.{finding}
 use Rattle.campaign_settings.specs.Description.{Description}
 use Rattle.outside_campaign.specs.Outside.{Component, say}
 use Rattle.outside_campaign.specs.inside.Verdicts.{AreVerdicts}
-use Rattle.outside_campaign.specs.Campaigns.{untried}
+use Rattle.plan_gen.specs.PlanList.{most_plans}
+use Rattle.report.specs.BriefText.{brief_lines}
+use Rattle.report.specs.ReportText.{report_lines, text_of}
+use Rattle.answer_text.specs.FirstFault.{reading_of}
+use Rattle.campaign_settings.specs.declared.settings.Settings.{Settings}
+use Rattle.campaign_core.specs.declared.ending.CampaignFault.TheVariants as campaign
+use Rattle.outside_campaign.specs.Campaigns.{plans, code_name, report_text, brief_report_text, untried, untried_by}
+use Rattle.outside_campaign.specs.declared.refusal.OutsideFault.{OutsideFault}
+use Rattle.outside_campaign.specs.declared.refusal.OutsideFault.TheVariants as refusal
+use Rattle.outside_campaign.specs.declared.telling.Form.{Form}
+use Rattle.outside_campaign.specs.declared.telling.Form.TheVariants.{Whole, Brief}
 use Rattle.outside_campaign.specs.declared.verdicts.Verdicts.TheVariants as verdicts
 use Rattle.outside_campaign.specs.declared.results.Results.{Results}
 use Rattle.outside_campaign.specs.declared.results.Results.TheVariants.{Told, NotAnswered}
@@ -48,3 +58,23 @@ facts_of outside seed verdicts findings = record {
   verdicts = verdicts;
   findings = findings;
 }
+
+-- the text of a report in this form, by the results of these plans
+abbrev pub text_in : Form → Description → ℕ → List Verdict → List FindingFacts → List Entries → List ℕ
+text_in Whole outside seed verdicts findings plans =
+    text_of (report_lines outside.points (code_name outside.codes) (facts_of outside seed verdicts findings))
+text_in Brief outside seed verdicts findings plans =
+    text_of (brief_lines outside.points (code_name outside.codes) (facts_of outside seed verdicts findings) plans)
+
+-- the same of a component
+abbrev pub report_in : Form → Description → Settings → Component → List ℕ
+report_in Whole = report_text
+report_in Brief = brief_report_text
+
+-- why there is no such text: the answers' first fault, the first scenario that is still to be tried, too many plans, or want of memory
+abbrev pub IsUntold : Description → Settings → List ℕ → OutsideFault → Type 0
+IsUntold outside settings answers (refusal.Answers fault) = reading_of outside.codes answers ≡ Err fault
+IsUntold outside settings answers (refusal.NotAnswered t) = (more : List Entries) × (untried_by outside settings answers ≡ t ∷ more)
+IsUntold outside settings answers (refusal.Campaign campaign.TooManyPlans) = most_plans < length (plans outside settings)
+IsUntold outside settings answers (refusal.Campaign campaign.Memory) = Unit {0}
+IsUntold outside settings answers (refusal.Campaign _) = ⊥
