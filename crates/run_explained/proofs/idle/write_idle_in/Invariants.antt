@@ -1,0 +1,9 @@
+use Rattle.std.proofs.Common.{◌≡◌, ◌++◌, drop}
+use Rattle.std.specs.String.{string_bytes}
+use Rattle.report.specs.ReportText.{text_of}
+use Rattle.run_explained.specs.Explained.{idle_in}
+use Rattle.run_explained.proofs.idle.write_idle_in.Given as goal
+
+abbrev pub invariant-loop-place : goal.invariant-loop-place
+invariant-loop-place l =
+    string_bytes l.out ++ text_of (idle_in l.hits l.name l.place (drop l.place l.terms)) ≡ string_bytes l.initial.out ++ text_of (idle_in l.hits l.name 0 l.terms)

@@ -1,0 +1,10 @@
+//! One run, told hit by hit: what was done at each, what stopped it, and which faults never acted.
+#![tactic(auto)]
+
+mod hits;
+mod idle;
+mod telling;
+mod writing;
+
+pub use telling::{Explained, explain};
+pub use writing::explain_one;

@@ -1,0 +1,48 @@
+//! One run told hit by hit, written to a sink.
+ghost use Rattle.std.specs.Prelude.{◌≡◌, false, IfOk, IfErr, OnOk};
+ghost use Rattle.std.specs.Io.KnownBytes.{Appends};
+ghost use Rattle.action_eval.specs.Answers.{given_of};
+ghost use Rattle.target_trait.specs.Outcomes.{outcome};
+ghost use Rattle.campaign_core.specs.CommandTexts.{LeavesOnly};
+ghost use Rattle.run_explained.specs.Explained.{explain_text};
+
+use crate::telling::explain;
+use campaign_core::CampaignFault;
+use report::write_report;
+use scenario_values::Scenario;
+use std::alloc::Global;
+use target_trait::{Case, Sink, Target, Verdict};
+
+/// Runs the scenario on the target, and writes the lines of `explain`: the verdict, each hit, what stopped the run, and the faults that never
+/// acted.
+///
+/// The seed and the stream number are those of the run's words: a plan of a campaign runs under its own number. After `max_hits` answered
+/// hits the run is stopped and unresolved. Nothing is written before the text stands whole: for want of memory the sink is unchanged and
+/// hasn't failed. A failed write tells how many bytes of the text, fewer than all, went out. The target keeps its setup in every case.
+pub fn explain_one<T: Target, W: Sink>(
+    alloc: Global,
+    target: &mut T,
+    workload: &T::Workload,
+    seed: u64,
+    stream: u64,
+    max_hits: u32,
+    scenario: &Scenario,
+    sink: &mut W,
+) -> Result<Verdict, CampaignFault>
+    requires { W.has_failed sink.old ≡ false }
+    ensures verdict { IfOk result (λ verdict. verdict ≡ (outcome (T.asks target.old workload.now) (given_of scenario.now T.names seed stream max_hits)).verdict) }
+    ensures text { OnOk result (Appends (W.told sink.old) (W.told sink.new) (explain_text T.code_text (T.asks target.old workload.now) (given_of scenario.now T.names seed stream max_hits))) }
+    ensures sound { OnOk result (W.has_failed sink.new ≡ false) }
+    ensures fault { IfErr result (LeavesOnly (W.told sink.old) (W.told sink.new) (W.has_failed sink.new) (explain_text T.code_text (T.asks target.old workload.now) (given_of scenario.now T.names seed stream max_hits))) }
+    ensures setup { target.new ≡ target.old }
+{
+    let case = Case {
+        scenario,
+        seed,
+        stream,
+        max_hits,
+    };
+    let told = explain(alloc, target, workload, &case)?;
+    write_report(told.text.as_bytes(), sink)?;
+    Ok(told.verdict)
+}
