@@ -1,6 +1,6 @@
 Help is a text on standard output, and the exit status is 0.
 
-  $ for words in help --help -h 'help run' 'run -h' 'help plans' 'help try' 'try --help' 'help reduce' 'help asks' 'help report' 'help help'; do
+  $ for words in help --help -h 'help run' 'run -h' 'help plans' 'help map' 'help try' 'try --help' 'help reduce' 'help explain' 'help asks' 'help report' 'help help'; do
   >     paklour $words > text || echo "$words: $?"
   >     grep -q '^Usage: paklour' text || echo "$words: no text"
   >     awk 'length > 100' text
@@ -11,30 +11,42 @@ No line of it is longer than 100 letters, as has just been seen. It says what ea
   $ paklour help run
   Run a campaign and write its report; with no command at all, this is done
   
-  Usage: paklour run [FILE]
+  Usage: paklour run [OPTIONS] [FILE]
   
   Arguments:
     [FILE]  TOML settings, of which `paklour help` lists the keys; left out, standard input is read
   
   Options:
-    -h, --help  Print help
+        --brief  Count the verdicts that pass, and write the scenario beside each other verdict
+    -h, --help   Print help
   
   Examples:
     paklour run my.toml             the verdict of each plan, and what the first failures come down to
     paklour run < my.toml           settings from standard input
+    paklour run --brief my.toml     no line for a verdict that passes, and scenarios beside the others
   $ paklour help try | grep -e ^Usage: -e ' --scenario <' -e ' --plan <' -e '^A scenario has '
   Usage: paklour try <--scenario <TEXT>|--plan <N>> [FILE]
         --scenario <TEXT>  The scenario, as 'POINT=TERM->TERM;POINT=TERM'
         --plan <N>         The scenario of plan N of the campaign, 0 to 65535, drawn as it is there
   A scenario has up to 65536 bytes, 256 entries, 256 terms in an entry, and 4096 terms besides off.
-  $ paklour help reduce | grep ^Usage:
+  $ for command in reduce explain; do paklour help $command | grep ^Usage:; done
   Usage: paklour reduce <--scenario <TEXT>|--plan <N>> [FILE]
+  Usage: paklour explain <--scenario <TEXT>|--plan <N>> [FILE]
 
 Each option has an example.
 
   $ paklour help try | sed -n '/^  paklour try --/p'
     paklour try --scenario 'replace::sync=1*return' my.toml
     paklour try --plan 10 my.toml     what the line `verdict 10 ..` of the report tells, run again
+  $ paklour help explain | grep 'paklour explain --'
+    paklour explain --plan 10 my.toml the same run, hit by hit
+  $ paklour help map | sed -n '/^Example/,$p'
+  Example:
+    paklour map my.toml > map.svg
+  draws a row of plans for each point, each plan in the colour of its verdict.
+  $ paklour help report | grep -e --brief
+        --brief  Count the verdicts that pass, and write the scenario beside each other verdict
+    paklour report --brief my.toml < answers
 
 The help of the program names the keys of settings, their ranges and defaults, as settings.t and settings_tables.t show them, and the exit
 statuses.

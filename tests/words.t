@@ -54,6 +54,21 @@ What words ask for
   $ asks reduce --scenario maildir::write=1*return f
   verdict fail torn
   reduced maildir::write=1*return
+  $ asks run --brief f
+  target maildir link_first
+  seed 0
+  $ asks run f --brief
+  target maildir link_first
+  seed 0
+  $ asks map f | cut -c 1-4
+  <svg
+  <sty
+  $ asks explain --scenario a=off
+  verdict pass
+  hit 1 replace::create 1 go
+  $ asks explain --plan 1 f
+  verdict pass
+  hit 1 maildir::stat 1 return
   $ asks try --plan 0
   verdict pass
   asked 6
@@ -130,6 +145,24 @@ What is wrong is told on standard error, and nothing is on standard output.
   error: unexpected argument 'more' found
   $ refused run --frobnicate
   error: unexpected argument '--frobnicate' found
+  $ refused run --brief --brief
+  error: the argument '--brief' cannot be used multiple times
+  $ refused run --brief=true f
+  error: unexpected value 'true' for '--brief' found; no more were expected
+  $ refused plans --brief
+  error: unexpected argument '--brief' found
+  $ refused asks --brief f
+  error: unexpected argument '--brief' found
+  $ refused map --brief
+  error: unexpected argument '--brief' found
+  $ refused map --plan 1
+  error: unexpected argument '--plan' found
+  $ refused explain
+  error: the following required arguments were not provided:
+  $ refused explain --plan 1 --scenario a=off
+  error: the argument '--scenario <TEXT>' cannot be used with '--plan <N>'
+  $ refused explain --plan 65536
+  error: invalid value '65536' for '--plan <N>': not a number from 0 to 65535
   $ refused run --scenario a
   error: unexpected argument '--scenario' found
   $ refused try --scenario
@@ -182,9 +215,9 @@ The file isn't there, or is a folder. No word stands for standard input, which m
   $ rm ./-
   $ mkdir folder
   $ for file in missing.toml folder ''; do
-  >     for command in run plans 'try --scenario a' 'reduce --scenario a'; do paklour $command "$file" < given; done
+  >     for command in run plans map 'try --scenario a' 'reduce --scenario a' 'explain --scenario a'; do paklour $command "$file" < given; done
   > done 2>&1 | uniq -c | tr -s ' '
-   12 settings: not readable
+   18 settings: not readable
   $ paklour run missing.toml
   settings: not readable
   [2]

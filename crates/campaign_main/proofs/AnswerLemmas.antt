@@ -5,17 +5,20 @@ use Rattle.std.specs.Io.KnownBytes.{Appends}
 use Rattle.scenario_values.specs.Scenario.{Entries}
 use Rattle.scenario_grammar.specs.declared.fault.ScenarioFault.TheVariants as scenario
 use Rattle.plan_gen.specs.PlanList.{most_plans}
-use Rattle.campaign_core.specs.Headline.{Campaign, say, plans, report_text, first_failure}
+use Rattle.campaign_core.specs.Headline.{Campaign, say, plans, campaign_map_text, first_failure}
 use Rattle.campaign_core.specs.CommandTexts.{IsFault, IsReducedToMinimal, IsUnlisted, LeavesOnly, plan_lines, plans_text, reduce_text, tried, try_text}
 use Rattle.campaign_core.specs.declared.ending.CampaignFault.{CampaignFault}
 use Rattle.campaign_core.specs.declared.ending.CampaignFault.TheVariants as campaign
+use Rattle.command_words.specs.declared.words.Form.{Form}
 use Rattle.command_words.specs.declared.words.Order.TheVariants as order
 use Rattle.outside_campaign.specs.Campaigns.{IsCut, IsUnwritten}
 use Rattle.report.specs.ReportText.{text_of}
+use Rattle.action_eval.specs.Answers.{given_of}
+use Rattle.run_explained.specs.Explained.{explain_text}
 use Rattle.campaign_main.specs.declared.fault.CommandFault.{CommandFault}
 use Rattle.campaign_main.specs.declared.fault.CommandFault.TheVariants as faults
 use Rattle.campaign_main.specs.Exit.{is_fail}
-use Rattle.campaign_main.specs.Commands.{Answer, Refusal, numbered, of_few_plans, outside_answer, planned, plans_answer, reduce_answer, run_answer, taken_answer, too_many_plans, try_answer}
+use Rattle.campaign_main.specs.Commands.{Answer, Refusal, explain_answer, map_answer, numbered, of_few_plans, outside_answer, planned, plans_answer, reduce_answer, report_in, run_answer, taken_answer, too_many_plans, try_answer}
 use Rattle.campaign_main.specs.Ends.{ComesTo, FallsShort, IsCutOff, IsUntaken, IsUntouched, IsWritten}
 
 module _ (plans : List Entries) (a : List ℕ × Bool) where
@@ -65,20 +68,35 @@ first_found : (first : Option (ℕ × ℕ)) → is_some (option_map (λ f. f.0) 
 first_found None = refl
 first_found (Some f) = refl
 
--- ---- the four commands
+-- ---- the commands
+
+-- what comes of a campaign and of its text, where that is the answer
+module _ (c : Campaign) (answer : Answer) (text : List ℕ) (is : answer ≡ of_few_plans (plans c) (text, is_some (first_failure c))) (old new : Option (List ℕ)) where
+  of_campaign : (failed found : Bool) (first : Option ℕ) → length (plans c) ≤ most_plans → Appends old new text → failed ≡ false
+      → found ≡ is_some first → first ≡ option_map (λ f. f.0) (first_failure c) → IsWritten answer old new failed found
+  of_campaign failed found first few written sound has first-is =
+      let P : Bool → Type 0 = λ b. IsWritten answer old new failed b in
+      let same : found ≡ is_some (first_failure c) = has ∙ ap is_some first-is ∙ first_found (first_failure c) in
+      subst P (sym same) (of_plans (plans c) answer text (is_some (first_failure c)) is old new failed few written sound)
 
 module _ (c : Campaign) (old new : Option (List ℕ)) where
-  pub run-written : (failed found : Bool) (first : Option ℕ) → length (plans c) ≤ most_plans → Appends old new (report_text c) → failed ≡ false
-      → found ≡ is_some first → first ≡ option_map (λ f. f.0) (first_failure c) → IsWritten (run_answer c) old new failed found
+  pub run-written : (form : Form) (failed found : Bool) (first : Option ℕ) → length (plans c) ≤ most_plans → Appends old new (report_in form c) → failed ≡ false
+      → found ≡ is_some first → first ≡ option_map (λ f. f.0) (first_failure c) → IsWritten (run_answer form c) old new failed found
   unfolding run_answer
-  run-written failed found first few written sound is first-is =
-      let P : Bool → Type 0 = λ b. IsWritten (run_answer c) old new failed b in
-      let same : found ≡ is_some (first_failure c) = is ∙ ap is_some first-is ∙ first_found (first_failure c) in
-      subst P (sym same) (of_plans (plans c) (run_answer c) (report_text c) (is_some (first_failure c)) refl old new failed few written sound)
+  run-written form = of_campaign c (run_answer form c) (report_in form c) refl old new
 
-  pub run-short : (failed : Bool) (f : CampaignFault) → IsFault c (report_text c) old new failed f → FallsShort (run_answer c) old new failed (faults.Campaign f)
+  pub run-short : (form : Form) (failed : Bool) (f : CampaignFault) → IsFault c (report_in form c) old new failed f → FallsShort (run_answer form c) old new failed (faults.Campaign f)
   unfolding run_answer
-  run-short failed f h = short_of_plans c (run_answer c) (report_text c) (is_some (first_failure c)) refl old new failed f h
+  run-short form failed f h = short_of_plans c (run_answer form c) (report_in form c) (is_some (first_failure c)) refl old new failed f h
+
+  pub map-written : (failed found : Bool) (first : Option ℕ) → length (plans c) ≤ most_plans → Appends old new (campaign_map_text c) → failed ≡ false
+      → found ≡ is_some first → first ≡ option_map (λ f. f.0) (first_failure c) → IsWritten (map_answer c) old new failed found
+  unfolding map_answer
+  map-written = of_campaign c (map_answer c) (campaign_map_text c) refl old new
+
+  pub map-short : (failed : Bool) (f : CampaignFault) → IsFault c (campaign_map_text c) old new failed f → FallsShort (map_answer c) old new failed (faults.Campaign f)
+  unfolding map_answer
+  map-short failed f h = short_of_plans c (map_answer c) (campaign_map_text c) (is_some (first_failure c)) refl old new failed f h
 
   pub plans-written : (failed : Bool) → length (plans c) ≤ most_plans → Appends old new (plans_text c) → failed ≡ false → IsWritten (plans_answer c) old new failed false
   unfolding plans_answer
@@ -101,6 +119,20 @@ module _ (c : Campaign) (read : Result (ℕ × Entries) Refusal) (t : ℕ × Ent
 
   pub try-short : (failed : Bool) (f : CampaignFault) → LeavesOnly old new failed (try_text c.codes (tried c t.0 t.1)) f → FallsShort (taken_answer (try_answer c) read) old new failed (faults.Campaign f)
   try-short failed f h = short_of_scenario _ _ _ tried-is old new failed f h
+
+  explained-is : taken_answer (explain_answer c) read ≡ Ok (explain_text c.codes c.asks (given_of t.1 c.points c.plans.seed t.0 c.limit), is_fail (tried c t.0 t.1).verdict)
+  unfolding explain_answer
+  explained-is = ap (taken_answer (explain_answer c)) takes
+
+  pub explain-written : (failed found : Bool) → Appends old new (explain_text c.codes c.asks (given_of t.1 c.points c.plans.seed t.0 c.limit)) → failed ≡ false → found ≡ is_fail (tried c t.0 t.1).verdict
+      → IsWritten (taken_answer (explain_answer c) read) old new failed found
+  explain-written failed found written sound is =
+      let P : Bool → Type 0 = λ b. IsWritten (taken_answer (explain_answer c) read) old new failed b in
+      subst P (sym is) (of_scenario _ _ _ explained-is old new failed written sound)
+
+  pub explain-short : (failed : Bool) (f : CampaignFault) → LeavesOnly old new failed (explain_text c.codes c.asks (given_of t.1 c.points c.plans.seed t.0 c.limit)) f
+      → FallsShort (taken_answer (explain_answer c) read) old new failed (faults.Campaign f)
+  explain-short failed f h = short_of_scenario _ _ _ explained-is old new failed f h
 
   reduced-is : taken_answer (reduce_answer c) read ≡ Ok (reduce_text c t.0 t.1, is_fail (say c t.0 t.1))
   unfolding reduce_answer

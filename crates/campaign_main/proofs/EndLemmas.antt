@@ -169,11 +169,11 @@ found-tells refusal true old failed sound = (refl, sound)
 -- ---- by what the settings' text gives
 
 -- a refusal of settings is the line of a cause
-module _ (text : List ℕ) (end : Exit) (old new : Option (List ℕ)) (failed : Bool) (refused : end ≡ exit.Refused) where
+module _ (read : Read Given) (end : Exit) (old new : Option (List ℕ)) (failed : Bool) (refused : end ≡ exit.Refused) where
   abbrev pub HasCause : Type 0
-  HasCause = (cause : Cause) × (settings_of text ≡ Err cause) × RefusesWith (refusal_line (bad_settings cause)) end old new failed
+  HasCause = (cause : Cause) × (read ≡ Err cause) × RefusesWith (refusal_line (bad_settings cause)) end old new failed
 
-  pub unset-cause : (f : SettingsFault) → RefusedBy (settings_of text) f → (f ≡ Memory → end ≡ exit.Memory) → RefusesWith (settings_line f) end old new failed → HasCause
+  pub unset-cause : (f : SettingsFault) → RefusedBy read f → (f ≡ Memory → end ≡ exit.Memory) → RefusesWith (settings_line f) end old new failed → HasCause
   unset-cause TooLong h m told = (_, h, told)
   unset-cause NotToml h m told = (_, h, told)
   unset-cause (UnknownKey place name) h m told = (_, h, told)
@@ -183,16 +183,19 @@ module _ (text : List ℕ) (end : Exit) (old new : Option (List ℕ)) (failed : 
   unset-cause (Scenario number kind entry term) h m told = (_, h, told)
   unset-cause Memory h m told = memory-apart end (m refl) refused
 
-module _ (order : Order) (text : List ℕ) where
-  refused-answer : (cause : Cause) → settings_of text ≡ Err cause → text_answer order text ≡ Err (bad_settings cause)
-  unfolding text_answer
-  refused-answer cause is = let f : Read Given → Answer = given_answer order in ap f is
+-- what is answered where it is made of settings, and refuses what they refuse
+module _ (answer : Read Given → Answer) (refuses : (cause : Cause) → answer (Err cause) ≡ Err (bad_settings cause)) (read : Read Given) where
+  pub settings-tell : (end : Exit) (old new : Option (List ℕ)) (failed : Bool) → end ≡ exit.Refused → (f : SettingsFault) → RefusedBy read f → (f ≡ Memory → end ≡ exit.Memory)
+      → RefusesWith (settings_line f) end old new failed → TellsRefusal (answer read) old new failed
+  settings-tell end old new failed refused f h m told =
+      let c = unset-cause read end old new failed refused f h m told in
+      tells-refusal (answer read) (bad_settings c.0) end old new failed (ap answer c.1 ∙ refuses c.0) refused c.2
 
+module _ (order : Order) (text : List ℕ) where
   pub cause-unset : (end : Exit) (old new : Option (List ℕ)) (failed : Bool) → end ≡ exit.Refused → (f : SettingsFault) → RefusedBy (settings_of text) f → (f ≡ Memory → end ≡ exit.Memory)
       → RefusesWith (settings_line f) end old new failed → TellsRefusal (text_answer order text) old new failed
-  cause-unset end old new failed refused f h m told =
-      let c = unset-cause text end old new failed refused f h m told in
-      tells-refusal (text_answer order text) (bad_settings c.0) end old new failed (refused-answer c.0 c.1) refused c.2
+  unfolding text_answer
+  cause-unset end old new failed refused f h m told = settings-tell (given_answer order) (λ _. refl) (settings_of text) end old new failed refused f h m told
 
   module _ (s : Settings) (is : settings_of text ≡ Ok (given_of s)) where
     pub answer-targetless : s.choice ≡ None → text_answer order text ≡ Err (bad_settings (wrong key.Target fault.Missing))
@@ -238,19 +241,6 @@ module _ {A : Type 0} (meaning : List ℕ → Result A Refusal) (bytes : List �
       let g : Bool → Result A Refusal = λ b. if b then meaning bytes else Err not_text in
       ap f (le-ltb 1048576 (length bytes) few) ∙ ap g (false_from_ne_true (is_utf8 bytes) (λ t. broken (IsUtf8-from_is_utf8 bytes t)))
 
-module _ (order : Order) (bytes : List ℕ) where
-  pub answer-text : length bytes ≤ 1048576 → IsUtf8 bytes → answer_of order bytes ≡ text_answer order bytes
-  unfolding answer_of
-  answer-text few utf8 = text-meaning (text_answer order) bytes few utf8
-
-  answer-long : 1048576 < length bytes → answer_of order bytes ≡ Err (bad_settings too_long)
-  unfolding answer_of
-  answer-long many = long-meaning (text_answer order) bytes many
-
-  answer-broken : length bytes ≤ 1048576 → ¬ IsUtf8 bytes → answer_of order bytes ≡ Err not_text
-  unfolding answer_of
-  answer-broken few broken = broken-meaning (text_answer order) bytes few broken
-
 -- what holds of every byte list of one kind
 pub if_some : (known : Option (List ℕ)) (P Q : List ℕ → Type 0) → ((bytes : List ℕ) → P bytes → Q bytes) → IfSome known P → IfSome known Q
 if_some None P Q f h = tt
@@ -266,9 +256,9 @@ read-meaning whole meaning agree known text shown P same is few utf8 h =
     let R : List ℕ → Type 0 = λ bytes. P (whole bytes) in
     if_some known (λ bytes. text ≡ bytes) R (λ bytes e. subst R e there) is
 
-pub read-answer : (order : Order) (known : Option (List ℕ)) (text shown : List ℕ) (P : Answer → Type 0) → shown ≡ text → IfSome known (λ bytes. text ≡ bytes)
-    → length text ≤ 1048576 → IsUtf8 shown → P (text_answer order shown) → IfSome known (λ bytes. P (answer_of order bytes))
-read-answer order known text shown P same is few utf8 h = read-meaning (answer_of order) (text_answer order) (answer-text order) known text shown P same is few utf8 h
+pub read-answer : (meaning : List ℕ → Answer) (known : Option (List ℕ)) (text shown : List ℕ) (P : Answer → Type 0) → shown ≡ text → IfSome known (λ bytes. text ≡ bytes)
+    → length text ≤ 1048576 → IsUtf8 shown → P (meaning shown) → IfSome known (λ bytes. P (of_text meaning bytes))
+read-answer meaning known text shown P same is few utf8 h = read-meaning (of_text meaning) meaning (text-meaning meaning) known text shown P same is few utf8 h
 
 -- what holds of the text that was read holds of the bytes that the reader tells
 pub read-whole : (known : Option (List ℕ)) (text shown : List ℕ) (P : List ℕ → Type 0) → shown ≡ text → IfSome known (λ bytes. text ≡ bytes) → P shown → IfSome known P
@@ -285,21 +275,21 @@ tells-unread fault end old new failed told memory = tells-by (TellsARefusal old 
     which read.Memory end told memory refused = memory-apart end (memory refl) refused
 
 -- a reader that gave no text
-module _ (order : Order) (known : Option (List ℕ)) (end : Exit) (old new : Option (List ℕ)) (failed : Bool) where
+module _ (meaning : List ℕ → Answer) (known : Option (List ℕ)) (end : Exit) (old new : Option (List ℕ)) (failed : Bool) where
   pub cause-unread : (fault : ReadFault) → (fault ≡ read.TooLong → IfSome known (λ bytes. 1048576 < length bytes))
       → (fault ≡ read.NotUtf8 → IfSome known (λ bytes. (length bytes ≤ 1048576) × ¬ IsUtf8 bytes))
       → RefusesWith (read_fault_line fault) end old new failed
       → (fault ≡ read.Memory → end ≡ exit.Memory) → end ≡ exit.Refused
-      → IfSome known (λ bytes. IsRefused (answer_of order bytes) old new failed)
+      → IfSome known (λ bytes. IsRefused (of_text meaning bytes) old new failed)
   cause-unread read.TooLong long broken told memory refused =
-      if_some known _ (λ bytes. IsRefused (answer_of order bytes) old new failed)
-      (λ bytes h. inl (tells-refusal _ _ end old new failed (answer-long order bytes h) refused told)) (long refl)
+      if_some known _ (λ bytes. IsRefused (of_text meaning bytes) old new failed)
+      (λ bytes h. inl (tells-refusal _ _ end old new failed (long-meaning meaning bytes h) refused told)) (long refl)
   cause-unread read.NotUtf8 long broken told memory refused =
-      if_some known _ (λ bytes. IsRefused (answer_of order bytes) old new failed)
-      (λ bytes h. inl (tells-refusal _ _ end old new failed (answer-broken order bytes h.0 h.1) refused told)) (broken refl)
+      if_some known _ (λ bytes. IsRefused (of_text meaning bytes) old new failed)
+      (λ bytes h. inl (tells-refusal _ _ end old new failed (broken-meaning meaning bytes h.0 h.1) refused told)) (broken refl)
   cause-unread read.NotReadable long broken told memory refused =
       let P : Exit → Type 0 = λ e. RefusesWith unreadable_line e old new failed in
-      elim known as (λ k. IfSome k (λ bytes. IsRefused (answer_of order bytes) old new failed)) [
+      elim known as (λ k. IfSome k (λ bytes. IsRefused (of_text meaning bytes) old new failed)) [
         | None ↦ tt
         | Some bytes ↦ inr (subst P refused told)
       ]

@@ -1,4 +1,5 @@
 pub mod AnswerLemmas
 pub mod EndLemmas
+pub mod OwnLemmas
 pub mod QuestionLemmas
 pub mod ToldLemmas

@@ -14,8 +14,9 @@ use Rattle.campaign_settings.specs.declared.fault.SettingsFault.TheVariants as s
 use Rattle.campaign_settings.specs.declared.settings.Settings.{Settings}
 use Rattle.campaign_core.specs.declared.ending.CampaignFault.TheVariants as campaign
 use Rattle.command_words.specs.declared.words.Question.{Question}
+use Rattle.command_words.specs.declared.words.Form.{Form}
 use Rattle.command_words.specs.declared.words.Question.TheVariants.{Asks, Report}
-use Rattle.outside_campaign.specs.Campaigns.{AsksFault, ReportFault}
+use Rattle.outside_campaign.specs.Campaigns.{AsksFault, TextFault}
 use Rattle.outside_campaign.specs.declared.refusal.OutsideFault.{OutsideFault}
 use Rattle.outside_campaign.specs.declared.refusal.OutsideFault.TheVariants as outside
 use Rattle.campaign_main.specs.declared.exit.Exit.{Exit}
@@ -26,7 +27,7 @@ use Rattle.campaign_main.specs.Commands.{Refusal, bad_answers, bad_settings, not
 use Rattle.campaign_main.specs.Ends.{IsUntouched, Leaves, RefusesWith, TellsBy}
 use Rattle.campaign_main.specs.Exit.{exit_of}
 use Rattle.campaign_main.specs.FaultLines.{answers_read_line, read_fault_line, refusal_line, settings_line, unreadable_answers_line, unreadable_line}
-use Rattle.campaign_main.specs.Questions.{ComesToText, EndsAnswered, EndsQuestion, FallsShortOf, IsAnswered, IsEndOfQuestion, IsNotAnswered, IsPart, RefusesQuestion, Subject, TellsOfQuestion, TellsWhy, chosen_subject, given_subject, subject_of, text_subject}
+use Rattle.campaign_main.specs.Questions.{ComesToText, EndsAnswered, EndsQuestion, FallsShortOf, IsAnswered, IsEndOfQuestion, IsNotAnswered, IsPart, RefusesQuestion, Subject, TellsOfQuestion, TellsWhy, chosen_subject, given_subject, subject_of, text_subject, told_text}
 use Rattle.campaign_main.proofs.EndLemmas.{broken-meaning, if_some, long-meaning, memory-apart, read-meaning, tells-by, text-meaning, unset-cause}
 
 -- ---- by what the lower crate came to
@@ -39,12 +40,12 @@ module _ (s : Settings) (d : Description) (answers : List ℕ) (old new : Option
   asks-short (outside.Campaign campaign.Memory) h = h
   asks-short (outside.Campaign (campaign.Write n)) h = (h.0, h.1)
 
-  report-short : (f : OutsideFault) → ReportFault d s answers old new failed f → FallsShortOf Report (given_of s, d) answers old new failed f
-  report-short (outside.Answers f) h = ((h.0, h.1), h.2)
-  report-short (outside.NotAnswered t) h = ((h.0, h.1), h.2)
-  report-short (outside.Campaign campaign.TooManyPlans) h = ((h.0, h.1), h.2)
-  report-short (outside.Campaign campaign.Memory) h = h
-  report-short (outside.Campaign (campaign.Write n)) h = (h.0, h.1)
+  report-short : (form : Form) (f : OutsideFault) → TextFault (told_text form (given_of s, d)) d s answers old new failed f → FallsShortOf (Report form) (given_of s, d) answers old new failed f
+  report-short form (outside.Answers f) h = ((h.0, h.1), h.2)
+  report-short form (outside.NotAnswered t) h = ((h.0, h.1), h.2)
+  report-short form (outside.Campaign campaign.TooManyPlans) h = ((h.0, h.1), h.2)
+  report-short form (outside.Campaign campaign.Memory) h = h
+  report-short form (outside.Campaign (campaign.Write n)) h = (h.0, h.1)
 
   -- a fault that is passed up
   short-of-up : (question : Question) (result : Result Bool OutsideFault) (f : OutsideFault) → IsErrAnd result (λ e. e ≡ f)
@@ -55,8 +56,8 @@ module _ (s : Settings) (d : Description) (answers : List ℕ) (old new : Option
   pub asks-up : (result : Result Bool OutsideFault) (f : OutsideFault) → IsErrAnd result (λ e. e ≡ f) → AsksFault d s answers old new failed f → ComesToText Asks (given_of s, d) answers old new failed result
   asks-up result f is h = short-of-up Asks result f is (asks-short f h)
 
-  pub report-up : (result : Result Bool OutsideFault) (f : OutsideFault) → IsErrAnd result (λ e. e ≡ f) → ReportFault d s answers old new failed f → ComesToText Report (given_of s, d) answers old new failed result
-  report-up result f is h = short-of-up Report result f is (report-short f h)
+  pub report-up : (form : Form) (result : Result Bool OutsideFault) (f : OutsideFault) → IsErrAnd result (λ e. e ≡ f) → TextFault (told_text form (given_of s, d)) d s answers old new failed f → ComesToText (Report form) (given_of s, d) answers old new failed result
+  report-up form result f is h = short-of-up (Report form) result f is (report-short form f h)
 
 -- ---- by what a question came to
 
@@ -68,11 +69,11 @@ module _ (question : Question) (s : Subject) (answers : List ℕ) where
 
     answered-sound : (q : Question) (found : Bool) → IsAnswered q s answers old new failed found → failed ≡ false
     answered-sound Asks found h = h.sound
-    answered-sound Report found h = h.sound
+    answered-sound (Report form) found h = h.sound
 
     part-broken : (q : Question) (n : ℕ) → IsPart q s answers old new failed n → failed ≡ true
     part-broken Asks n h = h.1
-    part-broken Report n h = h.1
+    part-broken (Report form) n h = h.1
 
     pub answered-leaves : (end : Exit) → EndsAnswered question s answers end old new failed → Leaves end old new failed
     answered-leaves exit.Kept h = answered-sound question false h
@@ -205,14 +206,14 @@ module _ (text : List ℕ) where
       (told : RefusesWith (settings_line f) end old new failed) where
     pub unset-why : (known : Option (List ℕ)) → end ≡ exit.Refused → IfSome known (λ bytes. IsNotAnswered question (text_subject text) bytes old new failed)
     unset-why known refused =
-        let c = unset-cause text end old new failed refused f by memory told in
+        let c = unset-cause (settings_of text) end old new failed refused f by memory told in
         settings-why question (text_subject text) (bad_settings c.0) (unset-subject c.0 c.1) known end old new failed c.2 refused
 
     pub unset-tells : TellsOfQuestion end old new failed
     unset-tells =
         tells-by _ _ end old new failed told
         (λ refused.
-        let c = unset-cause text end old new failed refused f by memory told in
+        let c = unset-cause (settings_of text) end old new failed refused f by memory told in
         let Q : Exit → Type 0 = λ e. RefusesWith (refusal_line (bad_settings c.0)) e old new failed in
         inl (bad_settings c.0, subst Q refused c.2))
 

@@ -3,7 +3,7 @@ use Rattle.std.specs.Prelude.{ℕ, Bool, false, List, length, Option, Some, None
 use Rattle.std.specs.Str.{is_utf8}
 use Rattle.scenario_values.specs.Scenario.{Entries}
 use Rattle.scenario_grammar.specs.FirstFault.{Fault, reading}
-use Rattle.action_eval.specs.Answers.{Reply}
+use Rattle.action_eval.specs.Answers.{Reply, given_of}
 use Rattle.target_trait.specs.Play.{Move}
 use Rattle.file_replace.specs.Steps.{asks_of as replacing}
 use Rattle.file_replace.specs.Words.{point_names as replace_points, code_text as replace_codes, label as replace_label}
@@ -20,12 +20,15 @@ use Rattle.campaign_settings.specs.declared.choice.Choice.{Choice}
 use Rattle.campaign_settings.specs.declared.choice.Choice.TheVariants as choice
 use Rattle.campaign_settings.specs.declared.keys.Key.TheVariants as key
 use Rattle.campaign_settings.specs.declared.keys.KeyFault.TheVariants as fault
-use Rattle.campaign_core.specs.Headline.{Campaign, say, plans, report_text, first_failure}
+use Rattle.campaign_core.specs.Headline.{Campaign, say, plans, report_text, brief_report_text, campaign_map_text, first_failure}
 use Rattle.campaign_core.specs.CommandTexts.{plan_lines, plans_text, try_text, tried, reduce_text}
+use Rattle.command_words.specs.declared.words.Form.{Form}
+use Rattle.command_words.specs.declared.words.Form.TheVariants.{Whole, Brief}
 use Rattle.command_words.specs.declared.words.Order.{Order}
 use Rattle.command_words.specs.declared.words.Order.TheVariants as order
 use Rattle.command_words.specs.declared.words.Which.{Which}
 use Rattle.command_words.specs.declared.words.Which.TheVariants.{Scenario, Plan}
+use Rattle.run_explained.specs.Explained.{explain_text}
 use Rattle.campaign_main.specs.Exit.{is_fail}
 
 -- ---- answers
@@ -54,9 +57,18 @@ Answer = Result (List ℕ × Bool) Refusal
 abbrev pub of_few_plans : List Entries → List ℕ × Bool → Answer
 of_few_plans plans text = if nat_lt most_plans (length plans) then Err too_many_plans else Ok text
 
+-- the report of a form
+abbrev pub report_in : Form → Campaign → List ℕ
+report_in Whole c = report_text c
+report_in Brief c = brief_report_text c
+
 -- the report, and whether a plan fails
-unfoldable pub run_answer : Campaign → Answer
-run_answer c = of_few_plans (plans c) (report_text c, is_some (first_failure c))
+unfoldable pub run_answer : Form → Campaign → Answer
+run_answer form c = of_few_plans (plans c) (report_in form c, is_some (first_failure c))
+
+-- the map, and whether a plan fails
+unfoldable pub map_answer : Campaign → Answer
+map_answer c = of_few_plans (plans c) (campaign_map_text c, is_some (first_failure c))
 
 -- the list of plans
 unfoldable pub plans_answer : Campaign → Answer
@@ -69,6 +81,10 @@ try_answer c stream scenario = Ok (try_text c.codes (tried c stream scenario), i
 -- a scenario reduced under a stream number, and whether it fails
 unfoldable pub reduce_answer : Campaign → ℕ → Entries → Answer
 reduce_answer c stream scenario = Ok (reduce_text c stream scenario, is_fail (say c stream scenario))
+
+-- a scenario's run under a stream number, told hit by hit, and whether it fails
+unfoldable pub explain_answer : Campaign → ℕ → Entries → Answer
+explain_answer c stream scenario = Ok (explain_text c.codes c.asks (given_of scenario c.points c.plans.seed stream c.limit), is_fail (tried c stream scenario).verdict)
 
 -- the stream number and the scenario that a command takes: of a text the one that it spells, under 0
 abbrev pub spelled : Result Entries Fault → Result (ℕ × Entries) Refusal
@@ -93,19 +109,23 @@ taken_answer answer (Ok t) = answer t.0 t.1
 taken_answer answer (Err refusal) = Err refusal
 
 abbrev pub order_answer : Order → Campaign → Answer
-order_answer order.Run c = run_answer c
+order_answer (order.Run form) c = run_answer form c
+order_answer order.Map c = map_answer c
 order_answer order.Plans c = plans_answer c
 order_answer (order.Try which) c = taken_answer (try_answer c) (taken c which)
 order_answer (order.Reduce which) c = taken_answer (reduce_answer c) (taken c which)
+order_answer (order.Explain which) c = taken_answer (explain_answer c) (taken c which)
 
 -- ---- a command on a component that somebody else runs
 
 -- its plans can be listed; what runs it is refused
 unfoldable pub outside_answer : Order → List Entries → Answer
 outside_answer order.Plans plans = of_few_plans plans (text_of (plan_lines 0 plans), false)
-outside_answer order.Run plans = Err outside_target
+outside_answer (order.Run form) plans = Err outside_target
+outside_answer order.Map plans = Err outside_target
 outside_answer (order.Try which) plans = Err outside_target
 outside_answer (order.Reduce which) plans = Err outside_target
+outside_answer (order.Explain which) plans = Err outside_target
 
 -- ---- by the settings
 

@@ -3,4 +3,5 @@ pub mod FaultLines
 pub mod Commands
 pub mod Ends
 pub mod Minimal
+pub mod OwnTarget
 pub mod Questions

@@ -10,10 +10,12 @@ use Rattle.campaign_main.specs.Commands.{campaign_for, taken}
 
 -- by what a campaign is given: of `run` the scenarios of the first failures, of `reduce` the one that it takes
 abbrev pub ReducesToMinimal : Order → Campaign → Type 0
-ReducesToMinimal order.Run c = EachIsMinimal c
+ReducesToMinimal (order.Run form) c = EachIsMinimal c
+ReducesToMinimal order.Map c = Unit {0}
 ReducesToMinimal order.Plans c = Unit {0}
 ReducesToMinimal (order.Try which) c = Unit {0}
 ReducesToMinimal (order.Reduce which) c = IfOk (taken c which) (λ t. IsReducedToMinimal c t.0 t.1)
+ReducesToMinimal (order.Explain which) c = Unit {0}
 
 -- by the text of the settings, where it gives settings and they choose a bundled target
 abbrev pub TextReducesToMinimal : Order → List ℕ → Type 0

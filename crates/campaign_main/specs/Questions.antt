@@ -6,6 +6,7 @@ use Rattle.scenario_values.specs.Scenario.{Entries}
 use Rattle.plan_gen.specs.PlanList.{most_plans}
 use Rattle.result_book.specs.Verdicts.{verdicts_from, numbered}
 use Rattle.result_book.specs.FirstFailures.{first_failures}
+use Rattle.report.specs.BriefText.{brief_lines}
 use Rattle.report.specs.ReportText.{report_lines, text_of}
 use Rattle.answer_text.specs.Answers.{Answer as Told, Says}
 use Rattle.answer_text.specs.FirstFault.{reading_of}
@@ -18,6 +19,8 @@ use Rattle.campaign_settings.specs.declared.keys.Key.TheVariants as key
 use Rattle.campaign_settings.specs.declared.keys.KeyFault.TheVariants as fault
 use Rattle.campaign_core.specs.Findings.{report_of}
 use Rattle.campaign_core.specs.declared.ending.CampaignFault.TheVariants as campaign
+use Rattle.command_words.specs.declared.words.Form.{Form}
+use Rattle.command_words.specs.declared.words.Form.TheVariants.{Whole, Brief}
 use Rattle.command_words.specs.declared.words.Question.{Question}
 use Rattle.command_words.specs.declared.words.Question.TheVariants.{Asks, Report}
 use Rattle.outside_campaign.specs.Outside.{Component, say}
@@ -67,10 +70,12 @@ untried_of s answers = untried (known_by s.1.codes answers) (outside_plans s.0 s
 abbrev pub asks_text : Subject → List ℕ → List ℕ
 asks_text s answers = text_of (lines_for (untried_of s answers))
 
--- the report of a component
-abbrev pub told_text : Subject → Component → List ℕ
-told_text s component = text_of (report_lines s.1.points (code_name s.1.codes)
+-- the report of a component, in a form
+abbrev pub told_text : Form → Subject → Component → List ℕ
+told_text Whole s component = text_of (report_lines s.1.points (code_name s.1.codes)
     (report_of (say component) s.1.label s.0.seed s.1.hits (outside_plans s.0 s.1)))
+told_text Brief s component = text_of (brief_lines s.1.points (code_name s.1.codes)
+    (report_of (say component) s.1.label s.0.seed s.1.hits (outside_plans s.0 s.1)) (outside_plans s.0 s.1))
 
 -- whether a plan fails
 abbrev pub is_found : Subject → Component → Bool
@@ -88,8 +93,8 @@ pub record IsAsked (s : Subject) (answers : List ℕ) (old new : Option (List �
   pub said : (all : List Told) × Says s.1.codes answers all
 
 -- the report was written that each component has which agrees with the answers, and some component does; nothing is still to be tried
-pub record IsReported (s : Subject) (answers : List ℕ) (old new : Option (List ℕ)) (failed found : Bool) : Type 0 where
-  pub text : (component : Component) → AgreesWithText s.1.codes answers component → Appends old new (told_text s component)
+pub record IsReported (form : Form) (s : Subject) (answers : List ℕ) (old new : Option (List ℕ)) (failed found : Bool) : Type 0 where
+  pub text : (component : Component) → AgreesWithText s.1.codes answers component → Appends old new (told_text form s component)
   pub first : (component : Component) → AgreesWithText s.1.codes answers component → found ≡ is_found s component
   pub some : (component : Component) × AgreesWithText s.1.codes answers component
   pub all : untried_of s answers ≡ []
@@ -98,13 +103,13 @@ pub record IsReported (s : Subject) (answers : List ℕ) (old new : Option (List
 
 abbrev pub IsAnswered : Question → Subject → List ℕ → Option (List ℕ) → Option (List ℕ) → Bool → Bool → Type 0
 IsAnswered Asks s answers old new failed found = IsAsked s answers old new failed found
-IsAnswered Report s answers old new failed found = IsReported s answers old new failed found
+IsAnswered (Report form) s answers old new failed found = IsReported form s answers old new failed found
 
 -- so many bytes of that text, and not all, were written before the sink failed
 abbrev pub IsPart : Question → Subject → List ℕ → Option (List ℕ) → Option (List ℕ) → Bool → ℕ → Type 0
 IsPart Asks s answers old new failed n = IsCut old new (asks_text s answers) n × (failed ≡ true)
-IsPart Report s answers old new failed n =
-    ((component : Component) → AgreesWithText s.1.codes answers component → IsCut old new (told_text s component) n) × (failed ≡ true)
+IsPart (Report form) s answers old new failed n =
+    ((component : Component) → AgreesWithText s.1.codes answers component → IsCut old new (told_text form s component) n) × (failed ≡ true)
 
 -- what an end says of the output
 abbrev pub EndsAnswered : Question → Subject → List ℕ → Exit → Option (List ℕ) → Option (List ℕ) → Bool → Type 0
@@ -130,7 +135,7 @@ EndsQuestion question (Err refusal) answers end old new failed = EndsUnanswered 
 -- a report waits for the first of what is still to be tried
 abbrev pub IsWaitedFor : Question → Subject → List ℕ → Entries → Type 0
 IsWaitedFor Asks s answers t = ⊥
-IsWaitedFor Report s answers t = (more : List Entries) × (untried_of s answers ≡ t ∷ more)
+IsWaitedFor (Report form) s answers t = (more : List Entries) × (untried_of s answers ≡ t ∷ more)
 
 -- why a question is refused, by the answers
 abbrev pub RefusesAnswers : Question → Subject → List ℕ → Refusal → Type 0

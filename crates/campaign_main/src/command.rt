@@ -1,24 +1,76 @@
 //! The commands over one target.
-ghost use Rattle.std.specs.Prelude.{◌≡◌, false, IfErr, IfOk, Ok, OnOk};
-ghost use Rattle.campaign_core.specs.CommandTexts.{IsReducedToMinimal};
-ghost use Rattle.campaign_core.specs.Headline.{campaign_on, EachIsMinimal};
-ghost use Rattle.campaign_main.specs.Commands.{order_answer, plans_answer, reduce_answer, run_answer, taken, taken_answer, try_answer};
+ghost use Rattle.std.specs.Prelude.{◌≡◌, ◌≤◌, false, length, option_map, IfErr, IfOk, Ok, OnOk};
+ghost use Rattle.std.specs.Io.KnownBytes.{Appends};
+ghost use Rattle.plan_gen.specs.PlanList.{most_plans};
+ghost use Rattle.campaign_core.specs.CommandTexts.{IsFault, IsReducedToMinimal};
+ghost use Rattle.campaign_core.specs.Headline.{campaign_on, first_failure, plans, EachIsMinimal};
+ghost use Rattle.campaign_main.specs.Commands.{explain_answer, map_answer, order_answer, plans_answer, reduce_answer, report_in, run_answer, taken, taken_answer, try_answer};
 ghost use Rattle.campaign_main.specs.Ends.{ComesTo, IsUntaken};
 ghost use Rattle.campaign_main.specs.Minimal.{ReducesToMinimal};
 
 use crate::exit::is_fail;
 use crate::fault::CommandFault;
-use campaign_core::{campaign, plan_list, plan_scenario, reduce_one, try_one};
+use campaign_core::{
+    CampaignFault, Ending, brief_campaign, campaign, map_campaign, plan_list, plan_scenario,
+    reduce_one, try_one,
+};
 use campaign_settings::Settings;
-use command_words::{Order, Which};
+use command_words::{Form, Order, Which};
+use run_explained::explain_one;
 use scenario_grammar::{Scenario, parse};
 use std::alloc::Global;
 use std::sync::Wait;
 use std::thread::Threads;
 use target_trait::{FreeGate, Sink, Target};
 
-/// Runs a campaign, and writes its report.
+/// Runs a campaign, and writes its report in this form.
+fn report_plans<T: Target + Send, W: Sink, H: Threads + Wait + Sync>(
+    rt: &H,
+    alloc: Global,
+    target: &T,
+    workload: &T::Workload,
+    settings: &Settings,
+    form: Form,
+    output: &mut W,
+) -> Result<Ending, CampaignFault>
+where
+    T::Workload: Sync,
+    requires { W.has_failed output.old ≡ false }
+    ensures text { IfOk result (λ _. Appends (W.told output.old) (W.told output.new) (report_in form (campaign_on T.Target target.now workload.now settings.now))) }
+    ensures first { IfOk result (λ ending. ending.first ≡ option_map (λ f. f.0) (first_failure (campaign_on T.Target target.now workload.now settings.now))) }
+    ensures minimal { OnOk result (EachIsMinimal (campaign_on T.Target target.now workload.now settings.now)) }
+    ensures few { OnOk result (length (plans (campaign_on T.Target target.now workload.now settings.now)) ≤ most_plans) }
+    ensures sound { OnOk result (W.has_failed output.new ≡ false) }
+    ensures fault { IfErr result (let c = campaign_on T.Target target.now workload.now settings.now in IsFault c (report_in form c) (W.told output.old) (W.told output.new) (W.has_failed output.new)) }
+{
+    match form {
+        Form::Whole => campaign(rt, alloc, target, workload, settings, &FreeGate, output),
+        Form::Brief => brief_campaign(rt, alloc, target, workload, settings, &FreeGate, output),
+    }
+}
+
+/// Runs a campaign, writes its report in this form, and answers whether a plan fails.
 fn run_plans<T: Target + Send, W: Sink, H: Threads + Wait + Sync>(
+    rt: &H,
+    alloc: Global,
+    target: &T,
+    workload: &T::Workload,
+    settings: &Settings,
+    form: Form,
+    output: &mut W,
+) -> Result<bool, CommandFault>
+where
+    T::Workload: Sync,
+    requires { W.has_failed output.old ≡ false }
+    ensures text { ComesTo (run_answer form (campaign_on T.Target target.now workload.now settings.now)) (W.told output.old) (W.told output.new) (W.has_failed output.new) result }
+    ensures minimal { OnOk result (EachIsMinimal (campaign_on T.Target target.now workload.now settings.now)) }
+{
+    let ending = report_plans(rt, alloc, target, workload, settings, form, output)?;
+    Ok(ending.first.is_some())
+}
+
+/// Runs a campaign, and writes its map.
+fn map_plans<T: Target + Send, W: Sink, H: Threads + Wait + Sync>(
     rt: &H,
     alloc: Global,
     target: &T,
@@ -29,10 +81,9 @@ fn run_plans<T: Target + Send, W: Sink, H: Threads + Wait + Sync>(
 where
     T::Workload: Sync,
     requires { W.has_failed output.old ≡ false }
-    ensures text { ComesTo (run_answer (campaign_on T.Target target.now workload.now settings.now)) (W.told output.old) (W.told output.new) (W.has_failed output.new) result }
-    ensures minimal { OnOk result (EachIsMinimal (campaign_on T.Target target.now workload.now settings.now)) }
+    ensures { ComesTo (map_answer (campaign_on T.Target target.now workload.now settings.now)) (W.told output.old) (W.told output.new) (W.has_failed output.new) result }
 {
-    let ending = campaign(rt, alloc, target, workload, settings, &FreeGate, output)?;
+    let ending = map_campaign(rt, alloc, target, workload, settings, &FreeGate, output)?;
     Ok(ending.first.is_some())
 }
 
@@ -96,6 +147,28 @@ fn try_which<T: Target, W: Sink>(
     Ok(is_fail(verdict))
 }
 
+/// Tells the run of the scenario that the command takes.
+fn explain_which<T: Target, W: Sink>(
+    alloc: Global,
+    target: &mut T,
+    workload: &T::Workload,
+    settings: &Settings,
+    which: &Which,
+    output: &mut W,
+) -> Result<bool, CommandFault>
+    requires { W.has_failed output.old ≡ false }
+    ensures { let c = campaign_on T.Target target.old workload.now settings.now in
+        ComesTo (taken_answer (explain_answer c) (taken c which.now)) (W.told output.old) (W.told output.new) (W.has_failed output.new) result }
+{
+    let (stream, scenario) = take_scenario(alloc, target, workload, settings, which)?;
+    let seed = settings.seed;
+    let max_hits = settings.max_hits;
+    let verdict = explain_one(
+        alloc, target, workload, seed, stream, max_hits, &scenario, output,
+    )?;
+    Ok(is_fail(verdict))
+}
+
 /// Reduces the scenario that the command takes.
 fn reduce_which<T: Target + Send, W: Sink, H: Threads + Wait + Sync>(
     rt: &H,
@@ -142,9 +215,11 @@ where
     ensures minimal { OnOk result (ReducesToMinimal order.now (campaign_on T.Target target.old workload.now settings.now)) }
 {
     match order {
-        Order::Run => run_plans(rt, alloc, target, workload, settings, output),
+        Order::Run(form) => run_plans(rt, alloc, target, workload, settings, *form, output),
+        Order::Map => map_plans(rt, alloc, target, workload, settings, output),
         Order::Plans => list_plans(alloc, target, workload, settings, output),
         Order::Try(which) => try_which(alloc, target, workload, settings, which, output),
         Order::Reduce(which) => reduce_which(rt, alloc, target, workload, settings, which, output),
+        Order::Explain(which) => explain_which(alloc, target, workload, settings, which, output),
     }
 }

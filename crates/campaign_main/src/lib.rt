@@ -9,6 +9,7 @@ mod fault;
 mod input;
 mod lines;
 mod outside;
+mod own;
 mod performing;
 mod questions;
 mod refusals;
@@ -19,12 +20,13 @@ pub use campaign_core::{
 pub use campaign_settings::{
     Choice, Key, LIMIT, Outside, Place, Settings, SettingsFault, TargetName,
 };
-pub use command_words::{Line, Order, Question, VERSION, Which, WordsFault, read_words};
+pub use command_words::{Form, Line, Order, Question, VERSION, Which, WordsFault, read_words};
 pub use commit_target::{Transactions, Variant as CommitVariant, Vote, Votes};
 pub use exit::{Exit, status};
 pub use file_replace::{Chunks, Replacements, Variant as ReplaceVariant};
 pub use input::{ReadFault, read_all};
 pub use maildir_target::{Messages, Variant as MaildirVariant};
+pub use own::perform_target;
 pub use performing::perform;
 pub use questions::perform_outside;
 pub use refusals::{refuse_words, unreadable_settings, unreadable_words};

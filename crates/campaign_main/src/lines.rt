@@ -17,6 +17,7 @@ use outside_campaign::OutsideFault;
 use report::{WriteFault, write_report, write_scenario};
 use scenario_grammar::{Scenario, ScenarioFault};
 use std::alloc::{AllocError, Global};
+use target_laws::BrokenLaw;
 use target_trait::Sink;
 
 /// Writes a line, or as much of it as the sink takes.
@@ -45,6 +46,13 @@ pub fn no_memory<E: Sink>(faults: &mut E) -> Exit
 {
     tell(b"no memory\n", faults);
     Exit::Memory
+}
+
+/// Ends as refused with the line of a law that the target breaks.
+pub fn unlawful<E: Sink>(alloc: Global, law: BrokenLaw, faults: &mut E) -> Exit
+    requires { E.has_failed faults.old ≡ false }
+{
+    refused_by(format!(in alloc; "target: {law}\n"), faults)
 }
 
 /// Ends as refused with a line, or for want of the memory that it takes.

@@ -39,6 +39,8 @@ pub fn outside_command<W: Sink>(
 {
     match order {
         Order::Plans => list(alloc, outside, settings, output),
-        Order::Run | Order::Try(_) | Order::Reduce(_) => Err(CommandFault::Outside),
+        Order::Run(_) | Order::Map | Order::Try(_) | Order::Reduce(_) | Order::Explain(_) => Err(
+            CommandFault::Outside,
+        ),
     }
 }

@@ -9,8 +9,8 @@ use crate::input::{read_all, read_bytes};
 use crate::lines::{bundled, unread, unread_answers, unset, untold};
 use answer_text::LIMIT;
 use campaign_settings::{Choice, Key, Outside, Settings, SettingsFault};
-use command_words::Question;
-use outside_campaign::{OutsideFault, write_asks, write_told};
+use command_words::{Form, Question};
+use outside_campaign::{OutsideFault, write_asks, write_brief, write_told};
 use std::alloc::Global;
 use std::io::Read;
 use target_trait::Sink;
@@ -39,10 +39,25 @@ fn write_reported<W: Sink>(
     output: &mut W,
 ) -> Result<bool, OutsideFault>
     requires { W.has_failed output.old ≡ false }
-    ensures { ComesToText Question.Report (given_of settings.now, outside.now) answers.now (W.told output.old) (W.told output.new) (W.has_failed output.new) result }
+    ensures { ComesToText (Question.Report Form.Whole) (given_of settings.now, outside.now) answers.now (W.told output.old) (W.told output.new) (W.has_failed output.new) result }
 {
     let ending = write_told(alloc, outside, settings, answers, output)?;
     Ok(ending.first.is_some())
+}
+
+/// Writes the brief report, and answers whether a plan fails.
+fn write_brief_reported<W: Sink>(
+    alloc: Global,
+    outside: &Outside,
+    settings: &Settings,
+    answers: &[u8],
+    output: &mut W,
+) -> Result<bool, OutsideFault>
+    requires { W.has_failed output.old ≡ false }
+    ensures { ComesToText (Question.Report Form.Brief) (given_of settings.now, outside.now) answers.now (W.told output.old) (W.told output.new) (W.has_failed output.new) result }
+{
+    let told = write_brief(alloc, outside, settings, answers, output)?;
+    Ok(told.first.is_some())
 }
 
 /// Writes the text that answers a question, and answers whether a verdict in it is fail.
@@ -59,7 +74,10 @@ fn write_answer<W: Sink>(
 {
     match question {
         Question::Asks => write_asked(alloc, outside, settings, answers, output),
-        Question::Report => write_reported(alloc, outside, settings, answers, output),
+        Question::Report(Form::Whole) => write_reported(alloc, outside, settings, answers, output),
+        Question::Report(Form::Brief) => {
+            write_brief_reported(alloc, outside, settings, answers, output)
+        }
     }
 }
 

@@ -1,4 +1,4 @@
-use Rattle.std.proofs.Common.{◌≡◌, ◌<◌, ◌+◌, ◌++◌, ℕ, drop, get_or, length, subst, List, [], ◌∷◌, Option, Some, None, String, Global, Ok, Err, ap, ◌∙◌, cond, find, not, option_map, refl, string_bytes, sym, true, false, if◌then◌else◌}
+use Rattle.std.proofs.Common.{◌≡◌, ◌<◌, ◌+◌, ◌++◌, ℕ, drop, get_or, length, subst, List, [], ◌∷◌, Option, Some, None, String, Global, Ok, Err, IfErr, IsErrAnd, Result, ap, ◌∙◌, cond, find, not, option_map, refl, string_bytes, sym, true, false, if◌then◌else◌}
 use Rattle.std.proofs.lemmas.List.{append_assoc, drop_more}
 use Rattle.std.specs.Cmp.Lexicographic.{slice_cmp}
 use Rattle.std.specs.List.{AllByRecursion}
@@ -105,3 +105,8 @@ spelled-bad ss n ts i d all fault h bad e =
     let Refuses : Read (List Entries) → Type 0 = λ r. RefusedBy r fault in
     let here : RefusedBy (glued ss (spelled_from n (get_or ts i d ∷ drop (i + 1) ts))) fault = refused-glued ss _ fault (refused-after _ _ fault bad) in
     subst Refuses (ap (λ rest. glued ss (spelled_from n rest)) (sym (drop_more ts i d h)) ∙ e) here
+
+-- a refusal that is passed up
+pub refused-up : {X : Type 0} (read : Read X) {Y : Type 0} (result : Result Y SettingsFault) (fault : SettingsFault) → IsErrAnd result (λ f. f ≡ fault) → RefusedBy read fault → IfErr result (RefusedBy read)
+refused-up read (Ok y) fault is by = tt
+refused-up read (Err f) fault is by = subst (RefusedBy read) (sym is) by

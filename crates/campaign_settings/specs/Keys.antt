@@ -5,7 +5,7 @@ use Rattle.std.specs.Str.{bytes_eq}
 use Rattle.campaign_settings.specs.declared.keys.Key.{Key}
 use Rattle.campaign_settings.specs.declared.keys.Key.TheVariants as key
 use Rattle.campaign_settings.specs.declared.keys.Place.{Place}
-use Rattle.campaign_settings.specs.declared.keys.Place.TheVariants.{Top, Within}
+use Rattle.campaign_settings.specs.declared.keys.Place.TheVariants.{Top, Own, Within}
 use Rattle.campaign_settings.specs.declared.keys.TargetName.{TargetName}
 use Rattle.campaign_settings.specs.declared.keys.TargetName.TheVariants.{Replace, Maildir, Commit, Outside}
 
@@ -49,6 +49,11 @@ is_shared_key name = list_any (bytes_eq name) (codes "target" ∷ codes "seed" �
 abbrev pub is_bundled_key : Text → Bool
 is_bundled_key name = list_any (bytes_eq name) (codes "variant" ∷ codes "workers" ∷ codes "max_hits" ∷ [])
 
+-- the keys of a program with a target of its own
+abbrev pub is_own_key : Text → Bool
+is_own_key name = list_any (bytes_eq name) (codes "seed" ∷ codes "workers" ∷ codes "max_hits" ∷ codes "pairs" ∷ codes "storms"
+    ∷ codes "rate" ∷ codes "scenarios" ∷ [])
+
 abbrev pub is_key_of : TargetName → Text → Bool
 is_key_of Outside name = is_shared_key name
 is_key_of target name = is_shared_key name || is_bundled_key name
@@ -57,6 +62,7 @@ is_key_of target name = is_shared_key name || is_bundled_key name
 abbrev pub is_known : Place → Text → Bool
 is_known (Top None) name = is_shared_key name || is_bundled_key name
 is_known (Top (Some target)) name = is_key_of target name || bytes_eq name (target_name target)
+is_known Own name = is_own_key name
 is_known (Within Replace) name = list_any (bytes_eq name) (codes "old" ∷ codes "replacements" ∷ [])
 is_known (Within Maildir) name = list_any (bytes_eq name) (codes "messages" ∷ [])
 is_known (Within Commit) name = list_any (bytes_eq name) (codes "participants" ∷ codes "transactions" ∷ [])
@@ -65,4 +71,5 @@ is_known (Within Outside) name = list_any (bytes_eq name) (codes "label" ∷ cod
 -- a key of a table, with the table in front
 abbrev pub full_name : Place → Text → Text
 full_name (Top target) name = name
+full_name Own name = name
 full_name (Within target) name = target_name target ++ codes "." ++ name

@@ -4,4 +4,5 @@ pub mod Lists
 pub mod Description
 pub mod Outside
 pub mod Settings
+pub mod Own
 pub mod Lines

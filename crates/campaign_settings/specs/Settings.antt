@@ -1,5 +1,5 @@
 -- What the settings' text means: one definition, with the order in which its faults are looked for.
-use Rattle.std.specs.Prelude.{◌≡◌, ◌+◌, ◌≤◌, ℕ, Bool, List, [], ◌∷◌, length, Option, Some, None, Result, Ok, Err, codes, nat_lt, string_bytes, if◌then◌else◌}
+use Rattle.std.specs.Prelude.{◌≡◌, ◌+◌, ◌≤◌, ℕ, Bool, false, List, [], ◌∷◌, length, Option, Some, None, Result, Ok, Err, codes, nat_lt, string_bytes, if◌then◌else◌}
 use Rattle.std.specs.Cmp.Lexicographic.{slice_cmp}
 use Rattle.std.specs.List.{list_all}
 use Rattle.std.specs.Ordering.{match_ordering, nat_cmp}
@@ -43,6 +43,19 @@ pub record Given : Type 0 where
   pub storms : ℕ
   pub rate : ℕ
   pub scenarios : List Entries
+
+-- what holds where nothing else is given
+abbrev pub defaults : Given
+defaults = record {
+  choice = None;
+  seed = 0;
+  workers = 1;
+  max_hits = 1000;
+  pairs = false;
+  storms = 0;
+  rate = 100;
+  scenarios = [];
+}
 
 pub data Cause : Type 0 where
   too_long : Cause
@@ -109,10 +122,12 @@ allowed_for setup.Outside scenarios =
     if list_all can_be_handed scenarios then Ok scenarios else Err (wrong key.Scenarios fault.OutOfRange)
 allowed_for s scenarios = Ok scenarios
 
+-- those that are listed
+abbrev pub spelled_at : Option Data → Read (List Entries)
+spelled_at o = after (keyed key.Scenarios (texts_at 1000 o)) (spelled_from 0)
+
 abbrev pub scenarios_at : Setup → Option Data → Read (List Entries)
-scenarios_at s o =
-    after (keyed key.Scenarios (texts_at 1000 o)) (λ texts.
-    after (spelled_from 0 texts) (allowed_for s))
+scenarios_at s o = after (spelled_at o) (allowed_for s)
 
 -- ---- a target's table
 
@@ -160,17 +175,17 @@ choice_in t s ms =
 -- how runs are made. Of a target from outside `workers` and `max_hits` are unknown keys: they are 1 and 1000 then, and mean nothing.
 abbrev pub running_in : Members → Read Running
 running_in ms =
-    after (keyed key.Seed (number_at (Ok 0) 0 9223372036854775807 (get_member (codes "seed") ms))) (λ seed.
-    after (keyed key.Workers (number_at (Ok 1) 1 64 (get_member (codes "workers") ms))) (λ workers.
-    after (keyed key.MaxHits (number_at (Ok 1000) 1 100000 (get_member (codes "max_hits") ms))) (λ max_hits.
+    after (keyed key.Seed (number_at (Ok defaults.seed) 0 9223372036854775807 (get_member (codes "seed") ms))) (λ seed.
+    after (keyed key.Workers (number_at (Ok defaults.workers) 1 64 (get_member (codes "workers") ms))) (λ workers.
+    after (keyed key.MaxHits (number_at (Ok defaults.max_hits) 1 100000 (get_member (codes "max_hits") ms))) (λ max_hits.
     Ok (record { seed = seed; workers = workers; max_hits = max_hits }))))
 
 -- which plans are made, besides those of one fault
 abbrev pub planning_in : Members → Read Planning
 planning_in ms =
-    after (keyed key.Pairs (boolean_at (get_member (codes "pairs") ms))) (λ pairs.
-    after (keyed key.Storms (number_at (Ok 0) 0 10000 (get_member (codes "storms") ms))) (λ storms.
-    after (keyed key.Rate (number_at (Ok 100) 0 1000 (get_member (codes "rate") ms))) (λ rate.
+    after (keyed key.Pairs (boolean_at defaults.pairs (get_member (codes "pairs") ms))) (λ pairs.
+    after (keyed key.Storms (number_at (Ok defaults.storms) 0 10000 (get_member (codes "storms") ms))) (λ storms.
+    after (keyed key.Rate (number_at (Ok defaults.rate) 0 1000 (get_member (codes "rate") ms))) (λ rate.
     Ok (record { pairs = pairs; storms = storms; rate = rate }))))
 
 -- the ranges of these numbers
@@ -212,13 +227,17 @@ settings_in ms =
     after (known_in (top_of (target_at (get_member (codes "target") ms))) ms) (λ _.
     after (keyed key.Target (target_at (get_member (codes "target") ms))) (λ t. settings_for t ms))
 
-abbrev pub settings_from : Option Members → Read Given
-settings_from None = Err not_toml
-settings_from (Some ms) = settings_in ms
+-- what a text of TOML means, by what its members do
+abbrev pub of_members : (Members → Read Given) → Option Members → Read Given
+of_members meaning None = Err not_toml
+of_members meaning (Some ms) = meaning ms
+
+abbrev pub of_toml : (Members → Read Given) → Text → Read Given
+of_toml meaning text = if nat_lt 1048576 (length text) then Err too_long else of_members meaning (parse_document text)
 
 -- a text's settings, or its first fault
 abbrev pub settings_of : Text → Read Given
-settings_of text = if nat_lt 1048576 (length text) then Err too_long else settings_from (parse_document text)
+settings_of text = of_toml settings_in text
 
 -- ---- what the program has
 

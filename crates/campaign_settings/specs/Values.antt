@@ -1,5 +1,5 @@
 -- What the value at one key means, by its kind and range.
-use Rattle.std.specs.Prelude.{◌&&◌, ℕ, ℤ, pos, negsuc, Bool, false, List, [], length, Option, Some, None, Result, Ok, Err, codes, nat_le, if◌then◌else◌}
+use Rattle.std.specs.Prelude.{◌&&◌, ℕ, ℤ, pos, negsuc, Bool, List, [], length, Option, Some, None, Result, Ok, Err, codes, nat_le, if◌then◌else◌}
 use Rattle.std.specs.Option.{option_map_or}
 use Rattle.std.specs.Str.{bytes_eq}
 use Rattle.toml.specs.Data.{Data, Members, as_array, as_bool, as_integer, as_str, as_table}
@@ -31,9 +31,9 @@ abbrev pub number_at : Result ℕ KeyFault → ℕ → ℕ → Option Data → R
 number_at missing low high None = missing
 number_at missing low high (Some d) = typed (in_range low high) (as_integer d)
 
-abbrev pub boolean_at : Option Data → Result Bool KeyFault
-boolean_at None = Ok false
-boolean_at (Some d) = typed (λ b. Ok b) (as_bool d)
+abbrev pub boolean_at : Bool → Option Data → Result Bool KeyFault
+boolean_at missing None = Ok missing
+boolean_at missing (Some d) = typed (λ b. Ok b) (as_bool d)
 
 -- one of the targets
 abbrev pub target_named : Text → Result TargetName KeyFault

@@ -2,7 +2,7 @@
 ghost use Rattle.std.specs.Prelude.{◌≡◌, Some};
 ghost use Rattle.std.specs.List.{list_any};
 ghost use Rattle.std.specs.Str.{bytes_eq};
-ghost use Rattle.campaign_settings.specs.Keys.{is_bundled_key, is_key_of, is_known, is_shared_key, key_name, target_name};
+ghost use Rattle.campaign_settings.specs.Keys.{is_bundled_key, is_key_of, is_known, is_own_key, is_shared_key, key_name, target_name};
 ghost use Rattle.campaign_settings.specs.declared.keys.Place.TheVariants.{Within};
 
 use std::fmt;
@@ -48,10 +48,12 @@ pub enum TargetName {
     Outside,
 }
 
-/// A table of the settings: the whole, with the target that it names, or the table of a target.
+/// A table of the settings: the whole, with the target that it names, or that of a program with a target of its own; or the table of a
+/// target.
 #[derive(Clone, Copy, Debug)]
 pub enum Place {
     Top(Option<TargetName>),
+    Own,
     Within(TargetName),
 }
 
@@ -122,6 +124,7 @@ impl Place {
         match self {
             Place::Top(None) => is_shared_key(name) || is_bundled_key(name),
             Place::Top(Some(target)) => is_key_of(target, name) || name == target.name(),
+            Place::Own => is_own_key(name),
             Place::Within(target) => is_key_within(target, name),
         }
     }
@@ -146,6 +149,23 @@ fn is_bundled_key(name: &str) -> bool
     ensures { result ≡ is_bundled_key name.now }
 {
     stands_in(name, &["variant", "workers", "max_hits"])
+}
+
+fn is_own_key(name: &str) -> bool
+    ensures { result ≡ is_own_key name.now }
+{
+    stands_in(
+        name,
+        &[
+            "seed",
+            "workers",
+            "max_hits",
+            "pairs",
+            "storms",
+            "rate",
+            "scenarios",
+        ],
+    )
 }
 
 fn is_key_of(target: TargetName, name: &str) -> bool

@@ -2,6 +2,7 @@
 #![tactic(auto)]
 
 mod choice;
+mod defaults;
 mod described;
 mod fault;
 mod keys;

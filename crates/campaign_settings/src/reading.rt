@@ -1,12 +1,14 @@
 //! Settings read from TOML text.
 ghost use Rattle.std.specs.Prelude.{◌≡◌, Ok, IfOk, IfErr};
+ghost use Rattle.toml.specs.Data.{Members};
 ghost use Rattle.toml.specs.View.{table_view};
-ghost use Rattle.campaign_settings.specs.Settings.{RefusedBy, given_of, settings_for, settings_in, settings_of};
+ghost use Rattle.campaign_settings.specs.Settings.{Given, Read, RefusedBy, given_of, of_toml, settings_for, settings_in, settings_of};
+ghost use Rattle.campaign_settings.specs.Own.{own_settings_in, own_settings_of};
 
 use crate::fault::SettingsFault;
 use crate::keys::{Key, Place, TargetName};
 use crate::numbers::{read_planning, read_running};
-use crate::scenarios::read_scenarios;
+use crate::scenarios::{read_listed, read_scenarios};
 use crate::settings::Settings;
 use crate::tables::{keyed, read_choice, refuse_unknown};
 use crate::values::{read_setup, read_target, value_at};
@@ -24,14 +26,34 @@ impl Settings {
         ensures ok { IfOk result (λ settings. settings_of text.now ≡ Ok (given_of settings)) }
         ensures refused { IfErr result (RefusedBy (settings_of text.now)) }
     {
-        if text.len() > LIMIT {
-            return Err(SettingsFault::TooLong);
-        }
-        match toml::table_from_str(alloc, text) {
-            Ok(table) => read_members(alloc, &table),
-            Err(error) if error.is_memory() => Err(SettingsFault::Memory),
-            Err(_) => Err(SettingsFault::NotToml),
-        }
+        let table = read_toml(alloc, text)?;
+        read_members(alloc, &table)
+    }
+
+    /// The settings that a text of TOML gives to a program that brings its own target; `choice` is then `None`, and the keys are those of
+    /// a bundled target but `target`, `variant` and the target's table. `Err` is the first fault of the text, in this order: too long, no
+    /// TOML, an unknown key, each key as [`Key`] lists them; or that memory ran out.
+    pub fn read_own(alloc: Global, text: &str) -> Result<Settings, SettingsFault>
+        ensures ok { IfOk result (λ settings. own_settings_of text.now ≡ Ok (given_of settings)) }
+        ensures refused { IfErr result (RefusedBy (own_settings_of text.now)) }
+    {
+        let table = read_toml(alloc, text)?;
+        read_own_members(alloc, &table)
+    }
+}
+
+// The table of a text.
+fn read_toml(alloc: Global, text: &str) -> Result<Table, SettingsFault>
+    ensures ok { (meaning : Members → Read Given) → IfOk result (λ table. of_toml meaning text.now ≡ meaning (table_view table)) }
+    ensures refused { (meaning : Members → Read Given) → IfErr result (RefusedBy (of_toml meaning text.now)) }
+{
+    if text.len() > LIMIT {
+        return Err(SettingsFault::TooLong);
+    }
+    match toml::table_from_str(alloc, text) {
+        Ok(table) => Ok(table),
+        Err(error) if error.is_memory() => Err(SettingsFault::Memory),
+        Err(_) => Err(SettingsFault::NotToml),
     }
 }
 
@@ -43,6 +65,26 @@ fn read_members(alloc: Global, table: &Table) -> Result<Settings, SettingsFault>
     refuse_unknown(alloc, Place::Top(target.ok()), table)?;
     let target = keyed(Key::Target, target)?;
     read_for(alloc, target, table)
+}
+
+fn read_own_members(alloc: Global, table: &Table) -> Result<Settings, SettingsFault>
+    ensures ok { IfOk result (λ settings. own_settings_in (table_view table.now) ≡ Ok (given_of settings)) }
+    ensures refused { IfErr result (RefusedBy (own_settings_in (table_view table.now))) }
+{
+    refuse_unknown(alloc, Place::Own, table)?;
+    let running = read_running(table)?;
+    let planning = read_planning(table)?;
+    let scenarios = read_listed(alloc, value_at(table, "scenarios"))?;
+    Ok(Settings {
+        choice: None,
+        seed: running.seed,
+        workers: running.workers,
+        max_hits: running.max_hits,
+        pairs: planning.pairs,
+        storms: planning.storms,
+        rate: planning.rate,
+        scenarios,
+    })
 }
 
 // The settings of this target.

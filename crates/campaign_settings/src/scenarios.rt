@@ -3,7 +3,7 @@ ghost use Rattle.std.specs.Prelude.{◌≡◌, ◌≤◌, Ok, IfOk, IfErr, OnOk,
 ghost use Rattle.std.specs.List.{list_all};
 ghost use Rattle.toml.specs.View.{view};
 ghost use Rattle.campaign_settings.specs.Outside.{are_certain, can_be_handed, is_certain};
-ghost use Rattle.campaign_settings.specs.Settings.{RefusedBy, allowed_for, listed_as, scenarios_at, spelled_from};
+ghost use Rattle.campaign_settings.specs.Settings.{RefusedBy, allowed_for, listed_as, scenarios_at, spelled_at, spelled_from};
 ghost use Rattle.scenario_grammar.specs.FirstFault.{reading};
 
 use crate::choice::Setup;
@@ -25,10 +25,19 @@ pub fn read_scenarios(
     ensures few { IfOk result (λ scenarios. length scenarios.items ≤ 1000) }
     ensures refused { IfErr result (RefusedBy (scenarios_at setup (option_map (λ v. view v.now) value.entry))) }
 {
-    let texts = read_texts(alloc, Key::Scenarios, 1000, value)?;
-    let scenarios = parse_all(alloc, texts.as_slice())?;
+    let scenarios = read_listed(alloc, value)?;
     refuse_unfit(alloc, setup, scenarios.as_slice())?;
     Ok(scenarios)
+}
+
+// The scenarios at a key.
+pub fn read_listed(alloc: Global, value: Option<&Value>) -> Result<Vec<Scenario>, SettingsFault>
+    ensures ok { IfOk result (λ scenarios. spelled_at (option_map (λ v. view v.now) value.entry) ≡ Ok scenarios.items) }
+    ensures few { IfOk result (λ scenarios. length scenarios.items ≤ 1000) }
+    ensures refused { IfErr result (RefusedBy (spelled_at (option_map (λ v. view v.now) value.entry))) }
+{
+    let texts = read_texts(alloc, Key::Scenarios, 1000, value)?;
+    parse_all(alloc, texts.as_slice())
 }
 
 // What a text spells, listed under this number.

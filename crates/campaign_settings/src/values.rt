@@ -56,11 +56,11 @@ pub fn read_number(
     }
 }
 
-pub fn read_boolean(value: Option<&Value>) -> Result<bool, KeyFault>
-    ensures { result ≡ boolean_at (option_map (λ v. view v.now) value.entry) }
+pub fn read_boolean(value: Option<&Value>, missing: bool) -> Result<bool, KeyFault>
+    ensures { result ≡ boolean_at missing (option_map (λ v. view v.now) value.entry) }
 {
     let Some(value) = value else {
-        return Ok(false);
+        return Ok(missing);
     };
     match value.as_bool() {
         Some(flag) => Ok(flag),

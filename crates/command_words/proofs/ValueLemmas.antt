@@ -16,7 +16,7 @@ use Rattle.clap.specs.Kinds.{Kinds, or_else, range_kinds}
 use Rattle.clap.specs.Faults.{action_fault, bundle_step_fault, flag_word_fault, flags_fault, level_fault, long_fault, option_fault, other_fault, positional_fault, react_fault, settle_fault, short_fault, step_fault, stray_fault, turn_fault, use_fault, walk_fault, word_fault}
 use Rattle.clap.specs.declared.error.kind.ErrorKind.TheVariants.{InvalidValue, TooManyValues}
 use Rattle.clap.specs.declared.builder.action.ArgAction.{ArgAction}
-use Rattle.clap.specs.declared.builder.action.ArgAction.TheVariants.{Set, Help}
+use Rattle.clap.specs.declared.builder.action.ArgAction.TheVariants.{Set, SetTrue, Help}
 use Rattle.clap.specs.declared.parser.matches.ValueSource.{ValueSource}
 use Rattle.clap.specs.declared.builder.value_parser.Reading.{Reading}
 
@@ -55,19 +55,26 @@ one_wanted least most one none =
     let refused : InvalidValue ∷ [] ≡ [] = rw positive at none in
     cc
 
--- the rule takes a value at least, or is a call for help
+-- the rule takes a value at least, or one stands for it where it was used with none, or it is a call for help
 abbrev fills : ArgAction → Rule → Bool
 fills Set a = nat_le 1 (unwrap_or_range a.range).start_inclusive
+fills SetTrue a = has_some a.missing
 fills Help a = true
 fills _ a = false
 
 abbrev pub is_filled : Rule → Bool
 is_filled a = fills (action_of a) a
 
+set-has : (a : Rule) (values : List Text) (rows : List Row) → has_some values ≡ true → all_have rows ≡ true → all_have (used_as SetTrue a.id (reading_by a) values rows) ≡ true
+set-has a [] rows f h = absurd (false≢true f)
+set-has a (v ∷ vs) rows f h = all_have-with_values a.id (reading_by a) _ v vs _ (all_have-without a.id rows h)
+
 used-has : (x : ArgAction) (a : Rule) (most : ℕ) (values : List Text) (rows : List Row) → fills x a ≡ true → range_kinds (unwrap_or_range a.range).start_inclusive most (length values) ≡ [] → all_have rows ≡ true
     → all_have (used_as x a.id (reading_by a) (values_or_missing a values) rows) ≡ true
 used-has Set a most [] rows f p h = absurd (one_wanted (unwrap_or_range a.range).start_inclusive most f p)
 used-has Set a most (v ∷ vs) rows f p h = all_have-with_values a.id (reading_by a) _ v vs _ (all_have-without a.id rows h)
+used-has SetTrue a most [] rows f p h = set-has a a.missing rows f h
+used-has SetTrue a most (v ∷ vs) rows f p h = all_have-with_values a.id (reading_by a) _ v vs _ (all_have-without a.id rows h)
 used-has Help a most values rows f p h = h
 used-has _ a most values rows f p h = absurd (false≢true f)
 

@@ -72,25 +72,15 @@ entered-name None name rows n e = cc
 entered-name (Some p) name rows n e =
     elim (entered-named (λ s. answers_to p.0 (label_of s)) (built paklour).subs p.1 name rows e) [
       | inl run ↦ inl (inl (inl run.0))
-      | inr a ↦ elim a [
-        | inl plans ↦ inl (inl (inr plans.0))
-        | inr b ↦ elim b [
-          | inl try ↦ inl (inr (inl try.0))
-          | inr c ↦ elim c [
-            | inl reduce ↦ inl (inr (inr reduce.0))
-            | inr d ↦ elim d [
-              | inl asks ↦ inr (inl asks.0)
-              | inr e ↦ elim e [
-                | inl report ↦ inr (inr report.0)
-                | inr f ↦ elim f [
-                  | inl help ↦ absurd (help-only p.0 n help.1)
-                  | inr none ↦ absurd none
-                ]
-              ]
-            ]
-          ]
-        ]
-      ]
+      | inr (inl plans) ↦ inl (inl (inr (inl plans.0)))
+      | inr (inr (inl map)) ↦ inl (inl (inr (inr map.0)))
+      | inr (inr (inr (inl try))) ↦ inl (inr (inl try.0))
+      | inr (inr (inr (inr (inl reduce)))) ↦ inl (inr (inr (inl reduce.0)))
+      | inr (inr (inr (inr (inr (inl explain))))) ↦ inl (inr (inr (inr explain.0)))
+      | inr (inr (inr (inr (inr (inr (inl asks)))))) ↦ inr (inl asks.0)
+      | inr (inr (inr (inr (inr (inr (inr (inl report))))))) ↦ inr (inr report.0)
+      | inr (inr (inr (inr (inr (inr (inr (inr (inl help)))))))) ↦ absurd (help-only p.0 n help.1)
+      | inr (inr (inr (inr (inr (inr (inr (inr (inr none)))))))) ↦ absurd none
     ]
 
 -- the subcommand's name and its rows
@@ -135,7 +125,7 @@ name-entered words name rows none e =
 -- a parse's values are those among its rows
 values-rows : (f : Found) → values_of f ≡ values_in (rows_of f)
 values-rows f =
-    rw (first_value-rows f (codes "scenario"), first_value-rows f (codes "plan"), first_value-rows f (codes "file")) refl
+    rw (first_value-rows f (codes "scenario"), first_value-rows f (codes "plan"), first_value-rows f (codes "brief"), first_value-rows f (codes "file")) refl
 
 pub line-read : (o : Option (Text × List Row)) (name : Text) (f : Found) (line : Line) → o ≡ Some (name, rows_of f) → IsLineOf name (values_of f) line → IsLine o line
 line-read o name f line e h =
@@ -194,25 +184,15 @@ needed-at None name rows e t = cc
 needed-at (Some p) name rows e t =
     elim (passed-in (λ s. answers_to p.0 (label_of s)) (built paklour).subs p.1 name rows e t) [
       | inl run ↦ not-needed (codes "run") run.0 refl
-      | inr a ↦ elim a [
-        | inl plans ↦ not-needed (codes "plans") plans.0 refl
-        | inr b ↦ elim b [
-          | inl try ↦ not-needed (codes "try") try.0 refl
-          | inr c ↦ elim c [
-            | inl reduce ↦ not-needed (codes "reduce") reduce.0 refl
-            | inr d ↦ elim d [
-              | inl asks ↦ λ _. needed-first _ rows (rw asks.1 (level-has _ p.1 refl asks.2)) (rw asks.1 (level-given _ p.1 asks.2))
-              | inr e ↦ elim e [
-                | inl report ↦ λ _. needed-first _ rows (rw report.1 (level-has _ p.1 refl report.2)) (rw report.1 (level-given _ p.1 report.2))
-                | inr f ↦ elim f [
-                  | inl help ↦ not-needed (codes "help") help.0 refl
-                  | inr none ↦ absurd none
-                ]
-              ]
-            ]
-          ]
-        ]
-      ]
+      | inr (inl plans) ↦ not-needed (codes "plans") plans.0 refl
+      | inr (inr (inl map)) ↦ not-needed (codes "map") map.0 refl
+      | inr (inr (inr (inl try))) ↦ not-needed (codes "try") try.0 refl
+      | inr (inr (inr (inr (inl reduce)))) ↦ not-needed (codes "reduce") reduce.0 refl
+      | inr (inr (inr (inr (inr (inl explain))))) ↦ not-needed (codes "explain") explain.0 refl
+      | inr (inr (inr (inr (inr (inr (inl asks)))))) ↦ λ _. needed-first _ rows (rw asks.1 (level-has _ p.1 refl asks.2)) (rw asks.1 (level-given _ p.1 asks.2))
+      | inr (inr (inr (inr (inr (inr (inr (inl report))))))) ↦ λ _. needed-first _ rows (rw report.1 (level-has _ p.1 refl report.2)) (rw report.1 (level-given _ p.1 report.2))
+      | inr (inr (inr (inr (inr (inr (inr (inr (inl help)))))))) ↦ not-needed (codes "help") help.0 refl
+      | inr (inr (inr (inr (inr (inr (inr (inr (inr none)))))))) ↦ absurd none
     ]
   where
     not-needed : (word : Text) → name ≡ word → needs_file word ≡ false → HasNeeded name (first_of (codes "file") rows)

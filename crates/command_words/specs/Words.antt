@@ -1,16 +1,20 @@
 -- The program's command line: the command that clap builds, and what its matches mean.
 use Rattle.std.specs.Prelude.{◌≡◌, ◌⊎◌, ◌||◌, ◌++◌, ℕ, Bool, List, [], ◌∷◌, true, false, Option, Some, None, Result, Ok, Err, codes, if◌then◌else◌, is_some, option_map, string_bytes}
+use Rattle.std.specs.Option.{option_map_or}
 use Rattle.std.specs.Str.{bytes_eq}
 use Rattle.std.specs.Str.Parse.{IsNumeral, digits_value, without_leading_plus}
 use Rattle.std.specs.declared.alloc.AllocError.{AllocError}
 use Rattle.clap.specs.Words.{App, IsAmong, Kinds, Row, Rule, Shape, Text, app_of, fault_of, first_of, first_value, new_app, new_rule, subcommand_of, with_rule, with_subcommand}
 use Rattle.clap.specs.Kinds.{or_else, value_kinds}
 use Rattle.clap.specs.Values.{kind_of}
+use Rattle.clap.specs.declared.builder.action.ArgAction.TheVariants.{SetTrue}
 use Rattle.clap.specs.declared.builder.command.Command.{Command}
 use Rattle.clap.specs.declared.builder.value_parser.ValueParser.TheVariants.{Unsigned}
 use Rattle.clap.specs.declared.error.Error.{Error}
 use Rattle.clap.specs.declared.error.kind.ErrorKind.TheVariants.{ArgumentConflict, DisplayHelp, DisplayVersion, MissingRequiredArgument, OutOfMemory}
 use Rattle.clap.specs.declared.parser.matches.Found.{Found}
+use Rattle.command_words.specs.declared.words.Form.{Form}
+use Rattle.command_words.specs.declared.words.Form.TheVariants.{Whole, Brief}
 use Rattle.command_words.specs.declared.words.Line.{Line}
 use Rattle.command_words.specs.declared.words.Line.TheVariants.{Own, Outside}
 use Rattle.command_words.specs.declared.words.Order.{Order}
@@ -40,11 +44,19 @@ scenario_rule = record (new_rule (codes "scenario")) { long = Some (codes "scena
 abbrev pub plan_rule : Rule
 plan_rule = record (new_rule (codes "plan")) { long = Some (codes "plan"); value_names = 1 }
 
+-- --brief, a flag
+abbrev pub brief_rule : Rule
+brief_rule = record (new_rule (codes "brief")) { long = Some (codes "brief"); action = Some SetTrue }
+
 -- ---- commands
 
 -- a command that takes FILE alone
 abbrev pub file_app : Text → App
 file_app name = with_rule (new_app name) file_rule
+
+-- a command that writes a report, whole or in brief
+abbrev pub report_app : Text → App
+report_app name = with_rule (with_rule (new_app name) brief_rule) file_rule
 
 -- a command that takes a scenario, by its text or as the plan of a number
 abbrev pub scenario_app : Text → App
@@ -54,18 +66,22 @@ scenario_app name = with_rule (with_rule (with_rule (new_app name) scenario_rule
 abbrev pub question_app : Text → App
 question_app name = with_rule (new_app name) needed_file_rule
 
+-- the one of these that writes a report, whole or in brief
+abbrev pub question_report_app : Text → App
+question_report_app name = with_rule (with_rule (new_app name) brief_rule) needed_file_rule
+
 abbrev pub with_commands : App → List Shape → App
 with_commands app [] = app
 with_commands app (s ∷ rest) = with_commands (with_subcommand app s) rest
 
 abbrev pub campaign_commands : List Shape
-campaign_commands = (file_app (codes "run")).top ∷ (file_app (codes "plans")).top ∷ []
+campaign_commands = (report_app (codes "run")).top ∷ (file_app (codes "plans")).top ∷ (file_app (codes "map")).top ∷ []
 
 abbrev pub scenario_commands : List Shape
-scenario_commands = (scenario_app (codes "try")).top ∷ (scenario_app (codes "reduce")).top ∷ []
+scenario_commands = (scenario_app (codes "try")).top ∷ (scenario_app (codes "reduce")).top ∷ (scenario_app (codes "explain")).top ∷ []
 
 abbrev pub question_commands : List Shape
-question_commands = (question_app (codes "asks")).top ∷ (question_app (codes "report")).top ∷ []
+question_commands = (question_app (codes "asks")).top ∷ (question_report_app (codes "report")).top ∷ []
 
 -- the program without a command, which has a version
 abbrev pub bare_app : App
@@ -82,16 +98,18 @@ HasAlso app (Err fault) command = ⊥
 
 -- ---- what the words mean
 
--- the values that a command was given: TEXT, N and FILE
+-- the values that a command was given: TEXT, N, `true` where --brief was given, and FILE
 pub record Values : Type 0 where
   pub scenario : Option Text
   pub plan : Option Text
+  pub brief : Option Text
   pub file : Option Text
 
 abbrev pub values_in : List Row → Values
 values_in rows = record {
   scenario = first_of (codes "scenario") rows;
   plan = first_of (codes "plan") rows;
+  brief = first_of (codes "brief") rows;
   file = first_of (codes "file") rows;
 }
 
@@ -100,6 +118,7 @@ abbrev pub values_of : Found → Values
 values_of f = record {
   scenario = first_value f (codes "scenario");
   plan = first_value f (codes "plan");
+  brief = first_value f (codes "brief");
   file = first_value f (codes "file");
 }
 
@@ -112,27 +131,33 @@ abbrev pub IsWhich : Values → Which → Type 0
 IsWhich v (Scenario text) = (v.scenario ≡ Some (string_bytes text)) × (v.plan ≡ None)
 IsWhich v (Plan number) = (v.scenario ≡ None) × ((text : Text) × (v.plan ≡ Some text) × Spells text number)
 
+-- the form of a report
+abbrev pub form_of : Values → Form
+form_of v = if option_map_or (bytes_eq (codes "true")) v.brief false then Brief else Whole
+
 -- the order that a command's name and its values give
 abbrev pub IsOrder : Text → Values → Order → Type 0
-IsOrder name v order.Run = name ≡ codes "run"
+IsOrder name v (order.Run form) = (name ≡ codes "run") × (form ≡ form_of v)
 IsOrder name v order.Plans = name ≡ codes "plans"
+IsOrder name v order.Map = name ≡ codes "map"
 IsOrder name v (order.Try which) = (name ≡ codes "try") × IsWhich v which
 IsOrder name v (order.Reduce which) = (name ≡ codes "reduce") × IsWhich v which
+IsOrder name v (order.Explain which) = (name ≡ codes "explain") × IsWhich v which
 
--- the question that a command's name gives
-abbrev pub IsQuestion : Text → Question → Type 0
-IsQuestion name Asks = name ≡ codes "asks"
-IsQuestion name Report = name ≡ codes "report"
+-- the question that a command's name and its values give
+abbrev pub IsQuestion : Text → Values → Question → Type 0
+IsQuestion name v Asks = name ≡ codes "asks"
+IsQuestion name v (Report form) = (name ≡ codes "report") × (form ≡ form_of v)
 
--- the order of no command is Run, on the settings that come from standard input
+-- the order of no command is Run, with the whole report, on the settings that come from standard input
 abbrev pub IsRun : Line → Type 0
-IsRun (Own order.Run file) = file ≡ None
+IsRun (Own (order.Run Whole) file) = file ≡ None
 IsRun _ = ⊥
 
 -- the line of a command's name and its values
 abbrev pub IsLineOf : Text → Values → Line → Type 0
 IsLineOf name v (Own order own) = IsOrder name v order × (option_map string_bytes own ≡ v.file)
-IsLineOf name v (Outside question own) = IsQuestion name question × (v.file ≡ Some (string_bytes own))
+IsLineOf name v (Outside question own) = IsQuestion name v question × (v.file ≡ Some (string_bytes own))
 
 -- the line that the matches give
 abbrev pub IsLine : Option (Text × List Row) → Line → Type 0
@@ -143,11 +168,11 @@ IsLine (Some p) line = IsLineOf p.0 (values_in p.1) line
 
 -- the names of the commands that take a scenario
 abbrev pub IsScenarioName : Text → Type 0
-IsScenarioName name = (name ≡ codes "try") ⊎ (name ≡ codes "reduce")
+IsScenarioName name = (name ≡ codes "try") ⊎ ((name ≡ codes "reduce") ⊎ (name ≡ codes "explain"))
 
 -- the names of the commands over a target
 abbrev pub IsOrderName : Text → Type 0
-IsOrderName name = ((name ≡ codes "run") ⊎ (name ≡ codes "plans")) ⊎ IsScenarioName name
+IsOrderName name = ((name ≡ codes "run") ⊎ ((name ≡ codes "plans") ⊎ (name ≡ codes "map"))) ⊎ IsScenarioName name
 
 -- the names of the questions
 abbrev pub IsQuestionName : Text → Type 0
@@ -159,7 +184,7 @@ IsName name = IsOrderName name ⊎ IsQuestionName name
 
 -- whether the command of the name takes a scenario, or needs FILE
 abbrev pub takes_scenario : Text → Bool
-takes_scenario name = bytes_eq name (codes "try") || bytes_eq name (codes "reduce")
+takes_scenario name = bytes_eq name (codes "try") || (bytes_eq name (codes "reduce") || bytes_eq name (codes "explain"))
 
 abbrev pub needs_file : Text → Bool
 needs_file name = bytes_eq name (codes "asks") || bytes_eq name (codes "report")

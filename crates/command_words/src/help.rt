@@ -6,13 +6,22 @@ pub const ABOUT: &str =
 
 pub const RUN: &str = "Run a campaign and write its report; with no command at all, this is done";
 
+pub const MAP: &str = "Run a campaign and write a picture of it, as SVG";
+
 pub const PLANS: &str = "Write the plans of a campaign, one scenario each, without running them";
 
 /// How a campaign is run.
 pub const RUN_EXAMPLES: &str = "\
 Examples:
   paklour run my.toml             the verdict of each plan, and what the first failures come down to
-  paklour run < my.toml           settings from standard input";
+  paklour run < my.toml           settings from standard input
+  paklour run --brief my.toml     no line for a verdict that passes, and scenarios beside the others";
+
+/// How a campaign is drawn.
+pub const MAP_EXAMPLES: &str = "\
+Example:
+  paklour map my.toml > map.svg
+draws a row of plans for each point, each plan in the colour of its verdict.";
 
 /// How plans are listed.
 pub const PLANS_EXAMPLES: &str = "\
@@ -23,6 +32,8 @@ writes `plan 0 none`, `plan 1 replace::create=1*return` and so on; `--plan` take
 pub const TRY: &str = "Try one scenario and write its verdict";
 
 pub const REDUCE: &str = "Reduce a scenario that fails to the faults that it needs to fail";
+
+pub const EXPLAIN: &str = "Try one scenario, and write what was answered at each hit";
 
 pub const ASKS: &str = "Write which scenarios are still to be tried on a component of your own";
 
@@ -35,6 +46,9 @@ pub const NEEDED_FILE: &str =
     "TOML settings, of which `paklour help` lists the keys; standard input has the answers";
 
 pub const SCENARIO: &str = "The scenario, as 'POINT=TERM->TERM;POINT=TERM'";
+
+pub const BRIEF: &str =
+    "Count the verdicts that pass, and write the scenario beside each other verdict";
 
 pub const PLAN: &str = "The scenario of plan N of the campaign, 0 to 65535, drawn as it is there";
 
@@ -61,7 +75,8 @@ Examples:
   replace::create=20%return;replace::unlink=return
 
   paklour try --scenario 'replace::sync=1*return' my.toml
-  paklour try --plan 10 my.toml     what the line `verdict 10 ..` of the report tells, run again";
+  paklour try --plan 10 my.toml     what the line `verdict 10 ..` of the report tells, run again
+  paklour explain --plan 10 my.toml the same run, hit by hit";
 
 /// What answers are, for the commands that read them.
 pub const ANSWERS: &str = "\
@@ -78,6 +93,7 @@ known; its exit status is 0. `report` writes the report, or that a scenario is `
 Example:
   paklour asks my.toml < answers | xargs -r -d '\\n' -n 1 ./try.sh >> answers
   paklour report my.toml < answers
+  paklour report --brief my.toml < answers
 with settings as
   target = \"outside\"
   seed = 7

@@ -1,14 +1,14 @@
 ghost use Rattle.std.specs.Prelude.{◌≡◌, ◌↔◌, ◌∷◌, [], IsTrue, Some, None, option_map, is_some, true, false, IfOk, IfErr, IfSome, map, codes, string_bytes};
 ghost use Rattle.clap.specs.Words.{app_of, fault_of, first_value, found_of, rule_of, subcommand_of, takes};
 ghost use Rattle.clap.specs.declared.builder.command.Command.TheViews.{out-Command as fields_of};
-ghost use Rattle.command_words.specs.Words.{AsksToSee, HasAlso, HasNeeded, IsFaultOf, IsLine, IsLineOf, IsName, IsOrder, IsOrderName, IsQuestion, IsQuestionName, IsRefusedFor, IsScenarioName, IsWhich, Spells, bare_app, campaign_commands, choice_fault, choice_kinds, file_app, file_rule, needed_file_rule, paklour, plan_rule, question_app, question_commands, scenario_app, scenario_commands, scenario_rule, values_of, which_kinds, with_commands, words_fault};
+ghost use Rattle.command_words.specs.Words.{AsksToSee, HasAlso, HasNeeded, IsFaultOf, IsLine, IsLineOf, IsName, IsOrder, IsOrderName, IsQuestion, IsQuestionName, IsRefusedFor, IsScenarioName, IsWhich, Spells, bare_app, brief_rule, campaign_commands, choice_fault, choice_kinds, file_app, file_rule, form_of, needed_file_rule, paklour, plan_rule, question_app, question_commands, question_report_app, report_app, scenario_app, scenario_commands, scenario_rule, values_of, which_kinds, with_commands, words_fault};
 ghost use Rattle.command_words.specs.declared.words.WordsFault.TheVariants.{Memory};
 ghost use Rattle.clap.specs.Kinds.{value_kinds};
 ghost use Rattle.clap.specs.declared.builder.value_parser.ValueParser.TheVariants.{Unsigned};
 
 use crate::help;
 use clap::error::ErrorKind;
-use clap::{Arg, ArgMatches, Command};
+use clap::{Arg, ArgAction, ArgMatches, Command};
 use std::alloc::{AllocError, Global};
 use std::error::Error;
 use std::fmt;
@@ -25,17 +25,30 @@ pub enum Which {
     Plan(u16),
 }
 
+/// How much a report tells.
+#[derive(Clone, Copy, Debug)]
+pub enum Form {
+    /// The verdict of each plan.
+    Whole,
+    /// One line of counts for all verdicts that pass, and the scenario beside each other verdict.
+    Brief,
+}
+
 /// What the program is to do.
 #[derive(Debug, Drop)]
 pub enum Order {
-    /// Run a campaign.
-    Run,
+    /// Run a campaign, and write its report.
+    Run(Form),
     /// List a campaign's plans.
     Plans,
+    /// Run a campaign, and draw it as a picture.
+    Map,
     /// Try a scenario.
     Try(Which),
     /// Reduce a scenario.
     Reduce(Which),
+    /// Run a scenario, and tell the run hit by hit.
+    Explain(Which),
 }
 
 /// What is asked of the answers on standard input, about a component that somebody else runs.
@@ -44,7 +57,7 @@ pub enum Question {
     /// Which scenarios are still to be tried.
     Asks,
     /// The campaign's report.
-    Report,
+    Report(Form),
 }
 
 /// What the words ask for.
@@ -138,6 +151,16 @@ fn plan_arg<'a>(alloc: Global) -> Arg<'a>
         .help(help::PLAN)
 }
 
+fn brief_arg<'a>(alloc: Global) -> Arg<'a>
+    ensures rule { rule_of result ≡ brief_rule }
+    ensures local { result.global ≡ false }
+{
+    Arg::new(alloc, "brief")
+        .long("brief")
+        .action(ArgAction::SetTrue)
+        .help(help::BRIEF)
+}
+
 fn file_command<'a>(
     alloc: Global,
     name: &'a str,
@@ -150,6 +173,22 @@ fn file_command<'a>(
     Command::new(alloc, name)
         .about(about)
         .after_help(examples)
+        .arg(file_arg(alloc))
+}
+
+fn report_command<'a>(
+    alloc: Global,
+    name: &'a str,
+    about: &'a str,
+    examples: &'a str,
+) -> Result<Command<'a>, AllocError>
+    ensures app { IfOk result (λ command. app_of command ≡ report_app name.entry.now) }
+    ensures local { IfOk result (λ command. (fields_of command).has_globals ≡ false) }
+{
+    Command::new(alloc, name)
+        .about(about)
+        .after_help(examples)
+        .arg(brief_arg(alloc))?
         .arg(file_arg(alloc))
 }
 
@@ -184,6 +223,21 @@ fn question_command<'a>(
         .arg(needed_file_arg(alloc))
 }
 
+fn question_report_command<'a>(
+    alloc: Global,
+    name: &'a str,
+    about: &'a str,
+) -> Result<Command<'a>, AllocError>
+    ensures app { IfOk result (λ command. app_of command ≡ question_report_app name.entry.now) }
+    ensures local { IfOk result (λ command. (fields_of command).has_globals ≡ false) }
+{
+    Command::new(alloc, name)
+        .about(about)
+        .after_help(help::ANSWERS)
+        .arg(brief_arg(alloc))?
+        .arg(needed_file_arg(alloc))
+}
+
 // The command with one more subcommand.
 fn with<'a>(
     command: Command<'a>,
@@ -209,10 +263,12 @@ fn bare<'a>(alloc: Global) -> Command<'a>
 fn with_campaigns<'a>(alloc: Global, command: Command<'a>) -> Result<Command<'a>, AllocError>
     ensures { IfOk result (λ more. app_of more ≡ with_commands (app_of command.entry) campaign_commands) }
 {
-    let run = file_command(alloc, "run", help::RUN, help::RUN_EXAMPLES);
+    let run = report_command(alloc, "run", help::RUN, help::RUN_EXAMPLES);
     let command = with(command, run)?;
     let plans = file_command(alloc, "plans", help::PLANS, help::PLANS_EXAMPLES);
-    with(command, plans)
+    let command = with(command, plans)?;
+    let map = file_command(alloc, "map", help::MAP, help::MAP_EXAMPLES);
+    with(command, map)
 }
 
 // The command with what is done over one scenario.
@@ -220,7 +276,8 @@ fn with_scenarios<'a>(alloc: Global, command: Command<'a>) -> Result<Command<'a>
     ensures { IfOk result (λ more. app_of more ≡ with_commands (app_of command.entry) scenario_commands) }
 {
     let command = with(command, scenario_command(alloc, "try", help::TRY))?;
-    with(command, scenario_command(alloc, "reduce", help::REDUCE))
+    let command = with(command, scenario_command(alloc, "reduce", help::REDUCE))?;
+    with(command, scenario_command(alloc, "explain", help::EXPLAIN))
 }
 
 // The command with the questions on a component that somebody else runs.
@@ -228,7 +285,10 @@ fn with_questions<'a>(alloc: Global, command: Command<'a>) -> Result<Command<'a>
     ensures { IfOk result (λ more. app_of more ≡ with_commands (app_of command.entry) question_commands) }
 {
     let command = with(command, question_command(alloc, "asks", help::ASKS))?;
-    with(command, question_command(alloc, "report", help::REPORT))
+    with(
+        command,
+        question_report_command(alloc, "report", help::REPORT),
+    )
 }
 
 fn command<'a>(alloc: Global) -> Result<Command<'a>, AllocError>
@@ -259,7 +319,7 @@ pub fn read_words(alloc: Global, words: &[String]) -> Result<Line, WordsFault>
     match matches.subcommand() {
         Some((name, own)) => line_of(alloc, name, own),
         None => Ok(Line::Own {
-            order: Order::Run,
+            order: Order::Run(Form::Whole),
             file: None,
         }),
     }
@@ -283,7 +343,7 @@ fn line_of<'a>(alloc: Global, name: &str, own: &ArgMatches<'a>) -> Result<Line, 
     ensures taken { IfOk result (λ _. choice_kinds name.now (values_of (found_of own.now)) ≡ []) }
     ensures refused { IfErr result (IsRefusedFor (choice_kinds name.now (values_of (found_of own.now)))) }
 {
-    match question_of(name) {
+    match question_of(name, own) {
         Some(question) => Ok(Line::Outside {
             question,
             file: given(alloc, own, "file")?,
@@ -295,14 +355,24 @@ fn line_of<'a>(alloc: Global, name: &str, own: &ArgMatches<'a>) -> Result<Line, 
     }
 }
 
-fn question_of(name: &str) -> Option<Question>
-    ensures some { IfSome result (IsQuestion name.now) }
+fn question_of<'a>(name: &str, own: &ArgMatches<'a>) -> Option<Question>
+    ensures some { IfSome result (IsQuestion name.now (values_of (found_of own.now))) }
     ensures none { result ≡ None → ¬ IsQuestionName name.now }
 {
     match name {
         "asks" => Some(Question::Asks),
-        "report" => Some(Question::Report),
+        "report" => Some(Question::Report(form_of(own))),
         _ => None,
+    }
+}
+
+// The form of the report that a command writes.
+fn form_of<'a>(own: &ArgMatches<'a>) -> Form
+    ensures { result ≡ form_of (values_of (found_of own.now)) }
+{
+    match own.get_str("brief") {
+        Some("true") => Form::Brief,
+        _ => Form::Whole,
     }
 }
 
@@ -314,10 +384,12 @@ fn order_of<'a>(alloc: Global, name: &str, own: &ArgMatches<'a>) -> Result<Order
     ensures refused { IfErr result (IsRefusedFor (choice_kinds name.now (values_of (found_of own.now)))) }
 {
     match name {
-        "run" => Ok(Order::Run),
+        "run" => Ok(Order::Run(form_of(own))),
         "plans" => Ok(Order::Plans),
+        "map" => Ok(Order::Map),
         "try" => Ok(Order::Try(which_of(alloc, name, own)?)),
         "reduce" => Ok(Order::Reduce(which_of(alloc, name, own)?)),
+        "explain" => Ok(Order::Explain(which_of(alloc, name, own)?)),
         _ => unreachable!(),
     }
 }
@@ -388,6 +460,7 @@ fn unfit(alloc: Global, name: &str, kind: ErrorKind, message: &str) -> WordsFaul
 fn usage(name: &str) -> &'static str {
     match name {
         "try" => "paklour try <--scenario <TEXT>|--plan <N>> [FILE]",
+        "explain" => "paklour explain <--scenario <TEXT>|--plan <N>> [FILE]",
         _ => "paklour reduce <--scenario <TEXT>|--plan <N>> [FILE]",
     }
 }

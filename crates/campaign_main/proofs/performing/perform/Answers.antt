@@ -1,19 +1,21 @@
 use Rattle.std.proofs.Common.{List, ℕ, Err, ap, inl, subst}
 use Rattle.campaign_main.specs.declared.exit.Exit.{Exit}
-use Rattle.campaign_main.specs.Commands.{Answer, text_answer}
+use Rattle.campaign_main.specs.Commands.{Answer, answer_of, text_answer}
 use Rattle.campaign_main.specs.Minimal.{TextReducesToMinimal}
 use Rattle.campaign_main.specs.Ends.{EndsAs, IsRefused, TellsBy, TellsRefusal}
 use Rattle.campaign_main.proofs.EndLemmas.{cause-unread, read-answer, read-whole, tells-unread, whole-map}
 use Rattle.campaign_main.proofs.performing.perform.Goals as goal
 
 pub returns-in-Ok-clause-end : goal.returns-in-Ok-clause-end
+unfolding answer_of
 returns-in-Ok-clause-end g c =
     let W = g.W.Sink in
     let new = c.perform_text.new.output in
     let P : Answer → Type 0 = λ a. EndsAs c.perform_text.result a (W.told c.args.output.now) (W.told new) (W.has_failed new) in
-    read-answer _ _ _ _ P c.as_str.ensures.value c.in-Ok.ensures.ok c.in-Ok.ensures.limit c.as_str.utf8 c.perform_text.ensures.end
+    read-answer (text_answer c.args.order.now) _ _ _ P c.as_str.ensures.value c.in-Ok.ensures.ok c.in-Ok.ensures.limit c.as_str.utf8 c.perform_text.ensures.end
 
 pub returns-in-Ok-clause-cause : goal.returns-in-Ok-clause-cause
+unfolding answer_of
 returns-in-Ok-clause-cause g c =
     λ refused.
     let E = g.E.Sink in
@@ -22,12 +24,13 @@ returns-in-Ok-clause-cause g c =
     let failed = E.has_failed c.perform_text.new.faults in
     let P : Answer → Type 0 = λ a. IsRefused a old new failed in
     let Q : Exit → Type 0 = λ e. TellsBy (TellsRefusal (text_answer c.args.order.now c.as_str.result.now) old new failed) e old new failed in
-    read-answer _ _ _ _ P c.as_str.ensures.value c.in-Ok.ensures.ok c.in-Ok.ensures.limit c.as_str.utf8 (inl (subst Q refused c.perform_text.ensures.told))
+    read-answer (text_answer c.args.order.now) _ _ _ P c.as_str.ensures.value c.in-Ok.ensures.ok c.in-Ok.ensures.limit c.as_str.utf8 (inl (subst Q refused c.perform_text.ensures.told))
 
 pub returns-in-Err-clause-cause : goal.returns-in-Err-clause-cause
+unfolding answer_of
 returns-in-Err-clause-cause g c =
     λ refused.
-    cause-unread _ _ _ _ _ _ c.in-Err.fault (λ e. c.in-Err.ensures.too_long (ap (λ f. Err f) e)) (λ e. c.in-Err.ensures.not_text (ap (λ f. Err f) e))
+    cause-unread (text_answer c.args.order.now) _ _ _ _ _ c.in-Err.fault (λ e. c.in-Err.ensures.too_long (ap (λ f. Err f) e)) (λ e. c.in-Err.ensures.not_text (ap (λ f. Err f) e))
     c.unread.ensures.end c.unread.ensures.memory refused
 
 pub returns-in-Err-clause-told : goal.returns-in-Err-clause-told

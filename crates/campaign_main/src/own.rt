@@ -1,0 +1,125 @@
+//! The commands over a target that the program brings itself, by any reader and any sinks.
+ghost use Rattle.std.specs.Prelude.{◌≡◌, false, IfSome};
+ghost use Rattle.campaign_core.specs.Headline.{campaign_on};
+ghost use Rattle.campaign_main.specs.Commands.{order_answer};
+ghost use Rattle.campaign_main.specs.Ends.{EndsAs, IsRefused, Leaves, OnWhole, Tells, TellsBy, TellsRefusal};
+ghost use Rattle.campaign_main.specs.Minimal.{ReducesToMinimal};
+ghost use Rattle.campaign_main.specs.OwnTarget.{OwnReducesToMinimal, own_answer, own_campaign, own_text_answer};
+
+use crate::command::command;
+use crate::exit::{Exit, exit_of};
+use crate::input::read_all;
+use crate::lines::{no_memory, unanswered, unlawful, unread, unset};
+use campaign_settings::Settings;
+use command_words::Order;
+use std::alloc::{AllocError, Global};
+use std::io::Read;
+use std::sync::Wait;
+use std::thread::Threads;
+use target_laws::broken_law;
+use target_trait::{Sink, Target};
+
+/// Does what is ordered with this target, unless it is seen to break a law, which none does that is proved.
+fn target_command<T: Target + Send, W: Sink, E: Sink, H: Threads + Wait + Sync>(
+    rt: &H,
+    alloc: Global,
+    order: &Order,
+    target: &mut T,
+    workload: &T::Workload,
+    settings: &Settings,
+    output: &mut W,
+    faults: &mut E,
+) -> Exit
+where
+    T::Workload: Sync,
+    requires output { W.has_failed output.old ≡ false }
+    requires faults { E.has_failed faults.old ≡ false }
+    ensures end { EndsAs result (order_answer order.now (campaign_on T.Target target.old workload.now settings.now)) (W.told output.old) (W.told output.new) (W.has_failed output.new) }
+    ensures told { TellsBy (TellsRefusal (order_answer order.now (campaign_on T.Target target.old workload.now settings.now)) (E.told faults.old) (E.told faults.new) (E.has_failed faults.new))
+        result (E.told faults.old) (E.told faults.new) (E.has_failed faults.new) }
+    ensures minimal { OnWhole result (ReducesToMinimal order.now (campaign_on T.Target target.old workload.now settings.now)) }
+{
+    match broken_law(alloc, target, workload, settings.seed, settings.max_hits) {
+        Ok(None) => {}
+        Ok(Some(law)) => return unlawful(alloc, law, faults),
+        Err(AllocError) => return no_memory(faults),
+    }
+    match command(rt, alloc, order, target, workload, settings, output) {
+        Ok(found) => exit_of(found),
+        Err(fault) => unanswered(alloc, &fault, faults),
+    }
+}
+
+/// Does what is ordered with this target, by the settings that a text gives.
+fn target_text<T: Target + Send, W: Sink, E: Sink, H: Threads + Wait + Sync>(
+    rt: &H,
+    alloc: Global,
+    order: &Order,
+    target: &mut T,
+    workload: &T::Workload,
+    text: &str,
+    output: &mut W,
+    faults: &mut E,
+) -> Exit
+where
+    T::Workload: Sync,
+    requires output { W.has_failed output.old ≡ false }
+    requires faults { E.has_failed faults.old ≡ false }
+    ensures end { EndsAs result (own_text_answer order.now (own_campaign T.Target target.old workload.now) text.now) (W.told output.old) (W.told output.new) (W.has_failed output.new) }
+    ensures told { TellsBy (TellsRefusal (own_text_answer order.now (own_campaign T.Target target.old workload.now) text.now) (E.told faults.old) (E.told faults.new) (E.has_failed faults.new))
+        result (E.told faults.old) (E.told faults.new) (E.has_failed faults.new) }
+    ensures minimal { OnWhole result (OwnReducesToMinimal order.now (own_campaign T.Target target.old workload.now) text.now) }
+{
+    match Settings::read_own(alloc, text) {
+        Ok(settings) => target_command(
+            rt, alloc, order, target, workload, &settings, output, faults,
+        ),
+        Err(fault) => unset(alloc, &fault, faults),
+    }
+}
+
+/// Reads settings, does what is ordered with this target on this workload, and writes the command's text to the output.
+///
+/// For a program that brings a target of its own: its commands, lines and ends are those of [`crate::perform`], over settings that have
+/// neither `target` nor `variant` nor a target's table; each of these keys is refused as an unknown one is. Where settings are left empty,
+/// each key has its default.
+///
+/// A target that isn't proved is looked at first: where it breaks a law of [`target_laws::broken_law`] the command is refused with a line
+/// that names it, `target: asks after a halt`.
+///
+/// What the answer tells, and for which readers and sinks the contract says which text, which fault and which reduced scenarios, is told
+/// at [`crate::perform`].
+pub fn perform_target<T: Target + Send, R: Read, W: Sink, E: Sink, H: Threads + Wait + Sync>(
+    rt: &H,
+    alloc: Global,
+    order: &Order,
+    target: &mut T,
+    workload: &T::Workload,
+    reader: &mut R,
+    output: &mut W,
+    faults: &mut E,
+) -> Exit
+where
+    T::Workload: Sync,
+    requires output { W.has_failed output.old ≡ false }
+    requires faults { E.has_failed faults.old ≡ false }
+    ensures end { IfSome (R.remaining reader.old) (λ bytes. EndsAs result (own_answer order.now (own_campaign T.Target target.old workload.now) bytes) (W.told output.old) (W.told output.new) (W.has_failed output.new)) }
+    ensures cause { result ≡ Exit.Refused → IfSome (R.remaining reader.old) (λ bytes. IsRefused (own_answer order.now (own_campaign T.Target target.old workload.now) bytes) (E.told faults.old) (E.told faults.new) (E.has_failed faults.new)) }
+    ensures minimal { OnWhole result (IfSome (R.remaining reader.old) (OwnReducesToMinimal order.now (own_campaign T.Target target.old workload.now))) }
+    ensures output { Leaves result (W.told output.old) (W.told output.new) (W.has_failed output.new) }
+    ensures told { Tells result (E.told faults.old) (E.told faults.new) (E.has_failed faults.new) }
+{
+    match read_all(alloc, reader) {
+        Ok(text) => target_text(
+            rt,
+            alloc,
+            order,
+            target,
+            workload,
+            text.as_str(),
+            output,
+            faults,
+        ),
+        Err(fault) => unread(fault, faults),
+    }
+}
