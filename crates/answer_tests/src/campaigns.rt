@@ -14,10 +14,7 @@ fn settings(alloc: Global, first: u32, second: u32) -> Result<Settings, Fail> {
     let text = format!(in alloc;
         "target = \"outside\"\nseed = 7\npairs = true\nstorms = 4\nrate = 700\nscenarios = [\"p=2*off->1*off->return->off\"]\n[outside]\nlabel = \"t\"\ncodes = [\"a\", \"b\"]\npoints = [\"p\", \"q\"]\nhits = [{first}, {second}]\n"
     )?;
-    match Settings::read(alloc, &text) {
-        Ok(settings) => Ok(settings),
-        Err(_) => Err(Fail::from("no settings")),
-    }
+    Ok(Settings::read(alloc, &text)?)
 }
 
 fn text_in(out: Out<Vec<u8>>) -> Result<String, Fail> {
@@ -29,10 +26,8 @@ fn text_in(out: Out<Vec<u8>>) -> Result<String, Fail> {
 
 fn plans(alloc: Global, outside: &Outside, settings: &Settings) -> Result<String, Fail> {
     let mut out = Out::new(Vec::new(alloc));
-    match list_plans(alloc, outside, settings, &mut out) {
-        Ok(()) => text_in(out),
-        Err(_) => Err(Fail::from("no plans")),
-    }
+    list_plans(alloc, outside, settings, &mut out)?;
+    text_in(out)
 }
 
 fn asks(
@@ -42,10 +37,8 @@ fn asks(
     answers: &str,
 ) -> Result<String, Fail> {
     let mut out = Out::new(Vec::new(alloc));
-    match write_asks(alloc, outside, settings, answers.as_bytes(), &mut out) {
-        Ok(()) => text_in(out),
-        Err(_) => Err(Fail::from("nothing asked")),
-    }
+    write_asks(alloc, outside, settings, answers.as_bytes(), &mut out)?;
+    text_in(out)
 }
 
 /// The report, or `not answered` and the scenario.

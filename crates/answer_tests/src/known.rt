@@ -1,6 +1,7 @@
 //! What is known by answers.
 
-use crate::shared::{known, scenario};
+use crate::shared::known;
+use scenario_grammar::parse;
 use std::alloc::Global;
 use std::process::Abort;
 use std::test::Fail;
@@ -15,7 +16,7 @@ fn has_verdict(
     want: Option<Verdict>,
 ) -> Result<(), Fail> {
     let known = known(alloc, text)?;
-    let scenario = scenario(alloc, of)?;
+    let scenario = parse(alloc, of)?;
     assert!(rt; known.verdict_of(alloc, &scenario)? == want, "{of}");
     Ok(())
 }

@@ -10,10 +10,7 @@ use std::test::Fail;
 
 /// The scenario of a text as it is asked.
 fn asked_scenario(alloc: Global, text: &str) -> Result<Scenario, Fail> {
-    match parse(alloc, if text == "none" { "" } else { text }) {
-        Ok(scenario) => Ok(scenario),
-        Err(_) => Err(Fail::from("no scenario")),
-    }
+    Ok(parse(alloc, if text == "none" { "" } else { text })?)
 }
 
 /// A number that a text gives, which looks random.

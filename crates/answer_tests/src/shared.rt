@@ -1,7 +1,7 @@
 //! What the tests share.
 
 use answer_text::{AnswersFault, Known, read};
-use scenario_grammar::{Scenario, Text, parse};
+use scenario_grammar::Text;
 use std::alloc::Global;
 use std::test::Fail;
 
@@ -22,13 +22,5 @@ pub fn known(alloc: Global, text: &str) -> Result<Known, Fail> {
     match answers(alloc, text.as_bytes())? {
         Ok(known) => Ok(known),
         Err(_) => Err(Fail::from("the answers are refused")),
-    }
-}
-
-/// The scenario of a text that is one.
-pub fn scenario(alloc: Global, text: &str) -> Result<Scenario, Fail> {
-    match parse(alloc, text) {
-        Ok(scenario) => Ok(scenario),
-        Err(_) => Err(Fail::from("the scenario is refused")),
     }
 }

@@ -64,7 +64,7 @@ fn meets<R: Threads + Wait + Clock + Sync + Abort>(
     requires few { workers ≤ 64 }
 {
     let meeting = Meeting::new(waits);
-    let settings = settings(workers, pairs, Vec::new(alloc));
+    let settings = settings(alloc, workers, pairs, Vec::new(alloc));
     let target = Meet { rt };
     let Ok((text, _)) = reported(rt, alloc, &FreeGate, &target, &meeting, &settings) else {
         return Err(Fail::from("no report"));

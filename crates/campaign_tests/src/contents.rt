@@ -53,7 +53,7 @@ fn play(
     let Some(Choice::Replace(variant, work)) = &settings.choice else {
         return Err(Fail::from("another target"));
     };
-    let scenario = parse(alloc, scenario).map_err(|_| "no scenario")?;
+    let scenario = parse(alloc, scenario)?;
     let mut session = Session::new(alloc, &scenario, Replace::catalogue(), 7, 0, 1000)?;
     play_on(*variant, work, device, &mut session)?;
     Ok(())

@@ -1,4 +1,4 @@
-use crate::meet::{Meet, Meeting, comes_to};
+use crate::meet::{Meet, Meeting};
 use crate::running::{reported, settings};
 use std::alloc::Global;
 use std::process::Abort;
@@ -7,6 +7,7 @@ use std::sync::Wait;
 use std::sync::atomic::{AtomicU64, Ordering};
 use std::test::Fail;
 use std::thread::Threads;
+use target_checks::comes_to;
 use target_trait::{Gate, Phase};
 
 /// Two that wait for each other, and how many of them waited in vain.
@@ -81,7 +82,7 @@ fn meet_at_the_gate<R: Clock + Threads + Wait + Sync + Abort>(
     };
     let target = Meet { rt };
     let meeting = Meeting::new(false);
-    let settings = settings(2, true, Vec::new(alloc));
+    let settings = settings(alloc, 2, true, Vec::new(alloc));
     let Ok((_, failure)) = reported(rt, alloc, &gate, &target, &meeting, &settings) else {
         return Err(Fail::from("no report"));
     };

@@ -7,10 +7,7 @@ use std::test::Fail;
 
 /// The settings that a text gives.
 pub fn read(alloc: Global, text: &str) -> Result<Settings, Fail> {
-    match Settings::read(alloc, text) {
-        Ok(settings) => Ok(settings),
-        Err(_) => Err(Fail::from("the settings are refused")),
-    }
+    Ok(Settings::read(alloc, text)?)
 }
 
 /// The settings have these numbers: seed, workers, most hits, storms, rate, and how many scenarios are listed.

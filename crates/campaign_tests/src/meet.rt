@@ -6,23 +6,8 @@ ghost use Rattle.campaign_tests.specs.Steps.{point_names, asks_of, asks-within, 
 use std::alloc::AllocError;
 use std::rt::Clock;
 use std::sync::atomic::{AtomicU64, Ordering};
-use std::thread;
-use std::time::Duration;
+use target_checks::comes_to;
 use target_trait::{Answer, Judgement, Session, Target};
-
-/// How often a run that waits looks whether another has come. It sleeps a millisecond after each look.
-const TURNS: u32 = 10_000;
-
-/// Whether a count comes to so much before the turns are over.
-pub fn comes_to<R: Clock>(rt: &R, count: &AtomicU64, wanted: u64) -> bool {
-    for _ in 0..TURNS {
-        if count.load(Ordering::SeqCst) >= wanted {
-            return true;
-        }
-        let _slept = thread::sleep(rt, Duration::from_millis(1));
-    }
-    false
-}
 
 /// The runs that were answered one Return and one Go, and those of them that waited in vain.
 #[derive(Drop)]

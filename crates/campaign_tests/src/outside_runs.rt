@@ -36,16 +36,14 @@ fn narrow(alloc: Global, workers: u32) -> Settings
     requires some { 1 ≤ workers }
     requires few { workers ≤ 64 }
 {
-    Settings {
-        choice: None,
-        seed: 9223372036854775807,
-        workers,
-        max_hits: 1,
-        pairs: true,
-        storms: 1,
-        rate: 1000,
-        scenarios: Vec::new(alloc),
-    }
+    let mut settings = Settings::new(alloc);
+    settings.seed = 9223372036854775807;
+    settings.workers = workers;
+    settings.max_hits = 1;
+    settings.pairs = true;
+    settings.storms = 1;
+    settings.rate = 1000;
+    settings
 }
 
 // No point is asked, so that there are no sites: the empty plan, and a storm that takes nothing. A failure without faults needs no test.
@@ -116,7 +114,7 @@ tests 3
 fn each_code_has_its_finding(rt: HostRuntime) -> Result<(), Fail> {
     let alloc = rt.alloc();
     for workers in [1, 2, 8, 64] {
-        let settings = settings(workers, true, Vec::new(alloc));
+        let settings = settings(alloc, workers, true, Vec::new(alloc));
         reports(&rt, alloc, &ThreeCodes, &settings, 4, THREE_FINDINGS)?;
     }
     Ok(())
@@ -161,13 +159,8 @@ fn draws(alloc: Global, count: usize) -> Result<Vec<Scenario>, Fail>
     let mut scenarios = Vec::new(alloc);
     for made in 0..count {
         let _ = made;
-        match parse(
-            alloc,
-            "three::a=50%return;three::b=50%return;three::c=50%return",
-        ) {
-            Ok(scenario) => scenarios.push(scenario)?,
-            Err(_) => return Err(Fail::from("no scenario")),
-        }
+        let text = "three::a=50%return;three::b=50%return;three::c=50%return";
+        scenarios.push(parse(alloc, text)?)?;
     }
     Ok(scenarios)
 }
@@ -177,7 +170,7 @@ fn draws(alloc: Global, count: usize) -> Result<Vec<Scenario>, Fail>
 fn a_finding_is_reduced_under_its_own_stream(rt: HostRuntime) -> Result<(), Fail> {
     let alloc = rt.alloc();
     for workers in [1, 2, 8, 64] {
-        let settings = settings(workers, false, draws(alloc, 3)?);
+        let settings = settings(alloc, workers, false, draws(alloc, 3)?);
         reports(&rt, alloc, &ThreeCodes, &settings, 4, LAST_PLAN_FINDING)?;
     }
     Ok(())
@@ -187,7 +180,7 @@ fn a_finding_is_reduced_under_its_own_stream(rt: HostRuntime) -> Result<(), Fail
 #[test]
 fn a_broken_target_is_found_by_one_try(rt: HostRuntime) -> Result<(), Fail> {
     let alloc = rt.alloc();
-    let scenario = parse(alloc, "broken::point=return").map_err(|_| "a scenario")?;
+    let scenario = parse(alloc, "broken::point=return")?;
     let mut sink = Out::new(Vec::new(alloc));
     let verdict = try_one(
         alloc,

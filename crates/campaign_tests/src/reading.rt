@@ -1,13 +1,14 @@
 //! Readers that give too much, too little at once, or fail.
 
 use crate::late_sync::{LATE_SYNC, LATE_SYNC_REPORT};
-use crate::streams::{Answered, Narrow, Torn, answer};
-use campaign_main::{Exit, LIMIT, Order, ReadFault, read_all};
+use crate::streams::{Answered, Torn, answer};
+use campaign_main::{Exit, Form, LIMIT, Order, ReadFault, read_all};
 use std::alloc::{AllocError, Global};
 use std::process::Abort;
 use std::sync::Wait;
 use std::test::Fail;
 use std::thread::Threads;
+use target_checks::Narrow;
 
 // Bytes of one letter. It has no clause, so that no proof writes the bytes out.
 fn letters(alloc: Global, count: usize) -> Result<Vec<u8>, AllocError> {
@@ -24,7 +25,7 @@ fn torn<H: Threads + Wait + Sync>(rt: &H, alloc: Global, bytes: &[u8], fails_at:
     answer(
         rt,
         alloc,
-        &Order::Run,
+        &Order::Run(Form::Whole),
         &mut reader,
         Narrow::new(alloc, 4096),
     )

@@ -9,22 +9,18 @@ use std::sync::Wait;
 use std::thread::Threads;
 use target_trait::{Gate, Out, Target};
 
-/// Seed 7, a limit of 1000 hits, and no storms.
-pub fn settings(workers: u32, pairs: bool, scenarios: Vec<Scenario>) -> Settings
+/// Seed 7, and else what holds where nothing is given.
+pub fn settings(alloc: Global, workers: u32, pairs: bool, scenarios: Vec<Scenario>) -> Settings
     requires some { 1 ≤ workers }
     requires few { workers ≤ 64 }
     requires listed { length scenarios.items ≤ 1000 }
 {
-    Settings {
-        choice: None,
-        seed: 7,
-        workers,
-        max_hits: 1000,
-        pairs,
-        storms: 0,
-        rate: 0,
-        scenarios,
-    }
+    let mut settings = Settings::new(alloc);
+    settings.seed = 7;
+    settings.workers = workers;
+    settings.pairs = pairs;
+    settings.scenarios = scenarios;
+    settings
 }
 
 /// The report of a campaign, and its first failure.

@@ -1,11 +1,12 @@
-//! Readers and writers that go wrong, and what a command does with them.
+//! A reader that goes wrong, and what a command does with readers and writers.
 
 use campaign_main::{Exit, Order, Out, Sink, perform};
 use std::alloc::Global;
 use std::io;
-use std::io::{Read, Write};
+use std::io::Read;
 use std::sync::Wait;
 use std::thread::Threads;
+use target_checks::Narrow;
 
 /// A reader that gives its bytes one at a time, and fails at one of its reads, counted from 1.
 #[derive(Drop)]
@@ -27,57 +28,6 @@ impl Read for Torn<'_> {
         *place = *first;
         self.bytes = rest;
         Ok(1)
-    }
-}
-
-/// What a writer does at the write where it goes wrong.
-#[derive(Clone, Copy, Debug, PartialEq, Eq)]
-pub enum Trouble {
-    Broken,
-    Interrupted,
-    TakesNothing,
-}
-
-/// A writer that takes so many bytes a write, and goes wrong at one of its writes, counted from 1.
-#[derive(Drop)]
-pub struct Narrow {
-    pub bytes: Vec<u8>,
-    pub at_once: usize,
-    pub writes: u64,
-    pub fails_at: u64,
-    pub trouble: Trouble,
-}
-
-impl Narrow {
-    /// A writer that takes so many bytes a write, and never goes wrong.
-    pub fn new(alloc: Global, at_once: usize) -> Self {
-        Narrow {
-            bytes: Vec::new(alloc),
-            at_once,
-            writes: 0,
-            fails_at: 0,
-            trouble: Trouble::Broken,
-        }
-    }
-}
-
-impl Write for Narrow {
-    fn write(&mut self, buf: &[u8]) -> io::Result<usize> {
-        self.writes = self.writes.saturating_add(1);
-        if self.writes == self.fails_at {
-            return match self.trouble {
-                Trouble::Broken => Err(io::Error::from(io::ErrorKind::BrokenPipe)),
-                Trouble::Interrupted => Err(io::Error::from(io::ErrorKind::Interrupted)),
-                Trouble::TakesNothing => Ok(0),
-            };
-        }
-        let count = self.at_once.min(buf.len());
-        self.bytes.extend_from_slice(&buf[..count])?;
-        Ok(count)
-    }
-
-    fn flush(&mut self) -> io::Result<()> {
-        Ok(())
     }
 }
 

@@ -1,13 +1,14 @@
 //! Writers that take few bytes at a time, and writers that fail.
 
 use crate::late_sync::{LATE_SYNC, LATE_SYNC_REPORT};
-use crate::streams::{Answered, Narrow, Trouble, answer};
-use campaign_main::{Exit, Order, Out, Which, perform, status};
+use crate::streams::{Answered, answer};
+use campaign_main::{Exit, Form, Order, Out, Which, perform, status};
 use std::alloc::Global;
 use std::process::Abort;
 use std::sync::Wait;
 use std::test::Fail;
 use std::thread::Threads;
+use target_checks::{Narrow, Trouble};
 
 /// What a command comes to over a writer that takes so many bytes a write, and goes wrong at one of its writes.
 fn cut_off<H: Threads + Wait + Sync>(
@@ -18,9 +19,7 @@ fn cut_off<H: Threads + Wait + Sync>(
     fails_at: u64,
     trouble: Trouble,
 ) -> Answered {
-    let mut writer = Narrow::new(alloc, at_once);
-    writer.fails_at = fails_at;
-    writer.trouble = trouble;
+    let writer = Narrow::failing(alloc, at_once, fails_at, trouble);
     answer(rt, alloc, order, &mut LATE_SYNC.as_bytes(), writer)
 }
 
@@ -42,7 +41,14 @@ fn tells_what_was_written(rt: HostRuntime) -> Result<(), Fail> {
     for trouble in [Trouble::Broken, Trouble::Interrupted, Trouble::TakesNothing] {
         for written in 0..text.len() {
             let fails_at = (written as u64).saturating_add(1);
-            let did = cut_off(&rt, rt.alloc(), &Order::Run, 1, fails_at, trouble);
+            let did = cut_off(
+                &rt,
+                rt.alloc(),
+                &Order::Run(Form::Whole),
+                1,
+                fails_at,
+                trouble,
+            );
             ends_after(&rt, rt.alloc(), &did, &text[..written])?;
         }
     }
@@ -53,7 +59,7 @@ fn tells_what_was_written(rt: HostRuntime) -> Result<(), Fail> {
 fn each_command_tells_what_was_written(rt: HostRuntime) -> Result<(), Fail> {
     let alloc = rt.alloc();
     let orders = [
-        (Order::Run, "target rep"),
+        (Order::Run(Form::Whole), "target rep"),
         (Order::Plans, "plan 0 non"),
         (
             Order::Try(Which::Scenario(String::new(alloc))),
@@ -74,7 +80,14 @@ fn each_command_tells_what_was_written(rt: HostRuntime) -> Result<(), Fail> {
 /// A writer of one byte a write gets the whole report.
 #[test]
 fn narrow_writer_gets_the_whole_report(rt: HostRuntime) {
-    let did = cut_off(&rt, rt.alloc(), &Order::Run, 1, 0, Trouble::Broken);
+    let did = cut_off(
+        &rt,
+        rt.alloc(),
+        &Order::Run(Form::Whole),
+        1,
+        0,
+        Trouble::Broken,
+    );
     assert_eq!(rt; did.exit, Exit::Found);
     assert!(rt; !did.has_failed);
     assert_eq!(rt; did.output.as_slice(), LATE_SYNC_REPORT.as_bytes());
@@ -90,7 +103,7 @@ fn a_line_that_cannot_be_written_changes_no_end(rt: HostRuntime) {
     let exit = perform(
         &rt,
         rt.alloc(),
-        &Order::Run,
+        &Order::Run(Form::Whole),
         &mut reader,
         &mut output,
         &mut faults,

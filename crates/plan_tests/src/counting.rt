@@ -1,13 +1,13 @@
 //! Both censuses of the small workload, a file of `old` that is replaced once, by the chunks `ne` and `w`; and how often each runs it.
 ghost use Rattle.std.specs.Prelude.{◌≡◌};
 
-use file_replace::{Chunks, Replace, Replacements, Variant};
+use file_replace::{Replace, Variant};
 use plan_gen::{Census, by_census, by_loop};
-use scenario_values::Text;
 use std::alloc::{AllocError, Global};
 use std::marker::Model;
 use std::process::Abort;
 use std::test::Fail;
+use target_checks::small_workload;
 use target_trait::{Judgement, Session, Target};
 
 /// A target, and how often it was run. Its setup is that of the target.
@@ -65,16 +65,6 @@ impl<T: Target> Target for Counting<T> {
     ghost halts = { T.halts };
 
     ghost lawful = { T.lawful };
-}
-
-/// The small workload.
-fn small_workload(alloc: Global) -> Result<Replacements, Fail> {
-    let mut chunks = Vec::new(alloc);
-    chunks.push(Text::copy_of(alloc, "ne")?)?;
-    chunks.push(Text::copy_of(alloc, "w")?)?;
-    let mut replacements = Vec::new(alloc);
-    replacements.push(Chunks::new(alloc, chunks.as_slice())?)?;
-    Ok(Replacements::new(Text::copy_of(alloc, "old")?, replacements))
 }
 
 /// How often each point is asked.

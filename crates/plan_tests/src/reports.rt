@@ -3,15 +3,10 @@
 use file_replace::{Replace, Variant};
 use report::{Finding, Report, WriteFault, text, write_report};
 use scenario_grammar::parse;
-use scenario_values::Scenario;
 use std::alloc::Global;
-use std::io::{self, ErrorKind, Write};
 use std::test::Fail;
+use target_checks::{Narrow, Trouble};
 use target_trait::{Out, Sink, Verdict};
-
-fn scenario(alloc: Global, text: &str) -> Result<Scenario, Fail> {
-    Ok(parse(alloc, text).map_err(|_| "a scenario")?)
-}
 
 /// The first failures of two codes, in the order of their plans and not of the codes.
 fn findings(alloc: Global) -> Result<Vec<Finding>, Fail> {
@@ -29,8 +24,8 @@ fn findings(alloc: Global) -> Result<Vec<Finding>, Fail> {
         all.push(Finding {
             number,
             code,
-            scenario: scenario(alloc, plan)?,
-            reduced: scenario(alloc, reduced)?,
+            scenario: parse(alloc, plan)?,
+            reduced: parse(alloc, reduced)?,
             tests,
         })?;
     }
@@ -86,55 +81,34 @@ fn tells_each_finding_in_order(rt: HostRuntime) -> Result<(), Fail> {
     Ok(())
 }
 
-/// A writer that takes at most `width` bytes a write, and none once it holds `room` bytes: it is interrupted, or takes nothing.
-#[derive(Drop)]
-struct Narrow {
-    bytes: Vec<u8>,
-    width: usize,
-    room: usize,
-    is_interrupted: bool,
-}
-
-impl Write for Narrow {
-    fn write(&mut self, buf: &[u8]) -> io::Result<usize> {
-        let left = self.room.saturating_sub(self.bytes.len());
-        if left == 0 && self.is_interrupted {
-            return Err(io::Error::from(ErrorKind::Interrupted));
-        }
-        let count = buf.len().min(left).min(self.width);
-        self.bytes.extend_from_slice(&buf[..count])?;
-        Ok(count)
-    }
-
-    fn flush(&mut self) -> io::Result<()> {
-        Ok(())
-    }
-}
-
-/// Each write of a report may be the one that fails. The fault tells how many bytes went out.
+/// Each write of a report may be the one that goes wrong: of a byte at a time, or the second one, whatever the first took. The fault tells
+/// how many bytes went out.
 #[test]
 fn a_fault_tells_how_many_bytes_went_out(rt: HostRuntime) -> Result<(), Fail> {
     let text = REPORT.as_bytes();
-    for (width, is_interrupted) in [(1, true), (1, false), (1000, true), (1000, false)] {
-        for room in 0..=text.len() {
-            let bytes = Vec::new(rt.alloc());
-            let mut out = Out::new(Narrow {
-                bytes,
-                width,
-                room,
-                is_interrupted,
-            });
-            let want = if room < text.len() {
-                Err(WriteFault {
+    for trouble in [Trouble::Interrupted, Trouble::TakesNothing] {
+        for room in 0..text.len() {
+            for (at_once, fails_at) in [(1, (room as u64).saturating_add(1)), (room, 2)] {
+                let mut out = Out::new(Narrow::failing(rt.alloc(), at_once, fails_at, trouble));
+                let want = Err(WriteFault {
                     written: room as u64,
-                })
-            } else {
-                Ok(())
-            };
-            assert_eq!(rt; write_report(text, &mut out), want);
-            assert_eq!(rt; out.failed(), want.is_err());
-            assert_eq!(rt; out.into_writer().bytes.as_slice(), &text[..room]);
+                });
+                assert_eq!(rt; write_report(text, &mut out), want);
+                assert!(rt; out.failed());
+                assert_eq!(rt; out.into_writer().bytes.as_slice(), &text[..room]);
+            }
         }
+    }
+    Ok(())
+}
+
+#[test]
+fn a_report_is_written_whole(rt: HostRuntime) -> Result<(), Fail> {
+    for at_once in [1, 1000] {
+        let mut out = Out::new(Narrow::new(rt.alloc(), at_once));
+        assert_eq!(rt; write_report(REPORT.as_bytes(), &mut out), Ok(()));
+        assert!(rt; !out.failed());
+        assert_eq!(rt; out.into_writer().bytes.as_slice(), REPORT.as_bytes());
     }
     Ok(())
 }

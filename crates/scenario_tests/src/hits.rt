@@ -1,11 +1,11 @@
 //! Worked examples of what terms do.
 ghost use Rattle.std.specs.Prelude.{◌<◌, length};
 
-use crate::reading::scenario;
 use action_eval::{Answer, Note, Session, Stop};
 use rand_chacha::ChaCha8Rng;
 use rand_core::SeedableRng;
 use rand_core::utils::NextWord;
+use scenario_grammar::parse;
 use std::alloc::{AllocError, Global};
 use std::process::Abort;
 use std::test::Fail;
@@ -92,7 +92,7 @@ fn said(
     if point as usize >= POINTS.len() {
         return Err(Fail::from("no such point"));
     }
-    let scenario = scenario(alloc, SCENARIO)?;
+    let scenario = parse(alloc, SCENARIO)?;
     let mut session = Session::new(alloc, &scenario, &POINTS, 7, stream, max_hits)?;
     let letters = answers(alloc, &mut session, point, count)?;
     Ok((letters, tell(&session)))
@@ -160,7 +160,7 @@ fn left(alloc: Global, point: u32, count: u32) -> Result<(Vec<u32>, Vec<Note>), 
     if point as usize >= POINTS.len() {
         return Err(Fail::from("no such point"));
     }
-    let scenario = scenario(alloc, SCENARIO)?;
+    let scenario = parse(alloc, SCENARIO)?;
     let mut session = Session::new(alloc, &scenario, &POINTS, 7, 0, 1000)?;
     answers(alloc, &mut session, point, count)?;
     let mut asked = Vec::new(alloc);

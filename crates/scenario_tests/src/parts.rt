@@ -1,7 +1,7 @@
 //! Scenarios built, tidied, and with some of their faults alone.
 
-use crate::reading::{prints, scenario};
-use scenario_grammar::{Place, Scenario, Task, Term, are_faults, build, faults, keep, tidy};
+use crate::reading::prints;
+use scenario_grammar::{Place, Scenario, Task, Term, are_faults, build, faults, keep, parse, tidy};
 use scenario_values::faults_are_counted;
 use std::alloc::{AllocError, Global};
 use std::process::Abort;
@@ -84,7 +84,7 @@ fn all_faults_and_none(rt: HostRuntime) -> Result<(), Fail> {
 #[test]
 fn kept_scenarios_print(rt: HostRuntime) -> Result<(), Fail> {
     let alloc = rt.alloc();
-    let scenario = scenario(alloc, "p=20%2*return->1*panic")?;
+    let scenario = parse(alloc, "p=20%2*return->1*panic")?;
     let second = "p=20%2*off->1*panic";
     keeps(&rt, alloc, &scenario, &[1], second, second)?;
     keeps(
@@ -109,7 +109,7 @@ fn faults_have_places(rt: HostRuntime) -> Result<(), Fail> {
     ];
     let alloc = rt.alloc();
     for (text, places) in ROWS {
-        has_faults(&rt, alloc, &scenario(alloc, text)?, places)?;
+        has_faults(&rt, alloc, &parse(alloc, text)?, places)?;
     }
     Ok(())
 }
@@ -126,7 +126,7 @@ fn tidied_scenarios_print(rt: HostRuntime) -> Result<(), Fail> {
     ];
     let alloc = rt.alloc();
     for (text, want) in ROWS {
-        tidies(&rt, alloc, &scenario(alloc, text)?, want)?;
+        tidies(&rt, alloc, &parse(alloc, text)?, want)?;
     }
     Ok(())
 }

@@ -1,7 +1,7 @@
 //! Texts printed and read again, faults as they are written, and what a name and an argument may be.
 
-use crate::reading::{prints, scenario};
-use scenario_grammar::{Kind, ScenarioFault, is_argument, is_name, parse_printed};
+use crate::reading::prints;
+use scenario_grammar::{Kind, ScenarioFault, is_argument, is_name, parse, parse_printed};
 use std::test::Fail;
 
 #[test]
@@ -29,7 +29,7 @@ fn printed_texts_are_read_again(rt: HostRuntime) -> Result<(), Fail> {
     ];
     let alloc = rt.alloc();
     for text in TEXTS {
-        let Ok(again) = parse_printed(alloc, &scenario(alloc, text)?) else {
+        let Ok(again) = parse_printed(alloc, &parse(alloc, text)?) else {
             return Err(Fail::from("the same scenario"));
         };
         prints(&rt, alloc, &again, text)?;

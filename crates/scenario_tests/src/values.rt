@@ -1,7 +1,6 @@
 //! The values that a text stands for.
 
-use crate::reading::scenario;
-use scenario_grammar::{Scenario, Task, Term};
+use scenario_grammar::{Scenario, Task, Term, parse};
 use std::process::Abort;
 use std::test::Fail;
 
@@ -29,7 +28,7 @@ fn is_return_of(task: &Task, wanted: &str) -> bool {
 
 #[test]
 fn entries_are_those_of_the_text(rt: HostRuntime) -> Result<(), Fail> {
-    let scenario = scenario(rt.alloc(), TEXT)?;
+    let scenario = parse(rt.alloc(), TEXT)?;
     assert_eq!(rt; scenario.len(), 2);
     assert_eq!(rt; scenario.entry_of("b"), Some(1));
     assert_eq!(rt; scenario.entry_of("c"), None);
@@ -38,7 +37,7 @@ fn entries_are_those_of_the_text(rt: HostRuntime) -> Result<(), Fail> {
 
 #[test]
 fn shares_and_counts_are_those_of_the_text(rt: HostRuntime) -> Result<(), Fail> {
-    let scenario = scenario(rt.alloc(), TEXT)?;
+    let scenario = parse(rt.alloc(), TEXT)?;
     let [print, panic] = terms(&scenario, 0) else {
         return Err(Fail::from("two terms"));
     };
@@ -50,7 +49,7 @@ fn shares_and_counts_are_those_of_the_text(rt: HostRuntime) -> Result<(), Fail> 
 
 #[test]
 fn arguments_are_those_of_the_text(rt: HostRuntime) -> Result<(), Fail> {
-    let scenario = scenario(rt.alloc(), TEXT)?;
+    let scenario = parse(rt.alloc(), TEXT)?;
     let [nested, none, empty] = terms(&scenario, 1) else {
         return Err(Fail::from("three terms"));
     };

@@ -1,11 +1,12 @@
 //! Runs of the journal, on two transactions, of two records and of one.
 
-use crate::outcomes::outcome;
 use journal_target::{Journal, LOST, Records, TORN, Transactions, Variant};
+use scenario_grammar::print;
 use scenario_values::Text;
 use std::alloc::{AllocError, Global};
 use std::process::Abort;
 use std::test::Fail;
+use target_checks::{first_failure, outcome_of};
 use target_trait::{ByTable, Target, Verdict};
 
 const APPEND: u32 = 0;
@@ -40,7 +41,7 @@ fn asks(
 ) -> Result<(), Fail> {
     let workload = two(alloc)?;
     let mut journal = ByTable::new(Journal::new(alloc, variant));
-    let told = outcome(alloc, &mut journal, &workload, scenario, 1000)?;
+    let told = outcome_of(alloc, &mut journal, &workload, scenario, 1000)?;
     assert_eq!(rt; told.verdict, verdict, "at {scenario}");
     assert_eq!(rt; told.asked.as_slice(), asked, "at {scenario}");
     Ok(())
@@ -56,71 +57,70 @@ const ALL: &[u32] = &[
     SYNC,
 ];
 
-#[test]
-fn sound_keeps_its_promise(rt: HostRuntime) -> Result<(), Fail> {
-    let alloc = rt.alloc();
-    asks(&rt, alloc, Variant::Sound, "", Verdict::Pass, ALL)?;
-    // The first transaction is given up, the second goes on.
-    let given_up = [APPEND, APPEND, APPEND, APPEND_COMMIT, SYNC].as_slice();
-    let second_fails = "journal::append=1*off->1*return";
-    asks(
-        &rt,
-        alloc,
-        Variant::Sound,
-        second_fails,
-        Verdict::Pass,
-        given_up,
-    )?;
-    asks(
-        &rt,
-        alloc,
-        Variant::Sound,
-        "journal::sync=return",
-        Verdict::Pass,
-        ALL,
-    )
-}
+// The first transaction is given up at its second record, the second goes on.
+const SECOND_FAILS: &str = "journal::append=1*off->1*return";
 
-#[test]
-fn early_ack_loses_what_was_not_synced(rt: HostRuntime) -> Result<(), Fail> {
-    let alloc = rt.alloc();
-    let lost = Verdict::Fail(LOST);
-    asks(&rt, alloc, Variant::EarlyAck, "", Verdict::Pass, ALL)?;
-    asks(
-        &rt,
-        alloc,
-        Variant::EarlyAck,
-        "journal::sync=return",
-        lost,
-        ALL,
-    )?;
-    // A later sync makes up for one that failed.
-    asks(
-        &rt,
-        alloc,
+const NO_SYNC: &str = "journal::sync=return";
+
+// Without a commit record.
+const SHORT: &[u32] = &[APPEND, APPEND, SYNC, APPEND, SYNC];
+
+// A variant and a scenario; the verdict, and the points that are asked. A later sync makes up for one that failed.
+const RUNS: [(Variant, &str, Verdict, &[u32]); 8] = [
+    (Variant::Sound, "", Verdict::Pass, ALL),
+    (
+        Variant::Sound,
+        SECOND_FAILS,
+        Verdict::Pass,
+        &[APPEND, APPEND, APPEND, APPEND_COMMIT, SYNC],
+    ),
+    (Variant::Sound, NO_SYNC, Verdict::Pass, ALL),
+    (Variant::EarlyAck, "", Verdict::Pass, ALL),
+    (Variant::EarlyAck, NO_SYNC, Verdict::Fail(LOST), ALL),
+    (
         Variant::EarlyAck,
         "journal::sync=1*return",
         Verdict::Pass,
         ALL,
-    )
+    ),
+    (Variant::NoCommitRecord, "", Verdict::Pass, SHORT),
+    (
+        Variant::NoCommitRecord,
+        SECOND_FAILS,
+        Verdict::Fail(TORN),
+        &[APPEND, APPEND, APPEND, SYNC],
+    ),
+];
+
+#[test]
+fn runs_have_their_verdicts(rt: HostRuntime) -> Result<(), Fail> {
+    for (variant, scenario, verdict, asked) in RUNS {
+        asks(&rt, rt.alloc(), variant, scenario, verdict, asked)?;
+    }
+    Ok(())
+}
+
+/// The variant passes each single fault, or the first that it doesn't pass is printed so.
+fn fails_first(
+    rt: &impl Abort,
+    alloc: Global,
+    variant: Variant,
+    want: Option<&str>,
+) -> Result<(), Fail> {
+    let mut journal = ByTable::new(Journal::new(alloc, variant));
+    let printed = match first_failure(alloc, &mut journal, &two(alloc)?)? {
+        Some(scenario) => Some(print(alloc, &scenario)?),
+        None => None,
+    };
+    assert_eq!(rt; printed.as_ref().map(|text| text.as_str()), want);
+    Ok(())
 }
 
 #[test]
-fn no_commit_record_recovers_half_a_transaction(rt: HostRuntime) -> Result<(), Fail> {
-    let alloc = rt.alloc();
-    let all = [APPEND, APPEND, SYNC, APPEND, SYNC].as_slice();
-    asks(&rt, alloc, Variant::NoCommitRecord, "", Verdict::Pass, all)?;
-    let given_up = [APPEND, APPEND, APPEND, SYNC].as_slice();
-    let second_fails = "journal::append=1*off->1*return";
-    let torn = Verdict::Fail(TORN);
-    asks(
-        &rt,
-        alloc,
-        Variant::NoCommitRecord,
-        second_fails,
-        torn,
-        given_up,
-    )
+fn only_the_sound_variant_passes_each_single_fault(rt: HostRuntime) -> Result<(), Fail> {
+    fails_first(&rt, rt.alloc(), Variant::Sound, None)?;
+    fails_first(&rt, rt.alloc(), Variant::EarlyAck, Some(NO_SYNC))?;
+    fails_first(&rt, rt.alloc(), Variant::NoCommitRecord, Some(SECOND_FAILS))
 }
 
 #[test]

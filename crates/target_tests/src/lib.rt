@@ -11,8 +11,6 @@ mod devices;
 #[cfg(test)]
 mod journals;
 #[cfg(test)]
-mod outcomes;
-#[cfg(test)]
 mod sinks;
 #[cfg(test)]
 mod transfers;

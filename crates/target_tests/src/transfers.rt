@@ -1,15 +1,16 @@
 //! Runs of the transfer.
 
-use crate::outcomes::outcome;
 use example_target::{Amount, Care, Transfer};
 use std::alloc::Global;
 use std::test::Fail;
+use target_checks::outcome_of;
 use target_trait::{Outcome, Target, Verdict};
 
 /// The outcome of a transfer of 250 cents.
 fn transferred(alloc: Global, care: Care, scenario: &str, max_hits: u32) -> Result<Outcome, Fail> {
     let amount = Amount { cents: 250 };
-    outcome(alloc, &mut Transfer::new(care), &amount, scenario, max_hits)
+    let transfer = &mut Transfer::new(care);
+    Ok(outcome_of(alloc, transfer, &amount, scenario, max_hits)?)
 }
 
 #[test]

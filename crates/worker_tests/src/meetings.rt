@@ -8,21 +8,17 @@ use std::rt::Clock;
 use std::sync::Wait;
 use std::sync::atomic::{AtomicU64, Ordering};
 use std::test::Fail;
-use std::thread::{self, Threads};
-use std::time::Duration;
+use std::thread::Threads;
+use target_checks::comes_to;
 use target_trait::{FreeGate, Gate, Phase};
 use worker_pool::{Gathered, Hand, Job, run_all};
 
-/// Raises its own flag and waits, at most 10000 turns, for the other. Counts the waits that reach that limit.
+/// Raises its own flag and waits for the other. Counts the waits in vain.
 fn meet<C: Clock>(clock: &C, mine: &AtomicU64, other: &AtomicU64, limits: &AtomicU64) {
     mine.store(1, Ordering::SeqCst);
-    for _ in 0..10000u32 {
-        if other.load(Ordering::SeqCst) > 0 {
-            return;
-        }
-        thread::sleep(clock, Duration::from_millis(1));
+    if !comes_to(clock, other, 1) {
+        limits.fetch_add(1, Ordering::SeqCst);
     }
-    limits.fetch_add(1, Ordering::SeqCst);
 }
 
 /// Holds ticket 1 until ticket 2 has arrived, and 2 until 1 has.

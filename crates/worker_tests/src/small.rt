@@ -2,16 +2,16 @@
 ghost use Rattle.std.specs.Prelude.{◌^◌, ⊤};
 
 use crate::adding::{Setup, have_performed};
-use file_replace::{Chunks, Replace, Replacements, Variant};
+use file_replace::{Replace, Replacements, Variant};
 use plan_gen::{Plan, PlanSettings, by_census, plans};
 use result_book::{Course, Numbered};
-use scenario_values::Text;
 use std::alloc::{AllocError, Global};
 use std::process::Abort;
 use std::sync::Wait;
 use std::sync::atomic::{AtomicU64, Ordering};
 use std::test::Fail;
 use std::thread::Threads;
+use target_checks::small_workload;
 use target_trait::{FreeGate, Target, Verdict};
 use worker_pool::{Gathered, Hand, Job, run_all};
 
@@ -45,19 +45,6 @@ impl<'a> Job for Runner<'a> {
     }
 }
 
-fn new_chunks(alloc: Global) -> Result<Chunks, AllocError> {
-    let mut chunks = Vec::new(alloc);
-    chunks.push(Text::copy_of(alloc, "ne")?)?;
-    chunks.push(Text::copy_of(alloc, "w")?)?;
-    Chunks::new(alloc, chunks.as_slice())
-}
-
-fn small_work(alloc: Global) -> Result<Replacements, AllocError> {
-    let mut replacements = Vec::new(alloc);
-    replacements.push(new_chunks(alloc)?)?;
-    Ok(Replacements::new(Text::copy_of(alloc, "old")?, replacements))
-}
-
 /// The plans of the workload, without pairs and storms.
 fn plans_of(alloc: Global, work: &Replacements) -> Result<Vec<Plan<'static>>, Fail> {
     let mut target = Replace::new(alloc, Variant::Sound);
@@ -69,7 +56,7 @@ fn plans_of(alloc: Global, work: &Replacements) -> Result<Vec<Plan<'static>>, Fa
         listed: &[],
         seed: 7,
     };
-    Ok(plans(alloc, &census, Replace::catalogue(), &settings).map_err(|_| "no plans")?)
+    Ok(plans(alloc, &census, Replace::catalogue(), &settings)?)
 }
 
 fn course_of<'a>(workload: &'a Replacements, plans: &'a [Plan<'a>]) -> Course<'a, Replace> {
@@ -170,7 +157,7 @@ fn are_run<R: Threads + Wait + Abort + Sync>(
 #[test]
 fn three_hands_twice_on_the_small_workload(rt: HostRuntime) -> Result<(), Fail> {
     let alloc = rt.alloc();
-    let work = small_work(alloc)?;
+    let work = small_workload(alloc)?;
     let plans = plans_of(alloc, &work)?;
     assert_eq!(rt; plans.len(), 19);
     are_run(&rt, alloc, &course_of(&work, &plans))

@@ -1,0 +1,35 @@
+-- What a target is asked to keep first of all: its promise in a run without faults, and under each single fault.
+use Rattle.std.specs.Prelude.{ℕ, Bool, true, false, List, [], find, not, Option}
+use Rattle.scenario_values.specs.Scenario.{Entries}
+use Rattle.action_eval.specs.Answers.{Reply}
+use Rattle.target_trait.specs.declared.judgement.Verdict.{Verdict}
+use Rattle.target_trait.specs.declared.judgement.Verdict.TheVariants.{Pass, Fail, Unresolved}
+use Rattle.target_trait.specs.Outcomes.{verdict_with}
+use Rattle.target_trait.specs.Play.{Move}
+use Rattle.plan_gen.specs.Census.{census_of}
+use Rattle.plan_gen.specs.PlanList.{plan_list}
+
+-- the seed and the limit of these runs; their stream number is 0
+abbrev pub seed : ℕ
+seed = 7
+
+abbrev pub limit : ℕ
+limit = 1000
+
+abbrev pub is_pass : Verdict → Bool
+is_pass Pass = true
+is_pass (Fail code) = false
+is_pass Unresolved = false
+
+-- whether what is asked passes under a scenario
+abbrev pub passes : (List Reply → Move) → List (List ℕ) → Entries → Bool
+passes asks names s = is_pass (verdict_with asks names seed limit 0 s)
+
+-- no fault, and each single fault at a hit of the run without faults
+abbrev pub single_faults : (List Reply → Move) → List (List ℕ) → List Entries
+single_faults asks names =
+    plan_list names (census_of asks names seed limit) (record { pairs = false; storms = 0; rate = 0; listed = []; seed = seed })
+
+-- the first of them that isn't passed
+abbrev pub first_failing : (List Reply → Move) → List (List ℕ) → List Entries → Option Entries
+first_failing asks names scenarios = find (λ s. not (passes asks names s)) scenarios
