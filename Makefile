@@ -43,9 +43,9 @@ install: build
 refuse: build
 	@tools/refuse.py crates/paklour/out/paklour examples/*.toml
 
-# Tries the further edits of edits/, which the gate leaves out for its time.
-edits:
-	@tools/further_edits
+# Tries the edits of must-fail/ and edits/, which the prover has to refuse, over the libraries that `make check` has proved.
+edits: check
+	@tools/wrong_bodies --further
 
 # Proves and builds the benchmarks, and runs them: work counts, which have to be those stored, and times beside them.
 bench:
