@@ -9,7 +9,7 @@ use result_book::{Book, Course, put_all};
 use std::alloc::{AllocError, Global};
 use std::sync::Wait;
 use std::thread::Threads;
-use target_trait::{Gate, Target};
+use target_trait::{Gate, Phase, Target};
 use worker_pool::{Gathered, Hand, Job, run_all};
 
 /// A hand for each job, in their order. An error means that memory was refused.
@@ -91,6 +91,7 @@ where
     let jobs = runners(alloc, target, course, workers)?;
     let mut book = Book::new(alloc, course)?;
     let count = course.plans.len() as u32;
+    gate.expect(Phase::Plans, count);
     let answers = answers_of(rt, alloc, gate, jobs, count)?;
     put_all(&mut book, answers);
     Ok(book)
