@@ -26,7 +26,7 @@ sessions: build
 # Everything: the house rules, the tests of outside/, every proof from nothing, the must-fail edits, the tests, and the program as its
 # users run it.
 test:
-	@tools/gate
+	@tools/gate_times tools/gate
 
 # Proves what changed since the last check.
 check:
