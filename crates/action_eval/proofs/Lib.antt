@@ -20,3 +20,5 @@ pub mod CallerLemmas
 pub mod PassedHits
 pub mod RunLaws
 pub mod LeftFaults
+pub mod Rigged
+pub mod LaidChains

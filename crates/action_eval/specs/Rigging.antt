@@ -64,3 +64,11 @@ rigging names rigs = entries_from 0 names rigs
 
 abbrev pub rig : Site → Kind → Rig
 rig s kind = record { site = s; kind = kind }
+
+-- what a rigging holds: the names of points, and the scenario of the hits that are rigged at them
+pub record Rigged : Type 0 where
+  pub names : List (List ℕ)
+  pub scenario : Entries
+
+abbrev pub rigged_as : List (List ℕ) → Entries → Rigged
+rigged_as names scenario = record { names = names; scenario = scenario }

@@ -1,2 +1,4 @@
 -- What the code keeps. No clause that a caller sees names any of it.
 pub mod Replay
+pub mod Laid
+pub mod Layout

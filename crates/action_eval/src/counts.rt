@@ -19,6 +19,15 @@ fn push_counts(left: &mut Vec<u32>, terms: &[Term])
     }
 }
 
+/// Adds the counts of a chain. An error means that memory was refused.
+pub fn add_counts(left: &mut Vec<u32>, terms: &[Term]) -> Result<(), AllocError>
+    ensures { OnOk result (left.new.items ≡ left.old.items ++ left_row (λ _. 0) 0 terms.now) }
+{
+    left.reserve(terms.len())?;
+    push_counts(left, terms);
+    Ok(())
+}
+
 /// The counts of all chains, in place of those that stood there. Want of memory leaves these.
 pub fn fill_counts(left: &mut Vec<u32>, scenario: &Scenario) -> Result<(), AllocError>
     ensures counts { OnOk result (left.new.items ≡ left_counts [] scenario.now) }

@@ -4,6 +4,7 @@ ghost use Rattle.scenario_values.specs.Scenario.{IsScenario};
 ghost use Rattle.action_eval.specs.Answers.{texts};
 ghost use Rattle.action_eval.specs.Session.{seen, found_of, start_of, head_of, Rest, StartsUnspent};
 ghost use Rattle.action_eval.specs.Trial.{is_spent};
+ghost use Rattle.action_eval.specs.inside.Laid.{placed};
 
 use crate::terms::FULL_SHARE;
 use scenario_values::{Scenario, Task, Term};
@@ -16,6 +17,14 @@ pub struct Found<'a> {
     pub start: usize,
 }
 
+/// Where the chain of each point stands, what its next hit meets, and what is left of the counts of all chains.
+#[derive(Drop)]
+pub struct Layout<'a> {
+    pub found: Vec<Option<Found<'a>>>,
+    pub heads: Vec<Head>,
+    pub left: Vec<u32>,
+}
+
 /// What the next hit of a point meets.
 #[derive(Clone, Copy)]
 pub enum Head {
@@ -25,6 +34,18 @@ pub enum Head {
     Off(usize),
     /// Terms that have to be tried.
     Terms,
+}
+
+impl<'a> Found<'a> {
+    /// A chain whose counts begin at this place; of no term, none.
+    pub fn of(chain: &'a [Term], start: usize) -> Option<Self>
+        ensures { seen result ≡ placed chain.now start }
+    {
+        if chain.is_empty() {
+            return None;
+        }
+        Some(Found { chain, start })
+    }
 }
 
 /// What the next hit of a point meets, by what is left of its chain.

@@ -9,6 +9,7 @@ mod laws;
 mod quiet;
 mod replay;
 mod rig;
+mod rigging;
 mod session;
 mod terms;
 
@@ -20,4 +21,5 @@ pub use laws::{
 };
 pub use replay::{Answered, history, name_of};
 pub use rig::{Kind, Rig, Site};
+pub use rigging::{Rigging, push_chain};
 pub use session::Session;

@@ -2,12 +2,14 @@
 ghost use Rattle.std.specs.Prelude.{◌≡◌, ◌+◌, ◌^◌, ◌<◌, ◌≤◌, [], All, replicate, length, IfOk, OnOk, OnErr, None, Some, false, ◌++◌, ◌∷◌};
 ghost use Rattle.action_eval.specs.Answers.{AllGo, hits_of, rounds, SameCourse, did, task_at, replies, GoesOn, reply_to, reply_of_answer, hit, stopped, notes_of_task, asked, history_of, notes_of, total_millis, words_of, start, given_of, texts, name_of};
 ghost use Rattle.action_eval.specs.Session.{found_of, seen, left_counts, IsRest};
+ghost use Rattle.action_eval.specs.inside.Layout.{faults_of, IsLayout};
 
 use crate::answer::{Answer, Note, Stop, answer_of, millis_of, push_note, stop_of};
 use crate::counts::{fill_counts, spend};
 use crate::draws::Draws;
-use crate::found::{Found, Head, find_all, head_of, without_spent};
+use crate::found::{Found, Head, Layout, find_all, head_of, without_spent};
 use crate::quiet::{pass_hits, push_rounds, rounds_left, take_rounds};
+use crate::rigging::Rigging;
 use crate::terms::{task_at, try_terms};
 use scenario_values::{Scenario, Task};
 use std::alloc::{AllocError, Global};
@@ -26,6 +28,25 @@ fn answerable_after(stopped: Option<Stop>, answerable: u32) -> u32
         None => answerable,
         Some(_) => 0,
     }
+}
+
+/// Where the chains of the points of a catalogue stand in a scenario: each is looked up by its name. An error means that memory was
+/// refused.
+fn layout_of<'a>(
+    alloc: Global,
+    scenario: &'a Scenario,
+    catalogue: &[&str],
+) -> Result<Layout<'a>, AllocError>
+    ensures { IfOk result (λ layout. IsLayout scenario.now (texts catalogue.now) layout) }
+{
+    let mut left = Vec::new(alloc);
+    fill_counts(&mut left, scenario)?;
+    let mut found = Vec::new(alloc);
+    found.resize(catalogue.len(), None)?;
+    let mut heads = Vec::new(alloc);
+    heads.resize(catalogue.len(), Head::Nothing)?;
+    find_all(&mut found, &mut heads, scenario, catalogue);
+    Ok(Layout { found, heads, left })
 }
 
 /// Keeps a hit and its note, or neither.
@@ -51,12 +72,19 @@ fn keep(
     noted
 }
 
+/// What a session's hits are answered by.
+#[derive(Clone, Copy)]
+pub enum Faults<'a> {
+    Written(&'a Scenario),
+    Rigged(&'a Rigging<'a>),
+}
+
 /// One run under a scenario: what it is given, and the hits so far. It borrows the scenario and the names of the points.
 ///
 /// Contracts see it as what it is given and the list of points that were hit: all else follows from these.
 #[derive(Drop)]
 pub struct Session<'a> {
-    scenario: &'a Scenario,
+    faults: Faults<'a>,
     catalogue: &'a [&'a str],
     max_hits: u32,
     hits: Vec<u32>,
@@ -77,12 +105,13 @@ impl<'a> Model for Session<'a> {
     ghost use Rattle.std.specs.Prelude.{◌≡◌, map};
     ghost use Rattle.action_eval.specs.Answers.{Run};
     ghost use Rattle.action_eval.specs.Session.{IsOpen, Keeps, seen, head_of};
+    ghost use Rattle.action_eval.specs.inside.Layout.{faults_of};
 
     ghost Value = { Run };
 
     ghost view = { λ s. record {
       given = record {
-        scenario = s.scenario.now;
+        scenario = faults_of s.faults;
         catalogue = map (λ n. n.now) s.catalogue.now;
         seed = s.draws.seed;
         stream = s.draws.stream;
@@ -93,7 +122,7 @@ impl<'a> Model for Session<'a> {
 
     ghost invariant = { λ s. Keeps (record {
       given = record {
-        scenario = s.scenario.now;
+        scenario = faults_of s.faults;
         catalogue = map (λ n. n.now) s.catalogue.now;
         seed = s.draws.seed;
         stream = s.draws.stream;
@@ -119,21 +148,62 @@ impl<'a> Session<'a> {
     ) -> Result<Self, AllocError>
         ensures { IfOk result (λ s. s ≡ start (given_of scenario.now (texts catalogue.now) seed stream max_hits)) }
     {
-        let mut left = Vec::new(alloc);
-        fill_counts(&mut left, scenario)?;
-        let mut found = Vec::new(alloc);
-        found.resize(catalogue.len(), None)?;
-        let mut heads = Vec::new(alloc);
-        heads.resize(catalogue.len(), Head::Nothing)?;
-        find_all(&mut found, &mut heads, scenario, catalogue);
+        let layout = layout_of(alloc, scenario, catalogue)?;
+        Session::begin(
+            alloc,
+            Faults::Written(scenario),
+            catalogue,
+            layout,
+            seed,
+            stream,
+            max_hits,
+        )
+    }
+
+    /// A session with no hit yet of the points of a rigging, whose faults it is answered by: that of its scenario, without a name looked
+    /// up.
+    pub fn over(
+        alloc: Global,
+        rigging: &'a Rigging<'a>,
+        seed: u64,
+        stream: u64,
+        max_hits: u32,
+    ) -> Result<Self, AllocError>
+        ensures { IfOk result (λ s. s ≡ start (given_of rigging.now.scenario rigging.now.names seed stream max_hits)) }
+    {
+        let layout = rigging.layout(alloc)?;
+        Session::begin(
+            alloc,
+            Faults::Rigged(rigging),
+            rigging.catalogue(),
+            layout,
+            seed,
+            stream,
+            max_hits,
+        )
+    }
+
+    /// A session with no hit yet, where the chains of the points are known.
+    fn begin(
+        alloc: Global,
+        faults: Faults<'a>,
+        catalogue: &'a [&'a str],
+        layout: Layout<'a>,
+        seed: u64,
+        stream: u64,
+        max_hits: u32,
+    ) -> Result<Self, AllocError>
+        requires { IsLayout (faults_of faults) (texts catalogue.now) layout }
+        ensures { IfOk result (λ s. s ≡ start (given_of (faults_of faults.entry) (texts catalogue.now) seed stream max_hits)) }
+    {
         Ok(Session {
-            scenario,
+            faults,
             catalogue,
             max_hits,
             hits: Vec::with_capacity(alloc, first_room(max_hits))?,
-            found,
-            heads,
-            left,
+            found: layout.found,
+            heads: layout.heads,
+            left: layout.left,
             draws: Draws::new(seed, stream),
             notes: Vec::new(alloc),
             millis: 0,
@@ -305,7 +375,7 @@ impl<'a> Session<'a> {
     {
         fill_counts(&mut self.left, scenario)?;
         find_all(&mut self.found, &mut self.heads, scenario, self.catalogue);
-        self.scenario = scenario;
+        self.faults = Faults::Written(scenario);
         self.hits.clear();
         self.draws.restart(stream);
         self.notes.clear();

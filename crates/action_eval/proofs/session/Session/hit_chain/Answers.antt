@@ -1,6 +1,7 @@
 use Rattle.std.proofs.Common.{◌≡◌, ◌<◌, ◌^◌, ℕ, length, Some, refl, ap, sym, ◌∙◌, arith, subst, slice_set}
 use Rattle.action_eval.specs.Answers.{Run, given_of, texts, stopped, replies, GoesOn, reply_to, reply_of_answer, did, millis_of}
 use Rattle.action_eval.specs.Words.{Drawn}
+use Rattle.action_eval.specs.inside.Layout.{faults_of}
 use Rattle.action_eval.proofs.Steps.{open_of, finds_some, keeps_hit, keeps_same, reply_found, found_within, room_of, limit_of, rest_of_point, known_found, rests_after}
 use Rattle.action_eval.proofs.Heads.{heads_length, heads_with}
 use Rattle.action_eval.proofs.CallerLemmas.{told_by, goes_by}
@@ -80,7 +81,7 @@ pub returns-clause-told : goal.returns-clause-told
 returns-clause-told c =
     let before : Drawn = c.self.inside.draws in
     let after : Drawn = c.try_terms-place.new.draws in
-    let run : Drawn → Run = λ d. record { given = given_of c.self.inside.scenario.now (texts c.self.inside.catalogue.now) d.seed d.stream c.self.inside.max_hits; hits = c.keep.new.hits.items } in
+    let run : Drawn → Run = λ d. record { given = given_of (faults_of c.self.inside.faults) (texts c.self.inside.catalogue.now) d.seed d.stream c.self.inside.max_hits; hits = c.keep.new.hits.items } in
     ap (λ (d : Drawn). replies (run d)) (sym (drawn_on before after _ c.try_terms-place.ensures.next))
     ∙ told_by _ _ c.args.point _ _ c.self.view_is c.requires.running c.in_default.ensures.ok_hits (returns-clause-answer c)
 
@@ -88,6 +89,6 @@ pub returns-clause-goes_on : goal.returns-clause-goes_on
 returns-clause-goes_on c =
     let before : Drawn = c.self.inside.draws in
     let after : Drawn = c.try_terms-place.new.draws in
-    let run : Drawn → Run = λ d. record { given = given_of c.self.inside.scenario.now (texts c.self.inside.catalogue.now) d.seed d.stream c.self.inside.max_hits; hits = c.keep.new.hits.items } in
+    let run : Drawn → Run = λ d. record { given = given_of (faults_of c.self.inside.faults) (texts c.self.inside.catalogue.now) d.seed d.stream c.self.inside.max_hits; hits = c.keep.new.hits.items } in
     subst (λ (d : Drawn). GoesOn (reply_of_answer c.answer_of.result) (run d)) (drawn_on before after _ c.try_terms-place.ensures.next)
     (goes_by _ _ c.args.point _ _ c.self.view_is c.requires.running c.in_default.ensures.ok_hits (returns-clause-answer c))

@@ -1,0 +1,16 @@
+use Rattle.std.proofs.Common.{◌≡◌, ◌++◌, drop, length, map, []}
+use Rattle.action_eval.specs.Answers.{texts}
+use Rattle.action_eval.specs.Catalogue.{HasDistinct}
+use Rattle.action_eval.specs.Session.{seen, found_of, head_of, left_counts}
+use Rattle.action_eval.specs.inside.Laid.{laid, AreSizes}
+use Rattle.action_eval.proofs.LaidChains.{all_found}
+use Rattle.action_eval.proofs.rigging.layout_of.Given as goal
+
+abbrev pub invariant-loop-point : goal.invariant-loop-point
+invariant-loop-point l = record {
+  distinct : HasDistinct (texts (drop l.point l.catalogue));
+  are_sizes : AreSizes (texts (drop l.point l.catalogue)) (drop l.point l.sizes) l.rest;
+  counts : l.left.items ++ left_counts [] (laid (texts (drop l.point l.catalogue)) (drop l.point l.sizes) l.rest) ≡ left_counts [] (laid (texts l.catalogue) l.sizes l.terms);
+  chains : map seen l.found.items ++ all_found (length l.left.items) (texts (drop l.point l.catalogue)) (laid (texts (drop l.point l.catalogue)) (drop l.point l.sizes) l.rest) ≡ map (found_of (laid (texts l.catalogue) l.sizes l.terms)) (texts l.catalogue);
+  all_heads : l.heads.items ≡ map head_of (map seen l.found.items);
+}

@@ -1,0 +1,19 @@
+-- What a session knows of its chains before the first hit.
+use Rattle.std.specs.Prelude.{◌≡◌, ℕ, List, [], map}
+use Rattle.scenario_values.specs.Scenario.{Entries, IsScenario}
+use Rattle.action_eval.specs.declared.found.Layout.{Layout}
+use Rattle.action_eval.specs.declared.session.Faults.{Faults}
+use Rattle.action_eval.specs.declared.session.Faults.TheVariants.{Written, Rigged}
+use Rattle.action_eval.specs.Session.{seen, found_of, head_of, left_counts}
+
+-- the scenario that a session's hits are answered by
+abbrev pub faults_of : Faults → Entries
+faults_of (Written scenario) = scenario.now
+faults_of (Rigged rigging) = rigging.now.scenario
+
+-- where the chains of points stand, what the next hit of each meets, and the counts of all terms
+pub record IsLayout (scenario : Entries) (names : List (List ℕ)) (layout : Layout) : Type 0 where
+  pub limits : IsScenario scenario
+  pub found_is : map seen layout.found.items ≡ map (found_of scenario) names
+  pub heads_are : layout.heads.items ≡ map head_of (map seen layout.found.items)
+  pub left_is : layout.left.items ≡ left_counts [] scenario

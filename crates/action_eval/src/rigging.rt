@@ -1,0 +1,205 @@
+//! Faults rigged for hits of points, laid out for a session.
+ghost use Rattle.std.specs.Prelude.{◌≡◌, ◌++◌, [], ◌≤◌, ◌^◌, OnOk, OnErr, IfOk, length, map};
+ghost use Rattle.action_eval.specs.Answers.{texts};
+ghost use Rattle.action_eval.specs.Catalogue.{IsCatalogue, HasDistinct};
+ghost use Rattle.action_eval.specs.Rigging.{term_of, rigged, terms_at, done_after, chain_from, rigging, CanBeRigged, rigged_as};
+ghost use Rattle.action_eval.specs.inside.Laid.{joined, sizes_of, laid, AreSizes};
+ghost use Rattle.scenario_values.specs.Scenario.{IsScenario};
+ghost use Rattle.action_eval.specs.inside.Layout.{IsLayout};
+
+use crate::counts::add_counts;
+use crate::found::{Found, Layout, head_of};
+use crate::rig::{Kind, Rig};
+use crate::terms::FULL_SHARE;
+use scenario_values::{Task, Term};
+use std::alloc::{AllocError, Global};
+use std::marker::Model;
+
+/// The term of a rigged hit.
+fn term_of(kind: Kind) -> Term
+    ensures { result ≡ term_of kind }
+{
+    let count = match kind {
+        Kind::OnwardReturn => None,
+        Kind::OnceReturn | Kind::OncePanic => Some(1),
+    };
+    let task = match kind {
+        Kind::OnceReturn | Kind::OnwardReturn => Task::Return(None),
+        Kind::OncePanic => Task::Panic(None),
+    };
+    Term {
+        share: FULL_SHARE,
+        count,
+        task,
+    }
+}
+
+/// Adds the terms of a rigged hit, after some hits of its point.
+fn push_rigged(terms: &mut Vec<Term>, done: u32, rig: Rig) -> Result<(), AllocError>
+    ensures { OnOk result (terms.new.items ≡ terms.old.items ++ rigged done rig) }
+{
+    let between = rig.site.hit.saturating_sub(done).saturating_sub(1);
+    if between > 0 {
+        terms.push(Term {
+            share: FULL_SHARE,
+            count: Some(between),
+            task: Task::Off,
+        })?;
+    }
+    terms.push(term_of(rig.kind))?;
+    Ok(())
+}
+
+/// Adds what a rigged hit adds to the chain of a point, and gives the hits of the point after it.
+fn push_at(terms: &mut Vec<Term>, point: u32, done: u32, rig: Rig) -> Result<u32, AllocError>
+    ensures terms { OnOk result (terms.new.items ≡ terms.old.items ++ terms_at point done rig) }
+    ensures done { IfOk result (λ next. next ≡ done_after point done rig) }
+{
+    if rig.site.point != point {
+        return Ok(done);
+    }
+    push_rigged(terms, done, rig)?;
+    Ok(rig.site.hit)
+}
+
+/// Adds the chain of the point of this number, for rigged hits that ascend.
+///
+/// An error means that memory was refused. A part of the chain may have been added then.
+pub fn push_chain(terms: &mut Vec<Term>, point: u32, rigs: &[Rig]) -> Result<(), AllocError>
+    ensures { OnOk result (terms.new.items ≡ terms.old.items ++ chain_from point 0 rigs.now) }
+{
+    let mut done = 0;
+    for rig in rigs {
+        done = push_at(terms, point, done, *rig)?;
+    }
+    Ok(())
+}
+
+/// The terms of so many points and how many each has, in place of what stood there.
+fn lay(
+    terms: &mut Vec<Term>,
+    sizes: &mut Vec<usize>,
+    count: u32,
+    rigs: &[Rig],
+) -> Result<(), AllocError>
+    ensures terms { OnOk result (terms.new.items ≡ joined 0 count rigs.now) }
+    ensures sizes { OnOk result (sizes.new.items ≡ sizes_of 0 count rigs.now) }
+{
+    terms.clear();
+    sizes.clear();
+    for point in 0..count {
+        let before = terms.len();
+        push_chain(terms, point, rigs)?;
+        sizes.push(terms.len() - before)?;
+    }
+    Ok(())
+}
+
+/// Where the chains of points stand that have so many of the terms each, and their counts.
+fn layout_of<'a>(
+    alloc: Global,
+    catalogue: &[&str],
+    sizes: &[usize],
+    terms: &'a [Term],
+) -> Result<Layout<'a>, AllocError>
+    requires distinct { HasDistinct (texts catalogue.now) }
+    requires sizes { AreSizes (texts catalogue.now) sizes.now terms.now }
+    requires limits { IsScenario (laid (texts catalogue.now) sizes.now terms.now) }
+    ensures { IfOk result (λ layout. IsLayout (laid (texts catalogue.now) sizes.now terms.now) (texts catalogue.now) layout) }
+{
+    let mut found = Vec::with_capacity(alloc, catalogue.len())?;
+    let mut heads = Vec::with_capacity(alloc, catalogue.len())?;
+    let mut left = Vec::with_capacity(alloc, terms.len())?;
+    let mut rest = terms;
+    for point in 0..catalogue.len() {
+        let (chain, behind) = rest.split_at(sizes[point]);
+        let here = Found::of(chain, left.len());
+        add_counts(&mut left, chain)?;
+        heads.push(head_of(here))?;
+        found.push(here)?;
+        rest = behind;
+    }
+    Ok(Layout { found, heads, left })
+}
+
+/// Hits of points at which faults are rigged, laid out so that a session finds each point's chain by the point's number.
+///
+/// One rigging serves run after run: it keeps the room that it has taken. Contracts see it as the names of its points and the scenario
+/// of the rigged hits.
+#[derive(Drop)]
+pub struct Rigging<'a> {
+    catalogue: &'a [&'a str],
+    terms: Vec<Term>,
+    sizes: Vec<usize>,
+}
+
+impl<'a> Model for Rigging<'a> {
+    ghost use Rattle.std.specs.Prelude.{map};
+    ghost use Rattle.scenario_values.specs.Scenario.{IsScenario};
+    ghost use Rattle.action_eval.specs.Catalogue.{HasDistinct};
+    ghost use Rattle.action_eval.specs.Rigging.{Rigged};
+    ghost use Rattle.action_eval.specs.inside.Laid.{laid, AreSizes};
+
+    ghost Value = { Rigged };
+
+    ghost view = { λ r. record {
+      names = map (λ n. n.now) r.catalogue.now;
+      scenario = laid (map (λ n. n.now) r.catalogue.now) r.sizes.items r.terms.items;
+    } };
+
+    ghost invariant = { λ r. HasDistinct (map (λ n. n.now) r.catalogue.now)
+        × AreSizes (map (λ n. n.now) r.catalogue.now) r.sizes.items r.terms.items
+        × IsScenario (laid (map (λ n. n.now) r.catalogue.now) r.sizes.items r.terms.items) };
+}
+
+impl<'a> Rigging<'a> {
+    /// A rigging without a point.
+    pub fn new(alloc: Global) -> Self
+        ensures { result ≡ rigged_as [] [] }
+    {
+        Rigging {
+            catalogue: &[],
+            terms: Vec::new(alloc),
+            sizes: Vec::new(alloc),
+        }
+    }
+
+    /// Rigs these hits of the points of a catalogue, in ascending order, in place of those that were rigged.
+    ///
+    /// An error means that memory was refused. The rigging has no point then, and may be loaded again.
+    pub fn load(&mut self, catalogue: &'a [&'a str], rigs: &[Rig]) -> Result<(), AllocError>
+        requires lawful { IsCatalogue (texts catalogue.now) }
+        requires small { CanBeRigged rigs.now }
+        ensures ok { OnOk result (self.new ≡ rigged_as (texts catalogue.now) (rigging (texts catalogue.now) rigs.now)) }
+        ensures err { OnErr result (self.new ≡ rigged_as [] []) }
+    {
+        self.catalogue = &[];
+        lay(
+            &mut self.terms,
+            &mut self.sizes,
+            catalogue.len() as u32,
+            rigs,
+        )?;
+        self.catalogue = catalogue;
+        Ok(())
+    }
+
+    /// The names of the points, in the order of their numbers.
+    pub(crate) fn catalogue(&self) -> &'a [&'a str]
+        ensures { texts result.now ≡ self.now.names }
+    {
+        self.catalogue
+    }
+
+    /// Where the chains of the points stand, and their counts. An error means that memory was refused.
+    pub(crate) fn layout<'s>(&'s self, alloc: Global) -> Result<Layout<'s>, AllocError>
+        ensures { IfOk result (λ layout. IsLayout self.now.scenario self.now.names layout) }
+    {
+        layout_of(
+            alloc,
+            self.catalogue,
+            self.sizes.as_slice(),
+            self.terms.as_slice(),
+        )
+    }
+}
