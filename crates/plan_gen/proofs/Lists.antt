@@ -1,10 +1,8 @@
 -- Lists that a loop builds.
-use Rattle.std.proofs.Common.{◌≡◌, ℕ, zero, suc, ◌+◌, ◌<◌, ◌≤◌, List, [], ◌∷◌, ◌++◌, map, take, drop, length, get_or, refl, ap, sym, ◌∙◌, append_assoc, add-one, arith, drop-cons, length-append, length-drop, ◌*◌, ◌-◌}
+use Rattle.std.proofs.Common.{◌≡◌, ℕ, zero, suc, ◌+◌, ◌≤◌, List, [], ◌∷◌, ◌++◌, map, take, drop, length, refl, ap, sym, ◌∙◌, append_assoc, add-one, arith, length-append, length-drop, ◌*◌, ◌-◌}
 use Rattle.std.specs.List.{range_with_len, flat_map, fold}
-
--- what was built and what is left are the whole, also after one step
-pub goes_on : {A : Type 0} (old new here rest whole : List A) → old ++ (here ++ rest) ≡ whole → new ≡ old ++ here → new ++ rest ≡ whole
-goes_on old new here rest whole h e = ap (λ r. r ++ rest) e ∙ append_assoc old here rest ∙ h
+pub use Rattle.action_eval.proofs.Rigged.{goes_on}
+pub use Rattle.action_eval.proofs.LaidChains.{next_of, none_left}
 
 swap : (a n : ℕ) → (a + 1) + n ≡ a + suc n
 swap a n = omega arith
@@ -32,16 +30,6 @@ map_more f n =
 -- the same, counted from a
 pub map_more_from : {B : Type 0} (f : ℕ → B) (a n : ℕ) → map f (range_with_len a (n + 1)) ≡ map f (range_with_len a n) ++ f (a + n) ∷ []
 map_more_from f a n = ap (λ k. map f (range_with_len a k)) (add-one n) ∙ ap (map f) (range_more a n) ∙ map_push f (range_with_len a n) (a + n)
-
--- the element at i, and those after it
-pub next_of : {A : Type 0} (xs : List A) (i : ℕ) (d : A) → i < length xs → drop i xs ≡ get_or xs i d ∷ drop (i + 1) xs
-next_of xs i d h = drop-cons xs i d h ∙ ap (λ k. get_or xs i d ∷ drop k xs) (sym (add-one i))
-
-pub none_left : {A : Type 0} (xs : List A) (i : ℕ) → length xs ≤ i → drop i xs ≡ []
-none_left [] zero h = refl
-none_left [] (suc i) h = refl
-none_left (x ∷ xs) zero h = absurd (omega arith)
-none_left (x ∷ xs) (suc i) h = none_left xs i (omega (arith, h))
 
 -- a loop over numbers that pushes
 pub pushed : {B : Type 0} (f : ℕ → B) (a n : ℕ) (old new : List B) (x : B) → old ≡ map f (range_with_len a n) → new ≡ old ++ x ∷ [] → x ≡ f (a + n) → new ≡ map f (range_with_len a (n + 1))

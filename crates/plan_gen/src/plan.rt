@@ -1,13 +1,13 @@
 //! Plans, and what is asked of their list.
-ghost use Rattle.std.specs.Prelude.{◌≡◌, [], IfOk};
+ghost use Rattle.std.specs.Prelude.{◌≡◌, [], IfOk, OnOk, true};
 ghost use Rattle.action_eval.specs.Answers.{texts};
 ghost use Rattle.action_eval.specs.Catalogue.{IsCatalogue};
 ghost use Rattle.plan_gen.specs.PlanForm.{rigs_of};
-ghost use Rattle.action_eval.specs.Rigging.{rigging, CanBeRigged};
+ghost use Rattle.action_eval.specs.Rigging.{rigging, rigged_as, CanBeRigged};
 
 use crate::copies::copy_of;
 use crate::rigging::scenario_of;
-use action_eval::Rig;
+use action_eval::{Rig, Rigging};
 use scenario_values::Scenario;
 use std::alloc::{AllocError, Global};
 use std::marker::Model;
@@ -18,6 +18,21 @@ pub enum Rigs {
     One(Rig),
     Two(Rig, Rig),
     Many(Vec<Rig>),
+}
+
+impl Rigs {
+    /// Rigs these hits over the points of a catalogue. An error means that memory was refused.
+    fn load<'c>(&self, to: &mut Rigging<'c>, catalogue: &'c [&'c str]) -> Result<(), AllocError>
+        requires lawful { IsCatalogue (texts catalogue.now) }
+        requires small { CanBeRigged (rigs_of self.now) }
+        ensures { OnOk result (to.new ≡ rigged_as (texts catalogue.now) (rigging (texts catalogue.now) (rigs_of self.now))) }
+    {
+        match self {
+            Rigs::One(rig) => to.load(catalogue, &[*rig]),
+            Rigs::Two(first, second) => to.load(catalogue, &[*first, *second]),
+            Rigs::Many(rigs) => to.load(catalogue, rigs.as_slice()),
+        }
+    }
 }
 
 /// Where a plan's scenario comes from.
@@ -78,6 +93,27 @@ impl<'a> Plan<'a> {
         }
     }
 
+    /// Rigs the plan's hits over the points of a catalogue, and tells whether it has. It hasn't where the plan is a listed scenario, or one
+    /// of the points of another catalogue: `scenario` serves each plan.
+    ///
+    /// An error means that memory was refused.
+    pub fn load<'c>(
+        &self,
+        rigging: &mut Rigging<'c>,
+        catalogue: &'c [&'c str],
+    ) -> Result<bool, AllocError>
+        ensures { IfOk result (λ is_loaded. is_loaded ≡ true → rigging.new ≡ rigged_as (texts catalogue.now) self.now) }
+    {
+        let Source::Rigged(own, rigs) = &self.source else {
+            return Ok(false);
+        };
+        if !are_same(own, catalogue) {
+            return Ok(false);
+        }
+        rigs.load(rigging, catalogue)?;
+        Ok(true)
+    }
+
     /// Makes the plan's scenario. An error means that memory was refused.
     pub fn scenario(&self, alloc: Global) -> Result<Scenario, AllocError>
         ensures { IfOk result (λ scenario. scenario ≡ self.now) }
@@ -93,6 +129,21 @@ impl<'a> Plan<'a> {
             Source::Listed(scenario) => copy_of(alloc, scenario),
         }
     }
+}
+
+/// Whether two catalogues have the same names.
+fn are_same(own: &[&str], other: &[&str]) -> bool
+    ensures { result ≡ true → texts own.now ≡ texts other.now }
+{
+    if own.len() != other.len() {
+        return false;
+    }
+    for point in 0..own.len() {
+        if own[point] != other[point] {
+            return false;
+        }
+    }
+    true
 }
 
 /// What is asked of the list of plans.

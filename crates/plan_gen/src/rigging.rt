@@ -1,77 +1,24 @@
 //! Scenarios of rigged hits.
-ghost use Rattle.std.specs.Prelude.{◌≡◌, ◌++◌, ◌≤◌, ◌<◌, ◌^◌, [], length, IfOk, OnOk};
+ghost use Rattle.std.specs.Prelude.{◌≡◌, ◌≤◌, ◌<◌, ◌^◌, [], length, IfOk, OnOk};
 ghost use Rattle.std.specs.List.{AllByRecursion};
 ghost use Rattle.std.specs.Str.{bytes_eq};
 ghost use Rattle.indexmap.specs.IndexMap.{insert_all};
 ghost use Rattle.action_eval.specs.Answers.{texts};
 ghost use Rattle.action_eval.specs.Catalogue.{IsCatalogue};
 ghost use Rattle.scenario_values.specs.Scenario.{entries_of};
-ghost use Rattle.action_eval.specs.Rigging.{term_of, rigged, terms_at, done_after, chain_from, entry, rigging, most_rigs};
+ghost use Rattle.action_eval.specs.Rigging.{chain_from, entry, rigging, most_rigs};
 
-use action_eval::{Kind, Rig};
+use action_eval::{Rig, push_chain};
 use indexmap::IndexMap;
-use scenario_values::{Chain, Scenario, Task, Term, Text};
+use scenario_values::{Chain, Scenario, Term, Text};
 use std::alloc::{AllocError, Global};
-
-/// A million millionths: the term acts wherever it is reached.
-const FULL_SHARE: u32 = 1_000_000;
-
-/// The term of a rigged hit.
-fn term_of(kind: Kind) -> Term
-    ensures { result ≡ term_of kind }
-{
-    let count = match kind {
-        Kind::OnwardReturn => None,
-        Kind::OnceReturn | Kind::OncePanic => Some(1),
-    };
-    let task = match kind {
-        Kind::OnceReturn | Kind::OnwardReturn => Task::Return(None),
-        Kind::OncePanic => Task::Panic(None),
-    };
-    Term {
-        share: FULL_SHARE,
-        count,
-        task,
-    }
-}
-
-/// Adds the terms of a rigged hit, after some hits of its point.
-fn push_rigged(terms: &mut Vec<Term>, done: u32, rig: Rig) -> Result<(), AllocError>
-    ensures { OnOk result (terms.new.items ≡ terms.old.items ++ rigged done rig) }
-{
-    let between = rig.site.hit.saturating_sub(done).saturating_sub(1);
-    if between > 0 {
-        terms.push(Term {
-            share: FULL_SHARE,
-            count: Some(between),
-            task: Task::Off,
-        })?;
-    }
-    terms.push(term_of(rig.kind))?;
-    Ok(())
-}
-
-/// Adds what a rigged hit adds to the chain of a point, and gives the hits of the point after it.
-fn push_at(terms: &mut Vec<Term>, point: u32, done: u32, rig: Rig) -> Result<u32, AllocError>
-    ensures terms { OnOk result (terms.new.items ≡ terms.old.items ++ terms_at point done rig) }
-    ensures done { IfOk result (λ next. next ≡ done_after point done rig) }
-{
-    if rig.site.point != point {
-        return Ok(done);
-    }
-    push_rigged(terms, done, rig)?;
-    Ok(rig.site.hit)
-}
 
 /// The chain of a point.
 fn chain_of(alloc: Global, point: u32, rigs: &[Rig]) -> Result<Vec<Term>, AllocError>
     ensures { IfOk result (λ terms. terms.items ≡ chain_from point 0 rigs.now) }
 {
     let mut terms = Vec::new(alloc);
-    let mut done = 0;
-    for rig in rigs {
-        done = push_at(&mut terms, point, done, *rig)?;
-    }
+    push_chain(&mut terms, point, rigs)?;
     Ok(terms)
 }
 
