@@ -3,13 +3,83 @@ ghost use Rattle.std.specs.Prelude.{◌≡◌, ℕ, ◌<◌, List, [], length, I
 ghost use Rattle.target_trait.specs.Outcomes.{verdict_with};
 
 use crate::course::Course;
+use action_eval::{Rigging, Session};
+use plan_gen::Plan;
 use std::alloc::{AllocError, Global};
 use std::marker::Model;
-use target_trait::{Case, Target, Verdict, run_verdict};
+use target_trait::{Case, Target, Verdict, run_session, run_verdict};
+
+/// The verdict of the run of this number under what is rigged.
+fn rigged_verdict<T: Target>(
+    alloc: Global,
+    target: &mut T,
+    course: &Course<'_, T>,
+    rigging: &Rigging<'_>,
+    number: u32,
+) -> Result<Verdict, AllocError>
+    requires { rigging.now.names ≡ T.names }
+    ensures ok { IfOk result (λ verdict. verdict ≡ verdict_with (T.asks target.old course.now.workload.now) T.names
+        course.now.seed course.now.max_hits number rigging.now.scenario) }
+    ensures setup { target.new ≡ target.old }
+{
+    let mut session = Session::over(
+        alloc,
+        rigging,
+        course.seed,
+        u64::from(number),
+        course.max_hits,
+    )?;
+    let verdict = run_session(target, course.workload, &mut session)?;
+    Ok(verdict)
+}
+
+/// The verdict of the run of this number under a plan whose scenario is made.
+fn written_verdict<T: Target>(
+    alloc: Global,
+    target: &mut T,
+    course: &Course<'_, T>,
+    plan: &Plan<'_>,
+    number: u32,
+) -> Result<Verdict, AllocError>
+    ensures ok { IfOk result (λ verdict. verdict ≡ verdict_with (T.asks target.old course.now.workload.now) T.names
+        course.now.seed course.now.max_hits number plan.now) }
+    ensures setup { target.new ≡ target.old }
+{
+    let scenario = plan.scenario(alloc)?;
+    let case = Case {
+        scenario: &scenario,
+        seed: course.seed,
+        stream: u64::from(number),
+        max_hits: course.max_hits,
+    };
+    let verdict = run_verdict(alloc, target, course.workload, &case)?;
+    Ok(verdict)
+}
+
+/// The verdict of the run of this number under a plan.
+fn verdict_of<T: Target>(
+    alloc: Global,
+    target: &mut T,
+    rigging: &mut Rigging<'static>,
+    course: &Course<'_, T>,
+    plan: &Plan<'_>,
+    number: u32,
+) -> Result<Verdict, AllocError>
+    ensures ok { IfOk result (λ verdict. verdict ≡ verdict_with (T.asks target.old course.now.workload.now) T.names
+        course.now.seed course.now.max_hits number plan.now) }
+    ensures setup { target.new ≡ target.old }
+{
+    let is_loaded = plan.load(rigging, T::catalogue())?;
+    if is_loaded {
+        rigged_verdict(alloc, target, course, rigging, number)
+    } else {
+        written_verdict(alloc, target, course, plan, number)
+    }
+}
 
 /// The number of a plan of a course, with its verdict.
 ///
-/// Only `run` makes one, so the verdict is always that of the plan of this number, under the stream of this number, for some setup of
+/// Only `run` and `run_over` make one, so the verdict is always that of the plan of this number, under the stream of this number, for some setup of
 /// the target: the type keeps that. Whoever is handed one, on whatever thread it was made, needs no further promise.
 #[derive(Drop)]
 pub struct Numbered<'a, T: Target> {
@@ -33,7 +103,7 @@ impl<'a, T: Target> Model for Numbered<'a, T> {
 }
 
 impl<'a, T: Target> Numbered<'a, T> {
-    /// Makes the scenario of the plan of this number, and runs it. The random words are those of the stream of the plan's number, whichever worker runs it.
+    /// Runs the plan of this number. The random words are those of the stream of the plan's number, whichever worker runs it.
     ///
     /// An error means that memory was refused. The target keeps its setup, after an error too.
     pub fn run(
@@ -50,15 +120,29 @@ impl<'a, T: Target> Numbered<'a, T> {
         }) }
         ensures setup { target.new ≡ target.old }
     {
+        let mut rigging = Rigging::new(alloc);
+        Numbered::run_over(alloc, target, &mut rigging, course, number)
+    }
+
+    /// The same as `run`, over a rigging that serves run after run: it is loaded with the plan's rigged hits, and keeps the room that it has
+    /// taken. Whatever it holds before makes no difference.
+    pub fn run_over(
+        alloc: Global,
+        target: &mut T,
+        rigging: &mut Rigging<'static>,
+        course: &'a Course<'a, T>,
+        number: u32,
+    ) -> Result<Self, AllocError>
+        requires { number < length course.now.plans.now }
+        ensures ok { IfOk result (λ pair. pair ≡ record {
+          number = number;
+          verdict = verdict_with (T.asks target.old course.now.workload.now) T.names
+              course.now.seed course.now.max_hits number (slice_index_or course.now.plans.now number []);
+        }) }
+        ensures setup { target.new ≡ target.old }
+    {
         let plan = &course.plans[number as usize];
-        let scenario = plan.scenario(alloc)?;
-        let case = Case {
-            scenario: &scenario,
-            seed: course.seed,
-            stream: u64::from(number),
-            max_hits: course.max_hits,
-        };
-        let verdict = run_verdict(alloc, target, course.workload, &case)?;
+        let verdict = verdict_of(alloc, target, rigging, course, plan, number)?;
         Ok(Numbered {
             course,
             number,
