@@ -2,6 +2,7 @@
 ghost use Rattle.std.specs.Prelude.{◌≡◌, ℕ, List, [], length, slice_index_or};
 ghost use Rattle.target_trait.specs.Outcomes.{verdict_with};
 
+use action_eval::Rigging;
 use plan_gen::Plan;
 use result_book::{Course, Numbered};
 use std::alloc::{AllocError, Global};
@@ -18,11 +19,12 @@ pub struct Setup<T: Target> {
     pub max_hits: u32,
 }
 
-/// A target, with the course whose plans it runs.
+/// A target, with the course whose plans it runs, and with a rigging of its own that each run takes over from the one before.
 #[derive(Drop)]
 pub struct Runner<'a, T: Target> {
     pub target: T,
     pub course: &'a Course<'a, T>,
+    pub rigging: Rigging<'static>,
     pub alloc: Global,
 }
 
@@ -50,6 +52,12 @@ where
     } };
 
     fn perform(&mut self, number: u32) -> Result<Numbered<'a, T>, AllocError> {
-        Numbered::run(self.alloc, &mut self.target, self.course, number)
+        Numbered::run_over(
+            self.alloc,
+            &mut self.target,
+            &mut self.rigging,
+            self.course,
+            number,
+        )
     }
 }

@@ -5,6 +5,7 @@ ghost use Rattle.worker_pool.specs.Hands.{hand_job, EachOnce};
 ghost use Rattle.campaign_core.specs.Says.{course_says};
 
 use crate::runner::Runner;
+use action_eval::Rigging;
 use result_book::{Book, Course, put_all};
 use std::alloc::{AllocError, Global};
 use std::sync::Wait;
@@ -64,6 +65,7 @@ where
         all.push(Runner {
             target,
             course,
+            rigging: Rigging::new(alloc),
             alloc,
         })?;
     }
