@@ -39,7 +39,7 @@ fn words_of(stream: u64) -> ChaCha8Rng {
 }
 
 /// The answers of hits of a point, a letter each, as far as the session goes.
-fn answers(
+pub fn answers(
     alloc: Global,
     session: &mut Session<'_>,
     point: u32,

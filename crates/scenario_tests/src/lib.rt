@@ -9,6 +9,8 @@ mod parts;
 #[cfg(test)]
 mod reading;
 #[cfg(test)]
+mod rigged;
+#[cfg(test)]
 mod texts;
 #[cfg(test)]
 mod values;

@@ -1,0 +1,82 @@
+//! Worked examples of rigged hits.
+ghost use Rattle.std.specs.Prelude.{◌<◌, length};
+
+use crate::hits::answers;
+use action_eval::{Kind, Rig, Rigging, Session, Site};
+use scenario_grammar::parse;
+use std::alloc::Global;
+use std::process::Abort;
+use std::test::Fail;
+
+/// The names of the points.
+const POINTS: [&str; 2] = ["open", "write"];
+
+const OPEN: u32 = 0;
+
+const WRITE: u32 = 1;
+
+fn rig(point: u32, hit: u32, kind: Kind) -> Rig {
+    Rig {
+        site: Site { point, hit },
+        kind,
+    }
+}
+
+/// What four hits of a point are answered over a rigging, a letter each.
+fn over(alloc: Global, rigging: &Rigging<'_>, point: u32) -> Result<String, Fail>
+    requires { point < length rigging.now.names }
+{
+    let mut session = Session::over(alloc, rigging, 7, 0, 1000)?;
+    Ok(answers(alloc, &mut session, point, 4)?)
+}
+
+/// What they are answered under a scenario.
+fn under(alloc: Global, scenario: &str, point: u32) -> Result<String, Fail> {
+    if point as usize >= POINTS.len() {
+        return Err(Fail::from("no such point"));
+    }
+    let scenario = parse(alloc, scenario)?;
+    let mut session = Session::new(alloc, &scenario, &POINTS, 7, 0, 1000)?;
+    Ok(answers(alloc, &mut session, point, 4)?)
+}
+
+/// Four hits of each point are answered so, over these two rigged hits and under this scenario.
+fn both(
+    rt: &impl Abort,
+    alloc: Global,
+    rigging: &mut Rigging<'_>,
+    first: Rig,
+    second: Rig,
+    scenario: &str,
+    letters: [&str; 2],
+) -> Result<(), Fail> {
+    rigging.load(&POINTS, &[first, second])?;
+    assert_eq!(rt; over(alloc, rigging, OPEN)?.as_str(), letters[0]);
+    assert_eq!(rt; over(alloc, rigging, WRITE)?.as_str(), letters[1]);
+    assert_eq!(rt; under(alloc, scenario, OPEN)?.as_str(), letters[0]);
+    assert_eq!(rt; under(alloc, scenario, WRITE)?.as_str(), letters[1]);
+    Ok(())
+}
+
+#[test]
+fn rigged_hits_are_answered_as_their_scenario_says(rt: HostRuntime) -> Result<(), Fail> {
+    let mut rigging = Rigging::new(rt.alloc());
+    both(
+        &rt,
+        rt.alloc(),
+        &mut rigging,
+        rig(OPEN, 2, Kind::OnceReturn),
+        rig(WRITE, 3, Kind::OncePanic),
+        "open=1*off->1*return;write=2*off->1*panic",
+        ["GRGG", "GGH"],
+    )?;
+    both(
+        &rt,
+        rt.alloc(),
+        &mut rigging,
+        rig(WRITE, 1, Kind::OnceReturn),
+        rig(WRITE, 3, Kind::OnwardReturn),
+        "write=1*return->1*off->return",
+        ["GGGG", "RGRR"],
+    )
+}
