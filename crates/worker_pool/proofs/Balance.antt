@@ -24,13 +24,15 @@ took_own : (test : ℕ → Bool) (d : Desk) → TakenIn d → took test d ≡ po
 took_own test d h = let e = ap (taken_next test) h.next in omega arith
 
 -- A hand from before the run to its end: dealt, back, absorbed and last are its desk, before and behind the next.
-pub hand_took : {J A S : Type 0} (test : ℕ → Bool) (count : ℕ) (seated worked finished : Station J A S) (dealt back absorbed last before behind absorbed' last' : Desk)
+pub hand_took : {J A S : Type 0} (test : ℕ → Bool) (count : ℕ) (seated worked finished : Station J A S)
+    (dealt back absorbed last before behind absorbed' last' : Desk)
     → Fresh count dealt → (worker_view before.own).stolen ≡ [] → seated.answers.items ≡ []
     → IsBalanced seated worked dealt back → SameDesk before behind
     → SameOwn back absorbed → TakenIn absorbed → stolen_by test absorbed' ≡ stolen_from test back.next behind
     → IsBalanced worked finished absorbed last → TakenIn last → (worker_view last'.own).stolen ≡ (worker_view absorbed'.own).stolen
     → popped_by test last + stolen_by test last' ≡ answered_by test finished + kept_by test last
-hand_took {A = A} test count seated worked finished dealt back absorbed last before behind absorbed' last' fresh none empty on same own taken_in stolen on' taken_in' same' =
+hand_took {A = A} test count seated worked finished dealt back absorbed last before behind absorbed' last' fresh none empty on same own taken_in stolen on'
+    taken_in' same' =
     let a = on test in
     let b = on' test in
     let first = fresh.took_none test in
@@ -44,5 +46,7 @@ hand_took {A = A} test count seated worked finished dealt back absorbed last bef
     let theft' = ap (count_by test) same' in
     omega arith
 
-pub answered_is : {J A S : Type 0} (test : ℕ → Bool) (ss : List (Station J A S)) (k : ℕ) (s : Station J A S) → k < length ss → answered_at test (answers_of ss) k ≡ answered_by test (get_or ss k s)
-answered_is {J = J} {A = A} {S = S} test ss k s within = ap (λ (xs : List (ℕ × A)). count_by (λ p. test p.0) xs) (sym (map_get (λ (x : Station J A S). x.answers.items) ss k s [] within))
+pub answered_is : {J A S : Type 0} (test : ℕ → Bool) (ss : List (Station J A S)) (k : ℕ) (s : Station J A S) → k < length ss
+    → answered_at test (answers_of ss) k ≡ answered_by test (get_or ss k s)
+answered_is {J = J} {A = A} {S = S} test ss k s within = ap (λ (xs : List (ℕ × A)). count_by (λ p. test p.0) xs)
+    (sym (map_get (λ (x : Station J A S). x.answers.items) ss k s [] within))

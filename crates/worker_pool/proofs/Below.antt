@@ -21,6 +21,7 @@ none_above count (x ∷ xs) all =
 is_below : (count x : ℕ) → 0 + cond (above count x) 1 0 ≡ 0 → x < count
 is_below count x none = grind (arith, nat_tests)
 
-pub below_found : (found : Option ℕ) (pushed : List ℕ) (count : ℕ) → All (λ x. x < count) pushed → IfSome found (λ x. (test : ℕ → Bool) → count_by test pushed ≡ 0 → count_by test (x ∷ []) ≡ 0) → IfSome found (λ x. x < count)
+pub below_found : (found : Option ℕ) (pushed : List ℕ) (count : ℕ) → All (λ x. x < count) pushed
+    → IfSome found (λ x. (test : ℕ → Bool) → count_by test pushed ≡ 0 → count_by test (x ∷ []) ≡ 0) → IfSome found (λ x. x < count)
 below_found None pushed count all among = tt
 below_found (Some x) pushed count all among = is_below count x (among (above count) (none_above count pushed all))

@@ -7,8 +7,8 @@ use Rattle.worker_pool.specs.declared.station.Station.{Station}
 use Rattle.worker_pool.specs.inside.Desks.{kept_by}
 use Rattle.worker_pool.specs.Hands.{answered_at, SharesAll, SharesPart}
 use Rattle.worker_pool.specs.inside.Parts.{IsWhole}
-use Rattle.worker_pool.specs.inside.Ring.{next_of, AreDealtRound, Fresh, IsDone, IsSettled, PushedOnce, SameOwn, TakenIn, pushed_by, stolen_by, stolen_from}
-use Rattle.worker_pool.specs.inside.Stations.{answered_by, answers_of, Finishes, Worked}
+use Rattle.worker_pool.specs.inside.Ring.{next_of, pushed_by, stolen_by, AreDealtRound, Fresh, IsDone, IsSettled, KnowStolen, PushedOnce, SameOwns, TakenIn}
+use Rattle.worker_pool.specs.inside.Stations.{answered_by, answers_of, EachDesk, EachFinishes, EachWorked}
 use Rattle.worker_pool.proofs.Places.{sums_by_place}
 use Rattle.worker_pool.proofs.Rings.{next_of-within}
 use Rattle.worker_pool.proofs.Rounds.{pick}
@@ -18,15 +18,16 @@ use Rattle.worker_pool.proofs.Balance.{popped_by, hand_took, answered_is}
 
 module _ {J A S T : Type 0} (setup : J → T) (limit : T → ℕ) (answers : T → ℕ → A → Type 0) (n : ℕ) (some_hand : 0 < n)
     (seated worked finished : List (Station J A S)) (dealt back absorbed ends : List Desk)
-    (len_seated : length seated ≡ n) (len_finished : length finished ≡ n) (len_dealt : length dealt ≡ n) (len_absorbed : length absorbed ≡ n) (len_ends : length ends ≡ n)
-    (fresh : (k : ℕ) (s : Station J A S) (d : Desk) → k < n → Fresh (limit (setup (get_or seated k s).hand.job)) (get_or dealt k d))
+    (len_seated : length seated ≡ n) (len_finished : length finished ≡ n)
+    (len_dealt : length dealt ≡ n) (len_absorbed : length absorbed ≡ n) (len_ends : length ends ≡ n)
+    (fresh : EachDesk Fresh setup limit n seated dealt)
     (rest : All (λ (s : Station J A S). s.answers.items ≡ []) seated)
     (round : AreDealtRound n dealt)
-    (works : (k : ℕ) (s : Station J A S) (d : Desk) → k < n → Worked setup limit answers (get_or seated k s) (get_or worked k s) (get_or dealt k d) (get_or back k d))
+    (works : EachWorked setup limit answers n seated worked dealt back)
     (whole : All TakenIn absorbed)
-    (stolen : (test : ℕ → Bool) (k : ℕ) (d : Desk) → k < n → stolen_by test (get_or absorbed (next_of n k) d) ≡ stolen_from test (get_or back k d).next (get_or back (next_of n k) d))
-    (own : (k : ℕ) (d : Desk) → SameOwn (get_or back k d) (get_or absorbed k d))
-    (finishes : (k : ℕ) (s : Station J A S) (d : Desk) → k < n → Finishes setup answers (get_or worked k s) (get_or finished k s) (get_or absorbed k d) (get_or ends k d))
+    (stolen : KnowStolen n n back absorbed)
+    (own : SameOwns back absorbed)
+    (finishes : EachFinishes setup answers n worked finished absorbed ends)
     (settled : All IsSettled ends) where
   in_ends : 0 < length ends
   in_ends = omega arith
@@ -48,7 +49,8 @@ module _ {J A S T : Type 0} (setup : J → T) (limit : T → ℕ) (answers : T �
   same_pushed k in_k = (finishes k any_station any_desk in_k).pushed ∙ (own k any_desk).pushed ∙ (works k any_station any_desk in_k).same.pushed
 
   still_round : (k : ℕ) → k < n → All (λ x. x % n ≡ k) (worker_view (at ends k).own).pushed
-  still_round k in_k = All-same (λ x. x % n ≡ k) (worker_view (at ends k).own).pushed (worker_view (at dealt k).own).pushed (same_pushed k in_k) (round k any_desk in_k)
+  still_round k in_k = All-same (λ x. x % n ≡ k) (worker_view (at ends k).own).pushed (worker_view (at dealt k).own).pushed (same_pushed k in_k)
+      (round k any_desk in_k)
 
   still_once : (count : ℕ) → PushedOnce count dealt → PushedOnce count ends
   still_once count once test =
@@ -59,15 +61,17 @@ module _ {J A S T : Type 0} (setup : J → T) (limit : T → ℕ) (answers : T �
   settled_at k in_k = let h = settled k any_desk (omega arith) in (h.held, h.whole)
 
   -- what hand k took, it answered or keeps
-  took_at : (test : ℕ → Bool) (k : ℕ) → k < n → popped_by test (at ends k) + stolen_by test (at ends (next_of n k)) ≡ answered_by test (get_or finished k any_station) + kept_by test (at ends k)
+  took_at : (test : ℕ → Bool) (k : ℕ) → k < n
+      → popped_by test (at ends k) + stolen_by test (at ends (next_of n k)) ≡ answered_by test (get_or finished k any_station) + kept_by test (at ends k)
   took_at test k in_k =
       let next = next_of n k in
       let in_next : next_of n k < n = next_of-within n k in_k in
       let w = works k any_station any_desk in_k in
       let f = finishes k any_station any_desk in_k in
-      hand_took test (limit (setup (get_or seated k any_station).hand.job)) (get_or seated k any_station) (get_or worked k any_station) (get_or finished k any_station)
-      (at dealt k) (at back k) (at absorbed k) (at ends k) (at dealt next) (at back next) (at absorbed next) (at ends next)
-      (fresh k any_station any_desk in_k) (fresh next any_station any_desk in_next).stolen (rest k any_station (omega arith))
+      hand_took test (limit (setup (get_or seated k any_station).hand.job)) (get_or seated k any_station) (get_or worked k any_station)
+      (get_or finished k any_station)
+      (at dealt k) (at back k) (at absorbed k) (at ends k) (at dealt next) (at back next) (at absorbed next) (at ends next) (fresh k any_station any_desk in_k)
+      (fresh next any_station any_desk in_next).stolen (rest k any_station (omega arith))
       w.once (works next any_station any_desk in_next).same
       (own k any_desk) (whole k any_desk (omega arith)) (stolen test k any_desk in_k)
       f.once f.taken_in (finishes next any_station any_desk in_next).stolen
@@ -82,4 +86,5 @@ module _ {J A S T : Type 0} (setup : J → T) (limit : T → ℕ) (answers : T �
   pub all_shared : ((k : ℕ) (d : Desk) → k < n → IsDone (get_or ends k d)) → (count : ℕ) → PushedOnce count dealt → SharesAll n count (answers_of finished)
   all_shared done count once = shares_all n ends any_desk len_ends settled_at still_round count (answers_of finished) (still_once count once)
       (λ k in_k. (done k any_desk in_k).all)
-      (λ test k in_k. let a = answers_at test k in_k in let b = took_at test k in_k in let none = none_kept test (at ends k).kept (done k any_desk in_k).kept in omega arith)
+      (λ test k in_k. let a = answers_at test k in_k in let b = took_at test k in_k in let none = none_kept test (at ends k).kept (done k any_desk in_k).kept in
+      omega arith)

@@ -21,7 +21,8 @@ module _ {A : Type 0} (f : A → ℕ) where
   total_at (x ∷ xs) zero v at = let e = some-injective x v at in omega (arith, sum_by-cons f x xs, ap f e)
   total_at (x ∷ xs) (suc port) v at = omega (arith, sum_by-cons f x xs, total_at xs port v at)
 
-  pub total_two : (views : List A) (port other : ℕ) (v w : A) → port ≢ other → get_elem? views port ≡ some v → get_elem? views other ≡ some w → f v + f w ≤ sum_by f views
+  pub total_two : (views : List A) (port other : ℕ) (v w : A) → port ≢ other → get_elem? views port ≡ some v → get_elem? views other ≡ some w
+      → f v + f w ≤ sum_by f views
   total_two [] port other v w ne at at' = absurd (some-ne-none v (sym at))
   total_two (x ∷ xs) zero zero v w ne at at' = absurd (ne refl)
   total_two (x ∷ xs) zero (suc other) v w ne at at' = let e = some-injective x v at in omega (arith, sum_by-cons f x xs, ap f e, total_at xs other w at')
@@ -32,13 +33,15 @@ module _ (F : ℕ → Seat → Type 0) where
   abbrev Each : List Seat → Type 0
   Each views = (port : ℕ) (v : Seat) → get_elem? views port ≡ some v → F port v
 
-  each_set : (views : List Seat) (port : ℕ) (w : Seat) → F port w → ((j : ℕ) (u : Seat) → j ≢ port → get_elem? views j ≡ some u → F j u) → Each (set views port w)
+  each_set : (views : List Seat) (port : ℕ) (w : Seat) → F port w → ((j : ℕ) (u : Seat) → j ≢ port → get_elem? views j ≡ some u → F j u)
+      → Each (set views port w)
   each_set views port w mine others j u e = ⊎_elim (λ (x : (j ≡ port) × (w ≡ u)). subst (λ (y : ℕ × Seat). F y.0 y.1) (λ i. (sym x.0 i, x.1 i)) mine)
       (λ (x : (j ≢ port) × (get_elem? views j ≡ some u)). others j u x.0 x.1) (at_set views port j w u e)
 
 -- another place stays
 still : (views : List Seat) (port other : ℕ) (w u : Seat) → other ≢ port → get_elem? (set views port w) other ≡ some u → get_elem? views other ≡ some u
-still views port other w u ne e = ⊎_elim (λ (x : (other ≡ port) × (w ≡ u)). absurd (ne x.0)) (λ (x : (other ≢ port) × (get_elem? views other ≡ some u)). x.1) (at_set views port other w u e)
+still views port other w u ne e = ⊎_elim (λ (x : (other ≡ port) × (w ≡ u)). absurd (ne x.0)) (λ (x : (other ≢ port) × (get_elem? views other ≡ some u)). x.1)
+    (at_set views port other w u e)
 
 abbrev pops : Seat → ℕ
 pops v = v.pop_right
@@ -47,12 +50,14 @@ abbrev steals : Seat → ℕ
 steals v = v.steal_right
 
 -- a right is one seat's alone
-alone : (right : Seat → ℕ) (views : List Seat) (port : ℕ) (v : Seat) → sum_by right views ≡ 1 → get_elem? views port ≡ some v → 0 < right v → (j : ℕ) (u : Seat) → j ≢ port → get_elem? views j ≡ some u → right u ≡ 0
+alone : (right : Seat → ℕ) (views : List Seat) (port : ℕ) (v : Seat) → sum_by right views ≡ 1 → get_elem? views port ≡ some v → 0 < right v → (j : ℕ) (u : Seat)
+    → j ≢ port → get_elem? views j ≡ some u → right u ≡ 0
 alone right views port v all at mine j u other e = omega (arith, total_two right views port j v u (λ x. other (sym x)) at e)
 
 -- whoever takes it, one number more was taken
 taken_more : (test : ℕ → Bool) (who : Taker) (x : ℕ) (rest : List ℕ) (p : Part)
-    → count_by test (taken who x rest p).popped + count_by test (taken who x rest p).stolen ≡ count_by test p.popped + count_by test p.stolen + count_by test (x ∷ [])
+    → count_by test (taken who x rest p).popped + count_by test (taken who x rest p).stolen ≡ count_by test p.popped + count_by test p.stolen + count_by test
+    (x ∷ [])
 taken_more test owner x rest p = omega (arith, sum_by-append (λ y. cond (test y) 1 0) p.popped (x ∷ []))
 taken_more test thief x rest p = omega (arith, sum_by-append (λ y. cond (test y) 1 0) p.stolen (x ∷ []))
 
@@ -68,10 +73,24 @@ front_balanced : (test : ℕ → Bool) (who : Taker) (held : List ℕ) (p : Part
 front_balanced test who [] p is was = was
 front_balanced test who (x ∷ held) p is was =
     let same = taken_pushed who x held p in
-    omega (arith, was, ap (count_by test) is, ap (count_by test) same.0, ap (count_by test) same.1, sum_by-cons (λ y. cond (test y) 1 0) x held, sum_by-cons (λ y. cond (test y) 1 0) x [], taken_more test who x held p)
+    omega (
+      arith,
+      was,
+      ap (count_by test) is,
+      ap (count_by test) same.0,
+      ap (count_by test) same.1,
+      sum_by-cons (λ y. cond (test y) 1 0) x held,
+      sum_by-cons (λ y. cond (test y) 1 0) x [],
+      taken_more test who x held p,
+    )
 
 move_balanced : (test : ℕ → Bool) (m : Move) (p : Part) → Balanced test p → Balanced test (moved m p)
-move_balanced test (add x) p was = omega (arith, was, sum_by-append (λ y. cond (test y) 1 0) p.pushed (x ∷ []), sum_by-append (λ y. cond (test y) 1 0) p.held (x ∷ []))
+move_balanced test (add x) p was = omega (
+  arith,
+  was,
+  sum_by-append (λ y. cond (test y) 1 0) p.pushed (x ∷ []),
+  sum_by-append (λ y. cond (test y) 1 0) p.held (x ∷ []),
+)
 move_balanced test (take who) p was = front_balanced test who p.held p refl was
 
 pub balanced : (test : ℕ → Bool) (moves : List Move) → Balanced test (part_after moves)
@@ -99,10 +118,12 @@ begins = record {
 }
 
 -- the rights stay where the seat that changes keeps its own
-same_right : (right : Seat → ℕ) (views : List Seat) (port : ℕ) (v w : Seat) → get_elem? views port ≡ some v → right w ≡ right v → sum_by right views ≡ 1 → sum_by right (set views port w) ≡ 1
+same_right : (right : Seat → ℕ) (views : List Seat) (port : ℕ) (v w : Seat) → get_elem? views port ≡ some v → right w ≡ right v → sum_by right views ≡ 1
+    → sum_by right (set views port w) ≡ 1
 same_right right views port v w at same all = let t = total_set right views port v w at in omega arith
 
-pub puts : (port : ℕ) (v : Seat) (x : ℕ) → 0 < v.pop_right → 0 < v.steal_right → Pushes Dealt port v (x ∷ []) (λ w. w ≡ seat v.pop_right v.steal_right (v.pushed ++ x ∷ []) v.popped v.stolen)
+pub puts : (port : ℕ) (v : Seat) (x : ℕ) → 0 < v.pop_right → 0 < v.steal_right
+    → Pushes Dealt port v (x ∷ []) (λ w. w ≡ seat v.pop_right v.steal_right (v.pushed ++ x ∷ []) v.popped v.stolen)
 puts port v x may_pop may_steal items views h at =
     let w : Seat = seat v.pop_right v.steal_right (v.pushed ++ x ∷ []) v.popped v.stolen in
     let mine = h.known port v at in
@@ -112,7 +133,8 @@ puts port v x may_pop may_steal items views h at =
       record {
         moves = add x ∷ h.moves;
         held = ap (λ ys. ys ++ x ∷ []) h.held;
-        known = each_set (λ j u. Knows q u) views port w known (λ j u n e. idle q u (alone pops views port v h.owner at may_pop j u n e) (alone steals views port v h.thief at may_steal j u n e));
+        known = each_set (λ j u. Knows q u) views port w known (λ j u n e. idle q u (alone pops views port v h.owner at may_pop j u n e)
+            (alone steals views port v h.thief at may_steal j u n e));
         owner = same_right pops views port v w at refl h.owner;
         thief = same_right steals views port v w at refl h.thief;
       },
@@ -120,12 +142,14 @@ puts port v x may_pop may_steal items views h at =
     )
 
 -- what was pushed is among what the taker knows to be pushed
-among : (x : ℕ) (items : List ℕ) (views : List Seat) (v : Seat) (h : Dealt (x ∷ items) views) → v.pushed ≡ (part_after h.moves).pushed → (test : ℕ → Bool) → count_by test v.pushed ≡ 0 → count_by test (x ∷ []) ≡ 0
+among : (x : ℕ) (items : List ℕ) (views : List Seat) (v : Seat) (h : Dealt (x ∷ items) views) → v.pushed ≡ (part_after h.moves).pushed → (test : ℕ → Bool)
+    → count_by test v.pushed ≡ 0 → count_by test (x ∷ []) ≡ 0
 among x items views v h mine test none =
     omega (arith, balanced test h.moves, ap (count_by test) h.held, ap (count_by test) mine, sum_by-append (λ y. cond (test y) 1 0) (x ∷ []) items)
 
 pub pops_one : (port : ℕ) (v : Seat) → 0 < v.pop_right
-    → Takes Dealt port v 1 (λ xs w. (w ≡ seat v.pop_right v.steal_right v.pushed (v.popped ++ xs) v.stolen) × ((test : ℕ → Bool) → count_by test v.pushed ≡ 0 → count_by test xs ≡ 0))
+    → Takes Dealt port v 1 (λ xs w. (w ≡ seat v.pop_right v.steal_right v.pushed (v.popped ++ xs) v.stolen)
+    × ((test : ℕ → Bool) → count_by test v.pushed ≡ 0 → count_by test xs ≡ 0))
 pops_one port v may [] items views some_x one h at = absurd (omega arith)
 pops_one port v may (x ∷ y ∷ xs) items views some_x one h at = absurd (omega arith)
 pops_one port v may (x ∷ []) items views some_x one h at =
@@ -136,7 +160,8 @@ pops_one port v may (x ∷ []) items views some_x one h at =
     let now : front_taken owner p.held p ≡ q = ap (λ held. front_taken owner held p) h.held in
     let known : Knows q w = record { pushed = mine.pushed; popped = λ lt. ap (λ ys. ys ++ x ∷ []) (mine.popped lt); stolen = mine.stolen } in
     let others : (j : ℕ) (u : Seat) → j ≢ port → get_elem? views j ≡ some u → Knows q u = λ j u n e.
-    (let was = h.known j u e in let no = alone pops views port v h.owner at may j u n e in record { pushed = was.pushed; popped = λ lt. absurd (omega arith); stolen = was.stolen }) in (
+    (let was = h.known j u e in let no = alone pops views port v h.owner at may j u n e in
+    record { pushed = was.pushed; popped = λ lt. absurd (omega arith); stolen = was.stolen }) in (
       w,
       record {
         moves = take owner ∷ h.moves;
@@ -149,7 +174,8 @@ pops_one port v may (x ∷ []) items views some_x one h at =
     )
 
 pub steals_one : (port : ℕ) (v : Seat) → 0 < v.steal_right
-    → Takes Dealt port v 1 (λ xs w. (w ≡ seat v.pop_right v.steal_right v.pushed v.popped (v.stolen ++ xs)) × ((test : ℕ → Bool) → count_by test v.pushed ≡ 0 → count_by test xs ≡ 0))
+    → Takes Dealt port v 1 (λ xs w. (w ≡ seat v.pop_right v.steal_right v.pushed v.popped (v.stolen ++ xs))
+    × ((test : ℕ → Bool) → count_by test v.pushed ≡ 0 → count_by test xs ≡ 0))
 steals_one port v may [] items views some_x one h at = absurd (omega arith)
 steals_one port v may (x ∷ y ∷ xs) items views some_x one h at = absurd (omega arith)
 steals_one port v may (x ∷ []) items views some_x one h at =
@@ -160,7 +186,8 @@ steals_one port v may (x ∷ []) items views some_x one h at =
     let now : front_taken thief p.held p ≡ q = ap (λ held. front_taken thief held p) h.held in
     let known : Knows q w = record { pushed = mine.pushed; popped = mine.popped; stolen = λ lt. ap (λ ys. ys ++ x ∷ []) (mine.stolen lt) } in
     let others : (j : ℕ) (u : Seat) → j ≢ port → get_elem? views j ≡ some u → Knows q u = λ j u n e.
-    (let was = h.known j u e in let no = alone steals views port v h.thief at may j u n e in record { pushed = was.pushed; popped = was.popped; stolen = λ lt. absurd (omega arith) }) in (
+    (let was = h.known j u e in let no = alone steals views port v h.thief at may j u n e in
+    record { pushed = was.pushed; popped = was.popped; stolen = λ lt. absurd (omega arith) }) in (
       w,
       record {
         moves = take thief ∷ h.moves;
@@ -172,10 +199,18 @@ steals_one port v may (x ∷ []) items views some_x one h at =
       (refl, among x items views v h (mine.pushed (omega arith))),
     )
 
-pub finds : (port : ℕ) (v : Seat) → 0 < v.pop_right → Finds Dealt port v (0 < v.steal_right → (test : ℕ → Bool) → count_by test v.pushed ≡ count_by test v.popped + count_by test v.stolen)
+pub finds : (port : ℕ) (v : Seat) → 0 < v.pop_right → Finds Dealt port v (0 < v.steal_right → (test : ℕ → Bool)
+    → count_by test v.pushed ≡ count_by test v.popped + count_by test v.stolen)
 finds port v may views h at may' test =
     let mine = h.known port v at in
-    omega (arith, balanced test h.moves, ap (count_by test) h.held, ap (count_by test) (mine.pushed (omega arith)), ap (count_by test) (mine.popped may), ap (count_by test) (mine.stolen may'))
+    omega (
+      arith,
+      balanced test h.moves,
+      ap (count_by test) h.held,
+      ap (count_by test) (mine.pushed (omega arith)),
+      ap (count_by test) (mine.popped may),
+      ap (count_by test) (mine.stolen may'),
+    )
 
 pub totals : (port : ℕ) (v : Seat) → 0 < v.pop_right → 0 < v.steal_right → Learns Dealt port v (λ items. IsWhole v items)
 totals port v may may' items views h at =
@@ -190,7 +225,8 @@ forks port v may items views h at =
     let p = part_after h.moves in
     let left : Knows p l = record { pushed = λ _. mine.pushed (omega arith); popped = mine.popped; stolen = λ lt. absurd (omega arith) } in
     let right : Knows p r = record { pushed = λ _. mine.pushed (omega arith); popped = λ lt. absurd (omega arith); stolen = mine.stolen } in
-    let known : (j : ℕ) (u : Seat) → get_elem? (set views port l) j ≡ some u → Knows p u = each_set (λ j u. Knows p u) views port l left (λ j u n e. h.known j u e) in
+    let known : (j : ℕ) (u : Seat) → get_elem? (set views port l) j ≡ some u → Knows p u =
+    each_set (λ j u. Knows p u) views port l left (λ j u n e. h.known j u e) in
     record {
       moves = h.moves;
       held = h.held;
@@ -199,7 +235,8 @@ forks port v may items views h at =
       thief = (let t = total_set steals views port v l at in let s = sum_by_push steals (set views port l) r in omega (arith, h.thief));
     }
 
-pub merges : (port : ℕ) (v : Seat) (other : ℕ) (w : Seat) → 0 < v.pop_right → 0 < w.steal_right → Merges Dealt port v other w (seat v.pop_right w.steal_right v.pushed v.popped w.stolen) (seat 0 0 [] [] [])
+pub merges : (port : ℕ) (v : Seat) (other : ℕ) (w : Seat) → 0 < v.pop_right → 0 < w.steal_right
+    → Merges Dealt port v other w (seat v.pop_right w.steal_right v.pushed v.popped w.stolen) (seat 0 0 [] [] [])
 merges port v other w may may' items views h at two at' =
     let both : Seat = seat v.pop_right w.steal_right v.pushed v.popped w.stolen in
     let spent : Seat = seat 0 0 [] [] [] in
@@ -214,7 +251,8 @@ merges port v other w may may' items views h at two at' =
     let no : w.pop_right ≡ 0 = alone pops views port v h.owner at may other w two there in
     let no' : v.steal_right ≡ 0 = alone steals views other w h.thief there may' port v (λ e. two (sym e)) at in
     let joined : Knows p both = record { pushed = λ _. mine.pushed (omega arith); popped = mine.popped; stolen = theirs.stolen } in
-    let known : (j : ℕ) (u : Seat) → get_elem? (set views port both) j ≡ some u → Knows p u = each_set (λ j u. Knows p u) views port both joined (λ j u n e. h.known j u e) in
+    let known : (j : ℕ) (u : Seat) → get_elem? (set views port both) j ≡ some u → Knows p u =
+    each_set (λ j u. Knows p u) views port both joined (λ j u n e. h.known j u e) in
     record {
       moves = h.moves;
       held = h.held;

@@ -9,7 +9,8 @@ use Rattle.std.proofs.lemmas.List.Elements.{All-head, All-tail}
 use Rattle.std.proofs.lemmas.List.Sums.{sum_by-cons, sum_by-append, sum_by-set}
 use Rattle.worker_pool.specs.Tickets.{Step, push, pop, steal, State, of_hand, added, front_taken, stepped, after, IsStepOf, number_of, pushed}
 
-front_lengths : (h d : ℕ) (held : List ℕ) (s : State) → (length (front_taken h d held s).deques ≡ length s.deques) × (length (front_taken h d held s).taken ≡ length s.taken)
+front_lengths : (h d : ℕ) (held : List ℕ) (s : State) → (length (front_taken h d held s).deques ≡ length s.deques)
+    × (length (front_taken h d held s).taken ≡ length s.taken)
 front_lengths h d [] s = (refl, refl)
 front_lengths h d (x ∷ rest) s = (length-set s.deques d rest, length-set s.taken h (of_hand h s.taken ++ x ∷ []))
 
@@ -30,18 +31,31 @@ module _ (test : ℕ → Bool) where
   none n = let e = sum_by-replicate (λ (l : List ℕ). count_by test l) n [] in omega arith
 
   added_more : (lists : List (List ℕ)) (h x : ℕ) → h < length lists → sum_by counts (added h x lists) ≡ sum_by counts lists + counts (x ∷ [])
-  added_more lists h x within = omega (arith, sum_by-set counts lists h (of_hand h lists ++ x ∷ []) [] within, sum_by-append (λ y. cond (test y) 1 0) (of_hand h lists) (x ∷ []))
+  added_more lists h x within = omega (
+    arith,
+    sum_by-set counts lists h (of_hand h lists ++ x ∷ []) [] within,
+    sum_by-append (λ y. cond (test y) 1 0) (of_hand h lists) (x ∷ []),
+  )
 
   -- all that stands in deques or was taken
   abbrev all : State → ℕ
   all s = sum_by counts s.deques + sum_by counts s.taken
 
-  front_kept : (h d : ℕ) (held : List ℕ) (s : State) → of_hand d s.deques ≡ held → d < length s.deques → h < length s.taken → all (front_taken h d held s) ≡ all s
+  front_kept : (h d : ℕ) (held : List ℕ) (s : State) → of_hand d s.deques ≡ held → d < length s.deques → h < length s.taken
+      → all (front_taken h d held s) ≡ all s
   front_kept h d [] s is in_d in_h = refl
   front_kept h d (x ∷ rest) s is in_d in_h =
-      omega (arith, sum_by-set counts s.deques d rest [] in_d, ap counts is, sum_by-cons (λ y. cond (test y) 1 0) x rest, sum_by-cons (λ y. cond (test y) 1 0) x [], added_more s.taken h x in_h)
+      omega (
+        arith,
+        sum_by-set counts s.deques d rest [] in_d,
+        ap counts is,
+        sum_by-cons (λ y. cond (test y) 1 0) x rest,
+        sum_by-cons (λ y. cond (test y) 1 0) x [],
+        added_more s.taken h x in_h,
+      )
 
-  step_law : (n : ℕ) (step : Step) (s : State) → length s.deques ≡ n → length s.taken ≡ n → IsStepOf n step → all (stepped n step s) ≡ counts (number_of step) + all s
+  step_law : (n : ℕ) (step : Step) (s : State) → length s.deques ≡ n → length s.taken ≡ n → IsStepOf n step
+      → all (stepped n step s) ≡ counts (number_of step) + all s
   step_law n (push h x) s len len' of = omega (arith, added_more s.deques h x (omega arith))
   step_law n (pop h) s len len' of = omega (arith, front_kept h h (of_hand h s.deques) s refl (omega arith) (omega arith))
   step_law n (steal h) s len len' of =

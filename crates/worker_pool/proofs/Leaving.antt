@@ -1,5 +1,6 @@
 -- From stations back to hands and lists of answers.
-use Rattle.std.proofs.Common.{◌≡◌, ◌∙◌, ℕ, ◌+◌, ◌<◌, ◌≤◌, ◌^◌, Bool, true, List, [], ◌∷◌, All, Vec, Global, vec_len, count_by, map, length, get_or, sym, subst, ap, refl, arith}
+use Rattle.std.proofs.Common.{◌≡◌, ◌∙◌, ℕ, ◌+◌, ◌<◌, ◌≤◌, ◌^◌, Bool, true, List, [], ◌∷◌, All, Vec, Global, vec_len, count_by, map, length, get_or, sym, subst}
+use Rattle.std.proofs.Common.{ap, refl, arith}
 use Rattle.std.specs.List.{sum_by}
 use Rattle.std.proofs.lemmas.List.{length-map}
 use Rattle.std.proofs.lemmas.List.Sums.{sum_by-cons}
@@ -14,20 +15,24 @@ use Rattle.worker_pool.proofs.Places.{map_at, maps_same, count_all, count_below_
 use Rattle.worker_pool.proofs.Rounds.{pick}
 
 -- stations that began with no answer
-module _ {J A S T : Type 0} (setup : J → T) (answers : T → ℕ → A → Type 0) (seated ended : List (Station J A S)) (rest : All (λ (s : Station J A S). s.answers.items ≡ []) seated)
+module _ {J A S T : Type 0} (setup : J → T) (answers : T → ℕ → A → Type 0) (seated ended : List (Station J A S))
+    (rest : All (λ (s : Station J A S). s.answers.items ≡ []) seated)
     (on : (k : ℕ) (s : Station J A S) → k < length seated → GoesOn setup answers (get_or seated k s) (get_or ended k s)) where
   pub stayed : (k : ℕ) (s : Station J A S) → k < length seated → setup (get_or ended k s).hand.job ≡ setup (get_or seated k s).hand.job
   stayed k s lt = (on k s lt).stays
 
-  pub all_right : (k : ℕ) (s : Station J A S) → k < length seated → All (λ p. answers (setup (get_or seated k s).hand.job) p.0 p.1) (get_or ended k s).answers.items
-  all_right k s lt = (on k s lt).right (subst (λ (xs : List (ℕ × A)). All (λ p. answers (setup (get_or seated k s).hand.job) p.0 p.1) xs) (sym (rest k s lt)) (λ i d low. absurd (omega arith)))
+  pub all_right : (k : ℕ) (s : Station J A S) → k < length seated → All (λ p. answers (setup (get_or seated k s).hand.job) p.0 p.1)
+      (get_or ended k s).answers.items
+  all_right k s lt = (on k s lt).right (subst (λ (xs : List (ℕ × A)). All (λ p. answers (setup (get_or seated k s).hand.job) p.0 p.1) xs) (sym (rest k s lt))
+      (λ i d low. absurd (omega arith)))
 
   pub all_counted : (k : ℕ) (s : Station J A S) → k < length seated → (get_or seated k s).hand.performed + vec_len (get_or ended k s).answers < 2 ^ 64
       → (get_or ended k s).hand.performed ≡ (get_or seated k s).hand.performed + vec_len (get_or ended k s).answers
   all_counted k s lt fits =
       let none : length (get_or seated k s).answers.items ≡ 0 = ap (λ (xs : List (ℕ × A)). length xs) (rest k s lt) in
       let many = (get_or ended k s).answers.ok.0 in
-      let e : (get_or ended k s).hand.performed + length (get_or seated k s).answers.items ≡ (get_or seated k s).hand.performed + length (get_or ended k s).answers.items = (on k s lt).counted (omega arith) in
+      let e : (get_or ended k s).hand.performed + length (get_or seated k s).answers.items ≡ (get_or seated k s).hand.performed + length
+      (get_or ended k s).answers.items = (on k s lt).counted (omega arith) in
       omega arith
 
 module _ {J A S T : Type 0} (setup : J → T) (hands : List (Hand J A S)) (seated ended : List (Station J A S)) where
@@ -65,10 +70,13 @@ module _ {J A S T : Type 0} (setup : J → T) (hands : List (Hand J A S)) (seate
         subst (λ (x : Hand J A S). All (λ p. answers (setup (hand_job x)) p.0 p.1) (items (get_or lists k l))) was
         (subst (λ (xs : List (ℕ × A)). All (λ p. answers (setup (get_or seated k d).hand.job) p.0 p.1) xs) is (right k d in_s))
 
-    pub counted_back : (back : List (Hand J A S)) → map hand_of seated ≡ hands → back ≡ map hand_of ended → lists ≡ map list_of ended → length ended ≡ length seated
+    pub counted_back : (back : List (Hand J A S)) → map hand_of seated ≡ hands → back ≡ map hand_of ended → lists ≡ map list_of ended
+        → length ended ≡ length seated
         → ((s : Station J A S) → size (list_of s) ≡ vec_len s.answers)
-        → ((k : ℕ) (s : Station J A S) → k < length seated → (get_or seated k s).hand.performed + vec_len (get_or ended k s).answers < 2 ^ 64 → (get_or ended k s).hand.performed ≡ (get_or seated k s).hand.performed + vec_len (get_or ended k s).answers)
-        → (k : ℕ) (h : Hand J A S) (l : L) → k < length hands → hand_performed (get_or hands k h) + size (get_or lists k l) < 2 ^ 64 → hand_performed (get_or back k h) ≡ hand_performed (get_or hands k h) + size (get_or lists k l)
+        → ((k : ℕ) (s : Station J A S) → k < length seated → (get_or seated k s).hand.performed + vec_len (get_or ended k s).answers < 2 ^ 64
+        → (get_or ended k s).hand.performed ≡ (get_or seated k s).hand.performed + vec_len (get_or ended k s).answers)
+        → (k : ℕ) (h : Hand J A S) (l : L) → k < length hands → hand_performed (get_or hands k h) + size (get_or lists k l) < 2 ^ 64
+        → hand_performed (get_or back k h) ≡ hand_performed (get_or hands k h) + size (get_or lists k l)
     counted_back back sat left left' len size_is counted k h l within fits =
         let len_s : length seated ≡ length hands = sym (length-map seated hand_of) ∙ ap length sat in
         let len_b : length back ≡ length ended = ap length left ∙ length-map ended hand_of in
@@ -77,9 +85,12 @@ module _ {J A S T : Type 0} (setup : J → T) (hands : List (Hand J A S)) (seate
         let in_b : k < length back = omega arith in
         let in_l : k < length lists = omega arith in
         let d : Station J A S = pick seated k in_s in
-        let now : (get_or ended k d).hand.performed ≡ hand_performed (get_or back k h) = ap (λ (x : Hand J A S). x.performed) (map_at hand_of ended back (sym left) k d h in_b) in
-        let was : (get_or seated k d).hand.performed ≡ hand_performed (get_or hands k h) = ap (λ (x : Hand J A S). x.performed) (map_at hand_of seated hands sat k d h within) in
-        let is : vec_len (get_or ended k d).answers ≡ size (get_or lists k l) = sym (size_is (get_or ended k d)) ∙ ap size (map_at list_of ended lists (sym left') k d l in_l) in
+        let now : (get_or ended k d).hand.performed ≡ hand_performed (get_or back k h) =
+        ap (λ (x : Hand J A S). x.performed) (map_at hand_of ended back (sym left) k d h in_b) in
+        let was : (get_or seated k d).hand.performed ≡ hand_performed (get_or hands k h) =
+        ap (λ (x : Hand J A S). x.performed) (map_at hand_of seated hands sat k d h within) in
+        let is : vec_len (get_or ended k d).answers ≡ size (get_or lists k l) = sym (size_is (get_or ended k d))
+        ∙ ap size (map_at list_of ended lists (sym left') k d l in_l) in
         let e : (get_or ended k d).hand.performed ≡ (get_or seated k d).hand.performed + vec_len (get_or ended k d).answers = counted k d in_s (omega arith) in
         omega arith
 
@@ -90,7 +101,8 @@ sum_map f g list_of (x ∷ xs) same =
     let here : f (list_of x) ≡ g x = same x in
     omega (arith, sum_by-cons f (list_of x) (map list_of xs), sum_by-cons g x xs, here, sum_map f g list_of xs same)
 
-pub sum_left : {X L : Type 0} (f : L → ℕ) (g : X → ℕ) (list_of : X → L) (xs : List X) (lists : List L) → lists ≡ map list_of xs → ((x : X) → f (list_of x) ≡ g x) → sum_by f lists ≡ sum_by g xs
+pub sum_left : {X L : Type 0} (f : L → ℕ) (g : X → ℕ) (list_of : X → L) (xs : List X) (lists : List L) → lists ≡ map list_of xs
+    → ((x : X) → f (list_of x) ≡ g x) → sum_by f lists ≡ sum_by g xs
 sum_left f g list_of xs lists left same = ap (sum_by f) left ∙ sum_map f g list_of xs same
 
 map_twice : {J A S : Type 0} (es : List (Station J A S)) → map (λ (v : Vec (ℕ × A) Global). v.items) (map (λ (s : Station J A S). s.answers) es) ≡ answers_of es
@@ -98,28 +110,41 @@ map_twice [] = refl
 map_twice (e ∷ es) = ap (λ ls. e.answers.items ∷ ls) (map_twice es)
 
 -- the lists that the stations leave are their answers
-lists_are : {J A S : Type 0} (es : List (Station J A S)) (ls : List (Vec (ℕ × A) Global)) → ls ≡ map (λ (s : Station J A S). s.answers) es → map (λ (v : Vec (ℕ × A) Global). v.items) ls ≡ answers_of es
+lists_are : {J A S : Type 0} (es : List (Station J A S)) (ls : List (Vec (ℕ × A) Global)) → ls ≡ map (λ (s : Station J A S). s.answers) es
+    → map (λ (v : Vec (ℕ × A) Global). v.items) ls ≡ answers_of es
 lists_are {J = J} {A = A} {S = S} es ls left = ap (map (λ (v : Vec (ℕ × A) Global). v.items)) left ∙ map_twice es
 
-pub lists_back : {J A S : Type 0} (n count : ℕ) (es : List (Station J A S)) (ls : List (Vec (ℕ × A) Global)) → ls ≡ map (λ (s : Station J A S). s.answers) es → SharesAll n count (answers_of es)
+pub lists_back : {J A S : Type 0} (n count : ℕ) (es : List (Station J A S)) (ls : List (Vec (ℕ × A) Global)) → ls ≡ map (λ (s : Station J A S). s.answers) es
+    → SharesAll n count (answers_of es)
     → SharesAll n count (map (λ (v : Vec (ℕ × A) Global). v.items) ls)
 lists_back {A = A} n count es ls left shared = subst (λ (xs : List (List (ℕ × A))). SharesAll n count xs) (sym (lists_are es ls left)) shared
 
-pub once_back : {J A S : Type 0} (n count : ℕ) (es : List (Station J A S)) (ls : List (Vec (ℕ × A) Global)) → ls ≡ map (λ (s : Station J A S). s.answers) es → length es ≡ n → SharesAll n count (answers_of es)
+pub once_back : {J A S : Type 0} (n count : ℕ) (es : List (Station J A S)) (ls : List (Vec (ℕ × A) Global)) → ls ≡ map (λ (s : Station J A S). s.answers) es
+    → length es ≡ n → SharesAll n count (answers_of es)
     → (test : ℕ → Bool) → sum_by (λ (v : Vec (ℕ × A) Global). count_by (λ p. test p.0) v.items) ls ≡ count_below test count
 once_back {J = J} {A = A} {S = S} n count es ls left len shared test =
     let given : Station J A S → List (ℕ × A) = λ s. s.answers.items in
-    sum_left (λ (v : Vec (ℕ × A) Global). count_by (λ p. test p.0) v.items) (λ (s : Station J A S). count_by (λ p. test p.0) s.answers.items) (λ (s : Station J A S). s.answers) es ls left (λ s. refl)
-    ∙ sym (sum_left (λ (l : List (ℕ × A)). count_by (λ p. test p.0) l) (λ (s : Station J A S). count_by (λ p. test p.0) s.answers.items) given es (answers_of es) refl (λ s. refl))
+    sum_left (λ (v : Vec (ℕ × A) Global). count_by (λ p. test p.0) v.items) (λ (s : Station J A S). count_by (λ p. test p.0) s.answers.items)
+    (λ (s : Station J A S). s.answers) es ls left (λ s. refl)
+    ∙ sym (sum_left (λ (l : List (ℕ × A)). count_by (λ p. test p.0) l) (λ (s : Station J A S). count_by (λ p. test p.0) s.answers.items) given es
+    (answers_of es) refl (λ s. refl))
     ∙ once_of_all n count (answers_of es) (length-map es given ∙ len) shared test
 
 -- how long the lists are together, by the test that all pass
-pub lengths_counted : {A : Type 0} (lists : List (List (ℕ × A))) → sum_by (λ (l : List (ℕ × A)). count_by (λ p. true) l) lists ≡ sum_by (λ (l : List (ℕ × A)). length l) lists
+pub lengths_counted : {A : Type 0} (lists : List (List (ℕ × A))) → sum_by (λ (l : List (ℕ × A)). count_by (λ p. true) l) lists ≡ sum_by
+    (λ (l : List (ℕ × A)). length l) lists
 lengths_counted {A = A} [] = refl
 lengths_counted {A = A} (l ∷ ls) =
-    omega (arith, sum_by-cons (λ (x : List (ℕ × A)). count_by (λ p. true) x) l ls, sum_by-cons (λ (x : List (ℕ × A)). length x) l ls, count_all l, lengths_counted ls)
+    omega (
+      arith,
+      sum_by-cons (λ (x : List (ℕ × A)). count_by (λ p. true) x) l ls,
+      sum_by-cons (λ (x : List (ℕ × A)). length x) l ls,
+      count_all l,
+      lengths_counted ls,
+    )
 
-pub lists_most : {A : Type 0} (lists : List (List (ℕ × A))) (count : ℕ) → ((test : ℕ → Bool) → sum_by (λ (l : List (ℕ × A)). count_by (λ p. test p.0) l) lists ≤ count_below test count) → sum_by (λ (l : List (ℕ × A)). length l) lists ≤ count
+pub lists_most : {A : Type 0} (lists : List (List (ℕ × A))) (count : ℕ) → ((test : ℕ → Bool)
+    → sum_by (λ (l : List (ℕ × A)). count_by (λ p. test p.0) l) lists ≤ count_below test count) → sum_by (λ (l : List (ℕ × A)). length l) lists ≤ count
 lists_most lists count once = (let e = once (λ n. true) in omega (arith, lengths_counted lists, count_below_all count))
 
 module _ {J A S T : Type 0} (setup : J → T) (hands : List (Hand J A S)) (seated ended : List (Station J A S)) where
@@ -130,9 +155,11 @@ module _ {J A S T : Type 0} (setup : J → T) (hands : List (Hand J A S)) (seate
   hand_at s = s.hand
 
   -- a refused run
-  pub performs_part : (answers : T → ℕ → A → Type 0) (back : List (Hand J A S)) (count : ℕ) → map hand_at seated ≡ hands → back ≡ map hand_at ended → length ended ≡ length seated
+  pub performs_part : (answers : T → ℕ → A → Type 0) (back : List (Hand J A S)) (count : ℕ) → map hand_at seated ≡ hands → back ≡ map hand_at ended
+      → length ended ≡ length seated
       → ((k : ℕ) (s : Station J A S) → k < length seated → All (λ p. answers (setup (get_or seated k s).hand.job) p.0 p.1) (get_or ended k s).answers.items)
-      → ((k : ℕ) (s : Station J A S) → k < length seated → (get_or seated k s).hand.performed + vec_len (get_or ended k s).answers < 2 ^ 64 → (get_or ended k s).hand.performed ≡ (get_or seated k s).hand.performed + vec_len (get_or ended k s).answers)
+      → ((k : ℕ) (s : Station J A S) → k < length seated → (get_or seated k s).hand.performed + vec_len (get_or ended k s).answers < 2 ^ 64
+      → (get_or ended k s).hand.performed ≡ (get_or seated k s).hand.performed + vec_len (get_or ended k s).answers)
       → SharesPart (length hands) count (answers_of ended)
       → PerformsPart setup answers hands back count
   performs_part answers back count sat left len right counted shared =
@@ -140,18 +167,22 @@ module _ {J A S T : Type 0} (setup : J → T) (hands : List (Hand J A S)) (seate
       let len_s : length seated ≡ length hands = sym (length-map seated hand_at) ∙ ap length sat in
       let len_b : length back ≡ length ended = ap length left ∙ length-map ended hand_at in
       let len_l : length lists ≡ length ended = length-map ended given in
-      let once : (test : ℕ → Bool) → sum_by (λ (l : List (ℕ × A)). count_by (λ p. test p.0) l) lists ≤ count_below test count = once_of_part (length hands) count lists (omega arith) shared in
+      let once : (test : ℕ → Bool) → sum_by (λ (l : List (ℕ × A)). count_by (λ p. test p.0) l) lists ≤ count_below test count =
+      once_of_part (length hands) count lists (omega arith) shared in
       let few : sum_by (λ (l : List (ℕ × A)). length l) lists ≤ count = lists_most lists count once in
       record {
         lists = lists;
         many = len_l ∙ len ∙ len_s;
-        right = right_back setup hands seated ended (λ (l : List (ℕ × A)). l) (λ (l : List (ℕ × A)). length l) given lists answers sat refl len (λ s. refl) right;
+        right = right_back setup hands seated ended (λ (l : List (ℕ × A)). l) (λ (l : List (ℕ × A)). length l) given lists answers sat refl len
+            (λ s. refl) right;
         shared = shared;
         once = once;
         most = few;
-        counted = counted_back setup hands seated ended (λ (l : List (ℕ × A)). l) (λ (l : List (ℕ × A)). length l) given lists back sat left refl len (λ s. sym s.answers.ok.0) counted;
+        counted = counted_back setup hands seated ended (λ (l : List (ℕ × A)). l) (λ (l : List (ℕ × A)). length l) given lists back sat left refl len
+            (λ s. sym s.answers.ok.0) counted;
         performed = λ fits. performed_sum hand_performed (λ (l : List (ℕ × A)). length l) (2 ^ 64) hands back lists (omega arith) (omega arith)
-            (counted_back setup hands seated ended (λ (l : List (ℕ × A)). l) (λ (l : List (ℕ × A)). length l) given lists back sat left refl len (λ s. sym s.answers.ok.0) counted) (omega arith);
+            (counted_back setup hands seated ended (λ (l : List (ℕ × A)). l) (λ (l : List (ℕ × A)). length l) given lists back sat left refl len
+            (λ s. sym s.answers.ok.0) counted) (omega arith);
       }
 
 zeros : {X : Type 0} (xs : List X) → sum_by (λ (x : X). 0) xs ≡ 0
@@ -166,18 +197,22 @@ module _ {J A S T : Type 0} (setup : J → T) (answers : T → ℕ → A → Typ
   pub performs_none : PerformsPart setup answers hands hands count
   performs_none =
       let lists : List (List (ℕ × A)) = map none_of hands in
-      let none : (f : List (ℕ × A) → ℕ) → f [] ≡ 0 → sum_by f lists ≡ 0 = λ f empty. sum_left f (λ (h : Hand J A S). 0) none_of hands lists refl (λ h. empty) ∙ zeros hands in
+      let none : (f : List (ℕ × A) → ℕ) → f [] ≡ 0 → sum_by f lists ≡ 0 = λ f empty.
+      sum_left f (λ (h : Hand J A S). 0) none_of hands lists refl (λ h. empty) ∙ zeros hands in
       let len : length lists ≡ length hands = length-map hands none_of in
       record {
         lists = lists;
         many = len;
-        right = λ k h l lt. (let in_l : k < length lists = omega arith in subst (λ (xs : List (ℕ × A)). All (λ p. answers (setup (hand_job (get_or hands k h))) p.0 p.1) xs) (map_at none_of hands lists refl k h l in_l) (λ i d low. absurd (omega arith)));
+        right = λ k h l lt. (let in_l : k < length lists = omega arith in subst
+            (λ (xs : List (ℕ × A)). All (λ p. answers (setup (hand_job (get_or hands k h))) p.0 p.1) xs) (map_at none_of hands lists refl k h l in_l)
+            (λ i d low. absurd (omega arith)));
         shared = record {
           steps = [];
           of_hands = All-nil (IsStepOf (length hands));
           round = All-nil (IsDealtRound (length hands));
           dealt = λ test. omega arith;
-          taken = λ test k lt. (let e = ap (λ (xs : List (ℕ × A)). count_by (λ p. test p.0) xs) (map_at none_of hands lists refl k (pick hands k lt) [] (omega arith)) in omega arith);
+          taken = λ test k lt. (let e = ap (λ (xs : List (ℕ × A)). count_by (λ p. test p.0) xs)
+              (map_at none_of hands lists refl k (pick hands k lt) [] (omega arith)) in omega arith);
         };
         once = λ test. (let e = none (λ (l : List (ℕ × A)). count_by (λ p. test p.0) l) refl in omega arith);
         counted = λ k h l lt fits. (let e = ap (λ (xs : List (ℕ × A)). length xs) (map_at none_of hands lists refl k h l (omega arith)) in omega arith);

@@ -13,7 +13,8 @@ module _ {A : Type 0} where
   holds_set P (x ∷ xs) (suc i) v d here old zero = old zero
   holds_set P (x ∷ xs) (suc i) v d here old (suc j) = holds_set (λ n. P (suc n)) xs i v d here (λ n. old (suc n)) j
 
-pub sums_by_place : {X : Type 0} (f : X → ℕ) (xs ys : List X) → length xs ≡ length ys → ((k : ℕ) (d : X) → k < length xs → f (get_or xs k d) ≡ f (get_or ys k d)) → sum_by f xs ≡ sum_by f ys
+pub sums_by_place : {X : Type 0} (f : X → ℕ) (xs ys : List X) → length xs ≡ length ys
+    → ((k : ℕ) (d : X) → k < length xs → f (get_or xs k d) ≡ f (get_or ys k d)) → sum_by f xs ≡ sum_by f ys
 sums_by_place f [] [] len each = refl
 sums_by_place f [] (y ∷ ys) len each = absurd (omega arith)
 sums_by_place f (x ∷ xs) [] len each = absurd (omega arith)
@@ -28,7 +29,8 @@ count_all (x ∷ xs) = let rest = count_all xs in omega (arith, sum_by-cons (λ 
 
 -- where each of three lists' places adds up, and the whole fits, the sums add up
 pub performed_sum : {H L : Type 0} (c : H → ℕ) (n : L → ℕ) (most : ℕ) (olds news : List H) (ls : List L) → length news ≡ length olds → length ls ≡ length olds
-    → ((k : ℕ) (h : H) (l : L) → k < length olds → c (get_or olds k h) + n (get_or ls k l) < most → c (get_or news k h) ≡ c (get_or olds k h) + n (get_or ls k l))
+    → ((k : ℕ) (h : H) (l : L) → k < length olds → c (get_or olds k h) + n (get_or ls k l) < most
+    → c (get_or news k h) ≡ c (get_or olds k h) + n (get_or ls k l))
     → sum_by c olds + sum_by n ls < most → sum_by c news ≡ sum_by c olds + sum_by n ls
 performed_sum c n most [] [] [] len len' each fits = refl
 performed_sum c n most [] (x ∷ news) ls len len' each fits = absurd (omega arith)
@@ -40,7 +42,8 @@ performed_sum c n most (o ∷ olds) (x ∷ news) (l ∷ ls) len len' each fits =
     let b = sum_by-cons c x news in
     let d = sum_by-cons n l ls in
     let here : c x ≡ c o + n l = each 0 o l (omega arith) (omega arith) in
-    let rest : sum_by c news ≡ sum_by c olds + sum_by n ls = performed_sum c n most olds news ls (omega arith) (omega arith) (λ k h i lt. each (suc k) h i (omega arith)) (omega arith) in
+    let rest : sum_by c news ≡ sum_by c olds + sum_by n ls = performed_sum c n most olds news ls (omega arith) (omega arith)
+    (λ k h i lt. each (suc k) h i (omega arith)) (omega arith) in
     omega arith
 
 pub count_below_all : (n : ℕ) → count_below (λ _. true) n ≡ n
@@ -49,7 +52,14 @@ count_below_all (suc n) = let rest = count_below_all n in omega arith
 
 pub sum_len : {A : Type 0} (ls : List (Vec A Global)) → sum_by (λ (v : Vec A Global). sum_by (λ p. 1) v.items) ls ≡ sum_by (λ (v : Vec A Global). vec_len v) ls
 sum_len {A = A} [] = refl
-sum_len {A = A} (v ∷ vs) = omega (arith, sum_by-cons (λ (w : Vec A Global). sum_by (λ p. 1) w.items) v vs, sum_by-cons (λ (w : Vec A Global). vec_len w) v vs, count_all v.items, v.ok.0, sum_len vs)
+sum_len {A = A} (v ∷ vs) = omega (
+  arith,
+  sum_by-cons (λ (w : Vec A Global). sum_by (λ p. 1) w.items) v vs,
+  sum_by-cons (λ (w : Vec A Global). vec_len w) v vs,
+  count_all v.items,
+  v.ok.0,
+  sum_len vs,
+)
 
 -- a list and its images, place by place
 pub map_get : {A B : Type 0} (f : A → B) (xs : List A) (k : ℕ) (x : A) (y : B) → k < length xs → f (get_or xs k x) ≡ get_or (map f xs) k y
@@ -57,12 +67,14 @@ map_get f [] k x y within = absurd (omega arith)
 map_get f (z ∷ xs) zero x y within = refl
 map_get f (z ∷ xs) (suc k) x y within = map_get f xs k x y (omega arith)
 
-pub map_at : {A B : Type 0} (f : A → B) (xs : List A) (ys : List B) → map f xs ≡ ys → (k : ℕ) (x : A) (y : B) → k < length ys → f (get_or xs k x) ≡ get_or ys k y
+pub map_at : {A B : Type 0} (f : A → B) (xs : List A) (ys : List B) → map f xs ≡ ys → (k : ℕ) (x : A) (y : B) → k < length ys
+    → f (get_or xs k x) ≡ get_or ys k y
 map_at f xs ys same k x y within =
     map_get f xs k x y (let e : length xs ≡ length ys = sym (length-map xs f) ∙ ap length same in omega arith) ∙ ap (λ zs. get_or zs k y) same
 
 -- two lists whose images agree place by place
-pub maps_same : {A B C : Type 0} (f : A → C) (g : B → C) (xs : List A) (ys : List B) → length xs ≡ length ys → ((k : ℕ) (x : A) (y : B) → k < length ys → f (get_or xs k x) ≡ g (get_or ys k y)) → map f xs ≡ map g ys
+pub maps_same : {A B C : Type 0} (f : A → C) (g : B → C) (xs : List A) (ys : List B) → length xs ≡ length ys
+    → ((k : ℕ) (x : A) (y : B) → k < length ys → f (get_or xs k x) ≡ g (get_or ys k y)) → map f xs ≡ map g ys
 maps_same f g [] [] len each = refl
 maps_same f g [] (y ∷ ys) len each = absurd (omega arith)
 maps_same f g (x ∷ xs) [] len each = absurd (omega arith)

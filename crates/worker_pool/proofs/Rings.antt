@@ -1,5 +1,6 @@
 -- A change of one link keeps the ring.
-use Rattle.std.proofs.Common.{◌≡◌, ◌≢◌, ℕ, zero, suc, ◌+◌, ◌-◌, add-one, ◌<◌, Bool, count_by, List, [], ◌∷◌, length, get_or, set, Option, Some, None, sym, refl, ap, ◌∙◌, subst, arith}
+use Rattle.std.proofs.Common.{◌≡◌, ◌≢◌, ℕ, zero, suc, ◌+◌, ◌-◌, add-one, ◌<◌, Bool, count_by, List, [], ◌∷◌, length, get_or, set, Option, Some, None, sym, refl}
+use Rattle.std.proofs.Common.{ap, ◌∙◌, subst, arith}
 use mathlib.Core.Logic.{dite}
 use native.Mathlib.Decide.{ℕ_discrete}
 use Rattle.std.proofs.lemmas.Bool.Decides.{nat_tests}
@@ -17,11 +18,13 @@ next_of-within n k within = grind (arith, nat_tests)
 pub next_of-apart : (n j k : ℕ) → j < n → k < n → j ≢ k → next_of n j ≢ next_of n k
 next_of-apart n j k in_j in_k apart same = grind (arith, nat_tests)
 
-pub Link-along : (n : Option Next) (e f : Desk) → (worker_view f.own).steal_right ≡ (worker_view e.own).steal_right → worker_deque f.own ≡ worker_deque e.own → Link n e → Link n f
+pub Link-along : (n : Option Next) (e f : Desk) → (worker_view f.own).steal_right ≡ (worker_view e.own).steal_right → worker_deque f.own ≡ worker_deque e.own
+    → Link n e → Link n f
 Link-along None e f rights deque link = omega arith
 Link-along (Some n) e f rights deque link = link ∙ sym deque
 
-pub kept_at_set : {X : Type 0} (g : Desk → X) (ds : List Desk) (i j : ℕ) (v d e : Desk) → g v ≡ g (get_or ds i e) → g (get_or (set ds i v) j d) ≡ g (get_or ds j d)
+pub kept_at_set : {X : Type 0} (g : Desk → X) (ds : List Desk) (i j : ℕ) (v d e : Desk) → g v ≡ g (get_or ds i e)
+    → g (get_or (set ds i v) j d) ≡ g (get_or ds j d)
 kept_at_set g [] i j v d e same = refl
 kept_at_set g (x ∷ xs) zero zero v d e same = same
 kept_at_set g (x ∷ xs) zero (suc j) v d e same = refl
@@ -41,7 +44,8 @@ ring_changed ds es k len in_k nexts rights deques here ring j d in_j =
     let Q : ℕ → Type 0 = λ i. Link (get_or es i d).next (get_or es (next_of n i) d) in
     subst P (sym len) (dite (ℕ_discrete j k) (λ (e : j ≡ k). subst Q (sym e) (here d))
     (λ (ne : j ≢ k). let R : Option Next → Type 0 = λ o. Link o (get_or es (next_of n j) d) in
-    subst R (sym (nexts j d ne)) (Link-along (get_or ds j d).next (get_or ds (next_of n j) d) (get_or es (next_of n j) d) (rights (next_of n j) d (next_of-apart n j k in_j' in_k ne)) (deques (next_of n j) d) (ring j d in_j'))))
+    subst R (sym (nexts j d ne)) (Link-along (get_or ds j d).next (get_or ds (next_of n j) d) (get_or es (next_of n j) d)
+    (rights (next_of n j) d (next_of-apart n j k in_j' in_k ne)) (deques (next_of n j) d) (ring j d in_j'))))
 
 abbrev right_of : Desk → ℕ
 right_of x = (worker_view x.own).steal_right
@@ -65,16 +69,20 @@ ring_absorbed ds k next old mid there new in_k is old_is mid_rights mid_deque mi
     (λ t d ne. let ne' : t ≢ next = (λ e. ne (e ∙ is)) in ap right_of (get_or-set_other es next t new d ne') ∙ kept_at_set right_of ds k t mid d old mids)
     (λ t d. kept_at_set (λ (x : Desk). worker_deque x.own) es next t new d there deques ∙ kept_at_set (λ (x : Desk). worker_deque x.own) ds k t mid d old mids')
     (λ d.
-    let none : (get_or (set es next new) k d).next ≡ None = kept_at_set (λ (x : Desk). x.next) es next k new d there nexts ∙ ap (λ (x : Desk). x.next) (get_or-set_same ds k mid d in_k) ∙ mid_next in
-    let here : get_or (set es next new) (next_of n k) d ≡ new = subst (λ (m : ℕ). get_or (set es next new) m d ≡ new) is (get_or-set_same es next new d in_next) in
+    let none : (get_or (set es next new) k d).next ≡ None = kept_at_set (λ (x : Desk). x.next) es next k new d there nexts
+    ∙ ap (λ (x : Desk). x.next) (get_or-set_same ds k mid d in_k) ∙ mid_next in
+    let here : get_or (set es next new) (next_of n k) d ≡ new = subst (λ (m : ℕ). get_or (set es next new) m d ≡ new) is
+    (get_or-set_same es next new d in_next) in
     let R : Option Next → Type 0 = λ o. Link o (get_or (set es next new) (next_of n k) d) in
     subst R (sym none) (subst (λ (x : Desk). 0 < (worker_view x.own).steal_right) (sym here) whole))
     ring
 
 -- what neither change touches is the same at each place
-pub same_at : {X : Type 0} (g : Desk → X) (ds : List Desk) (k next : ℕ) (old mid there new : Desk) → old ≡ get_or ds k old → g mid ≡ g old → there ≡ get_or (set ds k mid) next there → g new ≡ g there
+pub same_at : {X : Type 0} (g : Desk → X) (ds : List Desk) (k next : ℕ) (old mid there new : Desk) → old ≡ get_or ds k old → g mid ≡ g old
+    → there ≡ get_or (set ds k mid) next there → g new ≡ g there
     → (j : ℕ) (d : Desk) → g (get_or (set (set ds k mid) next new) j d) ≡ g (get_or ds j d)
-same_at g ds k next old mid there new old_is mid_is there_is new_is j d = kept_at_set g (set ds k mid) next j new d there (new_is ∙ ap g there_is) ∙ kept_at_set g ds k j mid d old (mid_is ∙ ap g old_is)
+same_at g ds k next old mid there new old_is mid_is there_is new_is j d = kept_at_set g (set ds k mid) next j new d there (new_is ∙ ap g there_is)
+    ∙ kept_at_set g ds k j mid d old (mid_is ∙ ap g old_is)
 
 pub next_zero : (n k : ℕ) → k + 1 ≡ n → next_of n k ≡ 0
 next_zero n k is = grind (arith, nat_tests)
@@ -103,7 +111,8 @@ ring_linked ds k next old mid there new n in_k is old_is mid_next mid_deque ther
     λ t d. kept_at_set (λ (x : Desk). worker_deque x.own) (set ds next mid) k t new d there (new_deque ∙ ap (λ (x : Desk). worker_deque x.own) there_is)
     ∙ kept_at_set (λ (x : Desk). worker_deque x.own) ds next t mid d old (mid_deque ∙ ap (λ (x : Desk). worker_deque x.own) old_is) in
     ring_changed ds es k (omega (arith, length-set ds next mid, length-set (set ds next mid) k new)) in_k
-    (λ j d ne. ap (λ (x : Desk). x.next) (get_or-set_other (set ds next mid) k j new d ne) ∙ kept_at_set (λ (x : Desk). x.next) ds next j mid d old (mid_next ∙ ap (λ (x : Desk). x.next) old_is))
+    (λ j d ne. ap (λ (x : Desk). x.next) (get_or-set_other (set ds next mid) k j new d ne) ∙ kept_at_set (λ (x : Desk). x.next) ds next j mid d old
+    (mid_next ∙ ap (λ (x : Desk). x.next) old_is))
     (λ t d ne. kept_at_set right_of (set ds next mid) k t new d there (ap (λ (v : Seat). v.steal_right) new_view ∙ ap right_of there_is)
     ∙ ap right_of (get_or-set_other ds next t mid d (λ e. ne (e ∙ is))))
     deques
@@ -115,14 +124,18 @@ ring_linked ds k next old mid there new n in_k is old_is mid_next mid_deque ther
     subst R (sym some) link)
     ring
 
-pub absorbed_stolen : (test : ℕ → Bool) (ds : List Desk) (k next : ℕ) (old mid new : Desk) (n : Next) (d : Desk) → k < length ds → next < length ds → old ≡ get_or ds k old → old.next ≡ Some n
-    → (worker_view new.own).stolen ≡ (view n.seat).stolen → stolen_by test (get_or (set (set ds k mid) next new) next d) ≡ stolen_from test (get_or ds k d).next (get_or ds next d)
+pub absorbed_stolen : (test : ℕ → Bool) (ds : List Desk) (k next : ℕ) (old mid new : Desk) (n : Next) (d : Desk) → k < length ds → next < length ds
+    → old ≡ get_or ds k old → old.next ≡ Some n
+    → (worker_view new.own).stolen ≡ (view n.seat).stolen → stolen_by test (get_or (set (set ds k mid) next new) next d) ≡ stolen_from test (get_or ds k d).next
+    (get_or ds next d)
 absorbed_stolen test ds k next old mid new n d in_k in_next is some stolen =
     let there : (get_or ds k d).next ≡ Some n = ap (λ (x : Desk). x.next) (at_any ds k d old in_k ∙ sym is) ∙ some in
-    ap (stolen_by test) (get_or-set_same (set ds k mid) next new d (omega (arith, length-set ds k mid))) ∙ ap (count_by test) stolen ∙ ap (λ (o : Option Next). stolen_from test o (get_or ds next d)) (sym there)
+    ap (stolen_by test) (get_or-set_same (set ds k mid) next new d (omega (arith, length-set ds k mid))) ∙ ap (count_by test) stolen ∙ ap
+    (λ (o : Option Next). stolen_from test o (get_or ds next d)) (sym there)
 
 -- only the stolen numbers of the desk count
-pub stolen_along : (test : ℕ → Bool) (o p : Option Next) (e f : Desk) → p ≡ o → (worker_view f.own).stolen ≡ (worker_view e.own).stolen → stolen_from test p f ≡ stolen_from test o e
+pub stolen_along : (test : ℕ → Bool) (o p : Option Next) (e f : Desk) → p ≡ o → (worker_view f.own).stolen ≡ (worker_view e.own).stolen
+    → stolen_from test p f ≡ stolen_from test o e
 stolen_along test None p e f is same = ap (λ (x : Option Next). stolen_from test x f) is ∙ ap (count_by test) same
 stolen_along test (Some n) p e f is same = ap (λ (x : Option Next). stolen_from test x f) is
 
@@ -132,15 +145,18 @@ prev_zero n some_desk = (n - 1, omega arith, (let e : (n - 1) + 1 ≡ n = omega 
 prev_suc : (n i : ℕ) → i + 1 < n → next_of n i ≡ i + 1
 prev_suc n i within = grind (arith, nat_tests)
 
-whole_at : (ds : List Desk) (k j : ℕ) (d : Desk) → IsRing ds → j < length ds → (get_or ds j d).next ≡ None → next_of (length ds) j ≡ k → 0 < right_of (get_or ds k d)
+whole_at : (ds : List Desk) (k j : ℕ) (d : Desk) → IsRing ds → j < length ds → (get_or ds j d).next ≡ None → next_of (length ds) j ≡ k
+    → 0 < right_of (get_or ds k d)
 whole_at ds k j d ring in_j none is =
     let P : Option Next → Type 0 = λ o. Link o (get_or ds (next_of (length ds) j) d) in
     let link : 0 < right_of (get_or ds (next_of (length ds) j) d) = subst P none (ring j d in_j) in
     subst (λ (m : ℕ). 0 < right_of (get_or ds m d)) is link
 
-pub ring_whole : (ds : List Desk) → IsRing ds → ((j : ℕ) (d : Desk) → j < length ds → (get_or ds j d).next ≡ None) → (k : ℕ) (d : Desk) → k < length ds → 0 < right_of (get_or ds k d)
+pub ring_whole : (ds : List Desk) → IsRing ds → ((j : ℕ) (d : Desk) → j < length ds → (get_or ds j d).next ≡ None) → (k : ℕ) (d : Desk) → k < length ds
+    → 0 < right_of (get_or ds k d)
 ring_whole ds ring none zero d within = let p = prev_zero (length ds) within in whole_at ds 0 p.0 d ring p.1 (none p.0 d p.1) p.2
-ring_whole ds ring none (suc i) d within = let i_in : i < length ds = omega arith in whole_at ds (suc i) i d ring i_in (none i d i_in) (prev_suc (length ds) i (omega arith) ∙ add-one i)
+ring_whole ds ring none (suc i) d within = let i_in : i < length ds = omega arith in
+    whole_at ds (suc i) i d ring i_in (none i d i_in) (prev_suc (length ds) i (omega arith) ∙ add-one i)
 
 -- the desk before a desk
 pub prev_of : (n k : ℕ) → k < n → (j : ℕ) × (j < n) × (next_of n j ≡ k)

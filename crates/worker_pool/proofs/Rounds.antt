@@ -22,15 +22,18 @@ module _ {J A S T : Type 0} (setup : J → T) (limit : T → ℕ) (answers : T �
   pub some_from_worked : (o p : Option Desk) (d : Desk) → o ≡ Some d → WorkedAt setup limit answers s t o p → IsSome p
   some_from_worked o p d is worked = some_there d p (subst (λ (x : Option Desk). WorkedAt setup limit answers s t x p) is worked)
 
-link_same : (n m : Option Next) (e f : Desk) → SameNext n m → worker_deque f.own ≡ worker_deque e.own → (worker_view f.own).steal_right ≡ (worker_view e.own).steal_right → Link n e → Link m f
+link_same : (n m : Option Next) (e f : Desk) → SameNext n m → worker_deque f.own ≡ worker_deque e.own
+    → (worker_view f.own).steal_right ≡ (worker_view e.own).steal_right → Link n e → Link m f
 link_same None m e f same deque right link = subst (λ (x : Option Next). Link x f) (sym same) (omega arith)
 link_same (Some n) None e f same deque right link = absurd same
 link_same (Some n) (Some m) e f same deque right link = same.0 ∙ (link ∙ sym deque)
 
-pub ring_same : (ds es : List Desk) → length es ≡ length ds → ((k : ℕ) (d : Desk) → k < length ds → SameDesk (get_or ds k d) (get_or es k d)) → IsRing ds → IsRing es
+pub ring_same : (ds es : List Desk) → length es ≡ length ds → ((k : ℕ) (d : Desk) → k < length ds → SameDesk (get_or ds k d) (get_or es k d)) → IsRing ds
+    → IsRing es
 ring_same ds es len same ring k d within =
     let n = length ds in
     let in_k : k < n = omega arith in
     let s = same k d in_k in
     let t = same (next_of n k) d (next_of-within n k in_k) in
-    subst (λ (m : ℕ). Link (get_or es k d).next (get_or es (next_of m k) d)) (sym len) (link_same (get_or ds k d).next (get_or es k d).next (get_or ds (next_of n k) d) (get_or es (next_of n k) d) s.next t.deque t.right (ring k d in_k))
+    subst (λ (m : ℕ). Link (get_or es k d).next (get_or es (next_of m k) d)) (sym len)
+    (link_same (get_or ds k d).next (get_or es k d).next (get_or ds (next_of n k) d) (get_or es (next_of n k) d) s.next t.deque t.right (ring k d in_k))

@@ -12,7 +12,10 @@ NextBelow-same count (Some n) None same below = absurd same
 NextBelow-same count (Some n) (Some m) same below = All-same (λ x. x < count) (view m.seat).pushed (view n.seat).pushed same.1 below
 
 pub Below-same : (count : ℕ) (d e : Desk) → SameDesk d e → Below count d → Below count e
-Below-same count d e same below = (All-same (λ x. x < count) (worker_view e.own).pushed (worker_view d.own).pushed same.pushed below.0, NextBelow-same count d.next e.next same.next below.1)
+Below-same count d e same below = (
+  All-same (λ x. x < count) (worker_view e.own).pushed (worker_view d.own).pushed same.pushed below.0,
+  NextBelow-same count d.next e.next same.next below.1,
+)
 
 SameNext-refl : (n : Option Next) → SameNext n n
 SameNext-refl None = refl

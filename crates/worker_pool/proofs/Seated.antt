@@ -9,7 +9,8 @@ use Rattle.worker_pool.specs.inside.Parts.{seat}
 use Rattle.worker_pool.specs.inside.Desks.{taken_next, NextBelow}
 use Rattle.worker_pool.specs.inside.Ring.{Fresh}
 
-pub fresh_shared : (count : ℕ) (old mid : Desk) → worker_view mid.own ≡ seat (worker_view old.own).pop_right 0 (worker_view old.own).pushed (worker_view old.own).popped [] → mid.next ≡ old.next → mid.kept ≡ old.kept → Fresh count old → Fresh count mid
+pub fresh_shared : (count : ℕ) (old mid : Desk) → worker_view mid.own ≡ seat (worker_view old.own).pop_right 0 (worker_view old.own).pushed
+    (worker_view old.own).popped [] → mid.next ≡ old.next → mid.kept ≡ old.kept → Fresh count old → Fresh count mid
 fresh_shared count old mid own next kept was = record {
   below = (
     All-same (λ x. x < count) (worker_view mid.own).pushed (worker_view old.own).pushed (ap (λ (v : Seat). v.pushed) own) was.below.0,
@@ -20,7 +21,8 @@ fresh_shared count old mid own next kept was = record {
   stolen = ap (λ (v : Seat). v.stolen) own;
 }
 
-pub fresh_seated : (count : ℕ) (there new : Desk) (n : Next) (pushed stolen : List ℕ) → worker_view new.own ≡ worker_view there.own → new.next ≡ Some n → new.kept ≡ there.kept
+pub fresh_seated : (count : ℕ) (there new : Desk) (n : Next) (pushed stolen : List ℕ) → worker_view new.own ≡ worker_view there.own → new.next ≡ Some n
+    → new.kept ≡ there.kept
     → (right : ℕ) → view n.seat ≡ seat 0 right pushed [] stolen → stolen ≡ [] → All (λ x. x < count) pushed → Fresh count there → Fresh count new
 fresh_seated count there new n pushed stolen own next kept right seated none below was = record {
   below = (
@@ -28,7 +30,14 @@ fresh_seated count there new n pushed stolen own next kept right seated none bel
     subst (NextBelow count) (sym next) (All-same (λ x. x < count) (view n.seat).pushed pushed (ap (λ (v : Seat). v.pushed) seated) below),
   );
   kept = kept ∙ was.kept;
-  took_none = λ test. omega (arith, ap (λ (v : Seat). count_by test v.popped) own, ap (taken_next test) next, ap (λ (v : Seat). count_by test v.stolen) seated, ap (count_by test) none, was.took_none test);
+  took_none = λ test. omega (
+    arith,
+    ap (λ (v : Seat). count_by test v.popped) own,
+    ap (taken_next test) next,
+    ap (λ (v : Seat). count_by test v.stolen) seated,
+    ap (count_by test) none,
+    was.took_none test,
+  );
   stolen = ap (λ (v : Seat). v.stolen) own ∙ was.stolen;
 }
 
@@ -38,7 +47,10 @@ NextBelow-weaker count limit (Some n) le below = All-weaker (λ x. x < count) (�
 
 pub Fresh-weaker : (count limit : ℕ) (d : Desk) → count ≤ limit → Fresh count d → Fresh limit d
 Fresh-weaker count limit d le was = record {
-  below = (All-weaker (λ x. x < count) (λ x. x < limit) (λ x lt. omega arith) (worker_view d.own).pushed was.below.0, NextBelow-weaker count limit d.next le was.below.1);
+  below = (
+    All-weaker (λ x. x < count) (λ x. x < limit) (λ x lt. omega arith) (worker_view d.own).pushed was.below.0,
+    NextBelow-weaker count limit d.next le was.below.1,
+  );
   kept = was.kept;
   took_none = was.took_none;
   stolen = was.stolen;

@@ -1,5 +1,6 @@
 -- The moves at each deque make one list of steps of all hands.
-use Rattle.std.proofs.Common.{◌≡◌, ◌≢◌, ℕ, zero, suc, ◌+◌, ◌<◌, ◌≤◌, ◌%◌, ◌==◌, Bool, cond, ltb, List, [], ◌∷◌, ◌++◌, take, count_by, All, true, length, replicate, get_or, Some, refl, add-one, sym, ap, ◌∙◌, subst, arith}
+use Rattle.std.proofs.Common.{◌≡◌, ◌≢◌, ℕ, zero, suc, ◌+◌, ◌<◌, ◌≤◌, ◌%◌, ◌==◌, Bool, cond, ltb, List, [], ◌∷◌, ◌++◌, take, count_by, All, true, length}
+use Rattle.std.proofs.Common.{replicate, get_or, Some, refl, add-one, sym, ap, ◌∙◌, subst, arith}
 use mathlib.Core.Logic.{dite}
 use native.Mathlib.Decide.{ℕ_discrete}
 use Rattle.std.specs.List.{sum_by}
@@ -11,7 +12,8 @@ use Rattle.std.proofs.lemmas.List.Elements.{All-nil, All-cons, All-head, All-tai
 use Rattle.std.proofs.lemmas.List.Sums.{sum_by-cons, sum_by-append, sum_by_more}
 use Rattle.crossbeam_deque.specs.Handles.{worker_view}
 use Rattle.worker_pool.specs.declared.desk.Desk.{Desk}
-use Rattle.worker_pool.specs.Tickets.{Step, push, pop, steal, State, of_hand, added, taken_from, stepped, after, IsStepOf, IsDealtRound, number_of, pushed, count_below}
+use Rattle.worker_pool.specs.Tickets.{Step, push, pop, steal, State, of_hand, added, taken_from, stepped, after, IsStepOf, IsDealtRound, number_of, pushed}
+use Rattle.worker_pool.specs.Tickets.{count_below}
 use Rattle.worker_pool.specs.Tickets.{front_taken as front_to}
 use Rattle.worker_pool.specs.inside.Parts.{Taker, owner, thief, Move, add, Part, front_taken, moved, part_after, IsWhole}
 use Rattle.worker_pool.specs.inside.Parts.{take as take_by}
@@ -44,10 +46,12 @@ module _ (test : ℕ → Bool) where
   here_push k j xs x = ap (here k j) (sum_by-append (λ y. cond (test y) 1 0) xs (x ∷ [])) ∙ here_plus k j (count_by test xs) (count_by test (x ∷ []))
 
   -- one hand took a number more
-  took_more : (lists : List (List ℕ)) (h x j : ℕ) → h < length lists → count_by test (of_hand j (added h x lists)) ≡ count_by test (of_hand j lists) + here h j (count_by test (x ∷ []))
+  took_more : (lists : List (List ℕ)) (h x j : ℕ) → h < length lists → count_by test (of_hand j (added h x lists)) ≡ count_by test (of_hand j lists) + here h j
+      (count_by test (x ∷ []))
   took_more lists h x j within = dite (ℕ_discrete h j)
       (λ (e : h ≡ j).
-      let now : of_hand j (added h x lists) ≡ of_hand j lists ++ x ∷ [] = subst (λ (i : ℕ). of_hand i (added h x lists) ≡ of_hand i lists ++ x ∷ []) e (get_or-set_same lists h (of_hand h lists ++ x ∷ []) [] within) in
+      let now : of_hand j (added h x lists) ≡ of_hand j lists ++ x ∷ [] = subst (λ (i : ℕ). of_hand i (added h x lists) ≡ of_hand i lists ++ x ∷ []) e
+      (get_or-set_same lists h (of_hand h lists ++ x ∷ []) [] within) in
       omega (arith, ap (count_by test) now, sum_by-append (λ y. cond (test y) 1 0) (of_hand j lists) (x ∷ []), here_same h j (count_by test (x ∷ [])) e))
       (λ (ne : h ≢ j).
       let now : of_hand j (added h x lists) ≡ of_hand j lists = get_or-set_other lists h j (of_hand h lists ++ x ∷ []) [] (λ e. ne (sym e)) in
@@ -58,10 +62,12 @@ record Grown (n k p : ℕ) (old new : State) (q : Part) : Type 0 where
   lens : (length new.deques ≡ n) × (length new.taken ≡ n)
   deque : of_hand k new.deques ≡ q.held
   others : (j : ℕ) → j ≢ k → of_hand j new.deques ≡ of_hand j old.deques
-  taken : (test : ℕ → Bool) (j : ℕ) → count_by test (of_hand j new.taken) ≡ count_by test (of_hand j old.taken) + here k j (count_by test q.popped) + here p j (count_by test q.stolen)
+  taken : (test : ℕ → Bool) (j : ℕ) → count_by test (of_hand j new.taken) ≡ count_by test (of_hand j old.taken) + here k j (count_by test q.popped) + here p j
+      (count_by test q.stolen)
 
 module _ (n k p : ℕ) (in_k : k < n) (in_p : p < n) where
-  front_owner : (held : List ℕ) (old s : State) (q : Part) → q.held ≡ held → Grown n k p old s q → Grown n k p old (front_to k k held s) (front_taken owner held q)
+  front_owner : (held : List ℕ) (old s : State) (q : Part) → q.held ≡ held → Grown n k p old s q
+      → Grown n k p old (front_to k k held s) (front_taken owner held q)
   front_owner [] old s q is g = g
   front_owner (x ∷ rest) old s q is g =
       let l = g.lens.0 in
@@ -73,7 +79,8 @@ module _ (n k p : ℕ) (in_k : k < n) (in_p : p < n) where
         taken = λ test j. omega (arith, g.taken test j, took_more test s.taken k x j (omega arith), here_push test k j q.popped x);
       }
 
-  front_thief : (held : List ℕ) (old s : State) (q : Part) → q.held ≡ held → Grown n k p old s q → Grown n k p old (front_to p k held s) (front_taken thief held q)
+  front_thief : (held : List ℕ) (old s : State) (q : Part) → q.held ≡ held → Grown n k p old s q
+      → Grown n k p old (front_to p k held s) (front_taken thief held q)
   front_thief [] old s q is g = g
   front_thief (x ∷ rest) old s q is g =
       let l = g.lens.0 in
@@ -85,7 +92,8 @@ module _ (n k p : ℕ) (in_k : k < n) (in_p : p < n) where
         taken = λ test j. omega (arith, g.taken test j, took_more test s.taken p x j (omega arith), here_push test p j q.stolen x);
       }
 
-  module _ (steals : Step) (steals_is : (s : State) → stepped n steals s ≡ taken_from p k s) (of_steals : IsStepOf n steals) (no_number : number_of steals ≡ []) (round_steals : IsDealtRound n steals) where
+  module _ (steals : Step) (steals_is : (s : State) → stepped n steals s ≡ taken_from p k s) (of_steals : IsStepOf n steals) (no_number : number_of steals ≡ [])
+      (round_steals : IsDealtRound n steals) where
     -- a move at deque k as a step
     abbrev step_of : Move → Step
     step_of (add x) = push k x
@@ -111,7 +119,8 @@ module _ (n k p : ℕ) (in_k : k < n) (in_p : p < n) where
     steps_of [] steps = steps
     steps_of (m ∷ moves) steps = step_of m ∷ steps_of moves steps
 
-    grown : (moves : List Move) (steps : List Step) → of_hand k (after n steps).deques ≡ [] → Grown n k p (after n steps) (after n (steps_of moves steps)) (part_after moves)
+    grown : (moves : List Move) (steps : List Step) → of_hand k (after n steps).deques ≡ []
+        → Grown n k p (after n steps) (after n (steps_of moves steps)) (part_after moves)
     grown [] steps empty = record {
       lens = lengths n steps;
       deque = empty;
@@ -134,19 +143,36 @@ module _ (n k p : ℕ) (in_k : k < n) (in_p : p < n) where
     front_pushed owner (x ∷ held) q = refl
     front_pushed thief (x ∷ held) q = refl
 
-    numbers : (test : ℕ → Bool) (moves : List Move) (steps : List Step) → count_by test (pushed (steps_of moves steps)) ≡ count_by test (part_after moves).pushed + count_by test (pushed steps)
+    numbers : (test : ℕ → Bool) (moves : List Move) (steps : List Step) → count_by test (pushed (steps_of moves steps)) ≡ count_by test
+        (part_after moves).pushed + count_by test (pushed steps)
     numbers test [] steps = omega arith
     numbers test (add x ∷ moves) steps =
-        omega (arith, numbers test moves steps, sum_by-append (λ y. cond (test y) 1 0) (part_after moves).pushed (x ∷ []), sum_by-append (λ y. cond (test y) 1 0) (x ∷ []) (pushed (steps_of moves steps)))
-    numbers test (take_by owner ∷ moves) steps = omega (arith, numbers test moves steps, ap (count_by test) (front_pushed owner (part_after moves).held (part_after moves)))
+        omega (
+          arith,
+          numbers test moves steps,
+          sum_by-append (λ y. cond (test y) 1 0) (part_after moves).pushed (x ∷ []),
+          sum_by-append (λ y. cond (test y) 1 0) (x ∷ []) (pushed (steps_of moves steps)),
+        )
+    numbers test (take_by owner ∷ moves) steps = omega (
+      arith,
+      numbers test moves steps,
+      ap (count_by test) (front_pushed owner (part_after moves).held (part_after moves)),
+    )
     numbers test (take_by thief ∷ moves) steps =
-        omega (arith, numbers test moves steps, ap (count_by test) (front_pushed thief (part_after moves).held (part_after moves)), ap (count_by test) no_number, sum_by-append (λ y. cond (test y) 1 0) (number_of steals) (pushed (steps_of moves steps)))
+        omega (
+          arith,
+          numbers test moves steps,
+          ap (count_by test) (front_pushed thief (part_after moves).held (part_after moves)),
+          ap (count_by test) no_number,
+          sum_by-append (λ y. cond (test y) 1 0) (number_of steals) (pushed (steps_of moves steps)),
+        )
 
     -- the numbers pushed at deque k are of its round
     abbrev OfRound : ℕ → Type 0
     OfRound x = x % n ≡ k
 
-    all_round : (moves : List Move) (steps : List Step) → All OfRound (part_after moves).pushed → All (IsDealtRound n) steps → All (IsDealtRound n) (steps_of moves steps)
+    all_round : (moves : List Move) (steps : List Step) → All OfRound (part_after moves).pushed → All (IsDealtRound n) steps
+        → All (IsDealtRound n) (steps_of moves steps)
     all_round [] steps of was = was
     all_round (add x ∷ moves) steps of was =
         let parts = All-pop OfRound ((part_after moves).pushed ++ x ∷ []) (part_after moves).pushed (Some x) refl of in
@@ -173,7 +199,12 @@ before_other m j x ne = grind (arith, nat_tests)
 
 before_next : (m j : ℕ) (f : ℕ → ℕ) → before (m + 1) j (f j) ≡ before m j (f j) + here m j (f m)
 before_next m j f = dite (ℕ_discrete m j)
-    (λ (e : m ≡ j). let same : f m ≡ f j = ap f e in omega (arith, before_yes (m + 1) j (f j) (omega arith), before_no m j (f j) (omega arith), here_same m j (f m) e))
+    (λ (e : m ≡ j). let same : f m ≡ f j = ap f e in omega (
+      arith,
+      before_yes (m + 1) j (f j) (omega arith),
+      before_no m j (f j) (omega arith),
+      here_same m j (f m) e,
+    ))
     (λ (ne : m ≢ j). omega (arith, before_other m j (f j) ne, here_other m j (f m) ne))
 
 -- the hand before's number at a deque is the deque's number at the hand's next
@@ -210,7 +241,13 @@ thief_of n k p in_k in_p is = dite (ℕ_discrete n 1)
     (λ (one : n ≡ 1).
     let same : p ≡ k = omega arith in
     record { step = pop p; is = λ s. ap (λ (d : ℕ). taken_from p d s) same; of = in_p; no_number = refl; round = tt })
-    (λ (more : n ≢ 1). record { step = steal p; is = λ s. ap (λ (d : ℕ). taken_from p d s) (next_is n p in_p ∙ is); of = (in_p, omega arith); no_number = refl; round = tt })
+    (λ (more : n ≢ 1). record {
+      step = steal p;
+      is = λ s. ap (λ (d : ℕ). taken_from p d s) (next_is n p in_p ∙ is);
+      of = (in_p, omega arith);
+      no_number = refl;
+      round = tt;
+    })
 
 module _ (n : ℕ) (ds : List Desk) (d : Desk) (len : length ds ≡ n) where
   abbrev at : ℕ → Desk
@@ -230,7 +267,8 @@ module _ (n : ℕ) (ds : List Desk) (d : Desk) (len : length ds ≡ n) where
     numbers : (test : ℕ → Bool) → count_by test (pushed steps) ≡ sum_by (pushed_by test) (take m ds)
     later : (k : ℕ) → m ≤ k → of_hand k (after n steps).deques ≡ []
     empty : (k : ℕ) → k < m → ((test : ℕ → Bool) → pushed_by test (at k) ≡ gone_by test (at k)) → of_hand k (after n steps).deques ≡ []
-    taken : (test : ℕ → Bool) (j : ℕ) → j < n → count_by test (of_hand j (after n steps).taken) ≡ before m j (popped_at test j) + before m (next_of n j) (stolen_at test (next_of n j))
+    taken : (test : ℕ → Bool) (j : ℕ) → j < n → count_by test (of_hand j (after n steps).taken) ≡ before m j (popped_at test j) + before m (next_of n j)
+        (stolen_at test (next_of n j))
 
   begin : Upto 0
   begin = record {
@@ -240,10 +278,16 @@ module _ (n : ℕ) (ds : List Desk) (d : Desk) (len : length ds ≡ n) where
     numbers = λ test. refl;
     later = λ k le. none_at n k;
     empty = λ k lt done. absurd (omega arith);
-    taken = λ test j in_j. omega (arith, ap (count_by test) (none_at n j), before_no 0 j (popped_at test j) (omega arith), before_no 0 (next_of n j) (stolen_at test (next_of n j)) (omega arith));
+    taken = λ test j in_j. omega (
+      arith,
+      ap (count_by test) (none_at n j),
+      before_no 0 j (popped_at test j) (omega arith),
+      before_no 0 (next_of n j) (stolen_at test (next_of n j)) (omega arith),
+    );
   }
 
-  go_on : (m : ℕ) → m < n → (held : List ℕ) → IsWhole (worker_view (at m).own) held → All (λ x. x % n ≡ m) (worker_view (at m).own).pushed → Upto m → Upto (m + 1)
+  go_on : (m : ℕ) → m < n → (held : List ℕ) → IsWhole (worker_view (at m).own) held → All (λ x. x % n ≡ m) (worker_view (at m).own).pushed → Upto m
+      → Upto (m + 1)
   go_on m in_m held w dealt was =
       let p = prev_of n m in_m in
       let t = thief_of n m p.0 in_m p.1 p.2 in
@@ -252,15 +296,31 @@ module _ (n : ℕ) (ds : List Desk) (d : Desk) (len : length ds ≡ n) where
       record {
         steps = steps_of n m p.0 in_m p.1 t.step t.is t.of t.no_number t.round w.moves was.steps;
         of_hands = all_of n m p.0 in_m p.1 t.step t.is t.of t.no_number t.round w.moves was.steps was.of_hands;
-        round = all_round n m p.0 in_m p.1 t.step t.is t.of t.no_number t.round w.moves was.steps (All-same (λ x. x % n ≡ m) q.pushed (worker_view (at m).own).pushed w.pushed dealt) was.round;
-        numbers = λ test. omega (arith, numbers n m p.0 in_m p.1 t.step t.is t.of t.no_number t.round test w.moves was.steps, was.numbers test, ap (count_by test) w.pushed, sum_by_more (pushed_by test) ds m d (omega arith));
+        round = all_round n m p.0 in_m p.1 t.step t.is t.of t.no_number t.round w.moves was.steps
+            (All-same (λ x. x % n ≡ m) q.pushed (worker_view (at m).own).pushed w.pushed dealt) was.round;
+        numbers = λ test. omega (
+          arith,
+          numbers n m p.0 in_m p.1 t.step t.is t.of t.no_number t.round test w.moves was.steps,
+          was.numbers test,
+          ap (count_by test) w.pushed,
+          sum_by_more (pushed_by test) ds m d (omega arith),
+        );
         later = λ k le. (let ne : k ≢ m = omega arith in g.others k ne) ∙ was.later k (omega arith);
         empty = λ k lt done. dite (ℕ_discrete k m)
             (λ (e : k ≡ m).
-            let all : pushed_by (λ _. true) (at m) ≡ gone_by (λ _. true) (at m) = subst (λ (i : ℕ). pushed_by (λ _. true) (at i) ≡ gone_by (λ _. true) (at i)) e (done (λ _. true)) in
+            let all : pushed_by (λ _. true) (at m) ≡ gone_by (λ _. true) (at m) =
+            subst (λ (i : ℕ). pushed_by (λ _. true) (at i) ≡ gone_by (λ _. true) (at i)) e (done (λ _. true)) in
             let none : count_by (λ _. true) q.held ≡ 0 =
-            omega (arith, all, balanced (λ _. true) w.moves, ap (count_by (λ _. true)) w.pushed, ap (count_by (λ _. true)) w.popped, ap (count_by (λ _. true)) w.stolen) in
-            ap (λ (i : ℕ). of_hand i (after n (steps_of n m p.0 in_m p.1 t.step t.is t.of t.no_number t.round w.moves was.steps)).deques) e ∙ g.deque ∙ none_left q.held none)
+            omega (
+              arith,
+              all,
+              balanced (λ _. true) w.moves,
+              ap (count_by (λ _. true)) w.pushed,
+              ap (count_by (λ _. true)) w.popped,
+              ap (count_by (λ _. true)) w.stolen,
+            ) in
+            ap (λ (i : ℕ). of_hand i (after n (steps_of n m p.0 in_m p.1 t.step t.is t.of t.no_number t.round w.moves was.steps)).deques) e ∙ g.deque
+            ∙ none_left q.held none)
             (λ (ne : k ≢ m). g.others k ne ∙ was.empty k (omega arith) done);
         taken = λ test j in_j. omega (
           arith,
@@ -274,7 +334,8 @@ module _ (n : ℕ) (ds : List Desk) (d : Desk) (len : length ds ≡ n) where
         );
       }
 
-  module _ (whole : (k : ℕ) → k < n → (held : List ℕ) × IsWhole (worker_view (at k).own) held) (dealt : (k : ℕ) → k < n → All (λ x. x % n ≡ k) (worker_view (at k).own).pushed) where
+  module _ (whole : (k : ℕ) → k < n → (held : List ℕ) × IsWhole (worker_view (at k).own) held) (dealt : (k : ℕ) → k < n
+      → All (λ x. x % n ≡ k) (worker_view (at k).own).pushed) where
     upto : (m : ℕ) → m ≤ n → Upto m
     upto zero le = begin
     upto (suc m) le =
@@ -286,8 +347,14 @@ module _ (n : ℕ) (ds : List Desk) (d : Desk) (len : length ds ≡ n) where
     all_numbers test = ap (sum_by (pushed_by test)) (take_all n ds (omega arith))
 
     -- what hand k took, of its own deque and of the next
-    all_taken : (u : Upto n) (test : ℕ → Bool) (k : ℕ) → k < n → count_by test (of_hand k (after n u.steps).taken) ≡ popped_at test k + stolen_at test (next_of n k)
-    all_taken u test k in_k = omega (arith, u.taken test k in_k, before_yes n k (popped_at test k) in_k, before_yes n (next_of n k) (stolen_at test (next_of n k)) (next_of-within n k in_k))
+    all_taken : (u : Upto n) (test : ℕ → Bool) (k : ℕ) → k < n → count_by test (of_hand k (after n u.steps).taken) ≡ popped_at test k + stolen_at test
+        (next_of n k)
+    all_taken u test k in_k = omega (
+      arith,
+      u.taken test k in_k,
+      before_yes n k (popped_at test k) in_k,
+      before_yes n (next_of n k) (stolen_at test (next_of n k)) (next_of-within n k in_k),
+    )
 
     pub shares_all : {A : Type 0} (count : ℕ) (lists : List (List (ℕ × A))) → ((test : ℕ → Bool) → sum_by (pushed_by test) ds ≡ count_below test count)
         → ((k : ℕ) → k < n → (test : ℕ → Bool) → pushed_by test (at k) ≡ gone_by test (at k))
@@ -319,7 +386,8 @@ module _ (n : ℕ) (ds : List Desk) (d : Desk) (len : length ds ≡ n) where
         }
 
 -- sums over two lists, place by place
-sums_le : {X Y : Type 0} (f : X → ℕ) (g : Y → ℕ) (xs : List X) (ys : List Y) (x : X) (y : Y) → length xs ≡ length ys → ((k : ℕ) → k < length ys → f (get_or xs k x) ≤ g (get_or ys k y)) → sum_by f xs ≤ sum_by g ys
+sums_le : {X Y : Type 0} (f : X → ℕ) (g : Y → ℕ) (xs : List X) (ys : List Y) (x : X) (y : Y) → length xs ≡ length ys
+    → ((k : ℕ) → k < length ys → f (get_or xs k x) ≤ g (get_or ys k y)) → sum_by f xs ≤ sum_by g ys
 sums_le f g [] [] x y len each = omega arith
 sums_le f g [] (b ∷ ys) x y len each = absurd (omega arith)
 sums_le f g (a ∷ xs) [] x y len each = absurd (omega arith)
@@ -331,7 +399,12 @@ sums_le f g (a ∷ xs) (b ∷ ys) x y len each =
 no_sum : (test : ℕ → Bool) (lists : List (List ℕ)) → All (λ l. l ≡ []) lists → sum_by (λ (l : List ℕ). count_by test l) lists ≡ 0
 no_sum test [] none = refl
 no_sum test (l ∷ lists) none =
-    omega (arith, sum_by-cons (λ (x : List ℕ). count_by test x) l lists, ap (count_by test) (All-head (λ q. q ≡ []) l lists none), no_sum test lists (All-tail (λ q. q ≡ []) l lists none))
+    omega (
+      arith,
+      sum_by-cons (λ (x : List ℕ). count_by test x) l lists,
+      ap (count_by test) (All-head (λ q. q ≡ []) l lists none),
+      no_sum test lists (All-tail (λ q. q ≡ []) l lists none),
+    )
 
 module _ {A : Type 0} (n count : ℕ) (lists : List (List (ℕ × A))) (len : length lists ≡ n) where
   abbrev answers_of : (ℕ → Bool) → List (ℕ × A) → ℕ
@@ -342,14 +415,17 @@ module _ {A : Type 0} (n count : ℕ) (lists : List (List (ℕ × A))) (len : le
   once_of_all s test =
       let l = lengths n s.steps in
       let most : sum_by (answers_of test) lists ≤ sum_by (λ (q : List ℕ). count_by test q) (after n s.steps).taken =
-      sums_le (answers_of test) (λ (q : List ℕ). count_by test q) lists (after n s.steps).taken [] [] (omega (arith, l.1)) (λ k lt. let e = s.taken test k (omega (arith, l.1)) in omega arith) in
+      sums_le (answers_of test) (λ (q : List ℕ). count_by test q) lists (after n s.steps).taken [] [] (omega (arith, l.1))
+      (λ k lt. let e = s.taken test k (omega (arith, l.1)) in omega arith) in
       let least : sum_by (λ (q : List ℕ). count_by test q) (after n s.steps).taken ≤ sum_by (answers_of test) lists =
-      sums_le (λ (q : List ℕ). count_by test q) (answers_of test) (after n s.steps).taken lists [] [] (omega (arith, l.1)) (λ k lt. let e = s.taken test k (omega arith) in omega arith) in
+      sums_le (λ (q : List ℕ). count_by test q) (answers_of test) (after n s.steps).taken lists [] [] (omega (arith, l.1))
+      (λ k lt. let e = s.taken test k (omega arith) in omega arith) in
       omega (arith, law test n s.steps s.of_hands, no_sum test (after n s.steps).deques s.empty, s.dealt test)
 
   pub once_of_part : SharesPart n count lists → (test : ℕ → Bool) → sum_by (answers_of test) lists ≤ count_below test count
   once_of_part s test =
       let l = lengths n s.steps in
       let most : sum_by (answers_of test) lists ≤ sum_by (λ (q : List ℕ). count_by test q) (after n s.steps).taken =
-      sums_le (answers_of test) (λ (q : List ℕ). count_by test q) lists (after n s.steps).taken [] [] (omega (arith, l.1)) (λ k lt. s.taken test k (omega (arith, l.1))) in
+      sums_le (answers_of test) (λ (q : List ℕ). count_by test q) lists (after n s.steps).taken [] [] (omega (arith, l.1))
+      (λ k lt. s.taken test k (omega (arith, l.1))) in
       omega (arith, law test n s.steps s.of_hands, s.dealt test)

@@ -1,5 +1,6 @@
 -- A station that goes on, turn after turn.
-use Rattle.std.proofs.Common.{◌≡◌, ◌≢◌, ◌⊎◌, inl, inr, ◌∙◌, ℕ, zero, suc, ◌+◌, ◌<◌, ◌≤◌, ◌^◌, List, All, Option, Some, count_by, length, get_or, ⊎_elim, refl, sym, ap, subst, arith}
+use Rattle.std.proofs.Common.{◌≡◌, ◌≢◌, ◌⊎◌, inl, inr, ◌∙◌, ℕ, zero, suc, ◌+◌, ◌<◌, ◌≤◌, ◌^◌, List, All, Option, Some, count_by, length, get_or, ⊎_elim, refl}
+use Rattle.std.proofs.Common.{sym, ap, subst, arith}
 use mathlib.Core.Logic.{dite}
 use native.Mathlib.Decide.{ℕ_discrete}
 use Rattle.worker_pool.specs.declared.hand.Hand.{Hand}
@@ -7,11 +8,12 @@ use Rattle.worker_pool.specs.declared.desk.Desk.{Desk}
 use Rattle.worker_pool.specs.declared.station.Station.{Station}
 use Rattle.worker_pool.specs.inside.Desks.{KeptBelow}
 use Rattle.worker_pool.specs.inside.Ring.{TakenIn}
-use Rattle.worker_pool.specs.inside.Stations.{IsRight, SameWork, GoesOn, Worked, WorkedAt, Finishes}
+use Rattle.worker_pool.specs.inside.Stations.{IsRight, SameWork, GoesOn, Worked, WorkedAt, Finishes, EachFinishes}
 use Rattle.worker_pool.proofs.Same.{SameDesk-trans}
 
 -- o, m and n: a count before, on the way and after, with the lengths a, b and d
-counted_on : (o m n a b d : ℕ) → a ≤ b → b ≤ d → (o + b < 2 ^ 64 + a → m + a ≡ o + b) → (m + d < 2 ^ 64 + b → n + b ≡ m + d) → o + d < 2 ^ 64 + a → n + a ≡ o + d
+counted_on : (o m n a b d : ℕ) → a ≤ b → b ≤ d → (o + b < 2 ^ 64 + a → m + a ≡ o + b) → (m + d < 2 ^ 64 + b → n + b ≡ m + d) → o + d < 2 ^ 64 + a
+    → n + a ≡ o + d
 counted_on o m n a b d le le' was now fits =
     let e : m + a ≡ o + b = was (omega arith) in
     let e' : n + b ≡ m + d = now (omega arith) in
@@ -54,7 +56,8 @@ module _ {J A S T : Type 0} (setup : J → T) (limit : T → ℕ) (answers : T �
         omega arith;
   }
 
-  pub Worked-trans : (s t u : Station J A S) (d e f : Desk) → Worked setup limit answers s t d e → Worked setup limit answers t u e f → Worked setup limit answers s u d f
+  pub Worked-trans : (s t u : Station J A S) (d e f : Desk) → Worked setup limit answers s t d e → Worked setup limit answers t u e f
+      → Worked setup limit answers s u d f
   Worked-trans s t u d e f was now = record {
     on = GoesOn-trans s t u was.on now.on;
     once = λ test. (let a = was.once test in let b = now.once test in omega arith);
@@ -63,41 +66,61 @@ module _ {J A S T : Type 0} (setup : J → T) (limit : T → ℕ) (answers : T �
   }
 
   -- .. to stations of the same hands and answers
-  pub Worked-along : (s t s' t' : Station J A S) (d e : Desk) → SameWork s s' → SameWork t t' → Worked setup limit answers s t d e → Worked setup limit answers s' t' d e
+  pub Worked-along : (s t s' t' : Station J A S) (d e : Desk) → SameWork s s' → SameWork t t' → Worked setup limit answers s t d e
+      → Worked setup limit answers s' t' d e
   Worked-along s t s' t' d e same same' was = record {
     on = GoesOn-along s t s' t' same same' was.on;
-    once = λ test. omega (arith, was.once test, ap (λ (xs : List (ℕ × A)). count_by (λ p. test p.0) xs) same.1, ap (λ (xs : List (ℕ × A)). count_by (λ p. test p.0) xs) same'.1);
+    once = λ test. omega (
+      arith,
+      was.once test,
+      ap (λ (xs : List (ℕ × A)). count_by (λ p. test p.0) xs) same.1,
+      ap
+          (λ (xs : List (ℕ × A)). count_by (λ p. test p.0) xs) same'.1,
+    );
     same = was.same;
     kept = subst (λ (h : Hand J A S). KeptBelow (limit (setup h.job)) e) (sym same.0) was.kept;
   }
 
   -- where the two stations have these desks
-  pub Worked-from : (s t : Station J A S) (o p : Option Desk) (d e : Desk) → o ≡ Some d → p ≡ Some e → WorkedAt setup limit answers s t o p → Worked setup limit answers s t d e
-  Worked-from s t o p d e is is' was = subst (λ (x : Option Desk). WorkedAt setup limit answers s t (Some d) x) is' (subst (λ (x : Option Desk). WorkedAt setup limit answers s t x p) is was)
+  pub Worked-from : (s t : Station J A S) (o p : Option Desk) (d e : Desk) → o ≡ Some d → p ≡ Some e → WorkedAt setup limit answers s t o p
+      → Worked setup limit answers s t d e
+  Worked-from s t o p d e is is' was = subst (λ (x : Option Desk). WorkedAt setup limit answers s t (Some d) x) is'
+      (subst (λ (x : Option Desk). WorkedAt setup limit answers s t x p) is was)
 
   pub Finishes-refl : (s : Station J A S) (d : Desk) → TakenIn d → Finishes setup answers s s d d
   Finishes-refl s d taken_in = record { on = GoesOn-refl s; once = λ test. refl; taken_in = taken_in; pushed = refl; stolen = refl }
 
   -- one more desk is finished, and the others are as they were
   module _ (starts seen ends : List (Station J A S)) (firsts desks lasts : List Desk) (k : ℕ)
-      (same : (j : ℕ) (s : Station J A S) → k ≤ j → get_or seen j s ≡ get_or starts j s) (same' : (j : ℕ) (d : Desk) → k ≤ j → get_or desks j d ≡ get_or firsts j d)
-      (others : (j : ℕ) (s : Station J A S) → j ≢ k → get_or ends j s ≡ get_or seen j s) (others' : (j : ℕ) (d : Desk) → j ≢ k → get_or lasts j d ≡ get_or desks j d)
+      (same : (j : ℕ) (s : Station J A S) → k ≤ j → get_or seen j s ≡ get_or starts j s)
+      (same' : (j : ℕ) (d : Desk) → k ≤ j → get_or desks j d ≡ get_or firsts j d)
+      (others : (j : ℕ) (s : Station J A S) → j ≢ k → get_or ends j s ≡ get_or seen j s)
+      (others' : (j : ℕ) (d : Desk) → j ≢ k → get_or lasts j d ≡ get_or desks j d)
       (here : (s : Station J A S) (d : Desk) → Finishes setup answers (get_or seen k s) (get_or ends k s) (get_or desks k d) (get_or lasts k d))
-      (was : (j : ℕ) (s : Station J A S) (d : Desk) → j < k → Finishes setup answers (get_or starts j s) (get_or seen j s) (get_or firsts j d) (get_or desks j d)) where
-    pub finished_next : (j : ℕ) (s : Station J A S) (d : Desk) → j < k + 1 → Finishes setup answers (get_or starts j s) (get_or ends j s) (get_or firsts j d) (get_or lasts j d)
+      (was : EachFinishes setup answers k starts seen firsts desks) where
+    abbrev IsFinished : ℕ → Station J A S → Desk → Type 0
+    IsFinished j s d = Finishes setup answers (get_or starts j s) (get_or ends j s) (get_or firsts j d) (get_or lasts j d)
+
+    pub finished_next : EachFinishes setup answers (k + 1) starts ends firsts lasts
     finished_next j s d lt = dite (ℕ_discrete j k)
         (λ (e : j ≡ k).
-        let a : Finishes setup answers (get_or starts k s) (get_or ends k s) (get_or desks k d) (get_or lasts k d) = subst (λ (x : Station J A S). Finishes setup answers x (get_or ends k s) (get_or desks k d) (get_or lasts k d)) (same k s (omega arith)) (here s d) in
-        let b : Finishes setup answers (get_or starts k s) (get_or ends k s) (get_or firsts k d) (get_or lasts k d) = subst (λ (x : Desk). Finishes setup answers (get_or starts k s) (get_or ends k s) x (get_or lasts k d)) (same' k d (omega arith)) a in
-        subst (λ (i : ℕ). Finishes setup answers (get_or starts i s) (get_or ends i s) (get_or firsts i d) (get_or lasts i d)) (sym e) b)
+        let a : Finishes setup answers (get_or starts k s) (get_or ends k s) (get_or desks k d) (get_or lasts k d) =
+        subst (λ (x : Station J A S). Finishes setup answers x (get_or ends k s) (get_or desks k d) (get_or lasts k d)) (same k s (omega arith)) (here s d) in
+        let b : IsFinished k s d =
+        subst (λ (x : Desk). Finishes setup answers (get_or starts k s) (get_or ends k s) x (get_or lasts k d)) (same' k d (omega arith)) a in
+        subst (λ (i : ℕ). IsFinished i s d) (sym e) b)
         (λ (ne : j ≢ k).
         subst (λ (x : Station J A S). Finishes setup answers (get_or starts j s) x (get_or firsts j d) (get_or lasts j d)) (sym (others j s ne))
-        (subst (λ (x : Desk). Finishes setup answers (get_or starts j s) (get_or seen j s) (get_or firsts j d) x) (sym (others' j d ne)) (was j s d (omega arith))))
+        (subst (λ (x : Desk). Finishes setup answers (get_or starts j s) (get_or seen j s) (get_or firsts j d) x) (sym (others' j d ne))
+        (was j s d (omega arith))))
 
-    pub finished_all : (n : ℕ) → ((j : ℕ) (d : Desk) → j < n → TakenIn (get_or firsts j d)) → (j : ℕ) (s : Station J A S) (d : Desk) → j < n → Finishes setup answers (get_or starts j s) (get_or ends j s) (get_or firsts j d) (get_or lasts j d)
+    pub finished_all : (n : ℕ) → ((j : ℕ) (d : Desk) → j < n → TakenIn (get_or firsts j d)) → EachFinishes setup answers n starts ends firsts lasts
     finished_all n taken_in j s d lt = ⊎_elim (λ (low : j < k + 1). finished_next j s d low)
         (λ (high : k + 1 ≤ j).
         let ne : j ≢ k = omega arith in
-        subst (λ (x : Station J A S). Finishes setup answers (get_or starts j s) x (get_or firsts j d) (get_or lasts j d)) (sym (others j s ne ∙ same j s (omega arith)))
-        (subst (λ (x : Desk). Finishes setup answers (get_or starts j s) (get_or starts j s) (get_or firsts j d) x) (sym (others' j d ne ∙ same' j d (omega arith))) (Finishes-refl (get_or starts j s) (get_or firsts j d) (taken_in j d lt))))
+        subst (λ (x : Station J A S). Finishes setup answers (get_or starts j s) x (get_or firsts j d) (get_or lasts j d))
+        (sym (others j s ne ∙ same j s (omega arith)))
+        (subst (λ (x : Desk). Finishes setup answers (get_or starts j s) (get_or starts j s) (get_or firsts j d) x)
+        (sym (others' j d ne ∙ same' j d (omega arith)))
+        (Finishes-refl (get_or starts j s) (get_or firsts j d) (taken_in j d lt))))
         (lt_or_le j (k + 1))

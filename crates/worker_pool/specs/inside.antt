@@ -3,3 +3,4 @@ pub mod Parts
 pub mod Desks
 pub mod Ring
 pub mod Stations
+pub mod Rooms

@@ -1,9 +1,9 @@
 //! What the caller's thread does after the joins.
-ghost use Rattle.std.specs.Prelude.{◌≡◌, ◌≢◌, ℕ, ◌+◌, ◌<◌, Bool, [], ◌∷◌, None, OnOk, Ok, false, count_by, vec_len, slice_index_or};
+ghost use Rattle.std.specs.Prelude.{◌≡◌, ◌≢◌, ℕ, ◌+◌, ◌<◌, Bool, [], ◌∷◌, None, All, OnOk, Ok, false, count_by, vec_len, slice_index_or};
 ghost use Rattle.worker_pool.specs.declared.desk.Desk.{Desk};
-ghost use Rattle.worker_pool.specs.inside.Desks.{kept_by, KeptBelow};
+ghost use Rattle.worker_pool.specs.inside.Desks.{kept_by, KeptBelow, SameButKept};
 ghost use Rattle.worker_pool.specs.inside.Ring.{IsDone, pushed_by, gone_by};
-ghost use Rattle.worker_pool.specs.inside.Stations.{answered_by, Finishes, GoesOn, IsLeft};
+ghost use Rattle.worker_pool.specs.inside.Stations.{answered_by, EachDesk, EachFinishes, Finishes, GoesOn, IsLeft};
 
 use crate::desk::Desk;
 use crate::job::Job;
@@ -20,7 +20,7 @@ fn perform_one<J: Job>(
 ) -> Result<(), AllocError>
     requires limit { ticket < J.limit (J.setup station.old.hand.job) }
     ensures on { GoesOn J.setup J.answers station.old station.new }
-    ensures desk { (desk.new.own ≡ desk.old.own) × (desk.new.next ≡ desk.old.next) }
+    ensures desk { SameButKept desk.old desk.new }
     ensures once { desk.old.kept ≡ None → (test : ℕ → Bool)
         → answered_by test station.new + kept_by test desk.new ≡ answered_by test station.old + count_by test (ticket ∷ []) }
     ensures kept { OnOk result (desk.new.kept ≡ desk.old.kept) }
@@ -42,8 +42,9 @@ fn perform_one<J: Job>(
 fn finish_kept<J: Job>(station: &mut Station<J>, desk: &mut Desk) -> Result<(), AllocError>
     requires below { KeptBelow (J.limit (J.setup station.old.hand.job)) desk.old }
     ensures on { GoesOn J.setup J.answers station.old station.new }
-    ensures desk { (desk.new.own ≡ desk.old.own) × (desk.new.next ≡ desk.old.next) }
-    ensures once { (test : ℕ → Bool) → answered_by test station.new + kept_by test desk.new ≡ answered_by test station.old + kept_by test desk.old }
+    ensures desk { SameButKept desk.old desk.new }
+    ensures once { (test : ℕ → Bool)
+        → answered_by test station.new + kept_by test desk.new ≡ answered_by test station.old + kept_by test desk.old }
     ensures kept { OnOk result (desk.new.kept ≡ None) }
 {
     let Some(ticket) = desk.kept.take() else {
@@ -107,9 +108,11 @@ fn finish_at<J: Job, R: Wait>(
     k: usize,
 ) -> Result<(), AllocError>
     requires within { (k < vec_len stations.old) × (vec_len desks.old ≡ vec_len stations.old) }
-    requires left { (h : _) (d : Desk) → IsLeft (J.limit (J.setup (slice_index_or stations.old.items k h).hand.job)) (slice_index_or desks.old.items k d) }
+    requires left { (h : _) (d : Desk)
+        → IsLeft (J.limit (J.setup (slice_index_or stations.old.items k h).hand.job)) (slice_index_or desks.old.items k d) }
     ensures len { (vec_len stations.new ≡ vec_len stations.old) × (vec_len desks.new ≡ vec_len desks.old) }
-    ensures here { (h : _) (d : Desk) → Finishes J.setup J.answers (slice_index_or stations.old.items k h) (slice_index_or stations.new.items k h)
+    ensures here { (h : _) (d : Desk) → Finishes J.setup J.answers
+        (slice_index_or stations.old.items k h) (slice_index_or stations.new.items k h)
         (slice_index_or desks.old.items k d) (slice_index_or desks.new.items k d) }
     ensures others { (j : ℕ) (h : _) → j ≢ k → slice_index_or stations.new.items j h ≡ slice_index_or stations.old.items j h }
     ensures still { (j : ℕ) (d : Desk) → j ≢ k → slice_index_or desks.new.items j d ≡ slice_index_or desks.old.items j d }
@@ -125,13 +128,10 @@ pub fn finish_all<J: Job, R: Wait>(
     desks: &mut Vec<Desk>,
 ) -> Result<(), AllocError>
     requires len { vec_len desks.old ≡ vec_len stations.old }
-    requires left { (k : ℕ) (h : _) (d : Desk) → k < vec_len stations.old
-        → IsLeft (J.limit (J.setup (slice_index_or stations.old.items k h).hand.job)) (slice_index_or desks.old.items k d) }
+    requires left { EachDesk IsLeft J.setup J.limit (vec_len stations.old) stations.old.items desks.old.items }
     ensures len { (vec_len stations.new ≡ vec_len stations.old) × (vec_len desks.new ≡ vec_len desks.old) }
-    ensures finishes { (k : ℕ) (h : _) (d : Desk) → k < vec_len stations.old
-        → Finishes J.setup J.answers (slice_index_or stations.old.items k h) (slice_index_or stations.new.items k h)
-        (slice_index_or desks.old.items k d) (slice_index_or desks.new.items k d) }
-    ensures done { OnOk result ((k : ℕ) (d : Desk) → k < vec_len desks.old → IsDone (slice_index_or desks.new.items k d)) }
+    ensures finishes { EachFinishes J.setup J.answers (vec_len stations.old) stations.old.items stations.new.items desks.old.items desks.new.items }
+    ensures done { OnOk result (All IsDone desks.new.items) }
 {
     for k in 0..stations.len() {
         finish_at(rt, stations, desks, k)?;

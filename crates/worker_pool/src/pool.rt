@@ -1,9 +1,10 @@
 //! Every ticket once, by any number of hands.
-ghost use Rattle.std.specs.Prelude.{◌≡◌, ℕ, ◌+◌, ◌<◌, ◌≤◌, ◌^◌, [], All, IfOk, IfErr, OnOk, MatchResult, map, vec_len, vec_capacity, slice_index_or};
+ghost use Rattle.std.specs.Prelude.{◌≡◌, ℕ, ◌+◌, ◌<◌, ◌≤◌, ◌^◌, [], All, IfOk, IfErr, OnOk, MatchResult, map, vec_len, slice_index_or};
 ghost use Rattle.std.specs.List.{sum_by};
 ghost use Rattle.worker_pool.specs.Hands.{hand_job, hand_performed, setups_of, EachOnce, PerformsPart, SharesAll, SharesPart};
 ghost use Rattle.worker_pool.specs.inside.Ring.{AreDealtRound, Fresh, IsRing, PushedOnce};
-ghost use Rattle.worker_pool.specs.inside.Stations.{GoesOn, answers_of};
+ghost use Rattle.worker_pool.specs.inside.Stations.{answers_of, EachDesk, EachGoesOn};
+ghost use Rattle.worker_pool.specs.inside.Rooms.{HasPlaces};
 
 use crate::desk::Desk;
 use crate::finish::finish_all;
@@ -43,75 +44,22 @@ fn work_all<J: Job, G: Gate, R: Threads + Wait + Sync>(
     requires some { 0 < vec_len stations.old }
     requires len { vec_len desks ≡ vec_len stations.old }
     requires rest { All (λ s. s.answers.items ≡ []) stations.old.items }
-    requires spare { (spare.items ≡ []) × (vec_len stations.old ≤ vec_capacity spare) }
-    requires fresh { (k : ℕ) (s : _) (d : _) → k < vec_len stations.old
-        → Fresh (J.limit (J.setup (slice_index_or stations.old.items k s).hand.job)) (slice_index_or desks.items k d) }
+    requires spare { HasPlaces (vec_len stations.old) spare }
+    requires fresh { EachDesk Fresh J.setup J.limit (vec_len stations.old) stations.old.items desks.items }
     requires ring { IsRing desks.items }
     requires round { AreDealtRound (vec_len stations.old) desks.items }
     ensures len { vec_len stations.new ≡ vec_len stations.old }
-    ensures on { (k : ℕ) (s : _) → k < vec_len stations.old
-        → GoesOn J.setup J.answers (slice_index_or stations.old.items k s) (slice_index_or stations.new.items k s) }
-    ensures all { OnOk result ((count : ℕ) → PushedOnce count desks.items → SharesAll (vec_len stations.old) count (answers_of stations.new.items)) }
-    ensures part { (count : ℕ) → PushedOnce count desks.items → SharesPart (vec_len stations.old) count (answers_of stations.new.items) }
+    ensures on { EachGoesOn J.setup J.answers (vec_len stations.old) stations.old.items stations.new.items }
+    ensures all { OnOk result ((count : ℕ) → PushedOnce count desks.items
+        → SharesAll (vec_len stations.old) count (answers_of stations.new.items)) }
+    ensures part { (count : ℕ) → PushedOnce count desks.items
+        → SharesPart (vec_len stations.old) count (answers_of stations.new.items) }
 {
     let mut back = round(rt, gate, stations, desks, spare);
     absorb_all(&mut back);
     let finished = finish_all(rt, stations, &mut back);
     settle_all(back);
     finished
-}
-
-/// A run, once it has its room.
-fn run_in<J: Job, G: Gate, R: Threads + Wait + Sync>(
-    rt: &R,
-    alloc: Global,
-    gate: &G,
-    hands: Vec<Hand<J>>,
-    room: Room<J>,
-    count: u32,
-) -> Result<Gathered<J>, PoolFault<J>>
-    requires some { 0 < vec_len hands }
-    requires limit { All (λ h. count ≤ J.limit (J.setup (hand_job h))) hands.items }
-    requires len { vec_len room.desks ≡ vec_len hands }
-    requires ring { IsRing room.desks.items }
-    requires fresh { All (Fresh count) room.desks.items }
-    requires round { AreDealtRound (vec_len hands) room.desks.items }
-    requires pushed { PushedOnce count room.desks.items }
-    requires spare { (room.spare.items ≡ []) × (vec_len hands ≤ vec_capacity room.spare) }
-    requires stations { (room.stations.items ≡ []) × (vec_len hands ≤ vec_capacity room.stations) }
-    requires hands { (room.hands.items ≡ []) × (vec_len hands ≤ vec_capacity room.hands) }
-    requires answers { (room.answers.items ≡ []) × (vec_len hands ≤ vec_capacity room.answers) }
-    ensures hands { MatchResult result (λ g. vec_len g.hands ≡ vec_len hands) (λ e. vec_len e.hands ≡ vec_len hands) }
-    ensures setups { MatchResult result
-        (λ g. setups_of J.setup g.hands.items ≡ setups_of J.setup hands.items)
-        (λ e. setups_of J.setup e.hands.items ≡ setups_of J.setup hands.items) }
-    ensures many { IfOk result (λ g. vec_len g.answers ≡ vec_len hands) }
-    ensures right { IfOk result (λ g. (k : ℕ) (h : _) (l : _) → k < vec_len hands
-        → All (λ p. J.answers (J.setup (hand_job (slice_index_or hands.items k h))) p.0 p.1) (slice_index_or g.answers.items k l).items) }
-    ensures shared { IfOk result (λ g. SharesAll (vec_len hands) count (map (λ l. l.items) g.answers.items)) }
-    ensures once { IfOk result (λ g. EachOnce g.answers.items count) }
-    ensures counted { IfOk result (λ g. (k : ℕ) (h : _) (l : _) → k < vec_len hands
-        → hand_performed (slice_index_or hands.items k h) + vec_len (slice_index_or g.answers.items k l) < 2 ^ 64
-        → hand_performed (slice_index_or g.hands.items k h)
-        ≡ hand_performed (slice_index_or hands.items k h) + vec_len (slice_index_or g.answers.items k l)) }
-    ensures performed { IfOk result (λ g. sum_by hand_performed hands.items + count < 2 ^ 64
-        → sum_by hand_performed g.hands.items ≡ sum_by hand_performed hands.items + count) }
-    ensures refused { IfErr result (λ e. PerformsPart J.setup J.answers hands.items e.hands.items count) }
-{
-    let Room {
-        desks,
-        spare,
-        stations,
-        hands: back,
-        answers,
-    } = room;
-    let mut stations = seat_all(alloc, hands, stations);
-    let finished = work_all(rt, gate, &mut stations, desks, spare);
-    let (hands, answers) = leave_all(stations, back, answers);
-    match finished {
-        Ok(()) => Ok(Gathered { hands, answers }),
-        Err(_) => Err(PoolFault { hands }),
-    }
 }
 
 /// Performs each number below `count` once, and gives the answers.
@@ -167,8 +115,21 @@ pub fn run_all<J: Job, G: Gate, R: Threads + Wait + Sync>(
     // A refused run has performed a part of the tickets, each at most once, and each hand counted just those that it performed.
     ensures refused { IfErr result (λ e. PerformsPart J.setup J.answers hands.items e.hands.items count) }
 {
-    match Room::new(alloc, hands.len(), count) {
-        Ok(room) => run_in(rt, alloc, gate, hands, room, count),
+    let Ok(room) = Room::new(alloc, hands.len(), count) else {
+        return Err(PoolFault { hands });
+    };
+    let Room {
+        desks,
+        spare,
+        stations,
+        hands: back,
+        answers,
+    } = room;
+    let mut stations = seat_all(alloc, hands, stations);
+    let finished = work_all(rt, gate, &mut stations, desks, spare);
+    let (hands, answers) = leave_all(stations, back, answers);
+    match finished {
+        Ok(()) => Ok(Gathered { hands, answers }),
         Err(_) => Err(PoolFault { hands }),
     }
 }

@@ -1,10 +1,9 @@
 //! The desks of all stations, in a ring.
-ghost use Rattle.std.specs.Prelude.{◌≡◌, ℕ, ◌+◌, ◌/◌, ◌%◌, ◌<◌, ◌≤◌, Bool, All, None, ◌≢◌, IfOk, OnOk, IsSome, cond, vec_len, slice_index_or};
-ghost use Rattle.std.specs.List.{sum_by};
+ghost use Rattle.std.specs.Prelude.{◌≡◌, ℕ, ◌+◌, ◌%◌, ◌<◌, ◌≤◌, Bool, All, None, ◌≢◌, IfOk, OnOk, IsSome, vec_len, slice_index_or};
 ghost use Rattle.crossbeam_deque.specs.Handles.{worker_view};
 ghost use Rattle.worker_pool.specs.declared.desk.Desk.{Desk};
-ghost use Rattle.worker_pool.specs.inside.Ring.{next_of, IsRing, Fresh, Whole, TakenIn, IsSettled, SameOwn, pushed_by, stolen_by, stolen_from};
-ghost use Rattle.worker_pool.specs.inside.Ring.{AreDealtRound, DealtRound, PushedOnce};
+ghost use Rattle.worker_pool.specs.inside.Ring.{next_of, IsRing, Fresh, Whole, TakenIn, IsSettled};
+ghost use Rattle.worker_pool.specs.inside.Ring.{AreDealtBelow, KnowStolen, KnowsStolen, SameNextBut, SameOwns, SamePushed};
 
 use crate::desk::Desk;
 use crate::ticket::Ticket;
@@ -26,12 +25,11 @@ fn absorb_one(desks: &mut Vec<Desk>, k: usize, next: usize)
     ensures len { vec_len desks.new ≡ vec_len desks.old }
     ensures ring { IsRing desks.new.items }
     ensures none { (d : Desk) → (slice_index_or desks.new.items k d).next ≡ None }
-    ensures others { (j : ℕ) (d : Desk) → j ≢ k → (slice_index_or desks.new.items j d).next ≡ (slice_index_or desks.old.items j d).next }
-    ensures stolen { (test : ℕ → Bool) (d : Desk) → stolen_by test (slice_index_or desks.new.items next d)
-        ≡ stolen_from test (slice_index_or desks.old.items k d).next (slice_index_or desks.old.items next d) }
+    ensures others { SameNextBut k desks.old.items desks.new.items }
+    ensures stolen { (test : ℕ → Bool) (d : Desk) → KnowsStolen test desks.old.items desks.new.items k next d }
     ensures still { (j : ℕ) (d : Desk) → j ≢ next
         → (worker_view (slice_index_or desks.new.items j d).own).stolen ≡ (worker_view (slice_index_or desks.old.items j d).own).stolen }
-    ensures each { (j : ℕ) (d : Desk) → SameOwn (slice_index_or desks.old.items j d) (slice_index_or desks.new.items j d) }
+    ensures each { SameOwns desks.old.items desks.new.items }
 {
     let seat = desks[k].next.take();
     if let Some(seat) = seat {
@@ -44,10 +42,8 @@ pub fn absorb_all(desks: &mut Vec<Desk>)
     requires ring { IsRing desks.old.items }
     ensures len { vec_len desks.new ≡ vec_len desks.old }
     ensures whole { All TakenIn desks.new.items }
-    ensures stolen { (test : ℕ → Bool) (k : ℕ) (d : Desk) → k < vec_len desks.old
-        → stolen_by test (slice_index_or desks.new.items (next_of (vec_len desks.old) k) d)
-        ≡ stolen_from test (slice_index_or desks.old.items k d).next (slice_index_or desks.old.items (next_of (vec_len desks.old) k) d) }
-    ensures each { (j : ℕ) (d : Desk) → SameOwn (slice_index_or desks.old.items j d) (slice_index_or desks.new.items j d) }
+    ensures stolen { KnowStolen (vec_len desks.old) (vec_len desks.old) desks.old.items desks.new.items }
+    ensures each { SameOwns desks.old.items desks.new.items }
 {
     let n = desks.len();
     for k in 0..n {
@@ -83,10 +79,9 @@ fn link_one(desks: &mut Vec<Desk>, k: usize, next: usize) -> Result<(), AllocErr
     ensures len { vec_len desks.new ≡ vec_len desks.old }
     ensures ring { OnOk result (IsRing desks.new.items) }
     ensures here { OnOk result ((d : Desk) → IsSome (slice_index_or desks.new.items k d).next) }
-    ensures others { OnOk result ((j : ℕ) (d : Desk) → j ≢ k → (slice_index_or desks.new.items j d).next ≡ (slice_index_or desks.old.items j d).next) }
+    ensures others { OnOk result (SameNextBut k desks.old.items desks.new.items) }
     ensures fresh { OnOk result ((count : ℕ) → All (Fresh count) desks.old.items → All (Fresh count) desks.new.items) }
-    ensures pushed { OnOk result ((j : ℕ) (d : Desk)
-        → (worker_view (slice_index_or desks.new.items j d).own).pushed ≡ (worker_view (slice_index_or desks.old.items j d).own).pushed) }
+    ensures pushed { OnOk result (SamePushed desks.old.items desks.new.items) }
 {
     let seat = desks[next].share()?;
     desks[k].next = Some(seat);
@@ -98,10 +93,9 @@ pub fn link_all(desks: &mut Vec<Desk>, count: u32) -> Result<(), AllocError>
     requires whole { All (Whole count) desks.old.items }
     ensures len { vec_len desks.new ≡ vec_len desks.old }
     ensures ring { OnOk result (IsRing desks.new.items) }
-    ensures linked { OnOk result (2 ≤ vec_len desks.old → (j : ℕ) (d : Desk) → j < vec_len desks.old → IsSome (slice_index_or desks.new.items j d).next) }
+    ensures linked { OnOk result (2 ≤ vec_len desks.old → All (λ d. IsSome d.next) desks.new.items) }
     ensures fresh { OnOk result (All (Fresh count) desks.new.items) }
-    ensures pushed { OnOk result ((j : ℕ) (d : Desk)
-        → (worker_view (slice_index_or desks.new.items j d).own).pushed ≡ (worker_view (slice_index_or desks.old.items j d).own).pushed) }
+    ensures pushed { OnOk result (SamePushed desks.old.items desks.new.items) }
 {
     let n = desks.len();
     if n < 2 {
@@ -122,17 +116,15 @@ fn leave_gap(alloc: Global, gaps: &mut Vec<Vec<u8>>) -> Result<(), AllocError> {
     Ok(())
 }
 
-/// So many desks with empty deques, each with that much room.
-fn empty_desks(alloc: Global, n: usize, room: usize, count: u32) -> Result<Vec<Desk>, AllocError>
-    ensures len { IfOk result (λ v. vec_len v ≡ n) }
-    ensures whole { IfOk result (λ v. All (Whole count) v.items) }
-    ensures pushed { IfOk result (λ v. (test : ℕ → Bool) → sum_by (pushed_by test) v.items ≡ 0) }
-    ensures room { IfOk result (λ v. (k : ℕ) (d : Desk) → k < n → DealtRound n room 0 k (slice_index_or v.items k d)) }
+/// So many desks with empty deques, each with room for its part of the tickets.
+fn empty_desks(alloc: Global, n: usize, count: u32) -> Result<Vec<Desk>, AllocError>
+    requires { 0 < n }
+    ensures { IfOk result (AreDealtBelow n count 0) }
 {
     let mut desks = Vec::new(alloc);
     let mut gaps = Vec::new(alloc);
     for _made in 0..n {
-        let desk = Desk::new(alloc, room)?;
+        let desk = Desk::new(alloc, count as usize / n + 1)?;
         desks.push(desk)?;
         leave_gap(alloc, &mut gaps)?;
     }
@@ -144,14 +136,8 @@ fn deal_one(desks: &mut Vec<Desk>, k: usize, ticket: Ticket, count: u32)
     requires within { k < vec_len desks.old }
     requires round { k ≡ ticket % vec_len desks.old }
     requires below { ticket < count }
-    requires whole { All (Whole count) desks.old.items }
-    requires room { (j : ℕ) (d : Desk) → j < vec_len desks.old
-        → DealtRound (vec_len desks.old) (count / vec_len desks.old + 1) ticket j (slice_index_or desks.old.items j d) }
-    ensures len { vec_len desks.new ≡ vec_len desks.old }
-    ensures whole { All (Whole count) desks.new.items }
-    ensures pushed { (test : ℕ → Bool) → sum_by (pushed_by test) desks.new.items ≡ sum_by (pushed_by test) desks.old.items + cond (test ticket) 1 0 }
-    ensures room { (j : ℕ) (d : Desk) → j < vec_len desks.old
-        → DealtRound (vec_len desks.old) (count / vec_len desks.old + 1) (ticket + 1) j (slice_index_or desks.new.items j d) }
+    requires dealt { AreDealtBelow (vec_len desks.old) count ticket desks.old }
+    ensures { AreDealtBelow (vec_len desks.old) count (ticket + 1) desks.new }
 {
     desks[k].deal(ticket);
 }
@@ -159,12 +145,9 @@ fn deal_one(desks: &mut Vec<Desk>, k: usize, ticket: Ticket, count: u32)
 /// Desks whose deques have the tickets below the count: ticket i is dealt to desk `i mod n`.
 pub fn dealt_desks(alloc: Global, n: usize, count: u32) -> Result<Vec<Desk>, AllocError>
     requires { 0 < n }
-    ensures len { IfOk result (λ v. vec_len v ≡ n) }
-    ensures whole { IfOk result (λ v. All (Whole count) v.items) }
-    ensures dealt { IfOk result (λ v. AreDealtRound n v.items) }
-    ensures pushed { IfOk result (λ v. PushedOnce count v.items) }
+    ensures { IfOk result (AreDealtBelow n count count) }
 {
-    let mut desks = empty_desks(alloc, n, count as usize / n + 1, count)?;
+    let mut desks = empty_desks(alloc, n, count)?;
     for number in 0..count {
         deal_one(&mut desks, number as usize % n, Ticket::new(number), count);
     }

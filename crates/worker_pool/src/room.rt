@@ -1,6 +1,7 @@
 //! What a run takes of memory before its first ticket is performed, and how hands come and go.
-ghost use Rattle.std.specs.Prelude.{◌≡◌, ◌+◌, ◌<◌, ◌≤◌, [], ◌∷◌, ◌++◌, All, IfOk, map, vec_len, vec_capacity};
-ghost use Rattle.worker_pool.specs.inside.Ring.{AreDealtRound, Fresh, IsRing, PushedOnce};
+ghost use Rattle.std.specs.Prelude.{◌≡◌, ◌+◌, ◌<◌, [], ◌∷◌, ◌++◌, All, IfOk, map, vec_len, vec_capacity};
+ghost use Rattle.worker_pool.specs.inside.Ring.{AreDealt};
+ghost use Rattle.worker_pool.specs.inside.Rooms.{HasPlaces, IsRoom};
 
 use crate::desk::Desk;
 use crate::hand::Hand;
@@ -22,11 +23,7 @@ pub struct Room<J: Job> {
 /// The desks of so many stations, with all tickets dealt and all thieves' seats made.
 fn linked_desks(alloc: Global, n: usize, count: u32) -> Result<Vec<Desk>, AllocError>
     requires { 0 < n }
-    ensures len { IfOk result (λ desks. vec_len desks ≡ n) }
-    ensures ring { IfOk result (λ desks. IsRing desks.items) }
-    ensures fresh { IfOk result (λ desks. All (Fresh count) desks.items) }
-    ensures pushed { IfOk result (λ desks. PushedOnce count desks.items) }
-    ensures round { IfOk result (λ desks. AreDealtRound n desks.items) }
+    ensures { IfOk result (AreDealt n count) }
 {
     let mut desks = dealt_desks(alloc, n, count)?;
     link_all(&mut desks, count)?;
@@ -36,15 +33,7 @@ fn linked_desks(alloc: Global, n: usize, count: u32) -> Result<Vec<Desk>, AllocE
 impl<J: Job> Room<J> {
     pub fn new(alloc: Global, n: usize, count: u32) -> Result<Room<J>, AllocError>
         requires { 0 < n }
-        ensures len { IfOk result (λ room. vec_len room.desks ≡ n) }
-        ensures ring { IfOk result (λ room. IsRing room.desks.items) }
-        ensures fresh { IfOk result (λ room. All (Fresh count) room.desks.items) }
-        ensures pushed { IfOk result (λ room. PushedOnce count room.desks.items) }
-        ensures round { IfOk result (λ room. AreDealtRound n room.desks.items) }
-        ensures spare { IfOk result (λ room. (room.spare.items ≡ []) × (n ≤ vec_capacity room.spare)) }
-        ensures stations { IfOk result (λ room. (room.stations.items ≡ []) × (n ≤ vec_capacity room.stations)) }
-        ensures hands { IfOk result (λ room. (room.hands.items ≡ []) × (n ≤ vec_capacity room.hands)) }
-        ensures answers { IfOk result (λ room. (room.answers.items ≡ []) × (n ≤ vec_capacity room.answers)) }
+        ensures { IfOk result (IsRoom n count) }
     {
         Ok(Room {
             desks: linked_desks(alloc, n, count)?,
@@ -62,7 +51,7 @@ pub fn seat_all<J: Job>(
     hands: Vec<Hand<J>>,
     mut stations: Vec<Station<J>>,
 ) -> Vec<Station<J>>
-    requires room { (stations.items ≡ []) × (vec_len hands ≤ vec_capacity stations) }
+    requires { HasPlaces (vec_len hands) stations }
     ensures len { vec_len result ≡ vec_len hands }
     ensures hands { map (λ s. s.hand) result.items ≡ hands.items }
     ensures rest { All (λ s. s.answers.items ≡ []) result.items }
@@ -101,8 +90,8 @@ pub fn leave_all<J: Job>(
     mut hands: Vec<Hand<J>>,
     mut answers: Vec<Vec<(u32, J::Answer)>>,
 ) -> (Vec<Hand<J>>, Vec<Vec<(u32, J::Answer)>>)
-    requires hands { (hands.items ≡ []) × (vec_len stations ≤ vec_capacity hands) }
-    requires answers { (answers.items ≡ []) × (vec_len stations ≤ vec_capacity answers) }
+    requires hands { HasPlaces (vec_len stations) hands }
+    requires answers { HasPlaces (vec_len stations) answers }
     ensures len { (vec_len result.0 ≡ vec_len stations) × (vec_len result.1 ≡ vec_len stations) }
     ensures hands { result.0.items ≡ map (λ s. s.hand) stations.items }
     ensures answers { result.1.items ≡ map (λ s. s.answers) stations.items }

@@ -1,9 +1,10 @@
 //! All stations at work, each in a thread of its own.
-ghost use Rattle.std.specs.Prelude.{◌≡◌, ℕ, ◌<◌, ◌≤◌, [], Some, All, IsSome, vec_len, vec_capacity, slice_index_or, length};
+ghost use Rattle.std.specs.Prelude.{◌≡◌, ℕ, ◌<◌, Some, All, IsSome, vec_len, slice_index_or, length};
 ghost use Rattle.worker_pool.specs.declared.desk.Desk.{Desk};
 ghost use Rattle.worker_pool.specs.inside.Desks.{IsReady};
 ghost use Rattle.worker_pool.specs.inside.Ring.{IsRing};
-ghost use Rattle.worker_pool.specs.inside.Stations.{IsReadyAt, SameWork, Worked, WorkedAt};
+ghost use Rattle.worker_pool.specs.inside.Stations.{EachDesk, EachWorked, IsReadyAt, SameWork, WorkedAt};
+ghost use Rattle.worker_pool.specs.inside.Rooms.{HasPlaces};
 
 use crate::desk::Desk;
 use crate::job::Job;
@@ -22,7 +23,8 @@ pub fn run_hands<J: Job, G: Gate, R: Threads + Wait + Sync>(
 )
     requires some { 0 < length stations.old }
     requires ready { All (λ s. IsReadyAt (J.limit (J.setup s.hand.job)) s.desk) stations.old }
-    ensures { (k : ℕ) (s : _) → k < length stations.old → WorkedAt J.setup J.limit J.answers (slice_index_or stations.old k s) (slice_index_or stations.new k s)
+    ensures { (k : ℕ) (s : _) → k < length stations.old
+        → WorkedAt J.setup J.limit J.answers (slice_index_or stations.old k s) (slice_index_or stations.new k s)
         (slice_index_or stations.old k s).desk (slice_index_or stations.new k s).desk }
 {
     let threads = stations.len();
@@ -87,8 +89,7 @@ fn take_one<J: Job>(station: &mut Station<J>) -> Desk
 
 /// Takes each station's desk back.
 pub fn take_back<J: Job>(stations: &mut Vec<Station<J>>, mut desks: Vec<Desk>) -> Vec<Desk>
-    requires empty { desks.items ≡ [] }
-    requires room { vec_len stations.old ≤ vec_capacity desks }
+    requires room { HasPlaces (vec_len stations.old) desks }
     requires lent { All (λ s. IsSome s.desk) stations.old.items }
     ensures len { (vec_len stations.new ≡ vec_len stations.old) × (vec_len result ≡ vec_len stations.old) }
     ensures back { (k : ℕ) (s : _) (d : Desk) → k < vec_len stations.old
@@ -111,14 +112,11 @@ pub fn round<J: Job, G: Gate, R: Threads + Wait + Sync>(
 ) -> Vec<Desk>
     requires some { 0 < vec_len stations.old }
     requires len { vec_len desks ≡ vec_len stations.old }
-    requires spare { (spare.items ≡ []) × (vec_len stations.old ≤ vec_capacity spare) }
-    requires ready { (k : ℕ) (s : _) (d : Desk) → k < vec_len stations.old
-        → IsReady (J.limit (J.setup (slice_index_or stations.old.items k s).hand.job)) (slice_index_or desks.items k d) }
+    requires spare { HasPlaces (vec_len stations.old) spare }
+    requires ready { EachDesk IsReady J.setup J.limit (vec_len stations.old) stations.old.items desks.items }
     requires ring { IsRing desks.items }
     ensures len { (vec_len stations.new ≡ vec_len stations.old) × (vec_len result ≡ vec_len stations.old) }
-    ensures worked { (k : ℕ) (s : _) (d : Desk) → k < vec_len stations.old
-        → Worked J.setup J.limit J.answers (slice_index_or stations.old.items k s) (slice_index_or stations.new.items k s)
-        (slice_index_or desks.items k d) (slice_index_or result.items k d) }
+    ensures worked { EachWorked J.setup J.limit J.answers (vec_len stations.old) stations.old.items stations.new.items desks.items result.items }
     ensures ring { IsRing result.items }
 {
     lend(stations, desks);

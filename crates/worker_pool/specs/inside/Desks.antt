@@ -41,6 +41,10 @@ SameNext (Some n) (Some m) = (stealer_deque m.from ≡ stealer_deque n.from) × 
 abbrev pub SameButOwn : Desk → Desk → Type 0
 SameButOwn old new = (new.next ≡ old.next) × (new.kept ≡ old.kept) × (worker_deque new.own ≡ worker_deque old.own)
 
+-- but for the ticket that it keeps the desk is what it was
+abbrev pub SameButKept : Desk → Desk → Type 0
+SameButKept old new = (new.own ≡ old.own) × (new.next ≡ old.next)
+
 -- the desk is at the same deques, with the same rights; what was pushed there is the same, and what it knows to be stolen
 pub record SameDesk (old new : Desk) : Type 0 where
   pub deque : worker_deque new.own ≡ worker_deque old.own

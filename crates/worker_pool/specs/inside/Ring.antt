@@ -1,5 +1,7 @@
 -- The desks in a ring: each has its thief's seat at the deque of the next, or the next knows the whole of its deque itself.
-use Rattle.std.specs.Prelude.{◌≡◌, ℕ, ◌+◌, ◌*◌, ◌%◌, ◌<◌, ◌≤◌, Bool, cond, All, List, [], count_by, Option, Some, None, length, slice_index_or, ◌==◌}
+use Rattle.std.specs.Prelude.{◌≡◌, ◌≢◌, ℕ, ◌+◌, ◌*◌, ◌/◌, ◌%◌, ◌<◌, ◌≤◌, ◌==◌, Bool, cond, All, List, [], count_by}
+use Rattle.std.specs.Prelude.{Option, Some, None, Vec, vec_len, length, slice_index_or}
+use Rattle.std.specs.declared.alloc.Global.{Global}
 use Rattle.std.specs.List.{sum_by}
 use Rattle.crossbeam_deque.specs.Handles.{view, stealer_deque, worker_deque, worker_view, worker_index, worker_capacity}
 use Rattle.worker_pool.specs.declared.desk.Next.{Next}
@@ -29,16 +31,36 @@ stolen_by test d = count_by test (worker_view d.own).stolen
 abbrev pub gone_by : (ℕ → Bool) → Desk → ℕ
 gone_by test d = count_by test (worker_view d.own).popped + stolen_by test d
 
+-- each desk but the k-th has the seat that it had
+abbrev pub SameNextBut : ℕ → List Desk → List Desk → Type 0
+SameNextBut k old new = (j : ℕ) (d : Desk) → j ≢ k → (slice_index_or new j d).next ≡ (slice_index_or old j d).next
+
+-- the same was pushed at each desk
+abbrev pub SamePushed : List Desk → List Desk → Type 0
+SamePushed old new = (j : ℕ) (d : Desk) → (worker_view (slice_index_or new j d).own).pushed ≡ (worker_view (slice_index_or old j d).own).pushed
+
 -- what was stolen from a desk's deque, by the seat at it, or as the desk itself knows
 abbrev pub stolen_from : (ℕ → Bool) → Option Next → Desk → ℕ
 stolen_from test None e = stolen_by test e
 stolen_from test (Some n) e = count_by test (view n.seat).stolen
+
+-- desk `to` knows itself what the seat of desk k stole from its deque, or what it knew before
+abbrev pub KnowsStolen : (ℕ → Bool) → List Desk → List Desk → ℕ → ℕ → Desk → Type 0
+KnowsStolen test old new k to d =
+    stolen_by test (slice_index_or new to d) ≡ stolen_from test (slice_index_or old k d).next (slice_index_or old to d)
+
+-- .. for the seats of the first k of n desks
+abbrev pub KnowStolen : ℕ → ℕ → List Desk → List Desk → Type 0
+KnowStolen n k old new = (test : ℕ → Bool) (j : ℕ) (d : Desk) → j < k → KnowsStolen test old new j (next_of n j) d
 
 -- the same was pushed at the desk and popped there, and it keeps the same
 pub record SameOwn (old new : Desk) : Type 0 where
   pub pushed : (worker_view new.own).pushed ≡ (worker_view old.own).pushed
   pub popped : (worker_view new.own).popped ≡ (worker_view old.own).popped
   pub kept : new.kept ≡ old.kept
+
+abbrev pub SameOwns : List Desk → List Desk → Type 0
+SameOwns old new = (j : ℕ) (d : Desk) → SameOwn (slice_index_or old j d) (slice_index_or new j d)
 
 -- tickets were dealt round: desk k of n has those that leave k
 abbrev pub AreDealtRound : ℕ → List Desk → Type 0
@@ -66,16 +88,31 @@ pub record Whole (count : ℕ) (d : Desk) : Type 0 where
   pub next : d.next ≡ None
   pub right : 0 < (worker_view d.own).steal_right
 
--- after the joins: the desk has taken its thief's seat in
-pub record TakenIn (d : Desk) : Type 0 where
-  pub next : d.next ≡ None
-  pub right : 0 < (worker_view d.own).steal_right
-
 -- desk j of n, once the tickets below the number were dealt round: it has those of its round, and finds room for the next
 pub record DealtRound (n most number j : ℕ) (d : Desk) : Type 0 where
   pub dealt : All (λ x. x % n ≡ j) (worker_view d.own).pushed
   pub index : worker_index d.own * n + j < number + n
   pub room : most ≤ worker_capacity d.own
+
+-- n desks with room for the tickets below the count, of which those below the number were dealt round, each once
+pub record AreDealtBelow (n count number : ℕ) (ds : Vec Desk Global) : Type 0 where
+  pub len : vec_len ds ≡ n
+  pub whole : All (Whole count) ds.items
+  pub once : PushedOnce number ds.items
+  pub room : (j : ℕ) (d : Desk) → j < n → DealtRound n (count / n + 1) number j (slice_index_or ds.items j d)
+
+-- n desks in a ring, before the run: the tickets below the count were dealt round, each once, and none was taken
+pub record AreDealt (n count : ℕ) (ds : Vec Desk Global) : Type 0 where
+  pub len : vec_len ds ≡ n
+  pub ring : IsRing ds.items
+  pub fresh : All (Fresh count) ds.items
+  pub round : AreDealtRound n ds.items
+  pub once : PushedOnce count ds.items
+
+-- after the joins: the desk has taken its thief's seat in
+pub record TakenIn (d : Desk) : Type 0 where
+  pub next : d.next ≡ None
+  pub right : 0 < (worker_view d.own).steal_right
 
 -- .. and all that it can give is given
 pub record IsDone (d : Desk) : Type 0 where

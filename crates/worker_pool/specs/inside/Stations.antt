@@ -1,5 +1,5 @@
 -- A station at work: what one turn, or many, do to it and to its desk.
-use Rattle.std.specs.Prelude.{◌≡◌, ℕ, ◌+◌, ◌<◌, ◌≤◌, ◌^◌, Bool, List, All, Option, Some, None, count_by, length, map}
+use Rattle.std.specs.Prelude.{◌≡◌, ℕ, ◌+◌, ◌<◌, ◌≤◌, ◌^◌, Bool, List, All, Option, Some, None, count_by, length, map, slice_index_or}
 use Rattle.crossbeam_deque.specs.Handles.{worker_view}
 use Rattle.worker_pool.specs.declared.desk.Desk.{Desk}
 use Rattle.worker_pool.specs.declared.station.Station.{Station}
@@ -31,6 +31,14 @@ pub record GoesOn {J A S T : Type 0} (setup : J → T) (answers : T → ℕ → 
   pub counted : old.hand.performed + length new.answers.items < 2 ^ 64 + length old.answers.items
       → new.hand.performed + length old.answers.items ≡ old.hand.performed + length new.answers.items
 
+abbrev pub EachGoesOn : {J A S T : Type 0} → (J → T) → (T → ℕ → A → Type 0) → ℕ → List (Station J A S) → List (Station J A S) → Type 0
+EachGoesOn setup answers n old new = (k : ℕ) (s : _) → k < n → GoesOn setup answers (slice_index_or old k s) (slice_index_or new k s)
+
+-- a fact of each of n desks and the limit of its station's setup
+abbrev pub EachDesk : {J A S T : Type 0} → (ℕ → Desk → Type 0) → (J → T) → (T → ℕ) → ℕ → List (Station J A S) → List Desk → Type 0
+EachDesk Fact setup limit n stations desks =
+    (k : ℕ) (s : _) (d : Desk) → k < n → Fact (limit (setup (slice_index_or stations k s).hand.job)) (slice_index_or desks k d)
+
 -- what the desk's hand took more, or the desk had kept, was answered, each once, or the desk keeps it
 abbrev pub IsBalanced : {J A S : Type 0} → Station J A S → Station J A S → Desk → Desk → Type 0
 IsBalanced old new desk desk' =
@@ -43,12 +51,19 @@ pub record Worked {J A S T : Type 0} (setup : J → T) (limit : T → ℕ) (answ
   pub same : SameDesk desk desk'
   pub kept : KeptBelow (limit (setup old.hand.job)) desk'
 
+-- .. and so has each of n
+abbrev pub EachWorked : {J A S T : Type 0} → (J → T) → (T → ℕ) → (T → ℕ → A → Type 0) → ℕ
+    → List (Station J A S) → List (Station J A S) → List Desk → List Desk → Type 0
+EachWorked setup limit answers n old new desks desks' = (k : ℕ) (s : _) (d : Desk) → k < n
+    → Worked setup limit answers (slice_index_or old k s) (slice_index_or new k s) (slice_index_or desks k d) (slice_index_or desks' k d)
+
 -- of the desks that two stations have, if they have one
 abbrev pub IsReadyAt : ℕ → Option Desk → Type 0
 IsReadyAt count None = Unit {0}
 IsReadyAt count (Some d) = IsReady count d
 
-abbrev pub WorkedAt : {J A S T : Type 0} → (J → T) → (T → ℕ) → (T → ℕ → A → Type 0) → Station J A S → Station J A S → Option Desk → Option Desk → Type 0
+abbrev pub WorkedAt : {J A S T : Type 0} → (J → T) → (T → ℕ) → (T → ℕ → A → Type 0)
+    → Station J A S → Station J A S → Option Desk → Option Desk → Type 0
 WorkedAt setup limit answers old new None e = e ≡ None
 WorkedAt setup limit answers old new (Some d) None = ⊥
 WorkedAt setup limit answers old new (Some d) (Some e) = Worked setup limit answers old new d e
@@ -66,3 +81,9 @@ pub record Finishes {J A S T : Type 0} (setup : J → T) (answers : T → ℕ �
   pub taken_in : TakenIn desk'
   pub pushed : (worker_view desk'.own).pushed ≡ (worker_view desk.own).pushed
   pub stolen : (worker_view desk'.own).stolen ≡ (worker_view desk.own).stolen
+
+-- .. and so has each of n
+abbrev pub EachFinishes : {J A S T : Type 0} → (J → T) → (T → ℕ → A → Type 0) → ℕ
+    → List (Station J A S) → List (Station J A S) → List Desk → List Desk → Type 0
+EachFinishes setup answers n old new desks desks' = (k : ℕ) (s : _) (d : Desk) → k < n
+    → Finishes setup answers (slice_index_or old k s) (slice_index_or new k s) (slice_index_or desks k d) (slice_index_or desks' k d)

@@ -1,10 +1,10 @@
-use Rattle.std.proofs.Common.{◌≡◌, ◌∙◌, ℕ, ◌<◌, All, Bool, Result, Ok, Err, OnOk, Option, List, IfSome, length, vec_len, slice_index_or, sym, subst, arith}
+use Rattle.std.proofs.Common.{◌≡◌, ◌∙◌, ℕ, ◌<◌, All, Result, Ok, Err, OnOk, Option, List, IfSome, length, vec_len, slice_index_or, sym, subst, arith}
 use Rattle.std.proofs.lemmas.List.Elements.{All-same}
 use Rattle.crossbeam_deque.specs.Handles.{worker_view}
 use Rattle.worker_pool.specs.declared.desk.Desk.{Desk}
 use Rattle.worker_pool.specs.declared.station.Station.{Station}
 use Rattle.worker_pool.specs.inside.Desks.{KeptBelow}
-use Rattle.worker_pool.specs.inside.Ring.{next_of, IsDone, stolen_by, stolen_from}
+use Rattle.worker_pool.specs.inside.Ring.{IsDone, KnowStolen}
 use Rattle.worker_pool.proofs.Rounds.{pick}
 use Rattle.worker_pool.proofs.Turns.{GoesOn-trans}
 use Rattle.worker_pool.proofs.Joined.{part_shared, all_shared}
@@ -17,16 +17,18 @@ pub finish_all-finished-requires-clause-left : goal.finish_all-finished-requires
 finish_all-finished-requires-clause-left g c κs within = λ k s d lt.
     let in_k : k < vec_len c.args.stations.now = omega arith in
     let in_a : k < length c.absorb_all.new.desks.items = omega arith in
+    let limit = g.J.Job.limit in
+    let setup = g.J.Job.setup in
     let fresh = (c.requires.fresh k s d in_k).below.0 in
     let worked = c.round-back.ensures.worked k s d in_k in
     let own = c.absorb_all.ensures.each k d in
     let now = sym worked.on.stays in
     record {
       taken_in = c.absorb_all.ensures.whole k d in_a;
-      below = subst (λ (t : g.row.J-Setup.Denot). All (λ x. x < g.J.Job.limit t) (worker_view (slice_index_or c.absorb_all.new.desks.items k d).own).pushed) now
-          (All-same (λ x. x < g.J.Job.limit (g.J.Job.setup (slice_index_or c.args.stations.now.items k s).hand.job)) _ _ (own.pushed ∙ worked.same.pushed) fresh);
-      kept = subst (λ (o : Option ℕ). IfSome o (λ x. x < g.J.Job.limit (g.J.Job.setup (slice_index_or c.round-back.new.stations.items k s).hand.job))) (sym own.kept)
-          (subst (λ (t : g.row.J-Setup.Denot). KeptBelow (g.J.Job.limit t) (slice_index_or c.round-back.result.items k d)) now worked.kept);
+      below = subst (λ (t : g.row.J-Setup.Denot). All (λ x. x < limit t) (worker_view (slice_index_or c.absorb_all.new.desks.items k d).own).pushed) now
+          (All-same (λ x. x < limit (setup (slice_index_or c.args.stations.now.items k s).hand.job)) _ _ (own.pushed ∙ worked.same.pushed) fresh);
+      kept = subst (λ (o : Option ℕ). IfSome o (λ x. x < limit (setup (slice_index_or c.round-back.new.stations.items k s).hand.job))) (sym own.kept)
+          (subst (λ (t : g.row.J-Setup.Denot). KeptBelow (limit t) (slice_index_or c.round-back.result.items k d)) now worked.kept);
     }
 
 pub settle_all-requires : goal.settle_all-requires
@@ -41,36 +43,40 @@ returns-clause-on g c = λ k s lt.
     let in_d : k < length c.args.desks.items = omega arith in
     let in_w : k < vec_len c.round-back.new.stations = omega arith in
     let d : Desk = pick c.args.desks.items k in_d in
-    GoesOn-trans g.J.Job.setup g.J.Job.limit g.J.Job.answers _ _ _ (c.round-back.ensures.worked k s d lt).on (c.finish_all-finished.ensures.finishes k s d in_w).on
+    GoesOn-trans g.J.Job.setup g.J.Job.limit g.J.Job.answers _ _ _ (c.round-back.ensures.worked k s d lt).on
+    (c.finish_all-finished.ensures.finishes k s d in_w).on
 
 on_ok : {X Y : Type 0} (r : Result X Y) (P Q : Type 0) → (P → Q) → OnOk r P → OnOk r Q
 on_ok (Ok x) P Q f p = f p
 on_ok (Err e) P Q f p = tt
 
 -- the same at another name of the length
-stolen_len : (back absorbed : List Desk) (m n : ℕ) → m ≡ n
-    → ((test : ℕ → Bool) (k : ℕ) (d : Desk) → k < m → stolen_by test (slice_index_or absorbed (next_of m k) d) ≡ stolen_from test (slice_index_or back k d).next (slice_index_or back (next_of m k) d))
-    → (test : ℕ → Bool) (k : ℕ) (d : Desk) → k < n → stolen_by test (slice_index_or absorbed (next_of n k) d) ≡ stolen_from test (slice_index_or back k d).next (slice_index_or back (next_of n k) d)
-stolen_len back absorbed m n same all =
-    subst (λ (i : ℕ). (test : ℕ → Bool) (k : ℕ) (d : Desk) → k < i → stolen_by test (slice_index_or absorbed (next_of i k) d) ≡ stolen_from test (slice_index_or back k d).next (slice_index_or back (next_of i k) d)) same all
+stolen_len : (back absorbed : List Desk) (m n : ℕ) → m ≡ n → KnowStolen m m back absorbed → KnowStolen n n back absorbed
+stolen_len back absorbed m n same = subst (λ (i : ℕ). KnowStolen i i back absorbed) same
 
 pub returns-clause-part : goal.returns-clause-part
 returns-clause-part g c =
+    let back : List Desk = c.round-back.result.items in
+    let absorbed : List Desk = c.absorb_all.new.desks.items in
     part_shared g.J.Job.setup g.J.Job.limit g.J.Job.answers (vec_len c.args.stations.now) c.requires.some
-    c.args.stations.now.items c.round-back.new.stations.items c.finish_all-finished.new.stations.items c.args.desks.items c.round-back.result.items c.absorb_all.new.desks.items c.finish_all-finished.new.desks.items
+    c.args.stations.now.items c.round-back.new.stations.items c.finish_all-finished.new.stations.items
+    c.args.desks.items back absorbed c.finish_all-finished.new.desks.items
     (omega arith) (omega arith) (omega arith) (omega arith) (omega arith)
     c.requires.fresh c.requires.rest c.requires.round c.round-back.ensures.worked c.absorb_all.ensures.whole
-    (stolen_len c.round-back.result.items c.absorb_all.new.desks.items _ _ (omega arith) c.absorb_all.ensures.stolen) c.absorb_all.ensures.each
+    (stolen_len back absorbed _ _ (omega arith) c.absorb_all.ensures.stolen) c.absorb_all.ensures.each
     (λ k s d lt. c.finish_all-finished.ensures.finishes k s d (let low : k < vec_len c.round-back.new.stations = omega arith in low)) c.settle_all.ensures
 
 pub returns-clause-all : goal.returns-clause-all
 returns-clause-all g c =
-    on_ok c.finish_all-finished.result ((k : ℕ) (d : Desk) → k < vec_len c.absorb_all.new.desks → IsDone (slice_index_or c.finish_all-finished.new.desks.items k d)) _
+    let back : List Desk = c.round-back.result.items in
+    let absorbed : List Desk = c.absorb_all.new.desks.items in
+    let ends : List Desk = c.finish_all-finished.new.desks.items in
+    on_ok c.finish_all-finished.result (All IsDone ends) _
     (λ done. all_shared g.J.Job.setup g.J.Job.limit g.J.Job.answers (vec_len c.args.stations.now) c.requires.some
-    c.args.stations.now.items c.round-back.new.stations.items c.finish_all-finished.new.stations.items c.args.desks.items c.round-back.result.items c.absorb_all.new.desks.items c.finish_all-finished.new.desks.items
+    c.args.stations.now.items c.round-back.new.stations.items c.finish_all-finished.new.stations.items c.args.desks.items back absorbed ends
     (omega arith) (omega arith) (omega arith) (omega arith) (omega arith)
     c.requires.fresh c.requires.rest c.requires.round c.round-back.ensures.worked c.absorb_all.ensures.whole
-    (stolen_len c.round-back.result.items c.absorb_all.new.desks.items _ _ (omega arith) c.absorb_all.ensures.stolen) c.absorb_all.ensures.each
+    (stolen_len back absorbed _ _ (omega arith) c.absorb_all.ensures.stolen) c.absorb_all.ensures.each
     (λ k s d lt. c.finish_all-finished.ensures.finishes k s d (let low : k < vec_len c.round-back.new.stations = omega arith in low)) c.settle_all.ensures
-    (λ k d lt. done k d (omega arith)))
+    (λ k d lt. done k d (let low : k < length ends = omega arith in low)))
     c.finish_all-finished.ensures.done

@@ -3,48 +3,65 @@ use mathlib.Core.Logic.{dite}
 use native.Mathlib.Decide.{ℕ_discrete}
 use Rattle.crossbeam_deque.specs.Handles.{worker_view}
 use Rattle.worker_pool.specs.declared.desk.Desk.{Desk}
-use Rattle.worker_pool.specs.inside.Ring.{next_of, SameOwn, stolen_by, stolen_from}
+use Rattle.worker_pool.specs.inside.Ring.{next_of, KnowsStolen, KnowStolen, SameNextBut, SameOwn}
 use Rattle.worker_pool.proofs.Rings.{next_of-apart, ring_whole, stolen_along}
 use Rattle.worker_pool.proofs.ring.absorb_all.Goals as goal
 
 SameOwn-trans : (d e f : Desk) → SameOwn d e → SameOwn e f → SameOwn d f
-SameOwn-trans d e f same then = record { pushed = then.pushed ∙ same.pushed; popped = then.popped ∙ same.popped; kept = then.kept ∙ same.kept }
+SameOwn-trans d e f same then =
+    record { pushed = then.pushed ∙ same.pushed; popped = then.popped ∙ same.popped; kept = then.kept ∙ same.kept }
 
-none_next : (ds es : List Desk) (k : ℕ) → ((j : ℕ) (d : Desk) → j < k → (get_or ds j d).next ≡ None) → ((j : ℕ) (d : Desk) → j ≢ k → (get_or es j d).next ≡ (get_or ds j d).next) → ((d : Desk) → (get_or es k d).next ≡ None)
+none_next : (ds es : List Desk) (k : ℕ) → ((j : ℕ) (d : Desk) → j < k → (get_or ds j d).next ≡ None)
+    → SameNextBut k ds es → ((d : Desk) → (get_or es k d).next ≡ None)
     → (j : ℕ) (d : Desk) → j < k + 1 → (get_or es j d).next ≡ None
-none_next ds es k was others here j d lt = dite (ℕ_discrete j k) (λ (e : j ≡ k). subst (λ (i : ℕ). (get_or es i d).next ≡ None) (sym e) (here d)) (λ (ne : j ≢ k). others j d ne ∙ was j d (omega arith))
+none_next ds es k was others here j d lt = dite (ℕ_discrete j k)
+    (λ (e : j ≡ k). subst (λ (i : ℕ). (get_or es i d).next ≡ None) (sym e) (here d))
+    (λ (ne : j ≢ k). others j d ne ∙ was j d (omega arith))
 
 -- what was stolen up to desk k, once its seat is taken in
-stolen_next : (n : ℕ) (init ds es : List Desk) (k next : ℕ) → next ≡ next_of n k → k < n
-    → ((test : ℕ → Bool) (j : ℕ) (d : Desk) → j < k → stolen_by test (get_or ds (next_of n j) d) ≡ stolen_from test (get_or init j d).next (get_or init (next_of n j) d))
-    → ((d : Desk) → (get_or ds k d).next ≡ (get_or init k d).next) → ((d : Desk) → (worker_view (get_or ds next d).own).stolen ≡ (worker_view (get_or init next d).own).stolen)
+stolen_next : (n : ℕ) (init ds es : List Desk) (k next : ℕ) → next ≡ next_of n k → k < n → KnowStolen n k init ds
+    → ((d : Desk) → (get_or ds k d).next ≡ (get_or init k d).next) → ((d : Desk)
+    → (worker_view (get_or ds next d).own).stolen ≡ (worker_view (get_or init next d).own).stolen)
     → ((j : ℕ) (d : Desk) → j ≢ next → (worker_view (get_or es j d).own).stolen ≡ (worker_view (get_or ds j d).own).stolen)
-    → ((test : ℕ → Bool) (d : Desk) → stolen_by test (get_or es next d) ≡ stolen_from test (get_or ds k d).next (get_or ds next d))
-    → (test : ℕ → Bool) (j : ℕ) (d : Desk) → j < k + 1 → stolen_by test (get_or es (next_of n j) d) ≡ stolen_from test (get_or init j d).next (get_or init (next_of n j) d)
+    → ((test : ℕ → Bool) (d : Desk) → KnowsStolen test ds es k next d)
+    → KnowStolen n (k + 1) init es
 stolen_next n init ds es k next is in_k was same same' still now test j d lt = dite (ℕ_discrete j k)
     (λ (e : j ≡ k).
-    let here : stolen_by test (get_or es next d) ≡ stolen_from test (get_or init k d).next (get_or init next d) = now test d ∙ stolen_along test (get_or init k d).next (get_or ds k d).next (get_or init next d) (get_or ds next d) (same d) (same' d) in
-    let at_k : stolen_by test (get_or es (next_of n k) d) ≡ stolen_from test (get_or init k d).next (get_or init (next_of n k) d) = subst (λ (i : ℕ). stolen_by test (get_or es i d) ≡ stolen_from test (get_or init k d).next (get_or init i d)) is here in
-    subst (λ (i : ℕ). stolen_by test (get_or es (next_of n i) d) ≡ stolen_from test (get_or init i d).next (get_or init (next_of n i) d)) (sym e) at_k)
+    let here : KnowsStolen test init es k next d =
+    now test d ∙ stolen_along test (get_or init k d).next (get_or ds k d).next (get_or init next d) (get_or ds next d) (same d) (same' d) in
+    let at_k : KnowsStolen test init es k (next_of n k) d = subst (λ (i : ℕ). KnowsStolen test init es k i d) is here in
+    subst (λ (i : ℕ). KnowsStolen test init es i (next_of n i) d) (sym e) at_k)
     (λ (ne : j ≢ k).
     let apart : next_of n j ≢ next = (λ e. next_of-apart n j k (omega arith) in_k ne (e ∙ is)) in
     ap (count_by test) (still (next_of n j) d apart) ∙ was test j d (omega arith))
 
-stolen_here : (ds init : List Desk) (next i : ℕ) (d : Desk) → next ≡ i → (worker_view (get_or ds i d).own).stolen ≡ (worker_view (get_or init i d).own).stolen → (worker_view (get_or ds next d).own).stolen ≡ (worker_view (get_or init next d).own).stolen
-stolen_here ds init next i d is same = subst (λ (m : ℕ). (worker_view (get_or ds m d).own).stolen ≡ (worker_view (get_or init m d).own).stolen) (sym is) same
+stolen_here : (ds init : List Desk) (next i : ℕ) (d : Desk) → next ≡ i
+    → (worker_view (get_or ds i d).own).stolen ≡ (worker_view (get_or init i d).own).stolen
+    → (worker_view (get_or ds next d).own).stolen ≡ (worker_view (get_or init next d).own).stolen
+stolen_here ds init next i d is same =
+    subst (λ (m : ℕ). (worker_view (get_or ds m d).own).stolen ≡ (worker_view (get_or init m d).own).stolen) (sym is) same
 
 pub loop-k-preserved : goal.loop-k-preserved
 loop-k-preserved c =
     let was = c.loop-k.invariant in
     let now = c.absorb_one.ensures in
+    let n = c.len-n.result in
+    let k = c.loop-k.k in
+    let next = c.place_after.result in
+    let init : List Desk = c.args.desks.now.items in
+    let ds : List Desk = c.loop-k.desks.items in
+    let es : List Desk = c.absorb_one.new.desks.items in
     record {
       len = omega arith;
       ring = now.ring;
-      none = none_next _ _ _ was.none now.others now.none;
+      none = none_next ds es k was.none now.others now.none;
       later = λ j d le. (let ne : j ≢ c.loop-k.k = omega arith in now.others j d ne) ∙ was.later j d (omega arith);
-      stolen = stolen_next _ _ _ _ c.loop-k.k c.place_after.result c.place_after.ensures (omega arith) was.stolen (λ d. was.later c.loop-k.k d (omega arith)) (λ d. stolen_here c.loop-k.desks.items c.args.desks.now.items c.place_after.result (next_of c.len-n.result c.loop-k.k) d c.place_after.ensures (was.still c.loop-k.k d (omega arith) (omega arith))) now.still now.stolen;
+      stolen = stolen_next n init ds es k next c.place_after.ensures (omega arith) was.stolen (λ d. was.later k d (omega arith))
+          (λ d. stolen_here ds init next (next_of n k) d c.place_after.ensures (was.still k d (omega arith) (omega arith))) now.still now.stolen;
       still = λ j d le lt.
-          (let apart : next_of c.len-n.result j ≢ c.place_after.result = (λ e. next_of-apart c.len-n.result j c.loop-k.k lt (omega arith) (omega arith) (e ∙ c.place_after.ensures)) in now.still (next_of c.len-n.result j) d apart)
+          (let apart : next_of c.len-n.result j ≢ c.place_after.result = (λ e.
+          next_of-apart c.len-n.result j c.loop-k.k lt (omega arith) (omega arith) (e ∙ c.place_after.ensures)) in
+          now.still (next_of c.len-n.result j) d apart)
           ∙ was.still j d (omega arith) lt;
       each = λ j d. SameOwn-trans _ _ _ (was.each j d) (now.each j d);
     }

@@ -1,7 +1,7 @@
-use Rattle.std.proofs.Common.{◌≡◌, ℕ, ◌<◌, ◌≤◌, Bool, None, vec_len, slice_index_or}
+use Rattle.std.proofs.Common.{◌≡◌, ℕ, ◌<◌, ◌≤◌, None, vec_len, slice_index_or}
 use Rattle.crossbeam_deque.specs.Handles.{worker_view}
 use Rattle.worker_pool.specs.declared.desk.Desk.{Desk}
-use Rattle.worker_pool.specs.inside.Ring.{next_of, IsRing, SameOwn, stolen_by, stolen_from}
+use Rattle.worker_pool.specs.inside.Ring.{next_of, IsRing, KnowStolen, SameOwns}
 use Rattle.worker_pool.proofs.ring.absorb_all.Given as goal
 
 abbrev pub invariant-loop-k : goal.invariant-loop-k
@@ -10,7 +10,9 @@ invariant-loop-k l = record {
   ring : IsRing l.desks.items;
   none : (j : ℕ) (d : Desk) → j < l.k → (slice_index_or l.desks.items j d).next ≡ None;
   later : (j : ℕ) (d : Desk) → l.k ≤ j → (slice_index_or l.desks.items j d).next ≡ (slice_index_or l.initial.desks.items j d).next;
-  stolen : (test : ℕ → Bool) (j : ℕ) (d : Desk) → j < l.k → stolen_by test (slice_index_or l.desks.items (next_of l.n j) d) ≡ stolen_from test (slice_index_or l.initial.desks.items j d).next (slice_index_or l.initial.desks.items (next_of l.n j) d);
-  still : (j : ℕ) (d : Desk) → l.k ≤ j → j < l.n → (worker_view (slice_index_or l.desks.items (next_of l.n j) d).own).stolen ≡ (worker_view (slice_index_or l.initial.desks.items (next_of l.n j) d).own).stolen;
-  each : (j : ℕ) (d : Desk) → SameOwn (slice_index_or l.initial.desks.items j d) (slice_index_or l.desks.items j d);
+  stolen : KnowStolen l.n l.k l.initial.desks.items l.desks.items;
+  still : (j : ℕ) (d : Desk) → l.k ≤ j → j < l.n
+      → (worker_view (slice_index_or l.desks.items (next_of l.n j) d).own).stolen
+      ≡ (worker_view (slice_index_or l.initial.desks.items (next_of l.n j) d).own).stolen;
+  each : SameOwns l.initial.desks.items l.desks.items;
 }

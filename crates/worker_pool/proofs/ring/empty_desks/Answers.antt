@@ -1,14 +1,15 @@
-use Rattle.std.proofs.Common.{◌≡◌, ℕ, ◌<◌, ◌≤◌, List, [], ◌∷◌, ◌++◌, None, count_by, length, get_or, sym, ap, subst, arith}
+use Rattle.std.proofs.Common.{◌≡◌, ℕ, ◌+◌, ◌/◌, ◌<◌, List, [], ◌∷◌, ◌++◌, None, count_by, length, get_or, sym, ap, subst, arith}
 use Rattle.std.specs.List.{sum_by}
 use Rattle.std.proofs.lemmas.List.{length_push}
 use Rattle.std.proofs.lemmas.List.Elements.{All-same, All-push, All-nil}
 use Rattle.std.proofs.lemmas.List.Sums.{sum_by_push}
-use Rattle.crossbeam_deque.specs.Handles.{worker_index, worker_capacity, worker_view}
+use Rattle.crossbeam_deque.specs.Handles.{worker_view}
 use Rattle.worker_pool.specs.declared.rule.Seat.{Seat}
 use Rattle.worker_pool.specs.declared.desk.Desk.{Desk}
 use Rattle.worker_pool.specs.inside.Parts.{seat}
 use Rattle.worker_pool.specs.inside.Desks.{taken_next, NextBelow}
 use Rattle.worker_pool.specs.inside.Ring.{Whole, pushed_by}
+use Rattle.worker_pool.proofs.Dealing.{begins_round, HasRoom}
 use Rattle.worker_pool.proofs.ring.empty_desks.Goals as goal
 
 whole_new : (count : ℕ) (d : Desk) → worker_view d.own ≡ seat 1 1 [] [] [] → d.next ≡ None → d.kept ≡ None → Whole count d
@@ -26,9 +27,6 @@ whole_new count d view next kept = record {
   right = (let e = ap (λ (v : Seat). v.steal_right) view in omega arith);
 }
 
-abbrev HasRoom : ℕ → Desk → Type 0
-HasRoom room d = ((worker_view d.own).pushed ≡ []) × (worker_index d.own ≡ 0) × (room ≤ worker_capacity d.own)
-
 pub loop-made-preserved : goal.loop-made-preserved
 loop-made-preserved c =
     let was = c.loop-made.invariant in
@@ -38,10 +36,28 @@ loop-made-preserved c =
     let items : c.push.new.self.items ≡ old ++ d ∷ [] = c.in_ok-push.ensures.items in
     let whole : Whole c.args.count d = whole_new c.args.count d new.view new.next new.kept in
     let more = length_push old d in
+    let room = c.args.count / c.args.n + 1 in
     record {
       len = omega (arith, ap (λ (ds : List Desk). length ds) items);
       whole = All-same (Whole c.args.count) c.push.new.self.items (old ++ d ∷ []) items (All-push (Whole c.args.count) old d was.whole whole);
-      pushed = λ test. omega (arith, ap (sum_by (pushed_by test)) items, sum_by_push (pushed_by test) old d, was.pushed test, ap (λ (v : Seat). count_by test v.pushed) new.view);
-      room = λ k e lt. subst (λ (ds : List Desk). HasRoom c.args.room (get_or ds k e)) (sym items)
-          (All-push (HasRoom c.args.room) old d (λ j x low. was.room j x (omega arith)) (ap (λ (v : Seat). v.pushed) new.view, new.room.1, new.room.0) k e (omega arith));
+      pushed = λ test. omega (
+        arith,
+        ap (sum_by (pushed_by test)) items,
+        sum_by_push (pushed_by test) old d,
+        was.pushed test,
+        ap (λ (v : Seat). count_by test v.pushed) new.view,
+      );
+      room = All-same (HasRoom room) c.push.new.self.items (old ++ d ∷ []) items
+          (All-push (HasRoom room) old d was.room (ap (λ (v : Seat). v.pushed) new.view, new.room.1, new.room.0));
+    }
+
+pub returns : goal.returns
+returns c =
+    let made = c.loop-made.invariant in
+    let n = c.args.n in
+    record {
+      len = omega arith;
+      whole = made.whole;
+      once = made.pushed;
+      room = λ j d lt. begins_round n (c.args.count / n + 1) j (get_or c.loop-made.desks.items j d) (omega arith) (made.room j d (omega arith));
     }

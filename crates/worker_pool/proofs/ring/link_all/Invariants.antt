@@ -1,7 +1,6 @@
 use Rattle.std.proofs.Common.{◌≡◌, ℕ, ◌<◌, ◌≤◌, None, IsSome, All, vec_len, slice_index_or}
-use Rattle.crossbeam_deque.specs.Handles.{worker_view}
 use Rattle.worker_pool.specs.declared.desk.Desk.{Desk}
-use Rattle.worker_pool.specs.inside.Ring.{IsRing, Fresh}
+use Rattle.worker_pool.specs.inside.Ring.{IsRing, Fresh, SamePushed}
 use Rattle.worker_pool.proofs.ring.link_all.Given as goal
 
 abbrev pub invariant-loop-k : goal.invariant-loop-k
@@ -11,5 +10,5 @@ invariant-loop-k l = record {
   none : (j : ℕ) (d : Desk) → l.k ≤ j → j < l.n → (slice_index_or l.desks.items j d).next ≡ None;
   linked : (j : ℕ) (d : Desk) → j < l.k → IsSome (slice_index_or l.desks.items j d).next;
   fresh : All (Fresh l.count) l.desks.items;
-  pushed : (j : ℕ) (d : Desk) → (worker_view (slice_index_or l.desks.items j d).own).pushed ≡ (worker_view (slice_index_or l.initial.desks.items j d).own).pushed;
+  pushed : SamePushed l.initial.desks.items l.desks.items;
 }

@@ -12,7 +12,8 @@ use Rattle.worker_pool.proofs.ring.link_one.Goals as goal
 pub returns-clause-ring : goal.returns-clause-ring
 returns-clause-ring c =
     ring_linked c.args.desks.now.items c.args.k c.args.next c.index_mut.result.now c.share.new.self c.index_mut-2.result.now _ c.in_ok-seat.seat (omega arith)
-    (c.requires.next ∙ ap (λ (n : ℕ). next_of n c.args.k) c.args.desks.now.ok.0) c.index_mut.ensures.value c.in_ok-seat.ensures.same.0 c.in_ok-seat.ensures.same.2
+    (c.requires.next ∙ ap (λ (n : ℕ). next_of n c.args.k) c.args.desks.now.ok.0) c.index_mut.ensures.value c.in_ok-seat.ensures.same.0
+    c.in_ok-seat.ensures.same.2
     c.index_mut-2.ensures.value refl refl refl c.in_ok-seat.ensures.from c.requires.ring
 
 pub returns-clause-fresh : goal.returns-clause-fresh
@@ -26,10 +27,13 @@ returns-clause-fresh c = λ count all.
     let was : Fresh count old = subst (Fresh count) (sym c.index_mut.ensures.value) (all c.args.next old n_in) in
     let fresh_mid : Fresh count mid = fresh_shared count old mid c.in_ok-seat.ensures.own c.in_ok-seat.ensures.same.0 c.in_ok-seat.ensures.same.1 was in
     let all' = All-set (Fresh count) ds c.args.next mid fresh_mid all in
-    let fresh_there : Fresh count there = subst (Fresh count) (sym c.index_mut-2.ensures.value) (all' c.args.k there (omega (arith, length-set ds c.args.next mid))) in
-    All-set (Fresh count) (set ds c.args.next mid) c.args.k _ (fresh_seated count there _ c.in_ok-seat.seat (worker_view old.own).pushed (worker_view old.own).stolen refl refl refl _ c.in_ok-seat.ensures.next was.stolen was.below.0 fresh_there) all'
+    let fresh_there : Fresh count there = subst (Fresh count) (sym c.index_mut-2.ensures.value)
+    (all' c.args.k there (omega (arith, length-set ds c.args.next mid))) in
+    All-set (Fresh count) (set ds c.args.next mid) c.args.k _ (fresh_seated count there _ c.in_ok-seat.seat (worker_view old.own).pushed
+    (worker_view old.own).stolen refl refl refl _ c.in_ok-seat.ensures.next was.stolen was.below.0 fresh_there) all'
 
 pub returns-clause-pushed : goal.returns-clause-pushed
 returns-clause-pushed c =
-    same_at (λ (x : Desk). (worker_view x.own).pushed) c.args.desks.now.items c.args.next c.args.k c.index_mut.result.now c.share.new.self c.index_mut-2.result.now _
+    same_at (λ (x : Desk). (worker_view x.own).pushed) c.args.desks.now.items c.args.next c.args.k c.index_mut.result.now c.share.new.self
+    c.index_mut-2.result.now _
     c.index_mut.ensures.value (ap (λ (s : Seat). s.pushed) c.in_ok-seat.ensures.own) c.index_mut-2.ensures.value refl

@@ -14,8 +14,10 @@ loop-station-preserved g c =
     let answers = λ (s : Station g.row.J.Denot g.row.J-Answer.Denot g.row.J-Setup.Denot). s.answers in
     let more : length (before ++ station ∷ []) ≡ length before + 1 = length_push before station in
     record {
-      hands = now.hand ∙ ap (λ (hs : List (Hand g.row.J.Denot g.row.J-Answer.Denot g.row.J-Setup.Denot)). hs ++ station.hand ∷ []) was.hands ∙ sym (map_push hand before station);
-      answers = now.answers ∙ ap (λ (ls : List (Vec (ℕ × g.row.J-Answer.Denot) Global)). ls ++ station.answers ∷ []) was.answers ∙ sym (map_push answers before station);
+      hands = now.hand ∙ ap (λ (hs : List (Hand g.row.J.Denot g.row.J-Answer.Denot g.row.J-Setup.Denot)). hs ++ station.hand ∷ []) was.hands ∙ sym
+          (map_push hand before station);
+      answers = now.answers ∙ ap (λ (ls : List (Vec (ℕ × g.row.J-Answer.Denot) Global)). ls ++ station.answers ∷ []) was.answers ∙ sym
+          (map_push answers before station);
       many = (omega arith, omega arith);
       room = (omega arith, omega arith);
     }

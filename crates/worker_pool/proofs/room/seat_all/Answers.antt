@@ -12,7 +12,9 @@ loop-hand-preserved g c =
     let Rest = λ (s : Station g.row.J.Denot g.row.J-Answer.Denot g.row.J-Setup.Denot). s.answers.items ≡ [] in
     let f = λ (s : Station g.row.J.Denot g.row.J-Answer.Denot g.row.J-Setup.Denot). s.hand in
     record {
-      hands = ap (map f) c.push_reserved.ensures.items ∙ map_push f old c.new.result ∙ ap (λ (hs : List (Hand g.row.J.Denot g.row.J-Answer.Denot g.row.J-Setup.Denot)). hs ++ f c.new.result ∷ []) was.hands ∙ ap (λ (h : Hand g.row.J.Denot g.row.J-Answer.Denot g.row.J-Setup.Denot). c.loop-hand.yielded ++ h ∷ []) c.new.ensures.hand;
+      hands = ap (map f) c.push_reserved.ensures.items ∙ map_push f old c.new.result ∙ ap
+          (λ (hs : List (Hand g.row.J.Denot g.row.J-Answer.Denot g.row.J-Setup.Denot)). hs ++ f c.new.result ∷ []) was.hands ∙ ap
+          (λ (h : Hand g.row.J.Denot g.row.J-Answer.Denot g.row.J-Setup.Denot). c.loop-hand.yielded ++ h ∷ []) c.new.ensures.hand;
       rest = All-same Rest c.push_reserved.new.self.items _ c.push_reserved.ensures.items (All-push Rest old c.new.result was.rest c.new.ensures.rest.0);
       many = (let l = was.many in let e = c.push_reserved.ensures.len in simp length-append (omega arith));
       room = (let r = was.room in let e = c.push_reserved.ensures.capacity in omega arith);

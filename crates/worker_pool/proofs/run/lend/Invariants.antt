@@ -8,7 +8,8 @@ invariant-loop-desk g l = record {
   len : vec_len l.stations ≡ vec_len l.initial.stations;
   few : vec_len l.desks ≤ vec_len l.initial.stations;
   rest : l.desks.items ≡ take (vec_len l.desks) l.initial.desks.items;
-  lent : (k : ℕ) (h : _) (d : Desk) → vec_len l.desks ≤ k → k < vec_len l.initial.stations → (slice_index_or l.stations.items k h).desk ≡ Some (slice_index_or l.initial.desks.items k d);
+  lent : (k : ℕ) (h : _) (d : Desk) → vec_len l.desks ≤ k → k < vec_len l.initial.stations
+      → (slice_index_or l.stations.items k h).desk ≡ Some (slice_index_or l.initial.desks.items k d);
   same : (k : ℕ) (s : _) → SameWork (slice_index_or l.initial.stations.items k s) (slice_index_or l.stations.items k s);
 }
 

@@ -21,5 +21,6 @@ pub returns : goal.returns
 returns g c =
     elim c.match-next.branch [
       | in-None w ↦ rw (w.station-is, w.desk-is) c.loop.invariant.worked
-      | in-Some+then-not-turn w ↦ rw (w.station-is, w.desk-is) (Worked-trans g.J.Job.setup g.J.Job.limit g.J.Job.answers _ _ _ _ _ _ c.loop.invariant.worked w.turn.ensures.worked)
+      | in-Some+then-not-turn w ↦ rw (w.station-is, w.desk-is)
+          (Worked-trans g.J.Job.setup g.J.Job.limit g.J.Job.answers _ _ _ _ _ _ c.loop.invariant.worked w.turn.ensures.worked)
     ]
