@@ -1,8 +1,8 @@
 -- What holds at each place of a list after one write or under a function, and sums over two lists.
-use Rattle.std.proofs.Common.{◌≡◌, true, Vec, Global, vec_len, ℕ, zero, suc, ◌+◌, ◌<◌, List, [], ◌∷◌, length, get_or, set, map, refl, sym, ap, ◌∙◌, arith}
+use Rattle.std.proofs.Common.{◌≡◌, true, Vec, Global, vec_len, ℕ, zero, suc, ◌+◌, ◌<◌, List, [], ◌∷◌, ◌++◌, length, get_or, set, map, refl, sym, ap, ◌∙◌, arith}
 use Rattle.std.specs.List.{sum_by}
 use Rattle.worker_pool.specs.Tickets.{count_below}
-use Rattle.std.proofs.lemmas.List.{length-map}
+use Rattle.std.proofs.lemmas.List.{length-map, map_push}
 use Rattle.std.proofs.lemmas.List.Sums.{sum_by-cons}
 
 module _ {A : Type 0} where
@@ -82,3 +82,13 @@ maps_same f g (x ∷ xs) (y ∷ ys) len each =
     let here : f x ≡ g y = each 0 x y (omega arith) in
     let rest = maps_same f g xs ys (omega arith) (λ k a b within. each (suc k) a b (omega arith)) in
     ap (λ z. z ∷ map f xs) here ∙ ap (λ zs. g y ∷ zs) rest
+
+-- a list of images, once an element and its image are added
+pub pushed_image : {A B : Type 0} (f : A → B) (xs : List A) (x : A) (olds news : List B) → olds ≡ map f xs → news ≡ olds ++ f x ∷ []
+    → news ≡ map f (xs ++ x ∷ [])
+pushed_image {A = A} {B = B} f xs x olds news was now = now ∙ ap (λ (zs : List B). zs ++ f x ∷ []) was ∙ sym (map_push f xs x)
+
+pub image_pushed : {A B : Type 0} (f : A → B) (xs news : List A) (x : A) (ys : List B) (y : B) → map f xs ≡ ys → news ≡ xs ++ x ∷ [] → f x ≡ y
+    → map f news ≡ ys ++ y ∷ []
+image_pushed {A = A} {B = B} f xs news x ys y was now is =
+    ap (λ (zs : List A). map f zs) now ∙ map_push f xs x ∙ ap (λ (zs : List B). zs ++ f x ∷ []) was ∙ ap (λ (z : B). ys ++ z ∷ []) is

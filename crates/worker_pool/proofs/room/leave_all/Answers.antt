@@ -1,7 +1,7 @@
-use Rattle.std.proofs.Common.{◌≡◌, ◌∙◌, ℕ, ◌+◌, List, [], ◌∷◌, ◌++◌, Vec, Global, length, sym, ap, arith}
-use Rattle.std.proofs.lemmas.List.{map_push, length_push}
-use Rattle.worker_pool.specs.declared.hand.Hand.{Hand}
+use Rattle.std.proofs.Common.{◌≡◌, ◌+◌, List, [], ◌∷◌, ◌++◌, length, arith}
+use Rattle.std.proofs.lemmas.List.{length_push}
 use Rattle.worker_pool.specs.declared.station.Station.{Station}
+use Rattle.worker_pool.proofs.Places.{pushed_image}
 use Rattle.worker_pool.proofs.room.leave_all.Goals as goal
 
 pub loop-station-preserved : goal.loop-station-preserved
@@ -14,10 +14,8 @@ loop-station-preserved g c =
     let answers = λ (s : Station g.row.J.Denot g.row.J-Answer.Denot g.row.J-Setup.Denot). s.answers in
     let more : length (before ++ station ∷ []) ≡ length before + 1 = length_push before station in
     record {
-      hands = now.hand ∙ ap (λ (hs : List (Hand g.row.J.Denot g.row.J-Answer.Denot g.row.J-Setup.Denot)). hs ++ station.hand ∷ []) was.hands ∙ sym
-          (map_push hand before station);
-      answers = now.answers ∙ ap (λ (ls : List (Vec (ℕ × g.row.J-Answer.Denot) Global)). ls ++ station.answers ∷ []) was.answers ∙ sym
-          (map_push answers before station);
+      hands = pushed_image hand before station c.loop-station.hands.items c.leave_one.new.hands.items was.hands now.hand;
+      answers = pushed_image answers before station c.loop-station.answers.items c.leave_one.new.answers.items was.answers now.answers;
       many = (omega arith, omega arith);
       room = (omega arith, omega arith);
     }
