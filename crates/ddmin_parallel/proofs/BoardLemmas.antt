@@ -44,7 +44,8 @@ pub board_push : (old new : State) (events events' : List Event) (event : core.E
     → new ≡ replay (begin new.faults) (map event_of events')
 board_push old new events events' event added is step more same =
     let faults : old.faults ≡ new.faults = sym (ap (λ (s : State). s.faults) step ∙ apply_faults old event) in
-    let list : map event_of events' ≡ map event_of events ++ event ∷ [] = ap (map event_of) more ∙ map_push events added ∙ ap (λ e. map event_of events ++ e ∷ []) same in
+    let list : map event_of events' ≡ map event_of events ++ event ∷ [] = ap (map event_of) more ∙ map_push events added
+    ∙ ap (λ e. map event_of events ++ e ∷ []) same in
     step ∙ ap (λ s. apply s event) is ∙ sym (replay_push (begin old.faults) (map event_of events) event)
     ∙ ap (λ f. replay (begin f) (map event_of events ++ event ∷ [])) faults ∙ ap (replay (begin new.faults)) (sym list)
 
@@ -86,11 +87,13 @@ events_decide test faults events r own is =
 pub tells_start : (faults : ℕ) (test : List ℕ → Bool) → Tells faults test (begin faults)
 tells_start faults test = record { count = refl; agrees = none_known test }
 
-pub tells_take : (faults : ℕ) (test : List ℕ → Bool) (state : State) (o : Option (List ℕ)) → Tells faults test state → Tells faults test (core.after_take state o)
+pub tells_take : (faults : ℕ) (test : List ℕ → Bool) (state : State) (o : Option (List ℕ)) → Tells faults test state
+    → Tells faults test (core.after_take state o)
 tells_take faults test state None t = t
 tells_take faults test state (Some s) t = record { count = t.count; agrees = t.agrees }
 
-pub tells_put : (faults : ℕ) (test : List ℕ → Bool) (state : State) (s : List ℕ) (b : Bool) → Tells faults test state → b ≡ test s → Tells faults test (apply state (core.Put s b))
+pub tells_put : (faults : ℕ) (test : List ℕ → Bool) (state : State) (s : List ℕ) (b : Bool) → Tells faults test state → b ≡ test s
+    → Tells faults test (apply state (core.Put s b))
 tells_put faults test state s b t own = record { count = t.count; agrees = put_agrees state.known test s b t.agrees own }
 
 pub tells_end : (faults : ℕ) (test : List ℕ → Bool) (state : State) (r : Reduced) → Tells faults test state → position state ≡ End r → r ≡ ddmin test faults
@@ -100,7 +103,8 @@ tells_end faults test state r t is =
 
 -- ---- what is backed
 
-said : (test : List ℕ → Bool) (s : List ℕ) (fails : Bool) (told : List (Vec ℕ Global × Bool)) → AreAnswers test told → list_any (says s fails) told ≡ true → fails ≡ test s
+said : (test : List ℕ → Bool) (s : List ℕ) (fails : Bool) (told : List (Vec ℕ Global × Bool)) → AreAnswers test told → list_any (says s fails) told ≡ true
+    → fails ≡ test s
 said test s fails [] own is = cc
 said test s fails (t ∷ told) own is = at (same_set s t.0.items) refl t.1 refl fails refl is (said test s fails told own.1)
   where
@@ -112,11 +116,13 @@ said test s fails (t ∷ told) own is = at (same_set s t.0.items) refl t.1 refl 
     at true e false x true y is rest = rest is
     at true e false x false y is rest = y ∙ sym x ∙ own.0 ∙ ap test (sym (same_exact s t.0.items e))
 
-told_own : (test : List ℕ → Bool) (s : List ℕ) (fails : Bool) (pairs : List (Vec (Vec ℕ Global × Bool) Global)) → AllAnswers test pairs → is_told s fails pairs ≡ true → fails ≡ test s
+told_own : (test : List ℕ → Bool) (s : List ℕ) (fails : Bool) (pairs : List (Vec (Vec ℕ Global × Bool) Global)) → AllAnswers test pairs
+    → is_told s fails pairs ≡ true → fails ≡ test s
 told_own test s fails [] own is = cc
 told_own test s fails (told ∷ pairs) own is = at (list_any (says s fails) told.items) refl is (told_own test s fails pairs own.1)
   where
-    at : (b : Bool) → list_any (says s fails) told.items ≡ b → (b || is_told s fails pairs) ≡ true → (is_told s fails pairs ≡ true → fails ≡ test s) → fails ≡ test s
+    at : (b : Bool) → list_any (says s fails) told.items ≡ b → (b || is_told s fails pairs) ≡ true → (is_told s fails pairs ≡ true → fails ≡ test s)
+        → fails ≡ test s
     at true e is rest = said test s fails told.items own.0 e
     at false e is rest = rest is
 
@@ -128,13 +134,17 @@ pub backed_own : (test : List ℕ → Bool) (pairs : List (Vec (Vec ℕ Global �
     → list_all (is_event_backed pairs) events ≡ true → AreOwn test events
 backed_own test pairs own [] is = tt
 backed_own test pairs own (core.Take s ∷ events) is = (tt, backed_own test pairs own events is)
-backed_own test pairs own (core.Put s b ∷ events) is = let h = both (is_told s b pairs) (list_all (is_event_backed pairs) events) is in (told_own test s b pairs own h.0, backed_own test pairs own events h.1)
+backed_own test pairs own (core.Put s b ∷ events) is = let h = both (is_told s b pairs) (list_all (is_event_backed pairs) events) is in
+    (told_own test s b pairs own h.0, backed_own test pairs own events h.1)
 backed_own test pairs own (core.GiveBack s ∷ events) is = (tt, backed_own test pairs own events is)
 backed_own test pairs own (core.Recall ∷ events) is = (tt, backed_own test pairs own events is)
 
 -- a board's core, where each answer that was put is the test's own
 pub own_tells : (test : List ℕ → Bool) (faults : ℕ) (events : List core.Event) → AreOwn test events → Tells faults test (replay (begin faults) events)
-own_tells test faults events own = record { count = replay_faults (begin faults) events; agrees = replay_agrees test (begin faults) events (none_known test) own }
+own_tells test faults events own = record {
+  count = replay_faults (begin faults) events;
+  agrees = replay_agrees test (begin faults) events (none_known test) own;
+}
 
 same_count : (m n : ℕ) → eqb m n ≡ true → m ≡ n
 same_count m n is = grind (arith, nat_tests)
@@ -164,15 +174,18 @@ pub length_without : (s : List ℕ) (out : List (List ℕ)) → list_any (same_s
 length_without s [] is = cc
 length_without s (t ∷ out) is = at (same_set s t) refl (length_without s out) is
   where
-    at : (b : Bool) → same_set s t ≡ b → (list_any (same_set s) out ≡ true → length (core.without s out) + 1 ≡ length out) → (b || list_any (same_set s) out) ≡ true
+    at : (b : Bool) → same_set s t ≡ b → (list_any (same_set s) out ≡ true → length (core.without s out) + 1 ≡ length out)
+        → (b || list_any (same_set s) out) ≡ true
         → length {A = List ℕ} (elim b [ true ↦ out | false ↦ t ∷ core.without s out ]) + 1 ≡ length (t ∷ out)
     at true e rest is = omega arith
     at false e rest is = omega (arith, rest is)
 
-pub out_given_back : (state new : State) (s : List ℕ) → list_any (same_set s) state.out ≡ true → new ≡ apply state (core.GiveBack s) → length new.out + 1 ≡ length state.out
+pub out_given_back : (state new : State) (s : List ℕ) → list_any (same_set s) state.out ≡ true → new ≡ apply state (core.GiveBack s)
+    → length new.out + 1 ≡ length state.out
 out_given_back state new s was is = ap (λ (x : State). length x.out + 1) is ∙ length_without s state.out was
 
-pub out_put : (state new : State) (s : List ℕ) (b : Bool) → list_any (same_set s) state.out ≡ true → new ≡ apply state (core.Put s b) → length new.out + 1 ≡ length state.out
+pub out_put : (state new : State) (s : List ℕ) (b : Bool) → list_any (same_set s) state.out ≡ true → new ≡ apply state (core.Put s b)
+    → length new.out + 1 ≡ length state.out
 out_put state new s b was is = ap (λ (x : State). length x.out + 1) is ∙ length_without s state.out was
 
 pub out_taken : (state new : State) (s : List ℕ) → new ≡ apply state (core.Take s) → length new.out ≡ length state.out + 1

@@ -1,4 +1,5 @@
-use Rattle.std.proofs.Common.{◌≡◌, ℕ, zero, suc, ◌≤◌, Bool, true, false, ◌||◌, List, [], ◌∷◌, ◌++◌, refl, sym, ◌∙◌, ap, subst, cond, Option, None, Some, unwrap_or, inl, inr}
+use Rattle.std.proofs.Common.{◌≡◌, ℕ, zero, suc, ◌≤◌, Bool, true, false, ◌||◌, List, [], ◌∷◌, ◌++◌, refl, sym, ◌∙◌, ap, subst, cond, Option, None, Some}
+use Rattle.std.proofs.Common.{unwrap_or, inl, inr}
 use Rattle.std.specs.List.{list_any}
 use Rattle.std.specs.Ordering.{nat_cmp}
 use Rattle.std.specs.FinMap.{get, insert, empty, get-insert, get-empty}
@@ -7,14 +8,16 @@ use Rattle.std.proofs.lemmas.Cmp.{nat_list_cmp_total}
 use Rattle.std.specs.Cmp.{eq_by_cmp_equiv}
 use Rattle.ddmin_parallel.specs.Rounds.{Candidate, round}
 use Rattle.ddmin_parallel.specs.Ddmin.{Decision, Fails, NoneFails, counted, Reduced}
-use Rattle.ddmin_parallel.specs.CoreEvents.{Known, Answers, State, same_set, without, Position, Empty, Round, End, furthest, step, decided, after_decision, start, option_then, after_empty, position, next, or_else, first_open, is_out, round_at, hoping, next_round}
+use Rattle.ddmin_parallel.specs.CoreEvents.{Known, Answers, State, same_set, without, Position, Empty, Round, End, furthest, step, decided, after_decision}
+use Rattle.ddmin_parallel.specs.CoreEvents.{start, option_then, after_empty, position, next, or_else, first_open, is_out, round_at, hoping, next_round}
 use Rattle.ddmin_parallel.specs.inside.CoreStates.{AreOpen, IsSettled, IsLawful, IsSmall}
 use Rattle.ddmin_parallel.proofs.KnownLemmas.{exact_sets, is_equal}
 use Rattle.ddmin_parallel.proofs.Walk.{furthest_more, furthest_lawful, furthest_small, furthest_stop, furthest_stuck, start_lawful, start_small}
 use Rattle.std.specs.Prelude.{is_some, Result, Ok, Err, IfOk, OnErr}
 use Rattle.ddmin_parallel.specs.inside.Candidates.{candidate}
 use Rattle.ddmin_parallel.specs.inside.Stages.{position_of}
-use Rattle.ddmin_parallel.specs.inside.Cursors.{is_shut, is_among, IsShutBelow, IsCounted, IsReached, IsAdvanced, onward, moved, stage_after, next_at, out_after}
+use Rattle.ddmin_parallel.specs.inside.Cursors.{is_shut, is_among, IsShutBelow, IsCounted, IsReached, IsAdvanced, onward, moved, stage_after, next_at}
+use Rattle.ddmin_parallel.specs.inside.Cursors.{out_after}
 use Rattle.ddmin_parallel.specs.declared.stage.Cursor.{Cursor}
 use Rattle.ddmin_parallel.specs.declared.stage.Stage.{Stage}
 use Rattle.ddmin_parallel.proofs.Counted.{counted_more}
@@ -44,7 +47,8 @@ any_without s u (t ∷ out) is = at (same_set u t) refl (any_without s u out) is
     rest_of true e h unlike = h
     rest_of false e h unlike = rw unlike e
 
-    at : (b : Bool) → same_set u t ≡ b → (list_any (same_set u) out ≡ false → list_any (same_set u) (without s out) ≡ false) → (b || list_any (same_set u) out) ≡ false
+    at : (b : Bool) → same_set u t ≡ b → (list_any (same_set u) out ≡ false → list_any (same_set u) (without s out) ≡ false)
+        → (b || list_any (same_set u) out) ≡ false
         → list_any (same_set u) (elim (same_set s t) [ true ↦ out | false ↦ t ∷ without s out ]) ≡ false
     at true e rest is = cc
     at false e rest is = rest_of (same_set s t) (rest is) is e
@@ -62,7 +66,8 @@ get_other known s u b unlike =
     get-insert nat_list_cmp_total known s b u ∙ ap (λ c. cond c (Some b) (get known u)) (same_turned u s ∙ unlike)
 
 -- what is out and none of it s stays open when s is known
-open_other : (known : Known) (s : List ℕ) (b : Bool) (out : List (List ℕ)) → AreOpen known out → list_any (same_set s) out ≡ false → AreOpen (insert known s b) out
+open_other : (known : Known) (s : List ℕ) (b : Bool) (out : List (List ℕ)) → AreOpen known out → list_any (same_set s) out ≡ false
+    → AreOpen (insert known s b) out
 open_other known s b [] h is = tt
 open_other known s b (t ∷ out) h is = at (same_set s t) refl (open_other known s b out h.2) is
   where
@@ -75,7 +80,8 @@ pub open_put : (known : Known) (s : List ℕ) (b : Bool) (out : List (List ℕ))
 open_put known s b [] h = tt
 open_put known s b (t ∷ out) h = at (same_set s t) refl (open_put known s b out h.2)
   where
-    at : (d : Bool) → same_set s t ≡ d → AreOpen (insert known s b) (without s out) → AreOpen (insert known s b) (elim d [ true ↦ out | false ↦ t ∷ without s out ])
+    at : (d : Bool) → same_set s t ≡ d → AreOpen (insert known s b) (without s out)
+        → AreOpen (insert known s b) (elim d [ true ↦ out | false ↦ t ∷ without s out ])
     at true e rest = open_other known s b out h.2 (ap (λ v. list_any (same_set v) out) (same_exact s t e) ∙ h.1)
     at false e rest = (get_other known s t b e ∙ h.0, any_without s t out h.1, rest)
 
@@ -102,7 +108,8 @@ good_small faults known out p good =
 pub good_stuck : (faults : ℕ) (known : Known) (out : List (List ℕ)) (p : Position) → IsGood faults known out p → step (get known) p ≡ None
 good_stuck faults known out p good = ap (step (get known)) good.stands ∙ furthest_stuck (get known) (start faults) (start_lawful faults)
 
-pub good_settled : (faults : ℕ) (known : Known) (out : List (List ℕ)) (p : Position) (s : List ℕ) (b : Bool) (known' : Known) (out' : List (List ℕ)) (p' : Position)
+pub good_settled : (faults : ℕ) (known : Known) (out : List (List ℕ)) (p : Position) (s : List ℕ) (b : Bool) (known' : Known) (out' : List (List ℕ))
+    (p' : Position)
     → IsGood faults known out p → IsSettled known out p s b known' out' p' → IsGood faults known' out' p'
 good_settled faults known out p s b known' out' p' good is =
     let more = get (insert known s b) in
@@ -127,12 +134,14 @@ good_start faults p few is = record { few = few; stands = is ∙ sym (empty_stay
 
 -- ---- the card rule
 
-pub next_is : (state : State) (ahead : Bool) (p : Position) (o : Option (List ℕ)) → p ≡ position state → o ≡ next_at (get state.known) (is_among state.out) p ahead → o ≡ next state ahead
+pub next_is : (state : State) (ahead : Bool) (p : Position) (o : Option (List ℕ)) → p ≡ position state
+    → o ≡ next_at (get state.known) (is_among state.out) p ahead → o ≡ next state ahead
 unfolding next
 next_is state ahead p o at is = is ∙ ap (λ q. next_at (get state.known) (is_among state.out) q ahead) at
 
 -- a card is neither known nor out
-pub open_gives : (known : Answers) (out : List ℕ → Bool) (ss : List Candidate) (s : List ℕ) → first_open known out ss ≡ Some s → (known s ≡ None) × (out s ≡ false)
+pub open_gives : (known : Answers) (out : List ℕ → Bool) (ss : List Candidate) (s : List ℕ) → first_open known out ss ≡ Some s
+    → (known s ≡ None) × (out s ≡ false)
 open_gives known out [] s is = absurd (let never : ◌≡◌ {A = Option (List ℕ)} None (Some s) = is in cc)
 open_gives known out (t ∷ ss) s is = at (open_gives known out ss s) (known t.set) refl is
   where
@@ -142,20 +151,27 @@ open_gives known out (t ∷ ss) s is = at (open_gives known out ss s) (known t.s
     chosen deeper unknown false e is = let same : t.set ≡ s = cc in (ap known (sym same) ∙ unknown, ap out (sym same) ∙ e)
 
     at : ((first_open known out ss ≡ Some s) → (known s ≡ None) × (out s ≡ false)) → (k : Option Bool) → known t.set ≡ k
-        → elim k [ None ↦ elim (out t.set) [ true ↦ first_open known out ss | false ↦ Some t.set ] | Some fails ↦ elim fails [ true ↦ None | false ↦ first_open known out ss ] ] ≡ Some s
+        → elim k [
+          | None ↦ elim (out t.set) [ true ↦ first_open known out ss | false ↦ Some t.set ]
+          | Some fails ↦ elim fails
+              [ true ↦ None | false ↦ first_open known out ss ]
+        ] ≡ Some s
         → (known s ≡ None) × (out s ≡ false)
     at deeper None e is = chosen deeper e (out t.set) refl is
     at deeper (Some true) e is = absurd (let never : ◌≡◌ {A = Option (List ℕ)} None (Some s) = is in cc)
     at deeper (Some false) e is = deeper is
 
-pub next_open : (known : Answers) (out : List ℕ → Bool) (p : Position) (ahead : Bool) (s : List ℕ) → next_at known out p ahead ≡ Some s → (known s ≡ None) × (out s ≡ false)
+pub next_open : (known : Answers) (out : List ℕ → Bool) (p : Position) (ahead : Bool) (s : List ℕ) → next_at known out p ahead ≡ Some s
+    → (known s ≡ None) × (out s ≡ false)
 next_open known out p ahead s is = at (first_open known out (round_at p)) refl is
   where
-    beyond : (b : Bool) → ◌≡◌ {A = Option (List ℕ)} (elim b [ true ↦ first_open known out (next_round known p) | false ↦ None ]) (Some s) → (known s ≡ None) × (out s ≡ false)
+    beyond : (b : Bool) → ◌≡◌ {A = Option (List ℕ)} (elim b [ true ↦ first_open known out (next_round known p) | false ↦ None ]) (Some s)
+        → (known s ≡ None) × (out s ≡ false)
     beyond true is = open_gives known out (next_round known p) s is
     beyond false is = absurd (let never : ◌≡◌ {A = Option (List ℕ)} None (Some s) = is in cc)
 
-    at : (o : Option (List ℕ)) → first_open known out (round_at p) ≡ o → or_else o (elim ahead [ true ↦ first_open known out (next_round known p) | false ↦ None ]) ≡ Some s → (known s ≡ None) × (out s ≡ false)
+    at : (o : Option (List ℕ)) → first_open known out (round_at p) ≡ o → or_else o
+        (elim ahead [ true ↦ first_open known out (next_round known p) | false ↦ None ]) ≡ Some s → (known s ≡ None) × (out s ≡ false)
     at None e is = beyond ahead is
     at (Some t) e is = open_gives known out (round_at p) s (e ∙ is)
 
@@ -163,7 +179,8 @@ pub next_gives : (state : State) (ahead : Bool) (s : List ℕ) → next state ah
 unfolding next
 next_gives state ahead s is = next_open (get state.known) (is_among state.out) (position state) ahead s is
 
-pub open_push : (known : Known) (s : List ℕ) (out : List (List ℕ)) → AreOpen known out → get known s ≡ None → list_any (same_set s) out ≡ false → AreOpen known (out ++ s ∷ [])
+pub open_push : (known : Known) (s : List ℕ) (out : List (List ℕ)) → AreOpen known out → get known s ≡ None → list_any (same_set s) out ≡ false
+    → AreOpen known (out ++ s ∷ [])
 open_push known s [] h unknown is = (unknown, refl, tt)
 open_push known s (t ∷ out) h unknown is = at (same_set s t) refl (open_push known s out h.2 unknown) is
   where
@@ -176,7 +193,8 @@ open_push known s (t ∷ out) h unknown is = at (same_set s t) refl (open_push k
         split true f more e d = absurd (let never : true ≡ false = e in cc)
         split false f more e d = rw f (more e d)
 
-    at : (b : Bool) → same_set s t ≡ b → (list_any (same_set s) out ≡ false → AreOpen known (out ++ s ∷ [])) → (b || list_any (same_set s) out) ≡ false → AreOpen known (t ∷ (out ++ s ∷ []))
+    at : (b : Bool) → same_set s t ≡ b → (list_any (same_set s) out ≡ false → AreOpen known (out ++ s ∷ [])) → (b || list_any (same_set s) out) ≡ false
+        → AreOpen known (t ∷ (out ++ s ∷ []))
     at true e rest is = absurd (let never : true ≡ false = is in cc)
     at false e rest is = (h.0, any_push out h.1 (same_turned t s ∙ e), rest is)
 
@@ -191,8 +209,19 @@ open_none known out clear (s ∷ ss) tests open_is is = at (open_none known out 
     chosen false e h = let never : ◌≡◌ {A = Option (List ℕ)} (Some s.set) None = h in cc
 
     at : (first_open known out ss ≡ None → decided known ss (counted tests) ≡ None → ⊥) → (k : Option Bool)
-        → ◌≡◌ {A = Option (List ℕ)} (elim k [ None ↦ elim (out s.set) [ true ↦ first_open known out ss | false ↦ Some s.set ] | Some fails ↦ elim fails [ true ↦ None | false ↦ first_open known out ss ] ]) None
-        → ◌≡◌ {A = Option Decision} (elim k [ None ↦ None | Some fails ↦ elim fails [ true ↦ Some (Fails s (counted tests)) | false ↦ decided known ss (counted tests) ] ]) None → ⊥
+        → ◌≡◌ {A = Option (List ℕ)} (elim k [
+          | None ↦ elim (out s.set) [ true ↦ first_open known out ss | false ↦ Some s.set ]
+          | Some fails ↦ elim fails
+              [ true ↦ None | false ↦ first_open known out ss ]
+        ]) None
+        → ◌≡◌ {A = Option Decision} (elim k [
+          | None ↦ None
+          | Some fails ↦ elim fails [
+            | true ↦ Some (Fails s (counted tests))
+            | false ↦ decided known ss
+                (counted tests)
+          ]
+        ]) None → ⊥
     at deeper None h e = chosen (out s.set) refl h
     at deeper (Some true) h e = let never : ◌≡◌ {A = Option Decision} (Some (Fails s (counted tests))) None = e in cc
     at deeper (Some false) h e = deeper h e
@@ -204,7 +233,8 @@ or_else_first (Some s) o' is = is
 
 pub none_open : (state : State) (ahead : Bool) → state.out ≡ [] → next state ahead ≡ None → (r : Reduced) × (position state ≡ End r)
 unfolding next position
-none_open state ahead clear none = at (furthest (get state.known) (start state.faults)) (furthest_stuck (get state.known) (start state.faults) (start_lawful state.faults)) (or_else_first _ _ none)
+none_open state ahead clear none = at (furthest (get state.known) (start state.faults))
+    (furthest_stuck (get state.known) (start state.faults) (start_lawful state.faults)) (or_else_first _ _ none)
   where
     free : (s : List ℕ) → is_out state s ≡ false
     free s = ap (list_any (same_set s)) clear
@@ -218,7 +248,8 @@ none_open state ahead clear none = at (furthest (get state.known) (start state.f
         empty_case None e stuck h = absurd (open_none (get state.known) (is_out state) free (record { set = []; parts = 2 } ∷ []) 0 h (rw (e, decided) refl))
     at (Round c n tests) stuck h = round_case (decided (get state.known) (round c n) tests) refl stuck
       where
-        round_case : (o : Option Decision) → decided (get state.known) (round c n) tests ≡ o → option_then (after_decision c n) o ≡ None → (r : Reduced) × (Round c n tests ≡ End r)
+        round_case : (o : Option Decision) → decided (get state.known) (round c n) tests ≡ o → option_then (after_decision c n) o ≡ None
+            → (r : Reduced) × (Round c n tests ≡ End r)
         round_case (Some d) e stuck = absurd (let never : ◌≡◌ {A = Option Position} (Some (after_decision c n d)) None = stuck in cc)
         round_case None e stuck = absurd (open_none (get state.known) (is_out state) free (round c n) tests h e)
     at (End r) stuck h = (r, refl)
@@ -280,7 +311,8 @@ decided_alike known more same (s ∷ ss) tests = at (decided_alike known more sa
     at rest (Some false) e = rw (e, decided) rest
 
 onward_put : (known : Known) (s : List ℕ) (p : Position) → get known s ≡ None → onward (get (insert known s false)) p ≡ onward (get known) p
-onward_put known s (Empty faults) unknown = ap (λ k. elim (option_then (after_empty faults) k) [ None ↦ Empty faults | Some q ↦ q ]) (hoping_put known s [] unknown)
+onward_put known s (Empty faults) unknown = ap (λ k. elim (option_then (after_empty faults) k) [ None ↦ Empty faults | Some q ↦ q ])
+    (hoping_put known s [] unknown)
 onward_put known s (Round c n tests) unknown =
     ap (λ d. elim (option_then (after_decision c n) d) [ None ↦ Round c n tests | Some q ↦ q ])
     (decided_alike (hoping (get known)) (hoping (get (insert known s false))) (λ t. hoping_put known s t unknown) (round c n) tests)
@@ -296,12 +328,14 @@ passing_reached known out p s cursor place unknown reached counted_to = record {
       (below_put known out s (onward (get known) p) cursor.ahead reached.ahead);
 }
 
-pub counted_put : (known : Known) (out : List (List ℕ)) (p : Position) (s : List ℕ) (b : Bool) (cursor : Cursor) → AreOpen known out → list_any (same_set s) out ≡ true
+pub counted_put : (known : Known) (out : List (List ℕ)) (p : Position) (s : List ℕ) (b : Bool) (cursor : Cursor) → AreOpen known out
+    → list_any (same_set s) out ≡ true
     → IsReached (get known) (is_among out) p cursor → IsCounted (get (insert known s b)) p cursor.place
 counted_put known out p s b cursor open_sets was_out reached =
     counted_more (get known) (get (insert known s b)) (grows known s b (out_unknown known s out open_sets was_out)) p cursor.place reached.counted
 
-pub settled_reached : (known : Known) (out : List (List ℕ)) (stage : Stage) (s : List ℕ) (b : Bool) (cursor : Cursor) (o : Option Stage) (place : ℕ) → AreOpen known out → list_any (same_set s) out ≡ true
+pub settled_reached : (known : Known) (out : List (List ℕ)) (stage : Stage) (s : List ℕ) (b : Bool) (cursor : Cursor) (o : Option Stage) (place : ℕ)
+    → AreOpen known out → list_any (same_set s) out ≡ true
     → IsReached (get known) (is_among out) (position_of stage) cursor → IsAdvanced (get (insert known s b)) (position_of stage) o place
     → IsReached (get (insert known s b)) (is_among (without s out)) (position_of (stage_after stage o)) (moved cursor place (b || is_some o))
 settled_reached known out stage s true cursor None place open_sets was_out reached advance =
@@ -313,13 +347,15 @@ settled_reached known out stage s true cursor (Some next) place open_sets was_ou
 settled_reached known out stage s false cursor (Some next) place open_sets was_out reached advance =
     reset (get (insert known s false)) (is_among (without s out)) (position_of next) place advance.1
 
-pub settled_position : (known : Answers) (stage : Stage) (o : Option Stage) (place : ℕ) → IsAdvanced known (position_of stage) o place → position_of (stage_after stage o) ≡ furthest known (position_of stage)
+pub settled_position : (known : Answers) (stage : Stage) (o : Option Stage) (place : ℕ) → IsAdvanced known (position_of stage) o place
+    → position_of (stage_after stage o) ≡ furthest known (position_of stage)
 settled_position known stage None place h = sym h.0
 settled_position known stage (Some next) place h = h.0
 
 -- ---- what is out after a take
 
-pub handed_open : {X E : Type 0} (f : X → Option (List ℕ)) (r : Result X E) (known : Known) (out out' : List (List ℕ)) (p : Position) (ahead : Bool) → AreOpen known out
+pub handed_open : {X E : Type 0} (f : X → Option (List ℕ)) (r : Result X E) (known : Known) (out out' : List (List ℕ)) (p : Position) (ahead : Bool)
+    → AreOpen known out
     → IfOk r (λ x. f x ≡ next_at (get known) (is_among out) p ahead) → IfOk r (λ x. out' ≡ out_after out (f x)) → OnErr r (out' ≡ out) → AreOpen known out'
 handed_open f (Err e) known out out' p ahead h card list err = subst (AreOpen known) (sym err) h
 handed_open f (Ok x) known out out' p ahead h card list err = at (f x) card list

@@ -47,7 +47,8 @@ counted_none known (Round c n tests) = (omega arith, λ j lt. absurd (omega arit
 counted_none known (End r) = tt
 
 -- what passes goes on to pass
-pub counted_more : (known more : Answers) → ((s : List ℕ) (b : Bool) → known s ≡ Some b → more s ≡ Some b) → (p : Position) (place : ℕ) → IsCounted known p place → IsCounted more p place
+pub counted_more : (known more : Answers) → ((s : List ℕ) (b : Bool) → known s ≡ Some b → more s ≡ Some b) → (p : Position) (place : ℕ)
+    → IsCounted known p place → IsCounted more p place
 counted_more known more grows (Empty faults) place h = tt
 counted_more known more grows (Round c n tests) place h = (h.0, λ j lt. grows (candidate c n j).set false (h.1 j lt))
 counted_more known more grows (End r) place h = tt

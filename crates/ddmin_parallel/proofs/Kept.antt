@@ -1,4 +1,5 @@
-use Rattle.std.proofs.Common.{◌≡◌, ℕ, zero, suc, ◌+◌, ◌-◌, ◌*◌, ◌/◌, ◌<◌, ◌≤◌, Bool, true, false, List, [], ◌∷◌, ◌++◌, length, take, drop, map, refl, ltb, leb, max, min, cond, arith}
+use Rattle.std.proofs.Common.{◌≡◌, ℕ, zero, suc, ◌+◌, ◌-◌, ◌*◌, ◌/◌, ◌<◌, ◌≤◌, Bool, true, false, List, [], ◌∷◌, ◌++◌, length, take, drop, map, refl, ltb, leb}
+use Rattle.std.proofs.Common.{max, min, cond, arith}
 use Rattle.std.specs.List.{range_with_len, AllByRecursion}
 use Rattle.std.proofs.Math.Nat.{le-div_iff_mul-le, div-mul-le_self}
 use Rattle.ddmin_parallel.specs.Rounds.{cut, part, complement, Candidate, round}
@@ -15,7 +16,8 @@ mapped : (P : List ℕ → Type 0) (f : ℕ → Candidate) (a n : ℕ) → ((i :
 mapped P f a zero h = tt
 mapped P f a (suc n) h = (h a (omega arith), mapped P f (a + 1) n (λ i lt. h i (omega arith)))
 
-joined : (P : List ℕ → Type 0) (xs ys : List Candidate) → AllByRecursion (λ s. P s.set) xs → AllByRecursion (λ s. P s.set) ys → AllByRecursion (λ s. P s.set) (xs ++ ys)
+joined : (P : List ℕ → Type 0) (xs ys : List Candidate) → AllByRecursion (λ s. P s.set) xs → AllByRecursion (λ s. P s.set) ys
+    → AllByRecursion (λ s. P s.set) (xs ++ ys)
 joined P [] ys h k = k
 joined P (x ∷ xs) ys h k = (h.0, joined P xs ys h.1 k)
 
@@ -24,7 +26,8 @@ unfolding round
 round_keeps P keeps c n p =
     joined P _ _ (mapped P (λ i. record { set = part c n i; parts = 2 }) 0 n (λ i lt. keeps.parts c n i p)) (at (ltb 2 n))
   where
-    at : (b : Bool) → AllByRecursion {X = Candidate} (λ s. P s.set) (cond b (map (λ i. record { set = complement c n i; parts = max (n - 1) 2 }) (range_with_len 0 n)) [])
+    at : (b : Bool) → AllByRecursion {X = Candidate} (λ s. P s.set) (cond b
+        (map (λ i. record { set = complement c n i; parts = max (n - 1) 2 }) (range_with_len 0 n)) [])
     at true = mapped P (λ i. record { set = complement c n i; parts = max (n - 1) 2 }) 0 n (λ i lt. keeps.complements c n i (omega arith) p)
     at false = tt
 
@@ -35,7 +38,8 @@ within_keeps : (P : List ℕ → Type 0) → IsKept P → (r : ℕ) (test : List
 unfolding ddmin_within
 within_keeps P keeps zero test c n tests p = p
 within_keeps P keeps (suc r) test c n tests p =
-    at (λ c' n' t' p'. within_keeps P keeps r test c' n' t' p') (leb (length c) 1) (decide test (round c n) tests) (decide_all (λ (s : Candidate). P s.set) test (round c n) tests (round_keeps P keeps c n p))
+    at (λ c' n' t' p'. within_keeps P keeps r test c' n' t' p') (leb (length c) 1) (decide test (round c n) tests)
+    (decide_all (λ (s : Candidate). P s.set) test (round c n) tests (round_keeps P keeps c n p))
   where
     Deeper : Type 0
     Deeper = (c' : List ℕ) (n' t' : ℕ) → P c' → Keeps P (ddmin_within r test c' n' t')
@@ -48,7 +52,8 @@ within_keeps P keeps (suc r) test c n tests p =
     after deeper (Fails s looked) h = deeper s.set s.parts looked h
     after deeper (NoneFails looked) h = on deeper looked (ltb n (length c))
 
-    at : Deeper → (b : Bool) (d : Decision) → IfFails d (λ s _. P s.set) → Keeps P (elim b [ true ↦ kept_after c tests | false ↦ after_round (ddmin_within r test) c n d ])
+    at : Deeper → (b : Bool) (d : Decision) → IfFails d (λ s _. P s.set) → Keeps P
+        (elim b [ true ↦ kept_after c tests | false ↦ after_round (ddmin_within r test) c n d ])
     at deeper true d h = p
     at deeper false d h = after deeper d h
 
@@ -102,8 +107,14 @@ AreFaults faults c = Ascends c × AllByRecursion (λ x. x < faults) c
 kept_faults : (faults : ℕ) → IsKept (AreFaults faults)
 unfolding part complement
 kept_faults faults = record {
-  parts = λ c n i p. let d = drop (cut c n i) c in (ascends_take (cut c n (i + 1) - cut c n i) d (ascends_drop (cut c n i) c p.0), all_take (λ x. x < faults) (cut c n (i + 1) - cut c n i) d (all_drop (λ x. x < faults) (cut c n i) c p.1));
-  complements = λ c n i pos p. (ascends_cut (cut c n i) (cut c n (i + 1)) c (cut_rises c n i pos) p.0, all_cut (λ x. x < faults) (cut c n i) (cut c n (i + 1)) c p.1);
+  parts = λ c n i p. let d = drop (cut c n i) c in (
+    ascends_take (cut c n (i + 1) - cut c n i) d (ascends_drop (cut c n i) c p.0),
+    all_take (λ x. x < faults) (cut c n (i + 1) - cut c n i) d (all_drop (λ x. x < faults) (cut c n i) c p.1),
+  );
+  complements = λ c n i pos p. (
+    ascends_cut (cut c n i) (cut c n (i + 1)) c (cut_rises c n i pos) p.0,
+    all_cut (λ x. x < faults) (cut c n i) (cut c n (i + 1)) c p.1,
+  );
 }
 
 above : (a b m : ℕ) → b < a → AllByRecursion (λ y. b < y) (range_with_len a m)
@@ -163,7 +174,8 @@ sublist_cut (suc i) (suc j) (x ∷ xs) le = Both x (sublist_cut i j xs (omega ar
 sublists_keep : (all : List ℕ) → IsKept (λ c. IsSublist c all)
 unfolding part complement
 sublists_keep all = record {
-  parts = λ c n i p. let d = drop (cut c n i) c in sublist_of _ _ _ (sublist_take (cut c n (i + 1) - cut c n i) d) (sublist_of _ _ _ (sublist_drop (cut c n i) c) p);
+  parts = λ c n i p. let d = drop (cut c n i) c in sublist_of _ _ _ (sublist_take (cut c n (i + 1) - cut c n i) d)
+      (sublist_of _ _ _ (sublist_drop (cut c n i) c) p);
   complements = λ c n i pos p. sublist_of _ _ _ (sublist_cut (cut c n i) (cut c n (i + 1)) c (cut_rises c n i pos)) p;
 }
 
@@ -172,9 +184,11 @@ unfolding ddmin ddmin2
 kept_sublist test zero = Done
 kept_sublist test (suc more) = at (test [])
   where
-    at : (b : Bool) → Keeps (λ c. IsSublist c (range_with_len 0 (suc more))) (elim b [ true ↦ kept_after [] 1 | false ↦ ddmin2 test (range_with_len 0 (suc more)) 2 1 ])
+    at : (b : Bool) → Keeps (λ c. IsSublist c (range_with_len 0 (suc more)))
+        (elim b [ true ↦ kept_after [] 1 | false ↦ ddmin2 test (range_with_len 0 (suc more)) 2 1 ])
     at true = sublist_none (range_with_len 0 (suc more))
-    at false = within_keeps (λ c. IsSublist c (range_with_len 0 (suc more))) (sublists_keep (range_with_len 0 (suc more))) (suc (rank (range_with_len 0 (suc more)) 2)) test (range_with_len 0 (suc more)) 2 1
+    at false = within_keeps (λ c. IsSublist c (range_with_len 0 (suc more))) (sublists_keep (range_with_len 0 (suc more)))
+        (suc (rank (range_with_len 0 (suc more)) 2)) test (range_with_len 0 (suc more)) 2 1
         (sublist_all (range_with_len 0 (suc more)))
 
 pub nothing_kept : (test : List ℕ → Bool) (faults : ℕ) → test [] ≡ true → (ddmin test faults).kept ≡ []

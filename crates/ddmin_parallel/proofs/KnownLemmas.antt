@@ -21,7 +21,8 @@ pub find_plain : (es : List (Vec ℕ Global × Bool)) (q : List ℕ) → find se
 find_plain [] q = refl
 find_plain (e ∷ es) q = ap (cond (is_eq (set_cmp q e.0.items)) (Some e.1)) (find_plain es q)
 
-pub get_plain : (es : List (Vec ℕ Global × Bool)) (q : List ℕ) → get (from_entries {R = set_cmp} (plain es)) q ≡ lookup (is_at (λ (v : Vec ℕ Global). set_cmp q v.items)) es
+pub get_plain : (es : List (Vec ℕ Global × Bool)) (q : List ℕ) → get (from_entries {R = set_cmp} (plain es)) q ≡ lookup
+    (is_at (λ (v : Vec ℕ Global). set_cmp q v.items)) es
 get_plain es q = get-from_entries nat_list_cmp_total (plain es) q ∙ find_plain es q
 
 pub is_equal : (r : Ordering) → is_eq r ≡ true → r ≡ Equal
@@ -33,7 +34,8 @@ same_set : (s t : List ℕ) → is_eq (set_cmp s t) ≡ true → s ≡ t
 same_set s t e = exact_sets s t (is_equal (set_cmp s t) e)
 
 put_plain : (es : List (Vec ℕ Global × Bool)) (k : Vec ℕ Global) (v : Bool) (q : List ℕ)
-    → find set_cmp q (plain (insert_entry (λ (x y : Vec ℕ Global). set_cmp x.items y.items) es k v)) ≡ cond (is_eq (set_cmp q k.items)) (Some v) (find set_cmp q (plain es))
+    → find set_cmp q (plain (insert_entry (λ (x y : Vec ℕ Global). set_cmp x.items y.items) es k v)) ≡ cond (is_eq (set_cmp q k.items)) (Some v)
+    (find set_cmp q (plain es))
 put_plain [] k v q = refl
 put_plain (e ∷ es) k v q = at (put_plain es k v q) (set_cmp k.items e.0.items) refl
   where
@@ -41,7 +43,8 @@ put_plain (e ∷ es) k v q = at (put_plain es k v q) (set_cmp k.items e.0.items)
     rest = insert_entry (λ (x y : Vec ℕ Global). set_cmp x.items y.items) es k v
 
     goal_at : Ordering → Type 0
-    goal_at r = find set_cmp q (plain (match_ordering r ((k, v) ∷ e ∷ es) ((e.0, v) ∷ es) (e ∷ rest))) ≡ cond (is_eq (set_cmp q k.items)) (Some v) (cond (is_eq (set_cmp q e.0.items)) (Some e.1) (find set_cmp q (plain es)))
+    goal_at r = find set_cmp q (plain (match_ordering r ((k, v) ∷ e ∷ es) ((e.0, v) ∷ es) (e ∷ rest))) ≡ cond (is_eq (set_cmp q k.items)) (Some v)
+        (cond (is_eq (set_cmp q e.0.items)) (Some e.1) (find set_cmp q (plain es)))
 
     tied : (b : Bool) (x y : Option Bool) → cond b (Some v) x ≡ cond b (Some v) (cond b y x)
     tied true x y = refl
@@ -58,11 +61,13 @@ put_plain (e ∷ es) k v q = at (put_plain es k v q) (set_cmp k.items e.0.items)
     apart false true x p r greater = refl
     apart false false x p r greater = refl
 
-    at : find set_cmp q (plain rest) ≡ cond (is_eq (set_cmp q k.items)) (Some v) (find set_cmp q (plain es)) → (r : Ordering) → set_cmp k.items e.0.items ≡ r → goal_at r
+    at : find set_cmp q (plain rest) ≡ cond (is_eq (set_cmp q k.items)) (Some v) (find set_cmp q (plain es)) → (r : Ordering) → set_cmp k.items e.0.items ≡ r
+        → goal_at r
     at ih Less is = refl
     at ih Equal is =
         let one : k.items ≡ e.0.items = exact_sets k.items e.0.items is in
-        subst (λ s. cond (is_eq (set_cmp q e.0.items)) (Some v) (find set_cmp q (plain es)) ≡ cond (is_eq (set_cmp q s)) (Some v) (cond (is_eq (set_cmp q e.0.items)) (Some e.1) (find set_cmp q (plain es))))
+        subst (λ s. cond (is_eq (set_cmp q e.0.items)) (Some v) (find set_cmp q (plain es)) ≡ cond (is_eq (set_cmp q s)) (Some v)
+        (cond (is_eq (set_cmp q e.0.items)) (Some e.1) (find set_cmp q (plain es))))
         (sym one) (tied (is_eq (set_cmp q e.0.items)) (find set_cmp q (plain es)) (Some e.1))
     at ih Greater is = ap (cond (is_eq (set_cmp q e.0.items)) (Some e.1)) ih ∙ apart _ _ (find set_cmp q (plain es)) refl refl is
 
@@ -70,4 +75,5 @@ pub insert_plain : (es : List (Vec ℕ Global × Bool)) (k : Vec ℕ Global) (v 
     → from_entries {R = set_cmp} (plain (insert_entry (λ (x y : Vec ℕ Global). set_cmp x.items y.items) es k v)) ≡ insert (from_entries (plain es)) k.items v
 insert_plain es k v = same_map nat_list_cmp_total exact_sets _ _ (λ q.
     get-from_entries nat_list_cmp_total _ q ∙ put_plain es k v q
-    ∙ sym (get-insert nat_list_cmp_total (from_entries (plain es)) k.items v q ∙ ap (cond (is_eq (set_cmp q k.items)) (Some v)) (get-from_entries nat_list_cmp_total (plain es) q)))
+    ∙ sym (get-insert nat_list_cmp_total (from_entries (plain es)) k.items v q ∙ ap (cond (is_eq (set_cmp q k.items)) (Some v))
+    (get-from_entries nat_list_cmp_total (plain es) q)))

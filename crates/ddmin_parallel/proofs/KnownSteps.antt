@@ -7,7 +7,8 @@ use Rattle.ddmin_parallel.proofs.Steps.{from, from_step}
 
 -- the same of what is known
 
-pub decided_open : (known : Answers) (c : List ℕ) (n k tests : ℕ) → k < candidates n → known (candidate c n k).set ≡ None → decided known (from c n k) tests ≡ None
+pub decided_open : (known : Answers) (c : List ℕ) (n k tests : ℕ) → k < candidates n → known (candidate c n k).set ≡ None
+    → decided known (from c n k) tests ≡ None
 decided_open known c n k tests lt is = ap (λ ss. decided known ss tests) (from_step c n k lt) ∙ rw (is, decided) refl
 
 pub decided_pass : (known : Answers) (c : List ℕ) (n k tests : ℕ) → k < candidates n → known (candidate c n k).set ≡ Some false
@@ -29,7 +30,8 @@ pub open_pass : (known : Answers) (out : List ℕ → Bool) (c : List ℕ) (n k 
     → first_open known out (from c n k) ≡ first_open known out (from c n (k + 1))
 open_pass known out c n k lt is = ap (first_open known out) (from_step c n k lt) ∙ rw (is, first_open) refl
 
-pub open_out : (known : Answers) (out : List ℕ → Bool) (c : List ℕ) (n k : ℕ) → k < candidates n → known (candidate c n k).set ≡ None → out (candidate c n k).set ≡ true
+pub open_out : (known : Answers) (out : List ℕ → Bool) (c : List ℕ) (n k : ℕ) → k < candidates n → known (candidate c n k).set ≡ None
+    → out (candidate c n k).set ≡ true
     → first_open known out (from c n k) ≡ first_open known out (from c n (k + 1))
 open_out known out c n k lt is so = ap (first_open known out) (from_step c n k lt) ∙ rw (is, so, first_open) refl
 
@@ -37,7 +39,8 @@ pub open_fails : (known : Answers) (out : List ℕ → Bool) (c : List ℕ) (n k
     → first_open known out (from c n k) ≡ None
 open_fails known out c n k lt is = ap (first_open known out) (from_step c n k lt) ∙ rw (is, first_open) refl
 
-pub open_here : (known : Answers) (out : List ℕ → Bool) (c : List ℕ) (n k : ℕ) → k < candidates n → known (candidate c n k).set ≡ None → out (candidate c n k).set ≡ false
+pub open_here : (known : Answers) (out : List ℕ → Bool) (c : List ℕ) (n k : ℕ) → k < candidates n → known (candidate c n k).set ≡ None
+    → out (candidate c n k).set ≡ false
     → first_open known out (from c n k) ≡ Some (candidate c n k).set
 open_here known out c n k lt is so = ap (first_open known out) (from_step c n k lt) ∙ rw (is, so, first_open) refl
 

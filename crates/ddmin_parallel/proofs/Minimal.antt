@@ -1,4 +1,5 @@
-use Rattle.std.proofs.Common.{◌≡◌, ℕ, zero, suc, ◌+◌, ◌-◌, ◌*◌, ◌<◌, ◌≤◌, Bool, true, false, List, [], ◌∷◌, ◌++◌, length, map, refl, sym, ◌∙◌, ap, subst, arith, ltb, leb, max, min, cond, add-one, add-zero, zero-add}
+use Rattle.std.proofs.Common.{◌≡◌, ℕ, zero, suc, ◌+◌, ◌-◌, ◌*◌, ◌<◌, ◌≤◌, Bool, true, false, List, [], ◌∷◌, ◌++◌, length, map, refl, sym, ◌∙◌, ap, subst, arith}
+use Rattle.std.proofs.Common.{ltb, leb, max, min, cond, add-one, add-zero, zero-add}
 use Rattle.std.specs.Prelude.{remove}
 use Rattle.std.specs.List.{range_with_len, AllByRecursion}
 use Rattle.std.proofs.lemmas.Bool.{leb-true, ltb-true}
@@ -70,7 +71,8 @@ finest_complements test c long all i lt =
     let f : ℕ → Candidate = λ i. record { set = complement c (length c) i; parts = max (length c - 1) 2 } in
     let back = back_of P _ (cond (ltb 2 (length c)) (map f (range_with_len 0 (length c))) []) all in
     let is : ltb 2 (length c) ≡ true = grind (arith, nat_tests) in
-    let rest : AllByRecursion P (map f (range_with_len 0 (length c))) = subst (λ b. AllByRecursion P (cond b (map f (range_with_len 0 (length c))) [])) is back in
+    let rest : AllByRecursion P (map f (range_with_len 0 (length c))) = subst
+    (λ b. AllByRecursion P (cond b (map f (range_with_len 0 (length c))) [])) is back in
     let here : test (complement c (length c) (0 + i)) ≡ false = mapped_at P f 0 (length c) rest i lt in
     ap test (sym (ap (complement c (length c)) (zero-add i) ∙ complement_finest c i (omega arith))) ∙ here
 
@@ -116,10 +118,12 @@ within_minimal (suc r) test c n tests fits lt fails empty =
         let two = fits.two in
         let above : length c ≤ n = grind (arith, nat_tests) in
         let same : n ≡ length c = omega arith in
-        let none' : AllByRecursion (λ s. test s.set ≡ false) (round c (length c)) = subst (λ k. AllByRecursion (λ s. test s.set ≡ false) (round c k)) same none in
+        let none' : AllByRecursion (λ s. test s.set ≡ false) (round c (length c)) =
+        subst (λ k. AllByRecursion (λ s. test s.set ≡ false) (round c k)) same none in
         record { fails = fails; each = sizes none' (ltb 2 (length c)) refl }
       where
-        sizes : AllByRecursion (λ s. test s.set ≡ false) (round c (length c)) → (b : Bool) → ltb 2 (length c) ≡ b → (i : ℕ) → i < length c → test (remove c i) ≡ false
+        sizes : AllByRecursion (λ s. test s.set ≡ false) (round c (length c)) → (b : Bool) → ltb 2 (length c) ≡ b → (i : ℕ) → i < length c
+            → test (remove c i) ≡ false
         sizes none' true is = finest_complements test c (ltb-true 2 (length c) is) none'
         sizes none' false is =
             let two : length c ≡ 2 = grind (arith, nat_tests) in
@@ -157,5 +161,6 @@ minimal test (suc more) fails = at (test []) refl
         within_minimal (suc (rank c 2)) test c 2 1 (record { two = omega arith; some = omega arith; few = omega arith }) (omega arith) fails is
 
 -- so what is reduced to is one-minimal
-pub minimal_result : (test : List ℕ → Bool) (faults : ℕ) (r : Reduced) → r ≡ ddmin test faults → test (range_with_len 0 faults) ≡ true → IsOneMinimal test r.kept
+pub minimal_result : (test : List ℕ → Bool) (faults : ℕ) (r : Reduced) → r ≡ ddmin test faults → test (range_with_len 0 faults) ≡ true
+    → IsOneMinimal test r.kept
 minimal_result test faults r is fails = subst (λ (q : Reduced). IsOneMinimal test q.kept) (sym is) (minimal test faults fails)

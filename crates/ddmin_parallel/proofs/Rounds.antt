@@ -1,11 +1,13 @@
-use Rattle.std.proofs.Common.{◌≡◌, ℕ, zero, suc, ◌+◌, ◌-◌, ◌*◌, ◌/◌, ◌<◌, ◌≤◌, Bool, true, false, List, [], ◌∷◌, ◌++◌, length, take, drop, map, refl, ap, arith, length-append, length-drop, ltb, leb, max, min, cond}
+use Rattle.std.proofs.Common.{◌≡◌, ℕ, zero, suc, ◌+◌, ◌-◌, ◌*◌, ◌/◌, ◌<◌, ◌≤◌, Bool, true, false, List, [], ◌∷◌, ◌++◌, length, take, drop, map, refl, ap, arith}
+use Rattle.std.proofs.Common.{length-append, length-drop, ltb, leb, max, min, cond}
 use Rattle.std.specs.List.{range_with_len, AllByRecursion}
 use Rattle.std.proofs.Math.Nat.{le-div_iff_mul-le, div-mul-le_self, mul-le-mul_left, mul-le-mul_right, mul-div_cancel_left}
 use Rattle.std.proofs.lemmas.Bool.{ltb-true}
 use Rattle.std.proofs.lemmas.Bool.Decides.{nat_tests}
 use Rattle.std.proofs.lemmas.List.{length-take-le}
 use Rattle.ddmin_parallel.specs.Rounds.{cut, part, complement, Candidate, round}
-use Rattle.ddmin_parallel.specs.Ddmin.{Decision, Fails, NoneFails, counted, decide, Reduced, kept_after, after_round, one_round, ddmin_within, rank, Fits, ddmin2}
+use Rattle.ddmin_parallel.specs.Ddmin.{Decision, Fails, NoneFails, counted, decide, Reduced, kept_after, after_round, one_round, ddmin_within, rank, Fits}
+use Rattle.ddmin_parallel.specs.Ddmin.{ddmin2}
 
 -- each part takes at least one
 cut_step : (c : List ℕ) (n i : ℕ) → 0 < n → n ≤ length c → cut c n i + 1 ≤ cut c n (i + 1)
@@ -89,8 +91,10 @@ round_next c n two few =
     (all_mapped (IsNext c) (λ i. record { set = part c n i; parts = 2 }) 0 n (λ i _ high. part_next c n i two few (omega arith)))
     (rest (ltb 2 n) refl)
   where
-    rest : (b : Bool) → ltb 2 n ≡ b → AllByRecursion (IsNext c) (cond b (map (λ i. record { set = complement c n i; parts = max (n - 1) 2 }) (range_with_len 0 n)) [])
-    rest true is = all_mapped (IsNext c) (λ i. record { set = complement c n i; parts = max (n - 1) 2 }) 0 n (λ i _ high. complement_next c n i (ltb-true 2 n is) few (omega arith))
+    rest : (b : Bool) → ltb 2 n ≡ b
+        → AllByRecursion (IsNext c) (cond b (map (λ i. record { set = complement c n i; parts = max (n - 1) 2 }) (range_with_len 0 n)) [])
+    rest true is = all_mapped (IsNext c) (λ i. record { set = complement c n i; parts = max (n - 1) 2 }) 0 n
+        (λ i _ high. complement_next c n i (ltb-true 2 n is) few (omega arith))
     rest false is = tt
 
 -- what a round finds failing is one of its candidates
@@ -98,11 +102,13 @@ abbrev pub IfFails : Decision → (Candidate → ℕ → Type 0) → Type 0
 IfFails (Fails s tests) P = P s tests
 IfFails (NoneFails tests) P = Unit {0}
 
-pub decide_all : (P : Candidate → Type 0) (test : List ℕ → Bool) (ss : List Candidate) (tests : ℕ) → AllByRecursion P ss → IfFails (decide test ss tests) (λ s _. P s)
+pub decide_all : (P : Candidate → Type 0) (test : List ℕ → Bool) (ss : List Candidate) (tests : ℕ) → AllByRecursion P ss
+    → IfFails (decide test ss tests) (λ s _. P s)
 decide_all P test [] tests all = tt
 decide_all P test (s ∷ ss) tests all = at (decide_all P test ss (counted tests) all.1) (test s.set)
   where
-    at : IfFails (decide test ss (counted tests)) (λ s _. P s) → (b : Bool) → IfFails (elim b [ true ↦ Fails s (counted tests) | false ↦ decide test ss (counted tests) ]) (λ s _. P s)
+    at : IfFails (decide test ss (counted tests)) (λ s _. P s) → (b : Bool)
+        → IfFails (elim b [ true ↦ Fails s (counted tests) | false ↦ decide test ss (counted tests) ]) (λ s _. P s)
     at rest true = all.0
     at rest false = rest
 
@@ -143,7 +149,8 @@ one_round_same go go' test c n tests fits same = at (leb (length c) 1) refl
         let long : 2 ≤ length c = grind (arith, nat_tests) in
         after (decide test (round c n) tests) long (decide_all (IsNext c) test (round c n) tests (round_next c n fits.two (fits.few long)))
 
-within_same : (r r' : ℕ) (test : List ℕ → Bool) (c : List ℕ) (n tests : ℕ) → Fits c n → rank c n < r → rank c n < r' → ddmin_within r test c n tests ≡ ddmin_within r' test c n tests
+within_same : (r r' : ℕ) (test : List ℕ → Bool) (c : List ℕ) (n tests : ℕ) → Fits c n → rank c n < r → rank c n < r'
+    → ddmin_within r test c n tests ≡ ddmin_within r' test c n tests
 unfolding ddmin_within
 within_same zero r' test c n tests fits h h' = absurd (omega arith)
 within_same (suc r) zero test c n tests fits h h' = absurd (omega arith)

@@ -1,13 +1,16 @@
-use Rattle.std.proofs.Common.{◌≡◌, ℕ, zero, suc, ◌+◌, ◌*◌, ◌<◌, ◌≤◌, Bool, true, false, ◌||◌, List, [], ◌∷◌, ◌++◌, length, refl, sym, ◌∙◌, ap, subst, arith, ltb, leb, min, Option, None, Some, inl, inr, not, unwrap_or}
+use Rattle.std.proofs.Common.{◌≡◌, ℕ, zero, suc, ◌+◌, ◌*◌, ◌<◌, ◌≤◌, Bool, true, false, ◌||◌, List, [], ◌∷◌, ◌++◌, length, refl, sym, ◌∙◌, ap, subst, arith}
+use Rattle.std.proofs.Common.{ltb, leb, min, Option, None, Some, inl, inr, not, unwrap_or}
 use Rattle.std.specs.Prelude.{◌⊎◌}
 use Rattle.std.proofs.lemmas.Cmp.{nat_list_cmp_total}
 use Rattle.std.specs.Cmp.{eq_by_cmp_equiv}
 use Rattle.ddmin_parallel.specs.Rounds.{Candidate, round}
 use Rattle.ddmin_parallel.specs.Ddmin.{Fails, counted, kept_after, Reduced}
 use Rattle.ddmin_parallel.specs.inside.Candidates.{candidate, candidates, found}
-use Rattle.ddmin_parallel.specs.CoreEvents.{Answers, decided, Position, Empty, Round, End, after_empty, after_decision, option_then, step, same_set, first_open, round_at, hoping, next_round, or_else}
+use Rattle.ddmin_parallel.specs.CoreEvents.{Answers, decided, Position, Empty, Round, End, after_empty, after_decision, option_then, step, same_set, first_open}
+use Rattle.ddmin_parallel.specs.CoreEvents.{round_at, hoping, next_round, or_else}
 use Rattle.ddmin_parallel.specs.inside.CoreStates.{IsLawful, IsSmall}
-use Rattle.ddmin_parallel.specs.inside.Cursors.{is_shut, IsShutBelow, IsCounted, onward, follow, Leads, is_among, with_set, out_after, next_at, IsReached, IsFurther, IsOpened}
+use Rattle.ddmin_parallel.specs.inside.Cursors.{is_shut, IsShutBelow, IsCounted, onward, follow, Leads, is_among, with_set, out_after, next_at, IsReached}
+use Rattle.ddmin_parallel.specs.inside.Cursors.{IsFurther, IsOpened}
 use Rattle.ddmin_parallel.specs.declared.stage.Cursor.{Cursor}
 use Rattle.ddmin_parallel.proofs.Steps.{from, from_all}
 use Rattle.ddmin_parallel.proofs.KnownSteps.{open_pass, open_out, open_fails, open_here, open_end, decided_fail, decided_end}
@@ -16,10 +19,12 @@ use Rattle.ddmin_parallel.proofs.Walk.{step_on}
 
 -- ---- one set
 
-pub shut_cases : (known : Answers) (out : List ℕ → Bool) (s : List ℕ) → is_shut known out s ≡ true → (known s ≡ Some false) ⊎ ((known s ≡ None) × (out s ≡ true))
+pub shut_cases : (known : Answers) (out : List ℕ → Bool) (s : List ℕ) → is_shut known out s ≡ true
+    → (known s ≡ Some false) ⊎ ((known s ≡ None) × (out s ≡ true))
 shut_cases known out s is = at (known s) refl is
   where
-    at : (k : Option Bool) → known s ≡ k → elim k [ None ↦ out s | Some fails ↦ not fails ] ≡ true → (known s ≡ Some false) ⊎ ((known s ≡ None) × (out s ≡ true))
+    at : (k : Option Bool) → known s ≡ k → elim k [ None ↦ out s | Some fails ↦ not fails ] ≡ true
+        → (known s ≡ Some false) ⊎ ((known s ≡ None) × (out s ≡ true))
     at None e h = inr (e, h)
     at (Some true) e h = absurd (let never : false ≡ true = h in cc)
     at (Some false) e h = inl e
@@ -31,10 +36,12 @@ pub shut_out : (known : Answers) (out : List ℕ → Bool) (s : List ℕ) → kn
 shut_out known out s e is = rw (e, is_shut) is
 
 -- a set that is shut stays so where no less is out
-shut_wider : (known : Answers) (out out' : List ℕ → Bool) → ((s : List ℕ) → out s ≡ true → out' s ≡ true) → (s : List ℕ) → is_shut known out s ≡ true → is_shut known out' s ≡ true
+shut_wider : (known : Answers) (out out' : List ℕ → Bool) → ((s : List ℕ) → out s ≡ true → out' s ≡ true) → (s : List ℕ) → is_shut known out s ≡ true
+    → is_shut known out' s ≡ true
 shut_wider known out out' wider s is = elim (shut_cases known out s is) [ inl e ↦ shut_pass known out' s e | inr e ↦ shut_out known out' s e.0 (wider s e.1) ]
 
-pub below_wider : (known : Answers) (out out' : List ℕ → Bool) → ((s : List ℕ) → out s ≡ true → out' s ≡ true) → (p : Position) (k : ℕ) → IsShutBelow known out p k → IsShutBelow known out' p k
+pub below_wider : (known : Answers) (out out' : List ℕ → Bool) → ((s : List ℕ) → out s ≡ true → out' s ≡ true) → (p : Position) (k : ℕ)
+    → IsShutBelow known out p k → IsShutBelow known out' p k
 below_wider known out out' wider (Empty faults) k h = tt
 below_wider known out out' wider (Round c n tests) k h = (h.0, λ j lt. shut_wider known out out' wider (candidate c n j).set (h.1 j lt))
 below_wider known out out' wider (End r) k h = tt
@@ -63,7 +70,8 @@ among_push [] s t = at (same_set t s)
     at false = refl
 among_push (u ∷ out) s t = at (same_set t u) (among_push out s t)
   where
-    at : (b : Bool) → is_among (out ++ s ∷ []) t ≡ (is_among out t || same_set t s) → (b || is_among (out ++ s ∷ []) t) ≡ ((b || is_among out t) || same_set t s)
+    at : (b : Bool) → is_among (out ++ s ∷ []) t ≡ (is_among out t || same_set t s)
+        → (b || is_among (out ++ s ∷ []) t) ≡ ((b || is_among out t) || same_set t s)
     at true rest = refl
     at false rest = rest
 
@@ -76,7 +84,8 @@ shut_step known out c n k lt is = elim (shut_cases known out (candidate c n k).s
   | inr e ↦ open_out known out c n k lt e.0 e.1
 ]
 
-shut_moved : (known : Answers) (out : List ℕ → Bool) (c : List ℕ) (n k : ℕ) → k ≤ candidates n → ((j : ℕ) → j < k → is_shut known out (candidate c n j).set ≡ true)
+shut_moved : (known : Answers) (out : List ℕ → Bool) (c : List ℕ) (n k : ℕ) → k ≤ candidates n
+    → ((j : ℕ) → j < k → is_shut known out (candidate c n j).set ≡ true)
     → first_open known out (from c n k) ≡ first_open known out (round c n)
 shut_moved known out c n zero le h = ap (first_open known out) (from_all c n)
 shut_moved known out c n (suc k) le h =
@@ -91,7 +100,8 @@ hoped known out s is = elim (shut_cases known out s is) [
   | inr e ↦ ap (λ k. Some (unwrap_or k false)) e.0
 ]
 
-hoped_moved : (known : Answers) (out : List ℕ → Bool) (c : List ℕ) (n k tests : ℕ) → k ≤ candidates n → ((j : ℕ) → j < k → is_shut known out (candidate c n j).set ≡ true)
+hoped_moved : (known : Answers) (out : List ℕ → Bool) (c : List ℕ) (n k tests : ℕ) → k ≤ candidates n
+    → ((j : ℕ) → j < k → is_shut known out (candidate c n j).set ≡ true)
     → decided (hoping known) (from c n k) (counted_times k tests) ≡ decided (hoping known) (round c n) tests
 hoped_moved known out c n k tests le h = decided_moved (hoping known) c n k tests le (λ j lt. hoped known out (candidate c n j).set (h j lt))
 
@@ -111,7 +121,8 @@ found_open known out c n k tests s h lt is unknown away = (
   ),
 )
 
-pub found_failing : (known : Answers) (out : List ℕ → Bool) (c : List ℕ) (n k tests : ℕ) (s : Candidate) → IsShutBelow known out (Round c n 0) k → k < candidates n
+pub found_failing : (known : Answers) (out : List ℕ → Bool) (c : List ℕ) (n k tests : ℕ) (s : Candidate) → IsShutBelow known out (Round c n 0) k
+    → k < candidates n
     → s ≡ candidate c n k → known (candidate c n k).set ≡ Some true
     → (first_open known out (round c n) ≡ None) × IsShutBelow known out (Round c n tests) k × Leads known (Round c n tests) (Some s)
 found_failing known out c n k tests s h lt is fails =
@@ -121,7 +132,8 @@ found_failing known out c n k tests s h lt is fails =
       (
         counted (counted_times k tests),
         ap (option_then (after_decision c n))
-            (sym (hoped_moved known out c n k tests h.0 h.1) ∙ decided_fail (hoping known) c n k (counted_times k tests) lt bad ∙ ap (λ t. Some (Fails t (counted (counted_times k tests)))) (sym is)),
+            (sym (hoped_moved known out c n k tests h.0 h.1) ∙ decided_fail (hoping known) c n k (counted_times k tests) lt bad ∙ ap
+            (λ t. Some (Fails t (counted (counted_times k tests)))) (sym is)),
       ),
     )
 
@@ -130,13 +142,18 @@ pub found_none : (known : Answers) (out : List ℕ → Bool) (c : List ℕ) (n k
 found_none known out c n k tests h ge = (
   sym (shut_moved known out c n k h.0 h.1) ∙ open_end known out c n k ge,
   h,
-  (counted_times k tests, ap (option_then (after_decision c n)) (sym (hoped_moved known out c n k tests h.0 h.1) ∙ decided_end (hoping known) c n k (counted_times k tests) ge)),
+  (
+    counted_times k tests,
+    ap (option_then (after_decision c n)) (sym (hoped_moved known out c n k tests h.0 h.1) ∙ decided_end (hoping known) c n k
+        (counted_times k tests) ge),
+  ),
 )
 
 -- ---- one round further
 
 -- a count has no say in what holds of all counts alike
-recounted : (Q : Position → Type 0) → ((c : List ℕ) (n tests tests' : ℕ) → Q (Round c n tests) → Q (Round c n tests')) → ((r r' : Reduced) → Q (End r) → Q (End r'))
+recounted : (Q : Position → Type 0) → ((c : List ℕ) (n tests tests' : ℕ) → Q (Round c n tests) → Q (Round c n tests'))
+    → ((r r' : Reduced) → Q (End r) → Q (End r'))
     → (c : List ℕ) (n tests tests' : ℕ) (o : Option Candidate) → Q (after_decision c n (found o tests)) → Q (after_decision c n (found o tests'))
 recounted Q round_so end_so c n tests tests' None h = at (ltb n (length c)) h
   where
@@ -206,7 +223,8 @@ after_keeps : (out : List (List ℕ)) (o : Option (List ℕ)) (t : List ℕ) →
 after_keeps out None t is = is
 after_keeps out (Some s) t is = push_keeps out s t is
 
-pushed_below : (known : Answers) (out : List (List ℕ)) (s : List ℕ) (p : Position) (k : ℕ) → IsShutBelow known (with_set (is_among out) s) p k → IsShutBelow known (is_among (out ++ s ∷ [])) p k
+pushed_below : (known : Answers) (out : List (List ℕ)) (s : List ℕ) (p : Position) (k : ℕ) → IsShutBelow known (with_set (is_among out) s) p k
+    → IsShutBelow known (is_among (out ++ s ∷ [])) p k
 pushed_below known out s p k h = below_wider known (with_set (is_among out) s) (is_among (out ++ s ∷ [])) (λ t is. among_push out s t ∙ is) p k h
 
 pub further_open : (known : Answers) (out : List (List ℕ)) (p q : Position) (s : List ℕ) (k : ℕ) → IsFollowed known (is_among out) p q
@@ -223,7 +241,8 @@ further_none known out p q k on is below = record {
   shut = on.back (is_among out) k below;
 }
 
-pub opened_here : (known : Answers) (out : List (List ℕ)) (p : Position) (ahead : Bool) (s : List ℕ) (cursor cursor' : Cursor) (k : ℕ) → IsReached known (is_among out) p cursor
+pub opened_here : (known : Answers) (out : List (List ℕ)) (p : Position) (ahead : Bool) (s : List ℕ) (cursor cursor' : Cursor) (k : ℕ)
+    → IsReached known (is_among out) p cursor
     → first_open known (is_among out) (round_at p) ≡ Some s → IsShutBelow known (with_set (is_among out) s) p k
     → cursor' ≡ record { place = cursor.place; closed = k; ahead = cursor.ahead } → IsOpened known out p ahead (Some s) cursor'
 opened_here known out p ahead s cursor cursor' k reached is below same =
@@ -236,14 +255,16 @@ opened_here known out p ahead s cursor cursor' k reached is below same =
       };
     })
 
-pub opened_nowhere : (known : Answers) (out : List (List ℕ)) (p : Position) (ahead : Bool) (cursor : Cursor) → ahead ≡ false → IsReached known (is_among out) p cursor
+pub opened_nowhere : (known : Answers) (out : List (List ℕ)) (p : Position) (ahead : Bool) (cursor : Cursor) → ahead ≡ false
+    → IsReached known (is_among out) p cursor
     → first_open known (is_among out) (round_at p) ≡ None → IsOpened known out p ahead None cursor
 opened_nowhere known out p ahead cursor off reached is = record {
   card = sym (rw (is, off, next_at, or_else) refl);
   reached = reached;
 }
 
-pub opened_further : (known : Answers) (out : List (List ℕ)) (p : Position) (ahead : Bool) (o : Option (List ℕ)) (cursor cursor' : Cursor) (k : ℕ) → ahead ≡ true
+pub opened_further : (known : Answers) (out : List (List ℕ)) (p : Position) (ahead : Bool) (o : Option (List ℕ)) (cursor cursor' : Cursor) (k : ℕ)
+    → ahead ≡ true
     → IsReached known (is_among out) p cursor → first_open known (is_among out) (round_at p) ≡ None → IsFurther known out p o k
     → cursor' ≡ record { place = cursor.place; closed = cursor.closed; ahead = k } → IsOpened known out p ahead o cursor'
 opened_further known out p ahead o cursor cursor' k on reached is further same =

@@ -1,4 +1,5 @@
-use Rattle.std.proofs.Common.{◌≡◌, ℕ, zero, suc, ◌+◌, ◌-◌, ◌*◌, ◌<◌, ◌≤◌, Bool, true, false, List, [], ◌∷◌, ◌++◌, length, map, refl, sym, ◌∙◌, ap, subst, arith, ltb, leb, max, min, cond, add-zero, zero-add, append-nil}
+use Rattle.std.proofs.Common.{◌≡◌, ℕ, zero, suc, ◌+◌, ◌-◌, ◌*◌, ◌<◌, ◌≤◌, Bool, true, false, List, [], ◌∷◌, ◌++◌, length, map, refl, sym, ◌∙◌, ap, subst, arith}
+use Rattle.std.proofs.Common.{ltb, leb, max, min, cond, add-zero, zero-add, append-nil}
 use Rattle.std.specs.List.{range_with_len}
 use Rattle.std.proofs.lemmas.Bool.{le-leb, lt-ltb}
 use Rattle.std.proofs.lemmas.Bool.Decides.{nat_tests}
@@ -31,7 +32,8 @@ same_mapped f g a (suc m) h =
     let rest = same_mapped f g (a + 1) m (λ i low high. h i (omega arith) (omega arith)) in
     cc
 
-shifted : {X : Type 0} (f g : ℕ → X) (d a m : ℕ) → ((i : ℕ) → a ≤ i → i < a + m → f i ≡ g (d + i)) → map f (range_with_len a m) ≡ map g (range_with_len (d + a) m)
+shifted : {X : Type 0} (f g : ℕ → X) (d a m : ℕ) → ((i : ℕ) → a ≤ i → i < a + m → f i ≡ g (d + i))
+    → map f (range_with_len a m) ≡ map g (range_with_len (d + a) m)
 shifted f g d a zero h = refl
 shifted f g d a (suc m) h =
     let here = h a (omega arith) (omega arith) in
@@ -68,9 +70,11 @@ round_is c n =
         shifted _ (candidate c n) n 0 n (λ i _ high.
         let same : n + i - n ≡ i = omega arith in
         sym (candidate_complement c n (n + i) (omega arith) ∙ ap (λ j. record { set = complement c n j; parts = max (n - 1) 2 }) same)) in
-        let there : map (candidate c n) (range_with_len (n + 0) n) ≡ map (candidate c n) (range_with_len (0 + n) n) = ap (λ b. map (candidate c n) (range_with_len b n)) (omega arith) in
+        let there : map (candidate c n) (range_with_len (n + 0) n) ≡ map (candidate c n) (range_with_len (0 + n) n) =
+        ap (λ b. map (candidate c n) (range_with_len b n)) (omega arith) in
         let twice : range_with_len 0 (2 * n) ≡ range_with_len 0 (n + n) = ap (range_with_len 0) (omega arith) in
-        rw (back, there) (sym (ap (map (candidate c n)) (twice ∙ range_more 0 n n) ∙ map_append (candidate c n) (range_with_len 0 n) (range_with_len (0 + n) n)))
+        rw (back, there) (sym (ap (map (candidate c n)) (twice ∙ range_more 0 n n) ∙ map_append (candidate c n) (range_with_len 0 n)
+        (range_with_len (0 + n) n)))
     rest false is = append-nil (map (candidate c n) (range_with_len 0 n))
 
 pub from_step : (c : List ℕ) (n k : ℕ) → k < candidates n → from c n k ≡ candidate c n k ∷ from c n (k + 1)
@@ -118,7 +122,8 @@ next_of test c n tests s looked fits le is =
 
 pub on_finer : (test : List ℕ → Bool) (c : List ℕ) (n tests looked : ℕ) → Fits c n → 2 ≤ length c → n < length c
     → decide test (round c n) tests ≡ NoneFails looked → ddmin2 test c n tests ≡ ddmin2 test c (min (length c) (2 * n)) looked
-on_finer test c n tests looked fits le lt is = unrolled test c n tests fits le ∙ ap (after_round (ddmin2 test) c n) is ∙ rw (lt-ltb n (length c) lt, after_round) refl
+on_finer test c n tests looked fits le lt is = unrolled test c n tests fits le ∙ ap (after_round (ddmin2 test) c n) is
+    ∙ rw (lt-ltb n (length c) lt, after_round) refl
 
 pub finer_fits : (c : List ℕ) (n : ℕ) → Fits c n → n < length c → Fits c (min (length c) (2 * n))
 finer_fits c n fits lt = let two = fits.two in record { two = omega arith; some = omega arith; few = omega arith }

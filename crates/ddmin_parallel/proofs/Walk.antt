@@ -1,11 +1,13 @@
-use Rattle.std.proofs.Common.{◌≡◌, ℕ, zero, suc, ◌*◌, ◌<◌, ◌≤◌, Bool, true, false, List, [], ◌∷◌, length, refl, sym, ◌∙◌, ap, subst, arith, ltb, leb, min, Option, None, Some, IfSome, unwrap_or}
+use Rattle.std.proofs.Common.{◌≡◌, ℕ, zero, suc, ◌*◌, ◌<◌, ◌≤◌, Bool, true, false, List, [], ◌∷◌, length, refl, sym, ◌∙◌, ap, subst, arith, ltb, leb, min}
+use Rattle.std.proofs.Common.{Option, None, Some, IfSome, unwrap_or}
 use Rattle.std.specs.List.{range_with_len, AllByRecursion}
 use Rattle.std.proofs.lemmas.Bool.{leb-true, ltb-true}
 use Rattle.std.proofs.lemmas.Bool.Decides.{nat_tests}
 use Rattle.std.proofs.lemmas.List.FromFn.{length-range_with_len}
 use Rattle.ddmin_parallel.specs.Rounds.{Candidate, round}
 use Rattle.ddmin_parallel.specs.Ddmin.{Decision, Fails, NoneFails, counted, decide, Reduced, kept_after, rank, Fits, ddmin2, ddmin}
-use Rattle.ddmin_parallel.specs.CoreEvents.{Answers, decided, Position, Empty, Round, End, at_round, start, after_empty, after_decision, option_then, step, position_rank, walk, furthest, finish, Agrees}
+use Rattle.ddmin_parallel.specs.CoreEvents.{Answers, decided, Position, Empty, Round, End, at_round, start, after_empty, after_decision, option_then, step}
+use Rattle.ddmin_parallel.specs.CoreEvents.{position_rank, walk, furthest, finish, Agrees}
 use Rattle.ddmin_parallel.specs.inside.CoreStates.{IsLawful, IsSmall}
 use Rattle.ddmin_parallel.proofs.Rounds.{IsNext, IfFails, round_next, rank_next}
 use Rattle.ddmin_parallel.proofs.Steps.{one_left, on_failing, on_finer, finer_fits, on_end, ddmin_none, ddmin_empty, ddmin_begins, begins_fits}
@@ -43,7 +45,8 @@ decided_more known more grows [] tests = refl
 decided_more known more grows (s ∷ ss) tests = at (decided known ss (counted tests)) (decided_more known more grows ss (counted tests)) (known s.set) refl
   where
     at : (o : Option Decision) → IfSome o (λ d. decided more ss (counted tests) ≡ Some d) → (k : Option Bool) → known s.set ≡ k
-        → IfSome (elim k [ None ↦ None | Some fails ↦ elim fails [ true ↦ Some (Fails s (counted tests)) | false ↦ o ] ]) (λ d. decided more (s ∷ ss) tests ≡ Some d)
+        → IfSome (elim k [ None ↦ None | Some fails ↦ elim fails [ true ↦ Some (Fails s (counted tests)) | false ↦ o ] ])
+        (λ d. decided more (s ∷ ss) tests ≡ Some d)
     at o rest None is = tt
     at o rest (Some true) is = rw (grows s.set true is, decided) refl
     at None rest (Some false) is = tt
@@ -211,7 +214,8 @@ step_more known more grows (Empty faults) q is = at (known []) refl is
     at (Some b) e is = rw (grows [] b e, step) is
 step_more known more grows (Round c n tests) q is = at (decided known (round c n) tests) (decided_more known more grows (round c n) tests) is
   where
-    at : (o : Option Decision) → IfSome o (λ d. decided more (round c n) tests ≡ Some d) → option_then (after_decision c n) o ≡ Some q → step more (Round c n tests) ≡ Some q
+    at : (o : Option Decision) → IfSome o (λ d. decided more (round c n) tests ≡ Some d) → option_then (after_decision c n) o ≡ Some q
+        → step more (Round c n tests) ≡ Some q
     at None e is = cc
     at (Some d) e is = ap (option_then (after_decision c n)) e ∙ is
 step_more known more grows (End x) q is = cc
@@ -229,7 +233,8 @@ furthest_stuck known p lawful = walk_stuck known (position_rank p) p lawful ≤_
     ≤_refl' : position_rank p ≤ position_rank p
     ≤_refl' = omega arith
 
-pub furthest_finish : (known : Answers) (test : List ℕ → Bool) → Agrees known test → (p : Position) → IsLawful p → finish test (furthest known p) ≡ finish test p
+pub furthest_finish : (known : Answers) (test : List ℕ → Bool) → Agrees known test → (p : Position) → IsLawful p
+    → finish test (furthest known p) ≡ finish test p
 unfolding furthest
 furthest_finish known test agrees p lawful = walk_finish known test agrees (position_rank p) p lawful
 
@@ -246,7 +251,8 @@ unfolding furthest walk
 furthest_step known p q lawful is =
     let g : Goes (guess known) p q = subst (λ o. IfSome o (λ q. Goes (guess known) p q)) is (goes known p lawful) in
     let near = g.nearer in
-    let longer : walk (position_rank p) known p ≡ walk (suc (position_rank p)) known p = walk_same known (position_rank p) (suc (position_rank p)) p lawful (omega arith) (omega arith) in
+    let longer : walk (position_rank p) known p ≡ walk (suc (position_rank p)) known p =
+    walk_same known (position_rank p) (suc (position_rank p)) p lawful (omega arith) (omega arith) in
     let one : walk (suc (position_rank p)) known p ≡ walk (position_rank p) known q = one_step (position_rank p) in
     longer ∙ one ∙ walk_same known (position_rank p) (position_rank q) q g.lawful (omega arith) (omega arith)
   where
@@ -282,7 +288,8 @@ start_finish test (suc more) = refl
 pub passes : (known : Answers) (test : List ℕ → Bool) (faults : ℕ) → Agrees known test → finish test (furthest known (start faults)) ≡ ddmin test faults
 passes known test faults agrees = furthest_finish known test agrees (start faults) (start_lawful faults) ∙ start_finish test faults
 
-pub ends : (known : Answers) (test : List ℕ → Bool) (faults : ℕ) (r : Reduced) → Agrees known test → furthest known (start faults) ≡ End r → r ≡ ddmin test faults
+pub ends : (known : Answers) (test : List ℕ → Bool) (faults : ℕ) (r : Reduced) → Agrees known test → furthest known (start faults) ≡ End r
+    → r ≡ ddmin test faults
 ends known test faults r agrees is = sym (ap (finish test) is) ∙ passes known test faults agrees
 
 -- what holds after a step, whatever test there is
@@ -320,7 +327,8 @@ start_small (suc more) le = le
 agreed : (known : Answers) (test : List ℕ → Bool) → Agrees known test → Grows known (λ s. Some (test s))
 agreed known test agrees s b is = ap (λ x. Some x) (agrees s b is)
 
-walk_through : (known : Answers) (test : List ℕ → Bool) → Agrees known test → (r : ℕ) (p : Position) → (steps : ℕ) × (walk steps (λ s. Some (test s)) p ≡ walk r known p)
+walk_through : (known : Answers) (test : List ℕ → Bool) → Agrees known test → (r : ℕ) (p : Position)
+    → (steps : ℕ) × (walk steps (λ s. Some (test s)) p ≡ walk r known p)
 unfolding walk
 walk_through known test agrees zero p = (0, refl)
 walk_through known test agrees (suc r) p = at (λ q. walk_through known test agrees r q) (step known p) refl
@@ -333,7 +341,8 @@ walk_through known test agrees (suc r) p = at (λ q. walk_through known test agr
         let same : step (λ s. Some (test s)) p ≡ Some q = step_more known (λ s. Some (test s)) (agreed known test agrees) p q is in
         (suc rest.0, rw (same, walk) rest.1)
 
-pub passes_through : (known : Answers) (test : List ℕ → Bool) (faults : ℕ) → Agrees known test → (steps : ℕ) × (walk steps (λ s. Some (test s)) (start faults) ≡ furthest known (start faults))
+pub passes_through : (known : Answers) (test : List ℕ → Bool) (faults : ℕ) → Agrees known test
+    → (steps : ℕ) × (walk steps (λ s. Some (test s)) (start faults) ≡ furthest known (start faults))
 unfolding furthest
 passes_through known test faults agrees = walk_through known test agrees (position_rank (start faults)) (start faults)
 
@@ -352,7 +361,8 @@ whole test faults = at (furthest (λ s. Some (test s)) (start faults)) refl (fur
     own : Agrees (λ s. Some (test s)) test
     own s b is = cc
 
-    round_case : (c : List ℕ) (n tests : ℕ) (o : Option Decision) → decided (λ s. Some (test s)) (round c n) tests ≡ o → option_then (after_decision c n) o ≡ None → ⊥
+    round_case : (c : List ℕ) (n tests : ℕ) (o : Option Decision) → decided (λ s. Some (test s)) (round c n) tests ≡ o
+        → option_then (after_decision c n) o ≡ None → ⊥
     round_case c n tests None e is = decided_whole test (round c n) tests e
     round_case c n tests (Some d) e is = let never : ◌≡◌ {A = Option Position} (Some (after_decision c n d)) None = is in cc
 

@@ -33,7 +33,8 @@ abbrev pub event_code : Coded Event
 event_code = code_by (ℕ × (List ℕ × Bool)) (coded× coded_ℕ (coded× (coded_list coded_ℕ) coded_bool)) event_parts (λ p. event_from p.0 p.1.0 p.1.1) event_back
 
 abbrev pub log_code : Coded Log
-log_code = code_by (ℕ × List Event) (coded× coded_ℕ (coded_list event_code)) (λ l. (l.faults, l.events)) (λ p. record { faults = p.0; events = p.1 }) (λ _. refl)
+log_code = code_by (ℕ × List Event) (coded× coded_ℕ (coded_list event_code))
+    (λ l. (l.faults, l.events)) (λ p. record { faults = p.0; events = p.1 }) (λ _. refl)
 
 -- the state that the events lead to
 abbrev pub state_of : Log → State

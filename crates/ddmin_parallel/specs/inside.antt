@@ -4,4 +4,5 @@ pub mod CoreStates
 pub mod Entries
 pub mod Stages
 pub mod Cursors
+pub mod Searches
 pub mod Inside

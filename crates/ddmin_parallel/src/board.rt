@@ -1,10 +1,11 @@
-ghost use Rattle.std.specs.Prelude.{◌≡◌, ℕ, ◌+◌, ◌<◌, ◌≤◌, List, [], ◌∷◌, ◌++◌, vec_len, vec_capacity, Bool, false, ◌&&◌, not, IsTrue, IfOk, OnOk, OnErr, IfErr, map, option_copied};
+ghost use Rattle.std.specs.Prelude.{◌≡◌, ◌+◌, ◌<◌, ◌≤◌, [], ◌∷◌, ◌++◌, ◌&&◌, if◌then◌else◌, not, map, vec_len, vec_capacity, option_copied};
+ghost use Rattle.std.specs.Prelude.{IsTrue, IfOk, OnOk, OnErr, IfErr};
 ghost use Rattle.ddmin_parallel.specs.CoreEvents.{position, is_out, Put, GiveBack, Recall};
 ghost use Rattle.ddmin_parallel.specs.Cards.{IsFinished, IsPutFault};
 ghost use Rattle.std.specs.List.{list_any, list_all};
-ghost use Rattle.ddmin_parallel.specs.Logs.{Log, state_of, with_event, log_after_take, log_after_give_back, log_after_recall, is_backed, is_event_backed, is_told, says};
+ghost use Rattle.ddmin_parallel.specs.Logs.{state_of, with_event, log_after_take, log_after_give_back, log_after_recall};
+ghost use Rattle.ddmin_parallel.specs.Logs.{is_backed, is_event_backed, is_told, says};
 ghost use Rattle.ddmin_parallel.specs.CoreEvents.{next, same_set};
-ghost use Rattle.std.specs.Prelude.{if◌then◌else◌};
 ghost use Rattle.ddmin_parallel.specs.InsideBoard.{event_of};
 
 use crate::reducer_core::{Card, CardFault, Core};

@@ -10,7 +10,8 @@ use std::alloc::{AllocError, Global};
 
 /// Answers the next card by the probe. False where there is none.
 fn answer_next<P: Probe>(alloc: Global, core: &mut Core, probe: &mut P) -> Result<bool, AllocError>
-    ensures tells { (faults : ℕ) → Tells faults (P.answers probe.old) core.old → IfOk result (λ more. IsTrue more → Tells faults (P.answers probe.old) core.new) }
+    ensures tells { (faults : ℕ) → Tells faults (P.answers probe.old) core.old
+        → IfOk result (λ more. IsTrue more → Tells faults (P.answers probe.old) core.new) }
     ensures setup { P.answers probe.new ≡ P.answers probe.old }
 {
     let Some(card) = core.take(alloc, false)? else {

@@ -14,11 +14,12 @@ use std::thread;
 use std::thread::Threads;
 use target_trait::{Gate, Phase};
 
-type Told = Vec<(Vec<u32>, bool)>;
+/// What one hand answered: sets of faults, and whether each fails.
+type Answered = Vec<(Vec<u32>, bool)>;
 
 /// The board, how often it moved, and how many cards were handed out.
 #[derive(Drop)]
-struct Desk {
+struct CountedBoard {
     board: Board,
     moves: u64,
     cards: u32,
@@ -26,11 +27,11 @@ struct Desk {
 
 #[derive(Drop)]
 struct Shared {
-    desk: Mutex<Desk>,
+    counted: Mutex<CountedBoard>,
     moved: Condvar,
 }
 
-impl Desk {
+impl CountedBoard {
     fn take(&mut self, alloc: Global) -> Result<Option<(Card, u32)>, AllocError> {
         let Some(card) = self.board.take(alloc, true)? else {
             return Ok(None);
@@ -63,7 +64,7 @@ impl Shared {
         requires { faults ≤ 4096 }
     {
         Shared {
-            desk: Mutex::new(Desk {
+            counted: Mutex::new(CountedBoard {
                 board: Board::start(alloc, faults),
                 moves: 0,
                 cards: 0,
@@ -75,16 +76,18 @@ impl Shared {
     /// The next card with its number, or none where there will be none or memory ran out.
     fn next_card<R: Wait>(&self, rt: &R, alloc: Global) -> Option<(Card, u32)> {
         for _ in rt.forever() {
-            let mut desk = self.desk.lock(rt);
-            match desk.take(alloc) {
+            let mut counted = self.counted.lock(rt);
+            match counted.take(alloc) {
                 Err(_) => return None,
                 Ok(Some(found)) => return Some(found),
                 Ok(None) => {
-                    if desk.board.finished().is_some() {
+                    if counted.board.finished().is_some() {
                         return None;
                     }
-                    let seen = desk.moves;
-                    let _desk = self.moved.wait_while(rt, desk, |desk| desk.moves == seen);
+                    let seen = counted.moves;
+                    let _counted = self
+                        .moved
+                        .wait_while(rt, counted, |counted| counted.moves == seen);
                 }
             }
         }
@@ -93,14 +96,14 @@ impl Shared {
 
     /// Puts an answer, and tells the others. False if there was no memory for it, and the card went back.
     fn put<R: Wait>(&self, rt: &R, alloc: Global, card: Card, fails: bool) -> bool {
-        let was_put = self.desk.lock(rt).put(alloc, card, fails);
+        let was_put = self.counted.lock(rt).put(alloc, card, fails);
         self.moved.notify_all();
         was_put
     }
 
     /// Gives a card back, and tells the others.
     fn give_back<R: Wait>(&self, rt: &R, card: Card) {
-        self.desk.lock(rt).give_back(card);
+        self.counted.lock(rt).give_back(card);
         self.moved.notify_all();
     }
 }
@@ -130,7 +133,7 @@ fn turn<R: Wait, P: Probe, G: Gate>(
     gate: &G,
     shared: &Shared,
     probe: &mut P,
-    told: &mut Told,
+    told: &mut Answered,
 ) -> bool
     ensures setup { P.answers probe.new ≡ P.answers probe.old }
     ensures told { AreAnswers (P.answers probe.old) told.old.items → AreAnswers (P.answers probe.old) told.new.items }
@@ -160,7 +163,7 @@ fn work<R: Wait, P: Probe, G: Gate>(
     gate: &G,
     shared: &Shared,
     probe: P,
-) -> (P, Told)
+) -> (P, Answered)
     ensures setup { P.answers result.0 ≡ P.answers probe }
     ensures told { AreAnswers (P.answers probe) result.1.items }
 {
@@ -181,24 +184,25 @@ fn all_told<R: Threads + Wait + Sync, P: Probe, G: Gate>(
     gate: &G,
     shared: &Shared,
     hands: Vec<P>,
-) -> Result<Vec<(P, Told)>, AllocError>
+) -> Result<Vec<(P, Answered)>, AllocError>
     ensures length { IfOk result (λ all. length all.items ≡ length hands.items) }
-    ensures told { (test : List ℕ → Bool) → All (λ p. P.answers p ≡ test) hands.items → IfOk result (λ all. All (λ r. (P.answers r.0 ≡ test) × AreAnswers test r.1.items) all.items) }
+    ensures told { (test : List ℕ → Bool) → All (λ p. P.answers p ≡ test) hands.items
+        → IfOk result (λ all. All (λ r. (P.answers r.0 ≡ test) × AreAnswers test r.1.items) all.items) }
 {
     thread::map_vec(rt, hands, &|probe| work(rt, alloc, gate, shared, probe))
 }
 
 /// What is under the lock, once the threads are joined.
 fn left_on(shared: Shared) -> Board {
-    shared.desk.into_inner().board
+    shared.counted.into_inner().board
 }
 
 /// Adds a probe, and apart from it what it answered.
 fn part_one<P: Probe>(
     probes: &mut Vec<P>,
-    pairs: &mut Vec<Told>,
+    pairs: &mut Vec<Answered>,
     probe: P,
-    told: Told,
+    told: Answered,
 ) -> Result<(), AllocError>
     ensures probes { OnOk result (probes.new.items ≡ probes.old.items ++ probe ∷ []) }
     ensures pairs { OnOk result (pairs.new.items ≡ pairs.old.items ++ told ∷ []) }
@@ -209,7 +213,10 @@ fn part_one<P: Probe>(
 }
 
 /// The probes, and apart from them what they answered.
-fn parted<P: Probe>(alloc: Global, all: Vec<(P, Told)>) -> Result<(Vec<P>, Vec<Told>), AllocError>
+fn parted<P: Probe>(
+    alloc: Global,
+    all: Vec<(P, Answered)>,
+) -> Result<(Vec<P>, Vec<Answered>), AllocError>
     ensures { IfOk result (λ r. (r.0.items ≡ map (λ x. x.0) all.items) × (r.1.items ≡ map (λ x. x.1) all.items)) }
 {
     let mut probes = Vec::new(alloc);
@@ -225,7 +232,7 @@ fn gathered<P: Probe>(
     alloc: Global,
     board: Board,
     probe: &mut P,
-    pairs: &[Told],
+    pairs: &[Answered],
     faults: u32,
 ) -> Result<Reduction, AllocError>
     requires few { faults ≤ 4096 }

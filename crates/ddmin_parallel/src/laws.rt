@@ -3,7 +3,8 @@ ghost use Rattle.std.specs.List.{list_any, range_with_len, AllByRecursion};
 ghost use Rattle.ddmin_parallel.specs.Ddmin.{ddmin, ddmin2, one_round, Fits, Reduced};
 ghost use Rattle.ddmin_parallel.specs.OneMinimal.{IsOneMinimal};
 ghost use Rattle.ddmin_parallel.specs.Sublists.{IsSublist, Ascends};
-ghost use Rattle.ddmin_parallel.specs.CoreEvents.{Answers, Agrees, start, furthest, finish, End, Event, Empty, Round, same_set, first_open, next_round, begin, replay, position, next, State, walk, is_out};
+ghost use Rattle.ddmin_parallel.specs.CoreEvents.{Answers, Agrees, start, furthest, finish, walk, Event, End, Empty, Round};
+ghost use Rattle.ddmin_parallel.specs.CoreEvents.{same_set, first_open, next_round, begin, replay, position, next, State, is_out};
 ghost use Rattle.std.specs.FinMap.{get};
 ghost use Rattle.ddmin_parallel.specs.Logs.{AreOwn};
 
@@ -47,21 +48,25 @@ pub fn failing_empty_set_keeps_nothing()
 /// Where the known answers lead to the end, it is that of each test that agrees with them, and every
 /// position on the way is one that leads there.
 pub fn known_answers_decide()
-    ensures leads { (known : Answers) (test : List ℕ → Bool) (faults : ℕ) → Agrees known test → finish test (furthest known (start faults)) ≡ ddmin test faults }
-    ensures ends { (known : Answers) (test : List ℕ → Bool) (faults : ℕ) (r : Reduced) → Agrees known test → furthest known (start faults) ≡ End r → r ≡ ddmin test faults }
+    ensures leads { (known : Answers) (test : List ℕ → Bool) (faults : ℕ) → Agrees known test
+        → finish test (furthest known (start faults)) ≡ ddmin test faults }
+    ensures ends { (known : Answers) (test : List ℕ → Bool) (faults : ℕ) (r : Reduced) → Agrees known test
+        → furthest known (start faults) ≡ End r → r ≡ ddmin test faults }
 {}
 
 /// Steps by a test's own answers go from the start to the end that is its reduction, and the position that
 /// known answers lead to is one that they pass through, for each test that agrees.
 pub fn known_answers_pass_through()
     ensures whole { (test : List ℕ → Bool) (faults : ℕ) → furthest (λ s. Some (test s)) (start faults) ≡ End (ddmin test faults) }
-    ensures passes { (known : Answers) (test : List ℕ → Bool) (faults : ℕ) → Agrees known test → (steps : ℕ) × (walk steps (λ s. Some (test s)) (start faults) ≡ furthest known (start faults)) }
+    ensures passes { (known : Answers) (test : List ℕ → Bool) (faults : ℕ) → Agrees known test
+        → (steps : ℕ) × (walk steps (λ s. Some (test s)) (start faults) ≡ furthest known (start faults)) }
 {}
 
 /// Whatever the order of events, where each answer that was put is the test's own and the end is reached,
 /// it is that of the recursion.
 pub fn events_decide()
-    ensures { (test : List ℕ → Bool) (faults : ℕ) (events : List Event) (r : Reduced) → AreOwn test events → position (replay (begin faults) events) ≡ End r → r ≡ ddmin test faults }
+    ensures { (test : List ℕ → Bool) (faults : ℕ) (events : List Event) (r : Reduced) → AreOwn test events
+        → position (replay (begin faults) events) ≡ End r → r ≡ ddmin test faults }
 {}
 
 /// No card comes only at the end, or where one is out.

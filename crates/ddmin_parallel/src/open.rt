@@ -1,9 +1,10 @@
-ghost use Rattle.std.specs.Prelude.{◌≡◌, ℕ, ◌^◌, ◌<◌, ◌≤◌, List, length, map, IfOk, Option, None, Bool};
+ghost use Rattle.std.specs.Prelude.{◌≡◌, ℕ, ◌^◌, ◌<◌, ◌≤◌, length, IfOk, None};
 ghost use Rattle.std.specs.FinMap as known_map;
-ghost use Rattle.ddmin_parallel.specs.CoreEvents.{Round, step, option_then, first_open, round_at};
+ghost use Rattle.ddmin_parallel.specs.CoreEvents.{Round, option_then, first_open, round_at};
 ghost use Rattle.ddmin_parallel.specs.inside.CoreStates.{IsLawful, IsSmall};
 ghost use Rattle.ddmin_parallel.specs.inside.Stages.{position_of};
-ghost use Rattle.ddmin_parallel.specs.inside.Cursors.{IsShutBelow, IsScan, IsReached, IsFurther, IsOpened, Leads, onward, is_among};
+ghost use Rattle.ddmin_parallel.specs.inside.Cursors.{IsShutBelow, IsScan, IsFurther, Leads, onward, is_among};
+ghost use Rattle.ddmin_parallel.specs.inside.Searches.{sets_of, HasReached, IsStuck, Opens};
 
 use crate::attempts::{Attempt, attempt_at, candidate_count};
 use crate::known::Known;
@@ -34,8 +35,8 @@ fn scanned_round(
     requires two { 2 ≤ parts }
     requires few { parts ≤ length kept.now }
     requires small { length kept.now < 2 ^ 31 }
-    requires shut { IsShutBelow (known_map.get known.now) (is_among (map (λ s. s.items) out.now)) (Round kept.now parts 0) from }
-    ensures { (tests : ℕ) → IfOk result (IsScan (known_map.get known.now) (is_among (map (λ s. s.items) out.now)) (Round kept.now parts tests)) }
+    requires shut { IsShutBelow (known_map.get known.now) (is_among (sets_of out.now)) (Round kept.now parts 0) from }
+    ensures { (tests : ℕ) → IfOk result (IsScan (known_map.get known.now) (is_among (sets_of out.now)) (Round kept.now parts tests)) }
 {
     let count = candidate_count(parts);
     for place in from..count {
@@ -66,8 +67,8 @@ fn scanned(
 ) -> Result<Scan, AllocError>
     requires lawful { IsLawful (position_of stage.now) }
     requires small { IsSmall (position_of stage.now) }
-    requires shut { IsShutBelow (known_map.get known.now) (is_among (map (λ s. s.items) out.now)) (position_of stage.now) from }
-    ensures { IfOk result (IsScan (known_map.get known.now) (is_among (map (λ s. s.items) out.now)) (position_of stage.now)) }
+    requires shut { IsShutBelow (known_map.get known.now) (is_among (sets_of out.now)) (position_of stage.now) from }
+    ensures { IfOk result (IsScan (known_map.get known.now) (is_among (sets_of out.now)) (position_of stage.now)) }
 {
     match stage {
         Stage::Empty(_) => {
@@ -101,10 +102,11 @@ fn further_set(
 ) -> Result<(Option<Vec<u32>>, usize), AllocError>
     requires lawful { IsLawful (position_of stage.now) }
     requires small { IsSmall (position_of stage.now) }
-    requires stuck { step (known_map.get known.now) (position_of stage.now) ≡ None }
+    requires stuck { IsStuck known.now stage.now }
     requires leads { Leads (known_map.get known.now) (position_of stage.now) failing }
-    requires shut { IsShutBelow (known_map.get known.now) (is_among (map (λ s. s.items) out.now)) (onward (known_map.get known.now) (position_of stage.now)) from }
-    ensures { IfOk result (λ r. IsFurther (known_map.get known.now) (map (λ s. s.items) out.now) (position_of stage.now) (option_then (λ s. s.items) r.0) r.1) }
+    requires shut { IsShutBelow (known_map.get known.now) (is_among (sets_of out.now)) (onward (known_map.get known.now) (position_of stage.now)) from }
+    ensures { IfOk result
+        (λ r. IsFurther (known_map.get known.now) (sets_of out.now) (position_of stage.now) (option_then (λ s. s.items) r.0) r.1) }
 {
     let next = following(alloc, stage, failing)?;
     match scanned(alloc, known, out, &next, from)? {
@@ -126,11 +128,11 @@ fn open_beyond(
 ) -> Result<(Option<Vec<u32>>, Cursor), AllocError>
     requires lawful { IsLawful (position_of stage.now) }
     requires small { IsSmall (position_of stage.now) }
-    requires stuck { step (known_map.get known.now) (position_of stage.now) ≡ None }
-    requires none { first_open (known_map.get known.now) (is_among (map (λ s. s.items) out.now)) (round_at (position_of stage.now)) ≡ None }
+    requires stuck { IsStuck known.now stage.now }
+    requires none { first_open (known_map.get known.now) (is_among (sets_of out.now)) (round_at (position_of stage.now)) ≡ None }
     requires leads { Leads (known_map.get known.now) (position_of stage.now) failing }
-    requires reached { IsReached (known_map.get known.now) (is_among (map (λ s. s.items) out.now)) (position_of stage.now) cursor }
-    ensures { IfOk result (λ r. IsOpened (known_map.get known.now) (map (λ s. s.items) out.now) (position_of stage.now) ahead (option_then (λ s. s.items) r.0) r.1) }
+    requires reached { HasReached known.now out.now stage.now cursor }
+    ensures { IfOk result (Opens known.now out.now stage.now ahead) }
 {
     if !ahead {
         return Ok((None, cursor));
@@ -150,9 +152,9 @@ pub(crate) fn open_set(
 ) -> Result<(Option<Vec<u32>>, Cursor), AllocError>
     requires lawful { IsLawful (position_of stage.now) }
     requires small { IsSmall (position_of stage.now) }
-    requires stuck { step (known_map.get known.now) (position_of stage.now) ≡ None }
-    requires reached { IsReached (known_map.get known.now) (is_among (map (λ s. s.items) out.now)) (position_of stage.now) cursor }
-    ensures { IfOk result (λ r. IsOpened (known_map.get known.now) (map (λ s. s.items) out.now) (position_of stage.now) ahead (option_then (λ s. s.items) r.0) r.1) }
+    requires stuck { IsStuck known.now stage.now }
+    requires reached { HasReached known.now out.now stage.now cursor }
+    ensures { IfOk result (Opens known.now out.now stage.now ahead) }
 {
     match scanned(alloc, known, out, stage, cursor.closed)? {
         Scan::Open(set, closed) => Ok((Some(set), Cursor { closed, ..cursor })),

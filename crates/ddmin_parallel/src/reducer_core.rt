@@ -1,11 +1,11 @@
-ghost use Rattle.std.specs.Prelude.{◌≡◌, ℕ, ◌≤◌, List, [], ◌∷◌, ◌++◌, ◌||◌, length, Bool, true, false, IsTrue, IfOk, OnOk, OnErr, IfErr, IfSome, IfNone, option_copied, Option, None, map};
-ghost use Rattle.std.specs.List.{list_any};
+ghost use Rattle.std.specs.Prelude.{◌≡◌, ◌≤◌, [], ◌∷◌, ◌++◌, length, IsTrue, IfOk, OnOk, OnErr, IfErr, IfSome, option_copied};
 ghost use Rattle.std.specs.FinMap as known_map;
-ghost use Rattle.ddmin_parallel.specs.CoreEvents.{State, begin, apply, position, next, after_take, option_then, is_out, same_set, step, Put, Take, GiveBack, Recall, End};
+ghost use Rattle.ddmin_parallel.specs.CoreEvents.{begin, apply, position, next, after_take, option_then, is_out, Put, GiveBack, Recall};
 ghost use Rattle.ddmin_parallel.specs.inside.CoreStates.{IsLawful, IsSmall, IsSettled, AreOpen};
 ghost use Rattle.ddmin_parallel.specs.Cards.{IsPutFault, IsFault, IsFinished};
 ghost use Rattle.ddmin_parallel.specs.inside.Stages.{position_of};
-ghost use Rattle.ddmin_parallel.specs.inside.Cursors.{IsReached, is_among, next_at, out_after, moved, stage_after};
+ghost use Rattle.ddmin_parallel.specs.inside.Cursors.{is_among, next_at, out_after, moved, stage_after};
+ghost use Rattle.ddmin_parallel.specs.inside.Searches.{sets_of, HasReached, IsStuck};
 
 use crate::known::Known;
 use crate::open::open_set;
@@ -124,12 +124,14 @@ fn settle(
 ) -> Result<(), CardFault>
     requires lawful { IsLawful (position_of stage.old) }
     requires small { IsSmall (position_of stage.old) }
-    requires open_sets { AreOpen known.old (map (λ s. s.items) out.old.items) }
-    requires reached { IsReached (known_map.get known.old) (is_among (map (λ s. s.items) out.old.items)) (position_of stage.old) cursor.old }
-    ensures ok { OnOk result (IsSettled known.old (map (λ s. s.items) out.old.items) (position_of stage.old) card fails known.new (map (λ s. s.items) out.new.items) (position_of stage.new)) }
-    ensures err { OnErr result ((known.new ≡ known.old) × (map (λ s. s.items) out.new.items ≡ map (λ s. s.items) out.old.items) × (position_of stage.new ≡ position_of stage.old)) }
-    ensures fault { IfErr result (IsFault (map (λ s. s.items) out.old.items) card) }
-    ensures reached { IsReached (known_map.get known.new) (is_among (map (λ s. s.items) out.new.items)) (position_of stage.new) cursor.new }
+    requires open_sets { AreOpen known.old (sets_of out.old.items) }
+    requires reached { HasReached known.old out.old.items stage.old cursor.old }
+    ensures ok { OnOk result (IsSettled known.old (sets_of out.old.items) (position_of stage.old) card fails
+        known.new (sets_of out.new.items) (position_of stage.new)) }
+    ensures err { OnErr result ((known.new ≡ known.old) × (sets_of out.new.items ≡ sets_of out.old.items)
+        × (position_of stage.new ≡ position_of stage.old)) }
+    ensures fault { IfErr result (IsFault (sets_of out.old.items) card) }
+    ensures reached { HasReached known.new out.new.items stage.new cursor.new }
 {
     if place_of(card.set.as_slice(), out.as_slice()).is_none() {
         return Err(CardFault::Stranger(card));
@@ -159,7 +161,7 @@ fn settle(
 /// Adds a copy of a set to those that are out, and gives another. An `Err` changes none of them.
 fn add_out(alloc: Global, out: &mut Vec<Vec<u32>>, set: &[u32]) -> Result<Vec<u32>, AllocError>
     ensures copy { IfOk result (λ other. other.items ≡ set.now) }
-    ensures out { OnOk result (map (λ s. s.items) out.new.items ≡ map (λ s. s.items) out.old.items ++ set.now ∷ []) }
+    ensures out { OnOk result (sets_of out.new.items ≡ sets_of out.old.items ++ set.now ∷ []) }
     ensures err { OnErr result (out.new.items ≡ out.old.items) }
 {
     let other = Vec::from_slice(alloc, set)?;
@@ -180,13 +182,14 @@ fn hand_out(
 ) -> Result<Option<(Card, Vec<u32>)>, AllocError>
     requires lawful { IsLawful (position_of stage.now) }
     requires small { IsSmall (position_of stage.now) }
-    requires stuck { step (known_map.get known.now) (position_of stage.now) ≡ None }
-    requires reached { IsReached (known_map.get known.now) (is_among (map (λ s. s.items) out.old.items)) (position_of stage.now) cursor.old }
-    ensures card { IfOk result (λ o. option_then (λ r. r.0) o ≡ next_at (known_map.get known.now) (is_among (map (λ s. s.items) out.old.items)) (position_of stage.now) ahead) }
+    requires stuck { IsStuck known.now stage.now }
+    requires reached { HasReached known.now out.old.items stage.now cursor.old }
+    ensures card { IfOk result (λ o. option_then (λ r. r.0) o
+        ≡ next_at (known_map.get known.now) (is_among (sets_of out.old.items)) (position_of stage.now) ahead) }
     ensures copy { IfOk result (λ o. IfSome o (λ r. r.1.items ≡ r.0)) }
-    ensures out { IfOk result (λ o. map (λ s. s.items) out.new.items ≡ out_after (map (λ s. s.items) out.old.items) (option_then (λ r. r.0) o)) }
-    ensures err { OnErr result (map (λ s. s.items) out.new.items ≡ map (λ s. s.items) out.old.items) }
-    ensures reached { IsReached (known_map.get known.now) (is_among (map (λ s. s.items) out.new.items)) (position_of stage.now) cursor.new }
+    ensures out { IfOk result (λ o. sets_of out.new.items ≡ out_after (sets_of out.old.items) (option_then (λ r. r.0) o)) }
+    ensures err { OnErr result (sets_of out.new.items ≡ sets_of out.old.items) }
+    ensures reached { HasReached known.now out.new.items stage.now cursor.new }
 {
     let (found, next) = open_set(alloc, known, out.as_slice(), stage, *cursor, ahead)?;
     let set = match found {

@@ -3,6 +3,7 @@ ghost use Rattle.std.specs.List.{list_any};
 ghost use Rattle.std.specs.FinMap as known_map;
 ghost use Rattle.ddmin_parallel.specs.CoreEvents.{same_set, without};
 ghost use Rattle.ddmin_parallel.specs.inside.CoreStates.{IsPlaceOf};
+ghost use Rattle.ddmin_parallel.specs.inside.Searches.{sets_of};
 
 use crate::known::Known;
 
@@ -15,7 +16,7 @@ pub fn is_same(one: &[u32], other: &[u32]) -> bool
 
 /// The place of a set among those that are out.
 pub fn place_of(set: &[u32], out: &[Vec<u32>]) -> Option<usize>
-    ensures { IsPlaceOf set.now (map (λ s. s.items) out.now) result }
+    ensures { IsPlaceOf set.now (sets_of out.now) result }
 {
     for (place, other) in out.iter().enumerate() {
         if is_same(set, other.as_slice()) {
@@ -27,8 +28,8 @@ pub fn place_of(set: &[u32], out: &[Vec<u32>]) -> Option<usize>
 
 /// Takes a set from those that are out, and says whether it was.
 pub fn take_from(set: &[u32], out: &mut Vec<Vec<u32>>) -> bool
-    ensures was { result ≡ list_any (same_set set.now) (map (λ s. s.items) out.old.items) }
-    ensures rest { map (λ s. s.items) out.new.items ≡ without set.now (map (λ s. s.items) out.old.items) }
+    ensures was { result ≡ list_any (same_set set.now) (sets_of out.old.items) }
+    ensures rest { sets_of out.new.items ≡ without set.now (sets_of out.old.items) }
 {
     match place_of(set, out.as_slice()) {
         Some(place) => {

@@ -35,7 +35,8 @@ AreOpen known [] = Unit {0}
 AreOpen known (s ∷ out) = (get known s ≡ None) × (list_any (same_set s) out ≡ false) × AreOpen known out
 
 -- what putting an answer does to what is known, which sets are out, and the position
-pub record IsSettled (known : Known) (out : List (List ℕ)) (p : Position) (s : List ℕ) (fails : Bool) (known' : Known) (out' : List (List ℕ)) (p' : Position) : Type 0 where
+pub record IsSettled (known : Known) (out : List (List ℕ)) (p : Position) (s : List ℕ) (fails : Bool)
+    (known' : Known) (out' : List (List ℕ)) (p' : Position) : Type 0 where
   pub was_out : list_any (same_set s) out ≡ true
   pub known_is : known' ≡ insert known s fails
   pub out_is : out' ≡ without s out

@@ -10,7 +10,8 @@ use Rattle.ddmin_parallel.proofs.BoardLemmas.{parted_own, last_of}
 use Rattle.ddmin_parallel.proofs.hands.reduce.Goals as goal
 
 -- all hands answer as one test does, and so do their pairs
-told_apart : {P : Type 0} (answers : P → List ℕ → Bool) (test : List ℕ → Bool) (all : List (P × Vec (Vec ℕ Global × Bool) Global)) (probes rest : List P) (pairs : List (Vec (Vec ℕ Global × Bool) Global)) (popped : Option P) (probe : P)
+told_apart : {P : Type 0} (answers : P → List ℕ → Bool) (test : List ℕ → Bool) (all : List (P × Vec (Vec ℕ Global × Bool) Global)) (probes rest : List P)
+    (pairs : List (Vec (Vec ℕ Global × Bool) Global)) (popped : Option P) (probe : P)
     → All (λ r. (answers r.0 ≡ test) × AreAnswers test r.1.items) all → probes ≡ map (λ r. r.0) all → pairs ≡ map (λ r. r.1) all
     → probes ≡ rest ++ option_to_list popped → popped ≡ Some probe → (answers probe ≡ test) × AllAnswers test pairs
 told_apart {P = P} answers test all probes rest pairs popped probe own one two cut is =
@@ -22,7 +23,8 @@ same_setup : {P : Type 0} (answers : P → List ℕ → Bool) (hands : List P) (
     → All (λ p. All (λ q. answers p ≡ answers q) hands) hands → All (λ p. answers p ≡ answers (get_or hands 0 probe)) hands
 same_setup answers hands probe some one = λ k d lt. one k d lt 0 probe some
 
-each_hand : {P : Type 0} (answers : P → List ℕ → Bool) (hands : List P) (probe : P) (faults : ℕ) (r : Reduced) → All (λ p. answers p ≡ answers (get_or hands 0 probe)) hands
+each_hand : {P : Type 0} (answers : P → List ℕ → Bool) (hands : List P) (probe : P) (faults : ℕ) (r : Reduced)
+    → All (λ p. answers p ≡ answers (get_or hands 0 probe)) hands
     → answers probe ≡ answers (get_or hands 0 probe) → r ≡ ddmin (answers probe) faults → All (λ p. r ≡ ddmin (answers p) faults) hands
 each_hand answers hands probe faults r one this is = λ k d lt. is ∙ ap (λ t. ddmin t faults) (this ∙ sym (one k d lt))
 
@@ -31,8 +33,10 @@ gathered-requires-clause-own g c κs within =
     let answers = g.P.Probe.answers in
     let probe = c.unwrap-probe.result in
     let one = same_setup answers c.args.hands.items probe c.requires.some c.requires.one_setup in
-    let apart = told_apart answers (answers (get_or c.args.hands.items 0 probe)) c.in_ok-all.all.items c.in_ok-probes.probes.items c.pop.new.self.items c.in_ok-probes.pairs.items c.pop.result probe
-    (c.in_ok-all.ensures.told (answers (get_or c.args.hands.items 0 probe)) one) c.in_ok-probes.ensures.0 c.in_ok-probes.ensures.1 c.pop.ensures.items c.unwrap-probe.ensures in
+    let apart = told_apart answers (answers (get_or c.args.hands.items 0 probe)) c.in_ok-all.all.items c.in_ok-probes.probes.items c.pop.new.self.items
+    c.in_ok-probes.pairs.items c.pop.result probe
+    (c.in_ok-all.ensures.told (answers (get_or c.args.hands.items 0 probe)) one) c.in_ok-probes.ensures.0 c.in_ok-probes.ensures.1 c.pop.ensures.items
+    c.unwrap-probe.ensures in
     subst (AllAnswers (answers probe)) (sym c.as_slice.ensures.value) (subst (λ t. AllAnswers t c.in_ok-probes.pairs.items) (sym apart.0) apart.1)
 
 pub returns : goal.returns
@@ -40,7 +44,9 @@ returns g c =
     let answers = g.P.Probe.answers in
     let probe = c.unwrap-probe.result in
     let one = same_setup answers c.args.hands.items probe c.requires.some c.requires.one_setup in
-    let apart = told_apart answers (answers (get_or c.args.hands.items 0 probe)) c.in_ok-all.all.items c.in_ok-probes.probes.items c.pop.new.self.items c.in_ok-probes.pairs.items c.pop.result probe
-    (c.in_ok-all.ensures.told (answers (get_or c.args.hands.items 0 probe)) one) c.in_ok-probes.ensures.0 c.in_ok-probes.ensures.1 c.pop.ensures.items c.unwrap-probe.ensures in
+    let apart = told_apart answers (answers (get_or c.args.hands.items 0 probe)) c.in_ok-all.all.items c.in_ok-probes.probes.items c.pop.new.self.items
+    c.in_ok-probes.pairs.items c.pop.result probe
+    (c.in_ok-all.ensures.told (answers (get_or c.args.hands.items 0 probe)) one) c.in_ok-probes.ensures.0 c.in_ok-probes.ensures.1 c.pop.ensures.items
+    c.unwrap-probe.ensures in
     IfOk-weaker c.gathered.result (λ r. r ≡ ddmin (answers probe) c.args.faults) (λ r. All (λ p. r ≡ ddmin (answers p) c.args.faults) c.args.hands.items)
     (λ r is. each_hand answers c.args.hands.items probe c.args.faults r one apart.0 is) c.gathered.ensures

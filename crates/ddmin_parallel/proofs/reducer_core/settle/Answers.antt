@@ -9,39 +9,52 @@ use Rattle.ddmin_parallel.specs.inside.Stages.{position_of}
 use Rattle.ddmin_parallel.specs.inside.Cursors.{is_among, IsReached, IsAdvanced, moved, stage_after}
 use Rattle.ddmin_parallel.specs.declared.stage.Cursor.{Cursor}
 use Rattle.ddmin_parallel.specs.declared.stage.Stage.{Stage}
-use Rattle.ddmin_parallel.proofs.Places.{sets, placed}
+use Rattle.ddmin_parallel.specs.inside.Searches.{sets_of}
+use Rattle.ddmin_parallel.proofs.Places.{placed}
 use Rattle.ddmin_parallel.proofs.CoreLemmas.{counted_put, settled_reached}
 use Rattle.ddmin_parallel.proofs.reducer_core.settle.Goals as goal
 
-was_out : (s t : List ℕ) (xs ys : List (Vec ℕ Global)) (o : Option ℕ) → IsPlaceOf s (sets xs) o → is_some o ≡ true → s ≡ t → xs ≡ ys → list_any (same_set t) (sets ys) ≡ true
-was_out s t xs ys o h is same list = ap (λ u. list_any (same_set u) (sets ys)) (sym same) ∙ ap (λ zs. list_any (same_set s) (sets zs)) (sym list) ∙ placed s (sets xs) o h is
+was_out : (s t : List ℕ) (xs ys : List (Vec ℕ Global)) (o : Option ℕ) → IsPlaceOf s (sets_of xs) o → is_some o ≡ true → s ≡ t → xs ≡ ys
+    → list_any (same_set t) (sets_of ys) ≡ true
+was_out s t xs ys o h is same list = ap (λ u. list_any (same_set u) (sets_of ys)) (sym same) ∙ ap (λ zs. list_any (same_set s) (sets_of zs)) (sym list)
+    ∙ placed s (sets_of xs) o h is
 
 pub advanced-requires-clause-counted : goal.advanced-requires-clause-counted
 advanced-requires-clause-counted c =
-    counted_put c.args.known.now (sets c.args.out.now.items) (position_of c.args.stage.now) c.as_slice-3.result.now c.args.fails c.args.cursor.now c.requires.open_sets
-    (was_out c.as_slice.result.now c.as_slice-3.result.now c.as_slice-2.result.now c.args.out.now.items c.place_of.result c.place_of.ensures c.if-is_none.ensures
+    counted_put c.args.known.now (sets_of c.args.out.now.items) (position_of c.args.stage.now) c.as_slice-3.result.now c.args.fails c.args.cursor.now
+    c.requires.open_sets
+    (was_out c.as_slice.result.now c.as_slice-3.result.now c.as_slice-2.result.now c.args.out.now.items c.place_of.result c.place_of.ensures
+    c.if-is_none.ensures
     (c.as_slice.ensures.value ∙ sym c.as_slice-3.ensures.value) c.as_slice-2.ensures.value)
     c.requires.reached
 
 -- the cursor after the answer, where each value is known by an equation
-reached_then : (known known' : Known) (out out' : List (List ℕ)) (stage stage' : Stage) (s t : List ℕ) (b anew : Bool) (cursor cursor' : Cursor) (o : Option Stage) (place : ℕ)
-    → AreOpen known out → list_any (same_set s) out ≡ true → IsReached (get known) (is_among out) (position_of stage) cursor → IsAdvanced (get (insert known t b)) (position_of stage) o place
-    → t ≡ s → known' ≡ insert known s b → out' ≡ without s out → position_of stage' ≡ position_of (stage_after stage o) → anew ≡ (b || is_some o) → cursor' ≡ moved cursor place anew
+reached_then : (known known' : Known) (out out' : List (List ℕ)) (stage stage' : Stage) (s t : List ℕ) (b anew : Bool) (cursor cursor' : Cursor)
+    (o : Option Stage) (place : ℕ)
+    → AreOpen known out → list_any (same_set s) out ≡ true → IsReached (get known) (is_among out) (position_of stage) cursor
+    → IsAdvanced (get (insert known t b)) (position_of stage) o place
+    → t ≡ s → known' ≡ insert known s b → out' ≡ without s out → position_of stage' ≡ position_of (stage_after stage o) → anew ≡ (b || is_some o)
+    → cursor' ≡ moved cursor place anew
     → IsReached (get known') (is_among out') (position_of stage') cursor'
-reached_then known known' out out' stage stage' s t b anew cursor cursor' o place open_sets was reached advance same known_is out_is stage_is anew_is cursor_is =
-    let there = settled_reached known out stage s b cursor o place open_sets was reached (subst (λ u. IsAdvanced (get (insert known u b)) (position_of stage) o place) same advance) in
+reached_then known known' out out' stage stage' s t b anew cursor cursor' o place open_sets was reached advance same known_is out_is stage_is anew_is
+    cursor_is =
+    let there = settled_reached known out stage s b cursor o place open_sets was reached
+    (subst (λ u. IsAdvanced (get (insert known u b)) (position_of stage) o place) same advance) in
     subst (λ k. IsReached (get k) (is_among out') (position_of stage') cursor') (sym known_is)
     (subst (λ u. IsReached (get (insert known s b)) (is_among u) (position_of stage') cursor') (sym out_is)
     (subst (λ p. IsReached (get (insert known s b)) (is_among (without s out)) p cursor') (sym stage_is)
-    (subst (IsReached (get (insert known s b)) (is_among (without s out)) (position_of (stage_after stage o))) (sym (cursor_is ∙ ap (moved cursor place) anew_is)) there)))
+    (subst (IsReached (get (insert known s b)) (is_among (without s out)) (position_of (stage_after stage o)))
+    (sym (cursor_is ∙ ap (moved cursor place) anew_is)) there)))
 
 pub returns-clause-reached : goal.returns-clause-reached
 returns-clause-reached c =
     let s = c.card.inside.set.items in
-    reached_then c.args.known.now c.learn.new.known (sets c.args.out.now.items) (sets c.take_from.new.out.items) c.args.stage.now c.go_on.new.stage s c.as_slice-3.result.now c.args.fails (c.args.fails || c.is_some.result)
+    reached_then c.args.known.now c.learn.new.known (sets_of c.args.out.now.items)
+    (sets_of c.take_from.new.out.items) c.args.stage.now c.go_on.new.stage s c.as_slice-3.result.now c.args.fails (c.args.fails || c.is_some.result)
     c.args.cursor.now c.moved_cursor.result c.in-Ok.advance.0 c.in-Ok.advance.1 c.requires.open_sets
-    (was_out c.as_slice.result.now s c.as_slice-2.result.now c.args.out.now.items c.place_of.result c.place_of.ensures c.if-is_none.ensures c.as_slice.ensures.value c.as_slice-2.ensures.value)
+    (was_out c.as_slice.result.now s c.as_slice-2.result.now c.args.out.now.items c.place_of.result c.place_of.ensures c.if-is_none.ensures
+    c.as_slice.ensures.value c.as_slice-2.ensures.value)
     c.requires.reached c.in-Ok.ensures c.as_slice-3.ensures.value
     (c.in-Ok-learn.ensures.ok ∙ ap (λ u. insert c.args.known.now u c.args.fails) c.as_slice-4.ensures.value)
-    (c.take_from.ensures.rest ∙ ap (λ u. without u (sets c.args.out.now.items)) c.as_slice-5.ensures.value)
+    (c.take_from.ensures.rest ∙ ap (λ u. without u (sets_of c.args.out.now.items)) c.as_slice-5.ensures.value)
     c.go_on.ensures (ap (λ b. c.args.fails || b) c.is_some.ensures) c.moved_cursor.ensures

@@ -10,7 +10,8 @@ invariant_of-self c =
     let s = c.as_slice.result.now in
     let fewer = out_given_back c.self.inside.core c.end_card.new.self s (sym c.end_card.ensures.was ∙ c.if-end_card.true) c.end_card.ensures.event in
     record {
-      stands = board_push c.self.inside.core c.end_card.new.self c.self.inside.events.items c.note.new.events.items (core.GiveBack s) (GiveBack c.into_set-set.result)
+      stands = board_push c.self.inside.core c.end_card.new.self c.self.inside.events.items c.note.new.events.items (core.GiveBack s)
+          (GiveBack c.into_set-set.result)
           c.self.invariant.stands c.end_card.ensures.event c.note.ensures.items (ap core.GiveBack (sym c.as_slice.ensures.value));
       room = omega (arith, fewer, c.self.invariant.room, c.note.ensures.len, c.note.ensures.capacity);
     }

@@ -10,7 +10,18 @@ invariant_of-self-in-Some-2 c =
     let event = c.in_ok-take_two.ensures.event ∙ ap (λ o. core.after_take c.self.inside.core (core.option_then (λ r. r.0) o)) c.in-Some-2.is in
     let more = out_taken c.self.inside.core c.take_two.new.self c.in-Some-2.card event in
     record {
-      stands = board_push c.self.inside.core c.take_two.new.self c.self.inside.events.items c.note.new.events.items (core.Take c.in-Some-2.card) (Take c.in-Some-2.copy)
-          c.self.invariant.stands event (c.note.ensures.items ∙ ap (λ es. es ++ Take c.in-Some-2.copy ∷ []) c.in_ok-reserve.ensures.items) (ap core.Take copied);
-      room = omega (arith, more, c.out_len.ensures, c.in-Some.ensures, c.in_ok-reserve.ensures.ok, c.in_ok-reserve.ensures.len, c.note.ensures.len, c.note.ensures.capacity);
+      stands = board_push c.self.inside.core c.take_two.new.self c.self.inside.events.items c.note.new.events.items (core.Take c.in-Some-2.card)
+          (Take c.in-Some-2.copy)
+          c.self.invariant.stands event (c.note.ensures.items ∙ ap (λ es. es ++ Take c.in-Some-2.copy ∷ []) c.in_ok-reserve.ensures.items)
+          (ap core.Take copied);
+      room = omega (
+        arith,
+        more,
+        c.out_len.ensures,
+        c.in-Some.ensures,
+        c.in_ok-reserve.ensures.ok,
+        c.in_ok-reserve.ensures.len,
+        c.note.ensures.len,
+        c.note.ensures.capacity,
+      );
     }
