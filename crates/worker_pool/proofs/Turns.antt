@@ -87,6 +87,13 @@ module _ {J A S T : Type 0} (setup : J → T) (limit : T → ℕ) (answers : T �
   Worked-from s t o p d e is is' was = subst (λ (x : Option Desk). WorkedAt setup limit answers s t (Some d) x) is'
       (subst (λ (x : Option Desk). WorkedAt setup limit answers s t x p) is was)
 
+  -- .. of two stations that have these desks and the same hands and answers
+  pub WorkedAt-from : (s t s' t' : Station J A S) (o p : Option Desk) (d e : Desk) → o ≡ Some d → p ≡ Some e → SameWork s s' → SameWork t t'
+      → Worked setup limit answers s t d e → WorkedAt setup limit answers s' t' o p
+  WorkedAt-from s t s' t' o p d e is is' same same' was =
+      subst (λ (x : Option Desk). WorkedAt setup limit answers s' t' x p) (sym is)
+      (subst (λ (x : Option Desk). WorkedAt setup limit answers s' t' (Some d) x) (sym is') (Worked-along s t s' t' d e same same' was))
+
   pub Finishes-refl : (s : Station J A S) (d : Desk) → TakenIn d → Finishes setup answers s s d d
   Finishes-refl s d taken_in = record { on = GoesOn-refl s; once = λ test. refl; taken_in = taken_in; pushed = refl; stolen = refl }
 
