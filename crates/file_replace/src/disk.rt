@@ -4,7 +4,7 @@ ghost use Rattle.sim_device.specs.FileEffects.{Effect, Append, Create, Sync, Ren
 ghost use Rattle.sim_device.specs.Disk.{AddsEffect, StandsFor, entry_at};
 ghost use Rattle.file_replace.specs.Words.{number_of, target, tmp};
 
-use sim_device::{DeviceFault, FileDevice};
+use sim_device::FileDevice;
 use std::alloc::AllocError;
 
 /// A name on the device.
@@ -33,11 +33,7 @@ pub fn create(device: &mut FileDevice, name: Name) -> Result<(), AllocError>
     requires { is_some (entry_at device.old.names (number_of name)).live ≡ false }
     ensures { OnOk result (AddsEffect device.old device.new (Create (number_of name))) }
 {
-    match device.create(name.number()) {
-        Ok(()) => Ok(()),
-        Err(DeviceFault::Memory) => Err(AllocError),
-        Err(DeviceFault::Exists | DeviceFault::NotFound) => unreachable!(),
-    }
+    device.must_create(name.number())
 }
 
 /// More bytes at the end of a file.
@@ -45,11 +41,7 @@ pub fn append(device: &mut FileDevice, name: Name, bytes: &[u8]) -> Result<(), A
     requires { is_none (entry_at device.old.names (number_of name)).live ≡ false }
     ensures { OnOk result (AddsEffect device.old device.new (Append (number_of name) bytes.now)) }
 {
-    match device.append(name.number(), bytes) {
-        Ok(()) => Ok(()),
-        Err(DeviceFault::Memory) => Err(AllocError),
-        Err(DeviceFault::Exists | DeviceFault::NotFound) => unreachable!(),
-    }
+    device.must_append(name.number(), bytes)
 }
 
 /// What a file holds lasts.
@@ -57,10 +49,7 @@ pub fn sync(device: &mut FileDevice, name: Name)
     requires { is_none (entry_at device.old.names (number_of name)).live ≡ false }
     ensures { AddsEffect device.old device.new (Sync (number_of name)) }
 {
-    match device.sync(name.number()) {
-        Ok(()) => {}
-        Err(_) => unreachable!(),
-    }
+    device.must_sync(name.number());
 }
 
 /// A name is gone.
@@ -68,10 +57,7 @@ pub fn unlink(device: &mut FileDevice, name: Name)
     requires { is_none (entry_at device.old.names (number_of name)).live ≡ false }
     ensures { AddsEffect device.old device.new (Unlink (number_of name)) }
 {
-    match device.unlink(name.number()) {
-        Ok(()) => {}
-        Err(_) => unreachable!(),
-    }
+    device.must_unlink(name.number());
 }
 
 /// The file of `tmp` comes under `target`.
@@ -79,11 +65,7 @@ pub fn rename(device: &mut FileDevice) -> Result<(), AllocError>
     requires { is_none (entry_at device.old.names tmp).live ≡ false }
     ensures { OnOk result (AddsEffect device.old device.new (Rename tmp target)) }
 {
-    match device.rename(Name::Tmp.number(), Name::Target.number()) {
-        Ok(()) => Ok(()),
-        Err(DeviceFault::Memory) => Err(AllocError),
-        Err(DeviceFault::Exists | DeviceFault::NotFound) => unreachable!(),
-    }
+    device.must_rename(Name::Tmp.number(), Name::Target.number())
 }
 
 /// Whether a name is there.
