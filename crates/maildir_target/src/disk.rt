@@ -5,7 +5,7 @@ ghost use Rattle.sim_device.specs.Disk.{AddsEffect, entry_at};
 ghost use Rattle.maildir_target.specs.inside.Seen.{tmp_of_delivery, new_of_delivery};
 
 use crate::delivery::Delivery;
-use sim_device::{DeviceFault, FileDevice};
+use sim_device::FileDevice;
 use std::alloc::AllocError;
 
 /// A new file under `tmp/`.
@@ -13,11 +13,7 @@ pub fn create(delivery: &Delivery<'_>, device: &mut FileDevice) -> Result<(), Al
     requires { is_some (entry_at device.old.names (tmp_of_delivery delivery.now)).live ≡ false }
     ensures { OnOk result (AddsEffect device.old device.new (Create (tmp_of_delivery delivery.now))) }
 {
-    match device.create(delivery.tmp()) {
-        Ok(()) => Ok(()),
-        Err(DeviceFault::Memory) => Err(AllocError),
-        Err(DeviceFault::Exists | DeviceFault::NotFound) => unreachable!(),
-    }
+    device.must_create(delivery.tmp())
 }
 
 /// More bytes at the end of the file under `tmp/`.
@@ -29,11 +25,7 @@ pub fn append(
     requires { is_none (entry_at device.old.names (tmp_of_delivery delivery.now)).live ≡ false }
     ensures { OnOk result (AddsEffect device.old device.new (Append (tmp_of_delivery delivery.now) bytes.now)) }
 {
-    match device.append(delivery.tmp(), bytes) {
-        Ok(()) => Ok(()),
-        Err(DeviceFault::Memory) => Err(AllocError),
-        Err(DeviceFault::Exists | DeviceFault::NotFound) => unreachable!(),
-    }
+    device.must_append(delivery.tmp(), bytes)
 }
 
 /// What the file under `tmp/` holds lasts.
@@ -41,10 +33,7 @@ pub fn sync(delivery: &Delivery<'_>, device: &mut FileDevice)
     requires { is_none (entry_at device.old.names (tmp_of_delivery delivery.now)).live ≡ false }
     ensures { AddsEffect device.old device.new (Sync (tmp_of_delivery delivery.now)) }
 {
-    match device.sync(delivery.tmp()) {
-        Ok(()) => {}
-        Err(_) => unreachable!(),
-    }
+    device.must_sync(delivery.tmp());
 }
 
 /// The file under `tmp/` is also under `new/`, where that name isn't there.
@@ -53,11 +42,7 @@ pub fn link(delivery: &Delivery<'_>, device: &mut FileDevice) -> Result<(), Allo
     requires to { is_some (entry_at device.old.names (new_of_delivery delivery.now)).live ≡ false }
     ensures { OnOk result (AddsEffect device.old device.new (Link (tmp_of_delivery delivery.now) (new_of_delivery delivery.now))) }
 {
-    match device.link(delivery.tmp(), delivery.delivered()) {
-        Ok(()) => Ok(()),
-        Err(DeviceFault::Memory) => Err(AllocError),
-        Err(DeviceFault::Exists | DeviceFault::NotFound) => unreachable!(),
-    }
+    device.must_link(delivery.tmp(), delivery.delivered())
 }
 
 /// The name under `tmp/` is gone.
@@ -65,8 +50,5 @@ pub fn unlink(delivery: &Delivery<'_>, device: &mut FileDevice)
     requires { is_none (entry_at device.old.names (tmp_of_delivery delivery.now)).live ≡ false }
     ensures { AddsEffect device.old device.new (Unlink (tmp_of_delivery delivery.now)) }
 {
-    match device.unlink(delivery.tmp()) {
-        Ok(()) => {}
-        Err(_) => unreachable!(),
-    }
+    device.must_unlink(delivery.tmp());
 }
