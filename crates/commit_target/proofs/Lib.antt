@@ -7,4 +7,5 @@ pub mod Flawed
 pub mod Counting
 pub mod Sets
 pub mod Playing
+pub mod Batches
 pub mod Rounds

@@ -17,7 +17,7 @@ use Rattle.commit_target.specs.Words.{point_names}
 use Rattle.commit_target.specs.Work.{Work}
 use Rattle.commit_target.specs.Writes.{Written, AllLogs, AddsEvent, LogsStandFor}
 use Rattle.commit_target.specs.Steps.{Step, SendPrepare, Tally, State, opened, one_of, SendAck, Over, unacknowledged, next_of, after_commit_to, prepare_write, end_unless, machine, on_return, return_write, with_write, stepped, at_step, begun, point_at, judged_at}
-use Rattle.commit_target.specs.Seen.{OnCut, Leads, Due, Stands, Ended, Answered}
+use Rattle.commit_target.specs.inside.Seen.{OnCut, Leads, Due, Stands, Ended, Answered}
 
 -- the next answer
 more : (v : Variant) (w : Work) (r : Run) (t : Tally) (l : AllLogs) (p : ℕ) → (k : Stands v w r t l) → point_at t.step ≡ Some p → (r' : Run) → r' ≡ hit r p → (a : Reply) → replies r' ≡ replies r ++ a ∷ []

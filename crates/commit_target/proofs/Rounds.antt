@@ -1,9 +1,10 @@
 -- Rounds of points that are answered to go on, one after another.
-use Rattle.std.proofs.Common.{◌≡◌, ◌<◌, ◌≤◌, ℕ, zero, suc, ◌+◌, Bool, true, false, cond, List, ◌∷◌, length, ◌==◌, nat_lt, Option, Some, None, refl, ap, sym, ◌∙◌, subst, arith}
+use Rattle.std.proofs.Common.{◌≡◌, ◌<◌, ◌≤◌, ℕ, zero, suc, ◌+◌, Bool, true, false, cond, List, ◌∷◌, length, replicate, ◌==◌, nat_lt, Option, Some, None, refl, ap, sym, ◌∙◌, subst, arith}
 use Rattle.action_eval.specs.Answers.{Run, Go, AllGo, hits_of, rounds, stopped}
 use Rattle.target_trait.specs.Machine.{Reached, AsksInTurn}
 use Rattle.target_trait.proofs.Machine.{gone, reached_on}
 use Rattle.commit_target.specs.declared.variant.Variant.{Variant}
+use Rattle.commit_target.specs.declared.variant.Variant.TheVariants.{Sound, LazyPrepare, EarlyEnd, TwoTries}
 use Rattle.commit_target.specs.declared.work.Vote.{Vote}
 use Rattle.commit_target.specs.declared.work.Vote.TheVariants.{Yes}
 use Rattle.commit_target.specs.declared.records.Write.{Write}
@@ -11,9 +12,10 @@ use Rattle.commit_target.specs.declared.records.Kind.TheVariants as kind
 use Rattle.commit_target.specs.declared.records.Party.TheVariants.{Participant}
 use Rattle.commit_target.specs.declared.records.Write.TheVariants.{Force}
 use Rattle.commit_target.specs.Work.{Work, wish}
-use Rattle.commit_target.specs.Writes.{Event, Written, AllLogs, AddsEvent, LogsStandFor}
-use Rattle.commit_target.specs.Steps.{SendCommit, SendAck, commit_to, end_unless, with_write, entry, Step, SendPrepare, ForcePrepare, SendVote, ForceCommit, Over, Tally, State, machine, number, at_step, with_yes, opened, begun, first_of, one_of, abort_to, aborted, prepare_to, vote_step, prepare_write}
-use Rattle.commit_target.specs.Seen.{Due, at_commit, commit_points, Here, Stands, Passing, at_vote, WishYes, vote_points}
+use Rattle.commit_target.specs.Writes.{Event, Written, AllLogs, LogsStandFor}
+use Rattle.commit_target.specs.Steps.{SendCommit, SendAck, SendAbort, commit_to, end_unless, with_write, entry, Step, SendPrepare, ForcePrepare, SendVote, ForceCommit, Over, Tally, State, machine, number, at_step, with_yes, opened, begun, first_of, one_of, abort_to, aborted, prepare_to, vote_step, prepare_write}
+use Rattle.commit_target.specs.inside.Batches.{all_written, AddsAll, with_all_yes, abort_write}
+use Rattle.commit_target.specs.inside.Seen.{Due, at_commit, commit_points, Here, Stands, at_vote, at_abort, WishYes, vote_points}
 use Rattle.commit_target.proofs.Playing.{same_end, same_prepare, some_of}
 
 -- ---- where the steps lead doesn't depend on the step
@@ -84,43 +86,52 @@ votes_asked v w (suc n) t i es h all =
 
 -- ---- rounds that are passed
 
-pub passing : (v : Variant) (w : Work) (r : Run) (l : AllLogs) (ps : List ℕ) (n : ℕ) (at : List Event → State) (es : List Event) → Here v w r (at es) → LogsStandFor w.participants l es
-    → AsksInTurn (machine v w) (at es) (rounds n ps) → AllGo r (rounds n ps) → (r' : Run) → r' ≡ hits_of r (rounds n ps) → stopped r' ≡ None → Passing v w r' ps n at l
-passing v w r l ps n at es here logs asks goes r' same running = record {
-  events = es;
-  here = record {
-    points = ap (λ (x : Run). x.given.catalogue) same ∙ here.points;
-    running = running;
-    reached = subst (λ (x : Run). Reached (machine v w) x (gone (machine v w) (at es) (rounds n ps))) (sym same) (reached_on (machine v w) (rounds n ps) r (at es) here.reached asks goes);
-  };
-  written = logs;
+passed_on : (v : Variant) (w : Work) (r : Run) (ps : List ℕ) (s : State) → Here v w r s → AsksInTurn (machine v w) s ps → AllGo r ps
+    → (r' : Run) → r' ≡ hits_of r ps → stopped r' ≡ None → Here v w r' (gone (machine v w) s ps)
+passed_on v w r ps s here asks goes r' same running = record {
+  points = ap (λ (x : Run). x.given.catalogue) same ∙ here.points;
+  running = running;
+  reached = subst (λ (x : Run). Reached (machine v w) x (gone (machine v w) s ps)) (sym same) (reached_on (machine v w) ps r s here.reached asks goes);
 }
 
 pub first_vote : (v : Variant) (w : Work) (r : Run) (t : Tally) (l : AllLogs) → 1 ≤ w.participants → Stands v w r (at_step t (SendPrepare 0)) l → Stands v w r (prepare_to w t (one_of 0 w.participants)) l
 first_vote v w r t l some k = subst (λ (o : Option ℕ). Stands v w r (prepare_to w t o) l) (sym (some_of 0 w.participants (omega arith))) k
 
+prepares : Variant → Tally → ℕ → Write
+prepares v t = λ j. prepare_write v t j
+
+same_writes : (v : Variant) (t : Tally) (i : ℕ) → prepares v (with_yes t i) ≡ prepares v t
+unfolding prepares
+same_writes Sound t i = refl
+same_writes LazyPrepare t i = refl
+same_writes EarlyEnd t i = refl
+same_writes TwoTries t i = refl
+
+votes_gone : (v : Variant) (w : Work) (n : ℕ) (t : Tally) (i : ℕ) (es : List Event) → i + n ≤ w.participants → WishYes w (number t) i n
+    → gone (machine v w) (at_vote w t i es) (rounds n vote_points) ≡ at_vote w (with_all_yes t i n) (i + n) (all_written (λ j. prepare_write v t j) i n es)
+unfolding prepares
+votes_gone v w zero t i es h all = let e : i ≡ i + 0 = omega arith in ap (λ (k : ℕ). at_vote w t k es) e
+votes_gone v w (suc n) t i es h all =
+    let t' : Tally = with_yes t i in
+    let es' : List Event = Written (prepare_write v t i) ∷ es in
+    let e : i + 1 + n ≡ i + suc n = omega arith in
+    vote_gone v w t i es (rounds n vote_points) (omega arith) (wish_first w (number t) i n all)
+    ∙ votes_gone v w n t' (i + 1) es' (omega arith) (wish_rest w (number t) i n all)
+    ∙ ap (λ (k : ℕ). at_vote w (with_all_yes t' (i + 1) n) k (all_written (λ j. prepare_write v t' j) (i + 1) n es')) e
+    ∙ ap (λ (f : ℕ → Write). at_vote w (with_all_yes t' (i + 1) n) (i + suc n) (all_written f (i + 1) n es')) (same_writes v t i)
+
 pub votes_passed : (v : Variant) (w : Work) (r : Run) (t : Tally) (l : AllLogs) (i n : ℕ) → i < w.participants → i + n ≤ w.participants → WishYes w (number t) i n → Stands v w r (at_step t (SendPrepare i)) l
-    → AllGo r (rounds n vote_points) → (r' : Run) → r' ≡ hits_of r (rounds n vote_points) → stopped r' ≡ None → Passing v w r' vote_points n (at_vote w t i) l
-votes_passed v w r t l i n below h all k goes r' same running =
-    passing v w r l vote_points n (at_vote w t i) k.events (subst (Here v w r) (sym (asks_first w t i k.events below)) k.here) k.written
-    (votes_asked v w n t i k.events h all) goes r' same running
-
--- one of these is written
-pub vote_written : (v : Variant) (w : Work) (r : Run) (t : Tally) (l l' : AllLogs) (i left n : ℕ) → left ≡ suc n → i < w.participants → wish w (number t) i ≡ Yes → Passing v w r vote_points left (at_vote w t i) l
-    → AddsEvent l l' (Written (prepare_write v t i)) → Passing v w r vote_points n (at_vote w (with_yes t i) (i + 1)) l'
-vote_written v w r t l l' i left n is h wishes k adds = record {
-  events = Written (prepare_write v t i) ∷ k.events;
-  here = subst (Here v w r) (ap (λ (m : ℕ). gone (machine v w) (at_vote w t i k.events) (rounds m vote_points)) is ∙ vote_gone v w t i k.events (rounds n vote_points) h wishes) k.here;
-  written = adds w.participants k.events k.written;
-}
-
--- all are written
-pub votes_stand : (v : Variant) (w : Work) (r : Run) (t : Tally) (l : AllLogs) (i left : ℕ) → left ≡ 0 → Passing v w r vote_points left (at_vote w t i) l → Stands v w r (prepare_to w t (one_of i w.participants)) l
-votes_stand v w r t l i left is k = record {
-  events = k.events;
-  here = subst (Here v w r) (ap (λ (m : ℕ). gone (machine v w) (at_vote w t i k.events) (rounds m vote_points)) is) k.here;
-  written = k.written;
-}
+    → AllGo r (rounds n vote_points) → (r' : Run) → r' ≡ hits_of r (rounds n vote_points) → stopped r' ≡ None
+    → (l' : AllLogs) → AddsAll l l' (λ j. prepare_write v t j) i n → (t' : Tally) → t' ≡ with_all_yes t i n → Stands v w r' (prepare_to w t' (one_of (i + n) w.participants)) l'
+votes_passed v w r t l i n below h all k goes r' same running l' adds t' is =
+    let events : List Event = all_written (λ j. prepare_write v t j) i n k.events in
+    let here : Here v w r' (gone (machine v w) (at_vote w t i k.events) (rounds n vote_points)) =
+    passed_on v w r (rounds n vote_points) (at_vote w t i k.events) (subst (Here v w r) (sym (asks_first w t i k.events below)) k.here) (votes_asked v w n t i k.events h all) goes r' same running in
+    record {
+      events = events;
+      here = subst (Here v w r') (votes_gone v w n t i k.events h all ∙ ap (λ (u : Tally). at_vote w u (i + n) events) (sym is)) here;
+      written = adds w.participants k.events k.written;
+    }
 
 -- ---- a round of commits
 
@@ -159,30 +170,72 @@ commits_asked : (v : Variant) (w : Work) (n : ℕ) (t : Tally) (i : ℕ) (es : L
 commits_asked v w zero t i es h = tt
 commits_asked v w (suc n) t i es h = commit_asks v w t i es (rounds n commit_points) (omega arith) (commits_asked v w n t (i + 1) (Written (forced t i) ∷ es) (omega arith))
 
-pub commits_passed : (v : Variant) (w : Work) (r : Run) (t : Tally) (l : AllLogs) (i n : ℕ) → i < w.participants → i + n ≤ w.participants → Stands v w r (at_step t (SendCommit i)) l
-    → AllGo r (rounds n commit_points) → (r' : Run) → r' ≡ hits_of r (rounds n commit_points) → stopped r' ≡ None → Passing v w r' commit_points n (at_commit v w t i) l
-commits_passed v w r t l i n below h k goes r' same running =
-    passing v w r l commit_points n (at_commit v w t i) k.events (subst (Here v w r) (sym (tells_first v w t i k.events below)) k.here) k.written
-    (commits_asked v w n t i k.events h) goes r' same running
-
-pub commit_written : (v : Variant) (w : Work) (r : Run) (t : Tally) (l l' : AllLogs) (i left n : ℕ) → left ≡ suc n → i < w.participants → Passing v w r commit_points left (at_commit v w t i) l
-    → AddsEvent l l' (Written (Force (Participant i) (entry t kind.Commit))) → Passing v w r commit_points n (at_commit v w t (i + 1)) l'
+commits_gone : (v : Variant) (w : Work) (n : ℕ) (t : Tally) (i : ℕ) (es : List Event) → i + n ≤ w.participants
+    → gone (machine v w) (at_commit v w t i es) (rounds n commit_points) ≡ at_commit v w t (i + n) (all_written (λ j. Force (Participant j) (entry t kind.Commit)) i n es)
 unfolding forced
-commit_written v w r t l l' i left n is h k adds = record {
-  events = Written (forced t i) ∷ k.events;
-  here = subst (Here v w r) (ap (λ (m : ℕ). gone (machine v w) (at_commit v w t i k.events) (rounds m commit_points)) is ∙ commit_gone v w t i k.events (rounds n commit_points) h) k.here;
-  written = adds w.participants k.events k.written;
-}
+commits_gone v w zero t i es h = let e : i ≡ i + 0 = omega arith in ap (λ (k : ℕ). at_commit v w t k es) e
+commits_gone v w (suc n) t i es h =
+    let es' : List Event = Written (Force (Participant i) (entry t kind.Commit)) ∷ es in
+    let e : i + 1 + n ≡ i + suc n = omega arith in
+    commit_gone v w t i es (rounds n commit_points) (omega arith)
+    ∙ commits_gone v w n t (i + 1) es' (omega arith)
+    ∙ ap (λ (k : ℕ). at_commit v w t k (all_written (λ j. Force (Participant j) (entry t kind.Commit)) (i + 1) n es')) e
 
-pub commits_due : (v : Variant) (w : Work) (r : Run) (t : Tally) (l : AllLogs) (i left : ℕ) → left ≡ 0 → Passing v w r commit_points left (at_commit v w t i) l
-    → Due v w r (commit_to w t (one_of i w.participants)) (end_unless v t t.acknowledged (one_of i w.participants)) l
-commits_due v w r t l i left is k = record {
-  events = k.events;
-  here = subst (Here v w r) (ap (λ (m : ℕ). gone (machine v w) (at_commit v w t i k.events) (rounds m commit_points)) is) k.here;
-  written = k.written;
-}
+pub commits_passed : (v : Variant) (w : Work) (r : Run) (t : Tally) (l : AllLogs) (i n : ℕ) → i < w.participants → i + n ≤ w.participants → Stands v w r (at_step t (SendCommit i)) l
+    → AllGo r (rounds n commit_points) → (r' : Run) → r' ≡ hits_of r (rounds n commit_points) → stopped r' ≡ None
+    → (l' : AllLogs) → AddsAll l l' (λ j. Force (Participant j) (entry t kind.Commit)) i n
+    → Due v w r' (commit_to w t (one_of (i + n) w.participants)) (end_unless v t t.acknowledged (one_of (i + n) w.participants)) l'
+commits_passed v w r t l i n below h k goes r' same running l' adds =
+    let here : Here v w r' (gone (machine v w) (at_commit v w t i k.events) (rounds n commit_points)) =
+    passed_on v w r (rounds n commit_points) (at_commit v w t i k.events) (subst (Here v w r) (sym (tells_first v w t i k.events below)) k.here) (commits_asked v w n t i k.events h) goes r' same running in
+    record {
+      events = all_written (λ j. Force (Participant j) (entry t kind.Commit)) i n k.events;
+      here = subst (Here v w r') (commits_gone v w n t i k.events h) here;
+      written = adds w.participants k.events k.written;
+    }
 
 pub first_told : (v : Variant) (w : Work) (r : Run) (t : Tally) (l : AllLogs) → 1 ≤ w.participants → Stands v w r (at_step t (SendCommit 0)) l
     → Due v w r (commit_to w t (one_of 0 w.participants)) (end_unless v t t.acknowledged (one_of 0 w.participants)) l
 first_told v w r t l some k =
     subst (λ (o : Option ℕ). Due v w r (commit_to w t o) (end_unless v t t.acknowledged o) l) (sym (some_of 0 w.participants (omega arith))) k
+
+-- ---- aborts
+
+tells_abort : (w : Work) (t : Tally) (k : ℕ) (es : List Event) → k < length t.yes → at_abort w t k es ≡ record { tally = at_step t (SendAbort k); events = es }
+tells_abort w t k es h = ap (λ (o : Option ℕ). let s : State = record { tally = abort_to w t o; events = es } in s) (some_of k (length t.yes) h)
+
+aborts_next : (v : Variant) (w : Work) (t : Tally) (k : ℕ) (es : List Event)
+    → (machine v w).step (record { tally = at_step t (SendAbort k); events = es }) Go ≡ at_abort w t (k + 1) (Written (abort_write t k) ∷ es)
+aborts_next v w t k es =
+    ap (λ (u : Tally). let s : State = record { tally = u; events = Written (abort_write t k) ∷ es } in s) (abort_step w t (SendAbort k) (one_of (k + 1) (length t.yes)))
+
+aborts_asked : (v : Variant) (w : Work) (n : ℕ) (t : Tally) (k : ℕ) (es : List Event) → k + n ≤ length t.yes → AsksInTurn (machine v w) (at_abort w t k es) (replicate n 4)
+aborts_asked v w zero t k es h = tt
+aborts_asked v w (suc n) t k es h =
+    subst (λ (s : State). AsksInTurn (machine v w) s (replicate (suc n) 4)) (sym (tells_abort w t k es (omega arith)))
+    (refl, subst (λ (s : State). AsksInTurn (machine v w) s (replicate n 4)) (sym (aborts_next v w t k es)) (aborts_asked v w n t (k + 1) (Written (abort_write t k) ∷ es) (omega arith)))
+
+aborts_gone : (v : Variant) (w : Work) (n : ℕ) (t : Tally) (k : ℕ) (es : List Event) → k + n ≤ length t.yes
+    → gone (machine v w) (at_abort w t k es) (replicate n 4) ≡ at_abort w t (k + n) (all_written (λ place. abort_write t place) k n es)
+aborts_gone v w zero t k es h = let e : k ≡ k + 0 = omega arith in ap (λ (j : ℕ). at_abort w t j es) e
+aborts_gone v w (suc n) t k es h =
+    let es' : List Event = Written (abort_write t k) ∷ es in
+    let e : k + 1 + n ≡ k + suc n = omega arith in
+    ap (λ (s : State). gone (machine v w) s (replicate (suc n) 4)) (tells_abort w t k es (omega arith))
+    ∙ ap (λ (s : State). gone (machine v w) s (replicate n 4)) (aborts_next v w t k es)
+    ∙ aborts_gone v w n t (k + 1) es' (omega arith)
+    ∙ ap (λ (j : ℕ). at_abort w t j (all_written (λ place. abort_write t place) (k + 1) n es')) e
+
+pub aborts_passed : (v : Variant) (w : Work) (r : Run) (t : Tally) (l : AllLogs) (n : ℕ) → n ≤ length t.yes → Stands v w r (aborted w t) l
+    → AllGo r (replicate n 4) → (r' : Run) → r' ≡ hits_of r (replicate n 4) → stopped r' ≡ None
+    → (l' : AllLogs) → AddsAll l l' (λ place. abort_write t place) 0 n → Stands v w r' (abort_to w t (one_of n (length t.yes))) l'
+aborts_passed v w r t l n h k goes r' same running l' adds =
+    let few : 0 + n ≤ length t.yes = omega arith in
+    let there : 0 + n ≡ n = omega arith in
+    let here : Here v w r' (gone (machine v w) (at_abort w t 0 k.events) (replicate n 4)) =
+    passed_on v w r (replicate n 4) (at_abort w t 0 k.events) k.here (aborts_asked v w n t 0 k.events few) goes r' same running in
+    record {
+      events = all_written (λ place. abort_write t place) 0 n k.events;
+      here = subst (Here v w r') (aborts_gone v w n t 0 k.events few ∙ ap (λ (j : ℕ). at_abort w t j (all_written (λ place. abort_write t place) 0 n k.events)) there) here;
+      written = adds w.participants k.events k.written;
+    }

@@ -13,7 +13,7 @@ use Rattle.commit_target.specs.declared.judge.Ends.{Ends}
 use Rattle.target_trait.specs.declared.judgement.Judgement.{Judgement}
 use Rattle.commit_target.specs.Writes.{Event}
 use Rattle.commit_target.specs.Judgement.{is_kind, has, is_committed, some_ends, known, own, judged_ends, judged_one, or_then, judged, was_told}
-use Rattle.commit_target.specs.Marks.{among, place_of, AreMarks, EndsOf}
+use Rattle.commit_target.specs.inside.Marks.{among, place_of, AreMarks, EndsOf}
 use Rattle.commit_target.proofs.Counting.{one_judged}
 
 or_bits : (x y : ℕ) → x < 2 → y < 2 → (max x y == 1) ≡ ((x == 1) || (y == 1))

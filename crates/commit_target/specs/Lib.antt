@@ -2,8 +2,7 @@ pub mod Words
 pub mod Work
 pub mod Writes
 pub mod Judgement
-pub mod Marks
 pub mod Steps
-pub mod Seen
+pub mod inside
 pub mod Flaws
 pub mod Protocol

@@ -5,7 +5,7 @@ ghost use Rattle.commit_target.specs.declared.variant.Variant.{Variant};
 ghost use Rattle.commit_target.specs.Work.{Work};
 ghost use Rattle.commit_target.specs.Writes.{AllLogs};
 ghost use Rattle.commit_target.specs.Steps.{Tally, Over, at_step, point_at};
-ghost use Rattle.commit_target.specs.Seen.{Leads, Stands, Answered, Ended};
+ghost use Rattle.commit_target.specs.inside.Seen.{Leads, Stands, Answered, Ended};
 
 use std::alloc::AllocError;
 use target_trait::{Answer, Session};

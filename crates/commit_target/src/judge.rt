@@ -1,6 +1,6 @@
 ghost use Rattle.std.specs.Prelude.{◌≡◌, ◌<◌, ◌≤◌, ◌+◌, ◌-◌, ◌∷◌, ℕ, List};
 ghost use Rattle.commit_target.specs.Judgement.{is_committed, judged_ends, or_then, judged};
-ghost use Rattle.commit_target.specs.Marks.{among, AreMarks, EndsOf};
+ghost use Rattle.commit_target.specs.inside.Marks.{among, AreMarks, EndsOf};
 ghost use Rattle.commit_target.specs.Writes.{Event, AllRestart, LogsStandFor, AddsEvent};
 ghost use Rattle.commit_target.specs.declared.records.Record.{Record};
 
@@ -49,6 +49,8 @@ struct Ends {
 
 impl Ends {
     /// How those from the first one on end, where all parties have restarted.
+    // It is called with 0 but for more than 64 transactions, and is inlined for that.
+    #[inline(always)]
     fn from(logs: &Logs, participants: usize, told: &[usize], first: usize) -> Ends
         ensures first { result.first ≡ first }
         ensures ends { (es : List Event) → LogsStandFor participants logs.now (AllRestart ∷ es) → EndsOf participants told.now es result }

@@ -1,8 +1,10 @@
-ghost use Rattle.std.specs.Prelude.{◌≡◌, ◌<◌, ◌≤◌, ℕ, List, [], OnOk, OnErr, length};
+ghost use Rattle.std.specs.Prelude.{◌≡◌, ◌<◌, ◌≤◌, ◌+◌, ℕ, List, [], OnOk, OnErr, length};
 ghost use Rattle.sim_device.specs.FileEffects.{Live};
 ghost use Rattle.sim_device.specs.LogEffects.{Restart, LogStandsFor, AddsLogEffect, records};
+ghost use Rattle.commit_target.specs.declared.records.Party.TheVariants.{Participant};
 ghost use Rattle.commit_target.specs.declared.records.Write.TheVariants as write;
 ghost use Rattle.commit_target.specs.Writes.{Event, Written, AllRestart, LogsStandFor, AddsEvent, log_at, on_coordinator, on_participant};
+ghost use Rattle.commit_target.specs.inside.Batches.{AddsAll};
 
 use crate::records::{Party, Record, Write};
 use sim_device::RecordLog;
@@ -120,6 +122,40 @@ impl Logs {
             Write::Append(party, entry) => self.append(party, entry),
             Write::Force(party, entry) => self.force(party, entry),
         }
+    }
+
+    /// Forces a record to the log of each of so many participants in a row, from one on. A participant without a log writes nothing.
+    ///
+    /// An error means that memory was refused: some of them may have the record.
+    pub(crate) fn force_each(
+        &mut self,
+        first: usize,
+        count: usize,
+        entry: Record,
+    ) -> Result<(), AllocError>
+        requires { first + count ≤ usize.MAX }
+        ensures { OnOk result (AddsAll self.old self.new (λ i. write.Force (Participant i) entry) first count) }
+    {
+        for number in first..first + count {
+            self.force(Party::Participant(number), entry)?;
+        }
+        Ok(())
+    }
+
+    /// Appends a record in the same way, which does not last yet.
+    pub(crate) fn append_each(
+        &mut self,
+        first: usize,
+        count: usize,
+        entry: Record,
+    ) -> Result<(), AllocError>
+        requires { first + count ≤ usize.MAX }
+        ensures { OnOk result (AddsAll self.old self.new (λ i. write.Append (Participant i) entry) first count) }
+    {
+        for number in first..first + count {
+            self.append(Party::Participant(number), entry)?;
+        }
+        Ok(())
     }
 
     /// All parties restart, and each log keeps what lasts.

@@ -1,7 +1,7 @@
 //! What logs say of 64 transactions in a row: sets of transactions, a bit of a word for each.
 ghost use Rattle.std.specs.Prelude.{◌≡◌, ◌<◌, ◌+◌, ◌==◌, ℕ, slice_index};
 ghost use Rattle.commit_target.specs.Judgement.{was_told};
-ghost use Rattle.commit_target.specs.Marks.{among, place_of, AreMarks};
+ghost use Rattle.commit_target.specs.inside.Marks.{among, place_of, AreMarks};
 
 use crate::records::{Kind, Record};
 

@@ -1,7 +1,8 @@
 //! The decision, and the second phase: the participants are told of it.
-ghost use Rattle.std.specs.Prelude.{◌≡◌, ◌<◌, ◌≤◌, ◌+◌, length, if◌then◌else◌};
+ghost use Rattle.std.specs.Prelude.{◌≡◌, ◌<◌, ◌≤◌, ◌+◌, OnOk, length, if◌then◌else◌};
 ghost use Rattle.commit_target.specs.Steps.{ForceCommit, ForceCommitAgain, SendCommit, SendAbort, Over, at_step, one_of, next_of, commit_to, abort_to, after_no_commit, unacknowledged, aborted, committed, begun, end_unless};
-ghost use Rattle.commit_target.specs.Seen.{Leads, Stands, Due, Ended};
+ghost use Rattle.commit_target.specs.inside.Batches.{AddsAll, abort_write};
+ghost use Rattle.commit_target.specs.inside.Seen.{Leads, Stands, Due, Ended};
 
 use crate::cut::{Cut, ask};
 use crate::logs::Logs;
@@ -10,6 +11,7 @@ use crate::progress::Progress;
 use crate::records::{Kind, Party, Write};
 use crate::variant::Variant;
 use crate::work::Transactions;
+use std::alloc::AllocError;
 use target_trait::Session;
 
 /// What is asked of a participant that is told of the commit, where nothing fails.
@@ -108,6 +110,38 @@ fn abort_to(
     Ok(())
 }
 
+/// So many of those whose yes arrived, from the first one on, know of the abort.
+fn abort_each(count: usize, progress: &Progress, logs: &mut Logs) -> Result<(), AllocError>
+    ensures { OnOk result (AddsAll logs.old logs.new (λ place. abort_write progress.now place) 0 count) }
+{
+    for place in 0..count {
+        logs.write(Write::Append(
+            Party::Participant(progress.voter(place)),
+            progress.entry(Kind::Abort),
+        ))?;
+    }
+    Ok(())
+}
+
+/// Those whose yes arrived are told of the abort where nothing comes between, from the first one on: how many they are.
+fn pass_aborts(
+    variant: Variant,
+    workload: &Transactions,
+    progress: &Progress,
+    logs: &mut Logs,
+    session: &mut Session<'_>,
+) -> Result<usize, Cut>
+    requires { Stands variant workload.now session.old (aborted workload.now progress.now) logs.old }
+    ensures given { session.new.given ≡ session.old.given }
+    ensures led { Leads result (λ n. (n ≤ length progress.now.yes)
+        × Stands variant workload.now session.new (abort_to workload.now progress.now (one_of n (length progress.now.yes))) logs.new)
+        (Ended variant workload.now session.new (at_step progress.now Over) logs.new) }
+{
+    let passed = session.pass(SEND_OUTCOME, progress.voters())?;
+    abort_each(passed, progress, logs)?;
+    Ok(passed)
+}
+
 /// Those whose yes arrived are told of the abort.
 pub fn tell_abort(
     variant: Variant,
@@ -121,7 +155,8 @@ pub fn tell_abort(
     ensures led { Leads result (λ _. Stands variant workload.now session.new (begun workload.now progress.now) logs.new)
         (Ended variant workload.now session.new (at_step progress.now Over) logs.new) }
 {
-    for place in 0..progress.voters() {
+    let passed = pass_aborts(variant, workload, progress, logs, session)?;
+    for place in passed..progress.voters() {
         abort_to(variant, workload, place, progress, logs, session)?;
     }
     Ok(())
@@ -174,10 +209,7 @@ fn pass_commits(
 {
     let left = workload.participants() - participant;
     let passed = session.pass_rounds(&ROUND, left)?;
-    let entry = progress.entry(Kind::Commit);
-    for told in participant..participant + passed {
-        logs.write(Write::Force(Party::Participant(told), entry))?;
-    }
+    logs.force_each(participant, passed, progress.entry(Kind::Commit))?;
     Ok(passed)
 }
 

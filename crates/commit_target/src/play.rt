@@ -4,7 +4,7 @@ ghost use Rattle.action_eval.specs.Answers.{start};
 ghost use Rattle.target_trait.specs.Play.{IsPlay};
 ghost use Rattle.commit_target.specs.Words.{point_names};
 ghost use Rattle.commit_target.specs.Steps.{SendPrepare, Over, at_step, begun, asks_of};
-ghost use Rattle.commit_target.specs.Seen.{Leads, Stands, Ended};
+ghost use Rattle.commit_target.specs.inside.Seen.{Leads, Stands, Ended};
 
 use crate::cut::Cut;
 use crate::judge::judge;

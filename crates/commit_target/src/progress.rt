@@ -1,5 +1,6 @@
-ghost use Rattle.std.specs.Prelude.{◌≡◌, ◌+◌, ◌<◌, OnOk, OnErr, length, slice_index_or};
+ghost use Rattle.std.specs.Prelude.{◌≡◌, ◌+◌, ◌<◌, ◌≤◌, OnOk, OnErr, length, slice_index_or};
 ghost use Rattle.commit_target.specs.Steps.{with_told, with_vote, unacknowledged, entry, number, prepare_write, end_write, opened, before_all};
+ghost use Rattle.commit_target.specs.inside.Batches.{with_all_yes};
 
 use crate::records::{Kind, Party, Record, Write};
 use crate::variant::Variant;
@@ -100,6 +101,18 @@ impl Progress {
         match vote {
             Vote::Yes => self.yes.push(participant)?,
             Vote::No => {}
+        }
+        Ok(())
+    }
+
+    /// A yes of each of so many participants in a row arrived, from one on.
+    pub fn take_yes(&mut self, first: usize, count: usize) -> Result<(), AllocError>
+        requires { first + count ≤ usize.MAX }
+        ensures begun { self.new.begun ≡ self.old.begun }
+        ensures ok { OnOk result (self.new ≡ with_all_yes self.old first count) }
+    {
+        for participant in first..first + count {
+            self.take_vote(participant, Vote::Yes)?;
         }
         Ok(())
     }

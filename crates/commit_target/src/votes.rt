@@ -1,15 +1,18 @@
 //! The first phase: each participant is asked to prepare, and votes.
-ghost use Rattle.std.specs.Prelude.{◌≡◌, ◌<◌, ◌≤◌, ◌+◌};
-ghost use Rattle.commit_target.specs.Steps.{SendPrepare, ForcePrepare, SendVote, Over, at_step, one_of, prepare_to, vote_step, after_vote, decided, number};
+ghost use Rattle.std.specs.Prelude.{◌≡◌, ◌<◌, ◌≤◌, ◌+◌, OnOk};
+ghost use Rattle.commit_target.specs.Steps.{SendPrepare, ForcePrepare, SendVote, Over, at_step, one_of, prepare_to, vote_step, after_vote, decided, number, prepare_write};
 ghost use Rattle.commit_target.specs.Work.{wish};
-ghost use Rattle.commit_target.specs.Seen.{Leads, Stands, Ended};
+ghost use Rattle.commit_target.specs.inside.Batches.{AddsAll};
+ghost use Rattle.commit_target.specs.inside.Seen.{Leads, Stands, Ended};
 
 use crate::cut::{Cut, ask};
 use crate::logs::Logs;
 use crate::points::{FORCE_PREPARE, SEND_PREPARE, SEND_VOTE};
 use crate::progress::Progress;
+use crate::records::Kind;
 use crate::variant::Variant;
 use crate::work::{Transactions, Vote};
+use std::alloc::AllocError;
 use target_trait::Session;
 
 /// What is asked of a participant that wishes yes, where nothing fails.
@@ -82,6 +85,26 @@ fn vote(
     Ok(())
 }
 
+/// So many participants in a row, from one on, write their prepare records.
+fn prepare_each(
+    variant: Variant,
+    first: usize,
+    count: usize,
+    progress: &Progress,
+    logs: &mut Logs,
+) -> Result<(), AllocError>
+    requires { first + count ≤ usize.MAX }
+    ensures { OnOk result (AddsAll logs.old logs.new (λ i. prepare_write variant progress.now i) first count) }
+{
+    let entry = progress.entry(Kind::Prepare);
+    match variant {
+        Variant::LazyPrepare => logs.append_each(first, count, entry),
+        Variant::Sound => logs.force_each(first, count, entry),
+        Variant::EarlyEnd => logs.force_each(first, count, entry),
+        Variant::TwoTries => logs.force_each(first, count, entry),
+    }
+}
+
 /// The votes of participants in a row, from this one on, that wish yes and where nothing comes between: how many they are.
 fn pass_votes(
     variant: Variant,
@@ -102,10 +125,8 @@ fn pass_votes(
 {
     let willing = workload.willing(progress.number(), participant);
     let passed = session.pass_rounds(&ROUND, willing)?;
-    for voter in participant..participant + passed {
-        logs.write(progress.prepare_write(variant, voter))?;
-        progress.take_vote(voter, Vote::Yes)?;
-    }
+    prepare_each(variant, participant, passed, progress, logs)?;
+    progress.take_yes(participant, passed)?;
     Ok(passed)
 }
 

@@ -1,6 +1,7 @@
-ghost use Rattle.std.specs.Prelude.{◌≡◌, ◌+◌, ◌≤◌, length, All};
+ghost use Rattle.std.specs.Prelude.{◌≡◌, ◌+◌, ◌<◌, ◌≤◌, ℕ, [], length, slice_index_or, All};
+ghost use Rattle.commit_target.specs.declared.work.Vote.TheVariants.{Yes, No};
 ghost use Rattle.commit_target.specs.Work.{wish};
-ghost use Rattle.commit_target.specs.Seen.{WishYes};
+ghost use Rattle.commit_target.specs.inside.Seen.{WishYes};
 
 use std::marker::Model;
 
@@ -40,6 +41,27 @@ impl Votes {
     {
         self.votes.as_slice()
     }
+}
+
+/// The wish at a place. Who isn't there wishes no.
+fn wish_at(votes: &[Vote], place: usize) -> Vote
+    ensures { result ≡ slice_index_or votes.now place No }
+{
+    votes.get(place).copied().unwrap_or(Vote::No)
+}
+
+/// How many wishes in a row are yes, from this one on.
+fn yes_from(votes: &[Vote], first: usize) -> usize
+    requires { first ≤ length votes.now }
+    ensures { (k : ℕ) → k < result → slice_index_or votes.now (first + k) No ≡ Yes }
+{
+    for place in first..votes.len() {
+        match wish_at(votes, place) {
+            Vote::Yes => {}
+            Vote::No => return place - first,
+        }
+    }
+    votes.len() - first
 }
 
 /// The workload of a run: how many participants there are, 1 to 8, and the transactions in order, at most 100, each with one wish for
@@ -90,18 +112,21 @@ impl Transactions {
         self.transactions.len()
     }
 
+    /// The wishes of a transaction. One that isn't there has none.
+    fn wishes(&self, transaction: usize) -> &[Vote]
+        ensures { result.now ≡ slice_index_or self.now.transactions transaction [] }
+    {
+        match self.transactions.get(transaction) {
+            Some(votes) => votes.as_slice(),
+            None => &[],
+        }
+    }
+
     /// The wish of a participant in a transaction, both numbered from 0. Who isn't there wishes no.
     pub fn wish(&self, transaction: usize, participant: usize) -> Vote
         ensures { result ≡ wish self.now transaction participant }
     {
-        match self.transactions.get(transaction) {
-            Some(votes) => votes
-                .as_slice()
-                .get(participant)
-                .copied()
-                .unwrap_or(Vote::No),
-            None => Vote::No,
-        }
+        wish_at(self.wishes(transaction), participant)
     }
 
     /// How many participants in a row, from this one on, wish yes in a transaction.
@@ -110,13 +135,10 @@ impl Transactions {
         ensures within { first + result ≤ self.now.participants }
         ensures yes { WishYes self.now transaction first result }
     {
-        let all = self.participants;
-        for participant in first..all {
-            match self.wish(transaction, participant) {
-                Vote::Yes => {}
-                Vote::No => return participant - first,
-            }
+        let votes = self.wishes(transaction);
+        if first > votes.len() {
+            return 0;
         }
-        all - first
+        yes_from(votes, first).min(self.participants - first)
     }
 }

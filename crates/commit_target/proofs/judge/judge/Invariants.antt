@@ -1,6 +1,6 @@
 use Rattle.std.proofs.Common.{◌≡◌, ◌≤◌, List}
 use Rattle.commit_target.specs.Judgement.{judged}
-use Rattle.commit_target.specs.Marks.{EndsOf}
+use Rattle.commit_target.specs.inside.Marks.{EndsOf}
 use Rattle.commit_target.specs.Writes.{Event, LogsStandFor}
 use Rattle.commit_target.proofs.judge.judge.Given as goal
 

@@ -3,7 +3,7 @@ use Rattle.commit_target.specs.declared.records.Record.{Record}
 use Rattle.commit_target.specs.declared.records.Party.TheVariants.{Participant}
 use Rattle.commit_target.specs.declared.records.Write.TheVariants.{Force}
 use Rattle.commit_target.specs.Steps.{Tally, SendCommit, ForceOutcome, SendAck, Over, at_step}
-use Rattle.commit_target.specs.Seen.{Stands, Ended}
+use Rattle.commit_target.specs.inside.Seen.{Stands, Ended}
 use Rattle.commit_target.proofs.Playing.{cut_off, goes_on, written, acknowledged}
 use Rattle.commit_target.proofs.outcomes.commit_to.Goals as goal
 use Rattle.commit_target.proofs.outcomes.commit_to.Goals.{In_ok-ask, In_ok-write}

@@ -1,6 +1,6 @@
 use Rattle.std.proofs.Common.{◌≡◌, length}
 use Rattle.commit_target.specs.Steps.{one_of, abort_to}
-use Rattle.commit_target.specs.Seen.{Stands}
+use Rattle.commit_target.specs.inside.Seen.{Stands}
 use Rattle.commit_target.proofs.outcomes.tell_abort.Given as goal
 
 abbrev pub invariant-loop-place : goal.invariant-loop-place

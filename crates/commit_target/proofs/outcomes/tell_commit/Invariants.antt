@@ -1,6 +1,6 @@
 use Rattle.std.proofs.Common.{◌≡◌, ◌≤◌, ◌-◌}
 use Rattle.commit_target.specs.Steps.{one_of, commit_to, end_unless}
-use Rattle.commit_target.specs.Seen.{Due}
+use Rattle.commit_target.specs.inside.Seen.{Due}
 use Rattle.commit_target.proofs.outcomes.tell_commit.Given as goal
 
 abbrev pub invariant-loop-participant : goal.invariant-loop-participant

@@ -1,6 +1,6 @@
 use Rattle.std.proofs.Common.{◌≤◌, ◌<◌, length, arith, sym, subst}
 use Rattle.commit_target.specs.Steps.{Tally, SendPrepare, at_step}
-use Rattle.commit_target.specs.Seen.{Stands}
+use Rattle.commit_target.specs.inside.Seen.{Stands}
 use Rattle.commit_target.proofs.Playing.{next_begun, all_begun}
 use Rattle.commit_target.proofs.play.transactions.Goals as goal
 

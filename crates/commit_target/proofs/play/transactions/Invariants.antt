@@ -1,6 +1,6 @@
 use Rattle.std.proofs.Common.{◌≡◌}
 use Rattle.commit_target.specs.Steps.{begun}
-use Rattle.commit_target.specs.Seen.{Stands}
+use Rattle.commit_target.specs.inside.Seen.{Stands}
 use Rattle.commit_target.proofs.play.transactions.Given as goal
 
 abbrev pub invariant-loop-number : goal.invariant-loop-number

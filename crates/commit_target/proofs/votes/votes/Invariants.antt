@@ -1,6 +1,6 @@
 use Rattle.std.proofs.Common.{◌≡◌, ◌≤◌, ◌-◌}
 use Rattle.commit_target.specs.Steps.{one_of, prepare_to}
-use Rattle.commit_target.specs.Seen.{Stands}
+use Rattle.commit_target.specs.inside.Seen.{Stands}
 use Rattle.commit_target.proofs.votes.votes.Given as goal
 
 abbrev pub invariant-loop-participant : goal.invariant-loop-participant

@@ -2,7 +2,7 @@ use Rattle.std.proofs.Common.{◌≡◌, ◌<◌, ◌+◌, ◌∙◌, ◌∷◌,
 use Rattle.std.specs.Int.{bit_not, w64}
 use Rattle.commit_target.specs.declared.records.Record.{Record}
 use Rattle.commit_target.specs.Judgement.{is_committed, some_ends, known, own}
-use Rattle.commit_target.specs.Marks.{among, AreMarks}
+use Rattle.commit_target.specs.inside.Marks.{among, AreMarks}
 use Rattle.commit_target.specs.Writes.{Event, AllRestart, LogsStandFor}
 use Rattle.commit_target.proofs.Counting.{one_committed, one_aborted}
 use Rattle.commit_target.proofs.Sets.{among_or, among_not}

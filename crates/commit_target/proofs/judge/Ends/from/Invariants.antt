@@ -1,6 +1,6 @@
 use Rattle.std.proofs.Common.{◌≡◌, ◌<◌, ◌+◌, ◌∷◌, ℕ, List, true, false}
 use Rattle.commit_target.specs.Judgement.{some_ends, is_committed, known, own}
-use Rattle.commit_target.specs.Marks.{among}
+use Rattle.commit_target.specs.inside.Marks.{among}
 use Rattle.commit_target.specs.Writes.{Event, AllRestart, LogsStandFor}
 use Rattle.commit_target.proofs.judge.Ends.from.Given as goal
 

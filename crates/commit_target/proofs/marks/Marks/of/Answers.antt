@@ -1,6 +1,6 @@
 use Rattle.std.proofs.Common.{◌+◌, ℕ, List, get_or, set, bit_or, arith, sym, subst, take}
 use Rattle.std.proofs.Common.{length-set}
-use Rattle.commit_target.specs.Marks.{AreMarks}
+use Rattle.commit_target.specs.inside.Marks.{AreMarks}
 use Rattle.commit_target.proofs.Sets.{one_mark}
 use Rattle.commit_target.proofs.marks.Marks.of.Goals as goal
 

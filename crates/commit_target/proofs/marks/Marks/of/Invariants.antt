@@ -1,5 +1,5 @@
 use Rattle.std.proofs.Common.{◌≡◌, take, length}
-use Rattle.commit_target.specs.Marks.{AreMarks}
+use Rattle.commit_target.specs.inside.Marks.{AreMarks}
 use Rattle.commit_target.proofs.marks.Marks.of.Given as goal
 
 abbrev pub invariant-loop-record : goal.invariant-loop-record

@@ -1,8 +1,7 @@
 -- What the values of a run say: how far it has come, and what of it stands in the logs.
-use Rattle.target_trait.proofs.Machine.{gone}
 use Rattle.commit_target.specs.declared.work.Vote.TheVariants.{Yes}
-use Rattle.std.specs.Prelude.{◌<◌, ◌+◌, [], ◌∷◌, ℕ, ◌≡◌, Bool, true, false, List, Option, None, Result, Ok, Err}
-use Rattle.action_eval.specs.Answers.{Run, stopped, rounds}
+use Rattle.std.specs.Prelude.{◌<◌, ◌+◌, length, [], ◌∷◌, ℕ, ◌≡◌, Bool, true, false, List, Option, None, Result, Ok, Err}
+use Rattle.action_eval.specs.Answers.{Run, stopped}
 use Rattle.target_trait.specs.Machine.{Reached}
 use Rattle.commit_target.specs.declared.cut.Cut.{Cut}
 use Rattle.commit_target.specs.declared.cut.Cut.TheVariants.{Halted, Refused}
@@ -11,7 +10,7 @@ use Rattle.commit_target.specs.declared.records.Write.{Write}
 use Rattle.commit_target.specs.Words.{point_names, send_prepare_point, force_prepare_point, send_vote_point, send_outcome_point, force_outcome_point, send_ack_point}
 use Rattle.commit_target.specs.Work.{Work, wish}
 use Rattle.commit_target.specs.Writes.{Event, AllLogs, LogsStandFor}
-use Rattle.commit_target.specs.Steps.{commit_to, end_unless, one_of, prepare_to, Tally, State, machine, on_go, on_return, go_write, return_write, with_write}
+use Rattle.commit_target.specs.Steps.{abort_to, commit_to, end_unless, one_of, prepare_to, Tally, State, machine, on_go, on_return, go_write, return_write, with_write}
 
 -- what is so where a run was halted; where memory was refused, nothing is said
 abbrev pub OnCut : Cut → Type 0 → Type 0
@@ -48,12 +47,6 @@ abbrev pub Answered : Variant → Work → Run → Tally → AllLogs → Bool �
 Answered v w r t logs true = Due v w r (on_go w t t.step) (go_write v w t t.step) logs
 Answered v w r t logs false = Due v w r (on_return v w t t.step) (return_write v w t t.step) logs
 
--- so many rounds of these points have been answered to go on, from a state of which nothing stands in the logs yet
-pub record Passing (v : Variant) (w : Work) (r : Run) (points : List ℕ) (left : ℕ) (at : List Event → State) (logs : AllLogs) : Type 0 where
-  pub events : List Event
-  pub here : Here v w r (gone (machine v w) (at events) (rounds left points))
-  pub written : LogsStandFor w.participants logs events
-
 -- a participant is asked to prepare next, or the votes are in
 abbrev pub at_vote : Work → Tally → ℕ → List Event → State
 at_vote w t i es = record { tally = prepare_to w t (one_of i w.participants); events = es }
@@ -73,3 +66,7 @@ at_commit v w t i es = record { tally = commit_to w t (one_of i w.participants);
 -- the points of a participant that is told of the commit
 abbrev pub commit_points : List ℕ
 commit_points = send_outcome_point ∷ force_outcome_point ∷ send_ack_point ∷ []
+
+-- one of those whose yes arrived is told of the abort next, or the next transaction is begun
+abbrev pub at_abort : Work → Tally → ℕ → List Event → State
+at_abort w t k es = record { tally = abort_to w t (one_of k (length t.yes)); events = es }

@@ -1,0 +1,33 @@
+use Rattle.std.proofs.Common.{◌≡◌, ◌≤◌, ◌<◌, ◌+◌, ◌-◌, ℕ, suc, refl, ap, sym, ◌∙◌, arith}
+use Rattle.commit_target.specs.Steps.{Tally}
+use Rattle.commit_target.specs.inside.Batches.{with_all_yes}
+use Rattle.commit_target.proofs.progress.Progress.take_yes.Goals as goal
+
+pub loop-participant-init : goal.loop-participant-init
+loop-participant-init c =
+    let all : c.args.first + c.args.count - c.args.first ≡ c.args.count = omega arith in
+    record { begun = refl; left = ap (λ (m : ℕ). with_all_yes c.args.self.now c.args.first m) all }
+
+pub loop-participant-preserved : goal.loop-participant-preserved
+loop-participant-preserved c =
+    let i : ℕ = c.args.first in
+    let n : ℕ = c.args.count in
+    let j : ℕ = c.loop-participant.participant in
+    let from : i ≤ j = omega arith in
+    let before : j < i + n = omega arith in
+    let one : suc (i + n - (j + 1)) ≡ i + n - j = omega arith in
+    record {
+      begun = ap (λ (t : Tally). t.begun) c.in_ok-take_vote.ensures.ok ∙ c.loop-participant.invariant.begun;
+      left = ap (λ (t : Tally). with_all_yes t (j + 1) (i + n - (j + 1))) c.in_ok-take_vote.ensures.ok
+          ∙ ap (λ (m : ℕ). with_all_yes c.loop-participant.self j m) one
+          ∙ c.loop-participant.invariant.left;
+    }
+
+pub returns-clause-ok : goal.returns-clause-ok
+returns-clause-ok c =
+    let i : ℕ = c.args.first in
+    let n : ℕ = c.args.count in
+    let j : ℕ = c.loop-participant.participant in
+    let there : i + n ≤ j = omega arith in
+    let none : i + n - j ≡ 0 = omega arith in
+    ap (λ (m : ℕ). with_all_yes c.loop-participant.self j m) (sym none) ∙ c.loop-participant.invariant.left

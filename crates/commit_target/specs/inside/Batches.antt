@@ -1,0 +1,35 @@
+-- Many at once: writes of participants in a row, and their votes.
+use Rattle.std.specs.Prelude.{◌≡◌, ℕ, zero, suc, ◌+◌, ◌-◌, List, ◌∷◌, slice_index_or}
+use Rattle.commit_target.specs.declared.records.Kind.TheVariants as kind
+use Rattle.commit_target.specs.declared.records.Party.TheVariants.{Participant}
+use Rattle.commit_target.specs.declared.records.Write.{Write}
+use Rattle.commit_target.specs.declared.records.Write.TheVariants.{Append}
+use Rattle.commit_target.specs.Writes.{Event, Written, AllLogs, LogsStandFor}
+use Rattle.commit_target.specs.Steps.{Tally, with_yes, entry}
+
+-- these writes, of so many numbers in a row, from one on
+abbrev pub all_written : (ℕ → Write) → ℕ → ℕ → List Event → List Event
+all_written write i zero es = es
+all_written write i (suc n) es = all_written write (i + 1) n (Written (write i) ∷ es)
+
+-- from each list of events that the logs stood for they go to that list with these writes added
+abbrev pub AddsAll : AllLogs → AllLogs → (ℕ → Write) → ℕ → ℕ → Type 0
+AddsAll old new write i n = (count : ℕ) (es : List Event) → LogsStandFor count old es → LogsStandFor count new (all_written write i n es)
+
+-- some of these writes are added, and so many are left, from this one on
+pub record Adding (count : ℕ) (logs : AllLogs) (write : ℕ → Write) (i left : ℕ) (all : List Event) : Type 0 where
+  pub events : List Event
+  pub written : LogsStandFor count logs events
+  pub same : all_written write i left events ≡ all
+
+abbrev pub AddsUpTo : AllLogs → AllLogs → (ℕ → Write) → ℕ → ℕ → ℕ → Type 0
+AddsUpTo old new write i n j = (count : ℕ) (es : List Event) → LogsStandFor count old es → Adding count new write j (i + n - j) (all_written write i n es)
+
+-- what the participant at a place among those whose yes arrived writes at an abort
+abbrev pub abort_write : Tally → ℕ → Write
+abort_write t place = Append (Participant (slice_index_or t.yes place 0)) (entry t kind.Abort)
+
+-- a yes of each of so many participants arrived, from one on
+abbrev pub with_all_yes : Tally → ℕ → ℕ → Tally
+with_all_yes t i zero = t
+with_all_yes t i (suc n) = with_all_yes (with_yes t i) (i + 1) n
