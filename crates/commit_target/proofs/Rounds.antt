@@ -16,6 +16,7 @@ use Rattle.commit_target.specs.Writes.{Event, Written, AllLogs, LogsStandFor}
 use Rattle.commit_target.specs.Steps.{SendCommit, SendAck, SendAbort, commit_to, end_unless, with_write, entry, Step, SendPrepare, ForcePrepare, SendVote, ForceCommit, Over, Tally, State, machine, number, at_step, with_yes, opened, begun, first_of, one_of, abort_to, aborted, prepare_to, vote_step, prepare_write}
 use Rattle.commit_target.specs.inside.Batches.{all_written, AddsAll, with_all_yes, abort_write}
 use Rattle.commit_target.specs.inside.Seen.{Due, at_commit, commit_points, Here, Stands, at_vote, at_abort, WishYes, vote_points}
+use Rattle.commit_target.proofs.Batches.{prepares}
 use Rattle.commit_target.proofs.Playing.{same_end, same_prepare, some_of}
 
 -- ---- where the steps lead doesn't depend on the step
@@ -97,11 +98,7 @@ passed_on v w r ps s here asks goes r' same running = record {
 pub first_vote : (v : Variant) (w : Work) (r : Run) (t : Tally) (l : AllLogs) → 1 ≤ w.participants → Stands v w r (at_step t (SendPrepare 0)) l → Stands v w r (prepare_to w t (one_of 0 w.participants)) l
 first_vote v w r t l some k = subst (λ (o : Option ℕ). Stands v w r (prepare_to w t o) l) (sym (some_of 0 w.participants (omega arith))) k
 
-prepares : Variant → Tally → ℕ → Write
-prepares v t = λ j. prepare_write v t j
-
 same_writes : (v : Variant) (t : Tally) (i : ℕ) → prepares v (with_yes t i) ≡ prepares v t
-unfolding prepares
 same_writes Sound t i = refl
 same_writes LazyPrepare t i = refl
 same_writes EarlyEnd t i = refl
@@ -109,7 +106,6 @@ same_writes TwoTries t i = refl
 
 votes_gone : (v : Variant) (w : Work) (n : ℕ) (t : Tally) (i : ℕ) (es : List Event) → i + n ≤ w.participants → WishYes w (number t) i n
     → gone (machine v w) (at_vote w t i es) (rounds n vote_points) ≡ at_vote w (with_all_yes t i n) (i + n) (all_written (λ j. prepare_write v t j) i n es)
-unfolding prepares
 votes_gone v w zero t i es h all = let e : i ≡ i + 0 = omega arith in ap (λ (k : ℕ). at_vote w t k es) e
 votes_gone v w (suc n) t i es h all =
     let t' : Tally = with_yes t i in

@@ -62,7 +62,8 @@ own events participant = records (on_participant (AllRestart ∷ events) partici
 
 abbrev pub judged_one : ℕ → List ℕ → List Event → ℕ → Judgement
 judged_one participants told events transaction =
-    judged_ends (some_ends (λ n. is_committed (known events) (own events n) transaction) true participants) (some_ends (λ n. is_committed (known events) (own events n) transaction) false participants) (was_told told transaction)
+    judged_ends (some_ends (λ n. is_committed (known events) (own events n) transaction) true participants)
+    (some_ends (λ n. is_committed (known events) (own events n) transaction) false participants) (was_told told transaction)
 
 -- what is broken first stays so
 abbrev pub or_then : Judgement → Judgement → Judgement

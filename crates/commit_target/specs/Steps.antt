@@ -18,7 +18,8 @@ use Rattle.commit_target.specs.declared.records.Kind.TheVariants as kind
 use Rattle.commit_target.specs.declared.records.Party.TheVariants.{Coordinator, Participant}
 use Rattle.commit_target.specs.declared.records.Write.{Write}
 use Rattle.commit_target.specs.declared.records.Write.TheVariants.{Append, Force}
-use Rattle.commit_target.specs.Words.{send_prepare_point, force_prepare_point, send_vote_point, force_commit_point, send_outcome_point, force_outcome_point, send_ack_point}
+use Rattle.commit_target.specs.Words.{send_prepare_point, force_prepare_point, send_vote_point, force_commit_point}
+use Rattle.commit_target.specs.Words.{send_outcome_point, force_outcome_point, send_ack_point}
 use Rattle.commit_target.specs.Work.{Work, wish}
 use Rattle.commit_target.specs.Writes.{Event, Written}
 use Rattle.commit_target.specs.Judgement.{judged}
@@ -312,4 +313,5 @@ over_stays v w s Halt e = refl
 -- no question follows a halt
 pub asks-halts : (v : Variant) (w : Work) (before after : List Reply) → IsDone (asks_of v w (before ++ Halt ∷ after))
 asks-halts v w before after =
-    halts_by (machine v w) (λ s. s.tally.step ≡ Over) (record { done = λ s. over_done (judged_at w s) s.tally.step; stays = over_stays v w; halts = λ s. refl }) before after
+    halts_by (machine v w) (λ s. s.tally.step ≡ Over)
+    (record { done = λ s. over_done (judged_at w s) s.tally.step; stays = over_stays v w; halts = λ s. refl }) before after

@@ -6,7 +6,8 @@ use Rattle.commit_target.specs.declared.variant.Variant.TheVariants.{Sound, Lazy
 -- the points, in the order of their numbers
 abbrev pub point_names : List (List ℕ)
 point_names =
-    codes "commit::send_prepare" ∷ codes "commit::force_prepare" ∷ codes "commit::send_vote" ∷ codes "commit::force_commit" ∷ codes "commit::send_outcome" ∷ codes "commit::force_outcome" ∷ codes "commit::send_ack" ∷ []
+    codes "commit::send_prepare" ∷ codes "commit::force_prepare" ∷ codes "commit::send_vote" ∷ codes "commit::force_commit"
+    ∷ codes "commit::send_outcome" ∷ codes "commit::force_outcome" ∷ codes "commit::send_ack" ∷ []
 
 abbrev pub send_prepare_point : ℕ
 send_prepare_point = 0

@@ -1,6 +1,7 @@
 //! The decision, and the second phase: the participants are told of it.
 ghost use Rattle.std.specs.Prelude.{◌≡◌, ◌<◌, ◌≤◌, ◌+◌, OnOk, length, if◌then◌else◌};
-ghost use Rattle.commit_target.specs.Steps.{ForceCommit, ForceCommitAgain, SendCommit, SendAbort, Over, at_step, one_of, next_of, commit_to, abort_to, after_no_commit, unacknowledged, aborted, committed, begun, end_unless};
+ghost use Rattle.commit_target.specs.Steps.{ForceCommit, ForceCommitAgain, SendCommit, SendAbort, Over, at_step, one_of, next_of};
+ghost use Rattle.commit_target.specs.Steps.{commit_to, abort_to, after_no_commit, unacknowledged, aborted, committed, begun, end_unless};
 ghost use Rattle.commit_target.specs.inside.Batches.{AddsAll, abort_write};
 ghost use Rattle.commit_target.specs.inside.Seen.{Leads, Stands, Due, Ended};
 
@@ -204,7 +205,8 @@ fn pass_commits(
     requires stands { Stands variant workload.now session.old (at_step progress.now (SendCommit participant)) logs.old }
     ensures given { session.new.given ≡ session.old.given }
     ensures led { Leads result (λ n. let next = one_of (participant + n) workload.now.participants in (participant + n ≤ workload.now.participants)
-        × Due variant workload.now session.new (commit_to workload.now progress.now next) (end_unless variant progress.now progress.now.acknowledged next) logs.new)
+        × Due variant workload.now session.new (commit_to workload.now progress.now next)
+        (end_unless variant progress.now progress.now.acknowledged next) logs.new)
         (Ended variant workload.now session.new (at_step progress.now Over) logs.new) }
 {
     let left = workload.participants() - participant;
@@ -228,7 +230,8 @@ fn some_commits(
     ensures given { session.new.given ≡ session.old.given }
     ensures begun { progress.new.begun ≡ progress.old.begun }
     ensures led { Leads result (λ n. let next = one_of n workload.now.participants in (participant < n) × (n ≤ workload.now.participants)
-        × Due variant workload.now session.new (commit_to workload.now progress.new next) (end_unless variant progress.new progress.new.acknowledged next) logs.new)
+        × Due variant workload.now session.new (commit_to workload.now progress.new next)
+        (end_unless variant progress.new progress.new.acknowledged next) logs.new)
         (Ended variant workload.now session.new (at_step progress.new Over) logs.new) }
 {
     let passed = pass_commits(variant, workload, participant, progress, logs, session)?;

@@ -1,6 +1,7 @@
 //! The first phase: each participant is asked to prepare, and votes.
 ghost use Rattle.std.specs.Prelude.{◌≡◌, ◌<◌, ◌≤◌, ◌+◌, OnOk};
-ghost use Rattle.commit_target.specs.Steps.{SendPrepare, ForcePrepare, SendVote, Over, at_step, one_of, prepare_to, vote_step, after_vote, decided, number, prepare_write};
+ghost use Rattle.commit_target.specs.Steps.{SendPrepare, ForcePrepare, SendVote, Over, at_step, one_of};
+ghost use Rattle.commit_target.specs.Steps.{prepare_to, vote_step, after_vote, decided, number, prepare_write};
 ghost use Rattle.commit_target.specs.Work.{wish};
 ghost use Rattle.commit_target.specs.inside.Batches.{AddsAll};
 ghost use Rattle.commit_target.specs.inside.Seen.{Leads, Stands, Ended};
@@ -48,7 +49,8 @@ fn choose(
     logs: &mut Logs,
     session: &mut Session<'_>,
 ) -> Result<Vote, Cut>
-    requires { Stands variant workload.now session.old (at_step progress.now (vote_step (wish workload.now (number progress.now) participant) participant)) logs.old }
+    requires { Stands variant workload.now session.old
+        (at_step progress.now (vote_step (wish workload.now (number progress.now) participant) participant)) logs.old }
     ensures given { session.new.given ≡ session.old.given }
     ensures led { Leads result (λ vote. Stands variant workload.now session.new (at_step progress.now (SendVote participant vote)) logs.new)
         (Ended variant workload.now session.new (at_step progress.now Over) logs.new) }

@@ -7,10 +7,12 @@ use Rattle.commit_target.specs.declared.cut.Cut.{Cut}
 use Rattle.commit_target.specs.declared.cut.Cut.TheVariants.{Halted, Refused}
 use Rattle.commit_target.specs.declared.variant.Variant.{Variant}
 use Rattle.commit_target.specs.declared.records.Write.{Write}
-use Rattle.commit_target.specs.Words.{point_names, send_prepare_point, force_prepare_point, send_vote_point, send_outcome_point, force_outcome_point, send_ack_point}
+use Rattle.commit_target.specs.Words.{point_names, send_prepare_point, force_prepare_point, send_vote_point}
+use Rattle.commit_target.specs.Words.{send_outcome_point, force_outcome_point, send_ack_point}
 use Rattle.commit_target.specs.Work.{Work, wish}
 use Rattle.commit_target.specs.Writes.{Event, AllLogs, LogsStandFor}
-use Rattle.commit_target.specs.Steps.{abort_to, commit_to, end_unless, one_of, prepare_to, Tally, State, machine, on_go, on_return, go_write, return_write, with_write}
+use Rattle.commit_target.specs.Steps.{abort_to, commit_to, end_unless, one_of, prepare_to, Tally, State, machine}
+use Rattle.commit_target.specs.Steps.{on_go, on_return, go_write, return_write, with_write}
 
 -- what is so where a run was halted; where memory was refused, nothing is said
 abbrev pub OnCut : Cut → Type 0 → Type 0
@@ -61,7 +63,10 @@ vote_points = send_prepare_point ∷ force_prepare_point ∷ send_vote_point ∷
 
 -- a participant is told of the commit next, or the coordinator has ended it, but for its record
 abbrev pub at_commit : Variant → Work → Tally → ℕ → List Event → State
-at_commit v w t i es = record { tally = commit_to w t (one_of i w.participants); events = with_write (end_unless v t t.acknowledged (one_of i w.participants)) es }
+at_commit v w t i es = record {
+  tally = commit_to w t (one_of i w.participants);
+  events = with_write (end_unless v t t.acknowledged (one_of i w.participants)) es;
+}
 
 -- the points of a participant that is told of the commit
 abbrev pub commit_points : List ℕ
