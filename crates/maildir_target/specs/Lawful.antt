@@ -6,7 +6,8 @@ use Rattle.target_trait.specs.Play.{IsWithin, IsDone, move_by}
 use Rattle.target_trait.proofs.Machine.{within_by, halts_by}
 use Rattle.maildir_target.specs.declared.variant.Variant.{Variant}
 use Rattle.maildir_target.specs.Judgement.{judged}
-use Rattle.maildir_target.specs.Steps.{Step, Looking, Creating, Writing, Syncing, Linking, Unlinking, SyncingDir, Cleaning, Over, State, on_go, on_return, stepped, point_at, machine, asks_of}
+use Rattle.maildir_target.specs.Steps.{Step, Looking, Creating, Writing, Syncing, Linking, Unlinking, SyncingDir, Cleaning, Over}
+use Rattle.maildir_target.specs.Steps.{State, on_go, on_return, stepped, point_at, machine, asks_of}
 
 step_within : (j : Judgement) (step : Step) → IsWithin 7 (move_by j (point_at step))
 step_within j Looking = lit< tt

@@ -1,5 +1,4 @@
 pub mod Words
-pub mod Work
 pub mod Judgement
 pub mod Steps
 pub mod Lawful

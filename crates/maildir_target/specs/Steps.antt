@@ -122,13 +122,27 @@ after_half AppendTmp cs = Cleaning
 -- the next message is begun with its first attempt: its question is the next
 abbrev pub begun_of : Variant → Tally → List (List (List ℕ)) → Tally
 begun_of v t [] = at_step t Over
-begun_of v t (chunks ∷ more) = record { step = first_step v; message = t.message + 1; attempt = First; chunks = chunks; rest = more; acknowledged = t.acknowledged }
+begun_of v t (chunks ∷ more) = record {
+  step = first_step v;
+  message = t.message + 1;
+  attempt = First;
+  chunks = chunks;
+  rest = more;
+  acknowledged = t.acknowledged;
+}
 
 abbrev pub begun : Variant → Tally → Tally
 begun v t = begun_of v t t.rest
 
 abbrev pub acknowledged : Tally → Tally
-acknowledged t = record { step = t.step; message = t.message; attempt = t.attempt; chunks = t.chunks; rest = t.rest; acknowledged = t.acknowledged ++ t.message ∷ [] }
+acknowledged t = record {
+  step = t.step;
+  message = t.message;
+  attempt = t.attempt;
+  chunks = t.chunks;
+  rest = t.rest;
+  acknowledged = t.acknowledged ++ t.message ∷ [];
+}
 
 -- the attempt fails: after the first there is a second, and after the second the message is given up
 abbrev pub failed_of : Variant → Tally → Attempt → Tally

@@ -11,7 +11,8 @@ use Rattle.maildir_target.specs.declared.name.Name.{Name}
 -- the points, in the order of their numbers
 abbrev pub point_names : List (List ℕ)
 point_names =
-    codes "maildir::stat" ∷ codes "maildir::create" ∷ codes "maildir::write" ∷ codes "maildir::sync" ∷ codes "maildir::link" ∷ codes "maildir::unlink" ∷ codes "maildir::sync_dir" ∷ []
+    codes "maildir::stat" ∷ codes "maildir::create" ∷ codes "maildir::write" ∷ codes "maildir::sync" ∷ codes "maildir::link"
+    ∷ codes "maildir::unlink" ∷ codes "maildir::sync_dir" ∷ []
 
 abbrev pub stat_point : ℕ
 stat_point = 0

@@ -11,7 +11,7 @@ pub struct Messages {
 
 impl Model for Messages {
     ghost use Rattle.std.specs.Prelude.{List, ℕ};
-    ghost use Rattle.maildir_target.specs.Work.{IsMessages};
+    ghost use Rattle.maildir_target.specs.inside.Work.{IsMessages};
 
     ghost Value = { List (List (List ℕ)) };
 

@@ -24,7 +24,14 @@ pub record Played (v : Variant) (messages : List (List (List ℕ))) (r : Run) (t
 
 -- a step of a delivery
 abbrev pub tally_at : Delivery → Mailbox → Step → Tally
-tally_at a box step = record { step = step; message = a.message; attempt = a.attempt; chunks = a.chunks.now; rest = a.rest.now; acknowledged = box.acknowledged.items }
+tally_at a box step = record {
+  step = step;
+  message = a.message;
+  attempt = a.attempt;
+  chunks = a.chunks.now;
+  rest = a.rest.now;
+  acknowledged = box.acknowledged.items;
+}
 
 -- its names
 abbrev pub tmp_of_delivery : Delivery → ℕ
