@@ -8,7 +8,8 @@ use Rattle.target_trait.proofs.Machine.{within_by, halts_by}
 use Rattle.file_replace.specs.declared.variant.Variant.{Variant}
 use Rattle.file_replace.specs.Work.{Work}
 use Rattle.file_replace.specs.Judgement.{judged}
-use Rattle.file_replace.specs.Steps.{Step, Clearing, Creating, Writing, WritingAgain, Syncing, Renaming, SyncingDir, SyncingLate, Cleaning, Over, State, on_go, on_return, stepped, machine, point_at, asks_of}
+use Rattle.file_replace.specs.Steps.{Step, Clearing, Creating, Writing, WritingAgain, Syncing, Renaming, SyncingDir, SyncingLate, Cleaning, Over}
+use Rattle.file_replace.specs.Steps.{State, on_go, on_return, stepped, machine, point_at, asks_of}
 
 step_within : (j : Judgement) (step : Step) → IsWithin 7 (move_by j (point_at step))
 step_within j (Clearing chunks) = omega arith

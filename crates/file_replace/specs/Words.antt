@@ -8,7 +8,8 @@ use Rattle.file_replace.specs.declared.disk.Name.TheVariants as name
 -- the points, in the order of their numbers
 abbrev pub point_names : List (List ℕ)
 point_names =
-    codes "replace::clear" ∷ codes "replace::create" ∷ codes "replace::write" ∷ codes "replace::sync" ∷ codes "replace::rename" ∷ codes "replace::sync_dir" ∷ codes "replace::unlink" ∷ []
+    codes "replace::clear" ∷ codes "replace::create" ∷ codes "replace::write" ∷ codes "replace::sync" ∷ codes "replace::rename"
+    ∷ codes "replace::sync_dir" ∷ codes "replace::unlink" ∷ []
 
 abbrev pub clear_point : ℕ
 clear_point = 0

@@ -11,7 +11,8 @@ use Rattle.file_replace.specs.declared.stage.Stage.{Stage}
 use Rattle.file_replace.specs.declared.stage.Stage.TheVariants as stage
 use Rattle.file_replace.specs.Work.{Work}
 use Rattle.file_replace.specs.Judgement.{Past}
-use Rattle.file_replace.specs.Steps.{Step, Clearing, Creating, Writing, WritingAgain, Syncing, Renaming, SyncingDir, SyncingLate, Cleaning, Over, Tally, State, state, machine, point_at}
+use Rattle.file_replace.specs.Steps.{Step, Clearing, Creating, Writing, WritingAgain, Syncing, Renaming, SyncingDir, SyncingLate, Cleaning, Over}
+use Rattle.file_replace.specs.Steps.{Tally, State, state, machine, point_at}
 use Rattle.file_replace.specs.inside.Left.{left}
 
 abbrev pub step_of : Stage → Step
