@@ -10,7 +10,7 @@ use crate::delivery::Delivery;
 use crate::disk::{create, link, sync, unlink};
 use crate::ended::Ended;
 use crate::mailbox::Mailbox;
-use crate::points::{CREATE, LINK, STAT, SYNC, SYNC_DIR, UNLINK};
+use crate::points::Point;
 use crate::variant::Variant;
 use crate::write::write_all;
 use sim_device::FileDevice;
@@ -23,7 +23,7 @@ pub fn clean_up(delivery: &Delivery<'_>, mailbox: &mut Mailbox, session: &mut Se
     ensures ended { HasEnded delivery.now session.new mailbox.new result }
     ensures given { session.new.given ≡ session.old.given }
 {
-    match session.hit(UNLINK) {
+    match session.hit(Point::Unlink as u32) {
         Ok(Answer::Go) => {
             unlink(delivery, &mut mailbox.device);
             Ended::Failed
@@ -44,7 +44,7 @@ fn stat(
     ensures leads { Leads delivery.now session.new mailbox.new Creating result }
     ensures given { session.new.given ≡ session.old.given }
 {
-    match session.hit(STAT)? {
+    match session.hit(Point::Stat as u32)? {
         Answer::Go => {
             if mailbox.device.exists(delivery.tmp()) {
                 return Err(Ended::Failed);
@@ -103,7 +103,7 @@ fn create_file(
     ensures leads { Leads delivery.now session.new mailbox.new (after_create delivery.now.variant delivery.now.chunks.now) result }
     ensures given { session.new.given ≡ session.old.given }
 {
-    match session.hit(CREATE)? {
+    match session.hit(Point::Create as u32)? {
         Answer::Go => {
             create_by(delivery, &mut mailbox.device)?;
             Ok(())
@@ -123,7 +123,7 @@ fn sync_file(
     ensures leads { Leads delivery.now session.new mailbox.new (after_sync delivery.now.variant) result }
     ensures given { session.new.given ≡ session.old.given }
 {
-    match session.hit(SYNC)? {
+    match session.hit(Point::Sync as u32)? {
         Answer::Go => {
             sync(delivery, &mut mailbox.device);
             Ok(())
@@ -143,7 +143,7 @@ fn link_new(
     ensures leads { Leads delivery.now session.new mailbox.new (after_link delivery.now.variant delivery.now.chunks.now) result }
     ensures given { session.new.given ≡ session.old.given }
 {
-    match session.hit(LINK)? {
+    match session.hit(Point::Link as u32)? {
         Answer::Go => {
             if mailbox.device.exists(delivery.delivered()) {
                 return Err(clean_up(delivery, mailbox, session));
@@ -166,7 +166,7 @@ fn remove(
     ensures leads { Leads delivery.now session.new mailbox.new SyncingDir result }
     ensures given { session.new.given ≡ session.old.given }
 {
-    match session.hit(UNLINK)? {
+    match session.hit(Point::Unlink as u32)? {
         Answer::Go => {
             unlink(delivery, &mut mailbox.device);
             Ok(())
@@ -186,7 +186,7 @@ fn acknowledge(
     ensures delivers { Delivers delivery.now session.new mailbox.new result }
     ensures given { session.new.given ≡ session.old.given }
 {
-    match session.hit(SYNC_DIR)? {
+    match session.hit(Point::SyncDir as u32)? {
         Answer::Go => {
             mailbox.device.sync_dir();
             match mailbox.acknowledged.push(delivery.message) {

@@ -8,7 +8,7 @@ use crate::delivery::Delivery;
 use crate::disk::append;
 use crate::ended::Ended;
 use crate::mailbox::Mailbox;
-use crate::points::WRITE;
+use crate::points::Point;
 use crate::variant::Variant;
 use target_trait::{Answer, Session};
 
@@ -43,7 +43,7 @@ fn write_one(
     ensures leads { Leads delivery.now session.new mailbox.new (write_step (drop (at + 1) delivery.now.chunks.now)) result }
     ensures given { session.new.given ≡ session.old.given }
 {
-    match session.hit(WRITE)? {
+    match session.hit(Point::Write as u32)? {
         Answer::Go => {
             append(delivery, &mut mailbox.device, delivery.chunks.chunk(at))?;
             Ok(())
@@ -71,7 +71,7 @@ fn write_some(
         (λ e. HasEnded delivery.now session.new mailbox.new e) }
     ensures given { session.new.given ≡ session.old.given }
 {
-    let passed = session.pass(WRITE, delivery.chunks.len() - at)?;
+    let passed = session.pass(Point::Write as u32, delivery.chunks.len() - at)?;
     if passed == 0 {
         write_one(delivery, at, mailbox, session)?;
         return Ok(at + 1);
