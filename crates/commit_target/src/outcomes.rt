@@ -7,7 +7,7 @@ ghost use Rattle.commit_target.specs.inside.Seen.{Leads, Stands, Due, Ended};
 
 use crate::cut::{Cut, ask};
 use crate::logs::Logs;
-use crate::points::{FORCE_COMMIT, FORCE_OUTCOME, SEND_ACK, SEND_OUTCOME};
+use crate::points::Point;
 use crate::progress::Progress;
 use crate::records::{Kind, Party, Write};
 use crate::variant::Variant;
@@ -16,7 +16,11 @@ use std::alloc::AllocError;
 use target_trait::Session;
 
 /// What is asked of a participant that is told of the commit, where nothing fails.
-const ROUND: [u32; 3] = [SEND_OUTCOME, FORCE_OUTCOME, SEND_ACK];
+const ROUND: [u32; 3] = [
+    Point::SendOutcome as u32,
+    Point::ForceOutcome as u32,
+    Point::SendAck as u32,
+];
 
 /// The coordinator forces the commit record.
 fn force_commit(
@@ -32,7 +36,7 @@ fn force_commit(
         Stands variant workload.now session.new (if forced then committed progress.now else after_no_commit variant workload.now progress.now) logs.new)
         (Ended variant workload.now session.new (at_step progress.now Over) logs.new) }
 {
-    if !ask(session, FORCE_COMMIT)? {
+    if !ask(session, Point::ForceCommit as u32)? {
         return Ok(false);
     }
     logs.write(Write::Force(Party::Coordinator, progress.entry(Kind::Commit)))?;
@@ -52,7 +56,7 @@ fn force_commit_again(
     ensures led { Leads result (λ _. Stands variant workload.now session.new (committed progress.now) logs.new)
         (Ended variant workload.now session.new (at_step progress.now Over) logs.new) }
 {
-    if !ask(session, FORCE_COMMIT)? {
+    if !ask(session, Point::ForceCommit as u32)? {
         return Ok(());
     }
     logs.write(Write::Force(Party::Coordinator, progress.entry(Kind::Commit)))?;
@@ -101,7 +105,7 @@ fn abort_to(
         Stands variant workload.now session.new (abort_to workload.now progress.now (next_of place (length progress.now.yes))) logs.new)
         (Ended variant workload.now session.new (at_step progress.now Over) logs.new) }
 {
-    if !ask(session, SEND_OUTCOME)? {
+    if !ask(session, Point::SendOutcome as u32)? {
         return Ok(());
     }
     logs.write(Write::Append(
@@ -138,7 +142,7 @@ fn pass_aborts(
         × Stands variant workload.now session.new (abort_to workload.now progress.now (one_of n (length progress.now.yes))) logs.new)
         (Ended variant workload.now session.new (at_step progress.now Over) logs.new) }
 {
-    let passed = session.pass(SEND_OUTCOME, progress.voters())?;
+    let passed = session.pass(Point::SendOutcome as u32, progress.voters())?;
     abort_each(passed, progress, logs)?;
     Ok(passed)
 }
@@ -179,17 +183,17 @@ fn commit_to(
         Due variant workload.now session.new (commit_to workload.now t next) (end_unless variant t t.acknowledged next) logs.new)
         (Ended variant workload.now session.new (at_step progress.now Over) logs.new) }
 {
-    if !ask(session, SEND_OUTCOME)? {
+    if !ask(session, Point::SendOutcome as u32)? {
         return Ok(false);
     }
-    if !ask(session, FORCE_OUTCOME)? {
+    if !ask(session, Point::ForceOutcome as u32)? {
         return Ok(false);
     }
     logs.write(Write::Force(
         Party::Participant(participant),
         progress.entry(Kind::Commit),
     ))?;
-    ask(session, SEND_ACK)
+    ask(session, Point::SendAck as u32)
 }
 
 /// Participants in a row, from this one on, are told of the commit where nothing comes between: how many they are.

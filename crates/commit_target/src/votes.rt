@@ -8,7 +8,7 @@ ghost use Rattle.commit_target.specs.inside.Seen.{Leads, Stands, Ended};
 
 use crate::cut::{Cut, ask};
 use crate::logs::Logs;
-use crate::points::{FORCE_PREPARE, SEND_PREPARE, SEND_VOTE};
+use crate::points::Point;
 use crate::progress::Progress;
 use crate::records::Kind;
 use crate::variant::Variant;
@@ -17,7 +17,11 @@ use std::alloc::AllocError;
 use target_trait::Session;
 
 /// What is asked of a participant that wishes yes, where nothing fails.
-const ROUND: [u32; 3] = [SEND_PREPARE, FORCE_PREPARE, SEND_VOTE];
+const ROUND: [u32; 3] = [
+    Point::SendPrepare as u32,
+    Point::ForcePrepare as u32,
+    Point::SendVote as u32,
+];
 
 /// A participant that wishes yes writes its prepare record. One that can't votes no.
 fn prepare(
@@ -33,7 +37,7 @@ fn prepare(
     ensures led { Leads result (λ vote. Stands variant workload.now session.new (at_step progress.now (SendVote participant vote)) logs.new)
         (Ended variant workload.now session.new (at_step progress.now Over) logs.new) }
 {
-    if !ask(session, FORCE_PREPARE)? {
+    if !ask(session, Point::ForcePrepare as u32)? {
         return Ok(Vote::No);
     }
     logs.write(progress.prepare_write(variant, participant))?;
@@ -76,11 +80,11 @@ fn vote(
     ensures led { Leads result (λ _. Stands variant workload.now session.new (after_vote workload.now progress.new participant) logs.new)
         (Ended variant workload.now session.new (at_step progress.new Over) logs.new) }
 {
-    if !ask(session, SEND_PREPARE)? {
+    if !ask(session, Point::SendPrepare as u32)? {
         return Ok(());
     }
     let vote = choose(variant, workload, participant, progress, logs, session)?;
-    if !ask(session, SEND_VOTE)? {
+    if !ask(session, Point::SendVote as u32)? {
         return Ok(());
     }
     progress.take_vote(participant, vote)?;

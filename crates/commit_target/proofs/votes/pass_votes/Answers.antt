@@ -1,4 +1,4 @@
-use Rattle.std.proofs.Common.{◌≡◌, ◌≤◌, ◌<◌, ◌+◌, ℕ, subst, arith}
+use Rattle.std.proofs.Common.{◌≡◌, ◌≤◌, ◌+◌, ℕ, subst, arith}
 use Rattle.commit_target.specs.declared.work.Vote.TheVariants.{Yes}
 use Rattle.commit_target.specs.Work.{Work, wish}
 use Rattle.commit_target.specs.Steps.{number}
