@@ -18,33 +18,30 @@ use sim_device::FileDevice;
 use std::alloc::AllocError;
 use target_trait::{Answer, Judgement, Session};
 
-// the numbers of the points in the catalogue
-const CLEAR: u32 = 0;
-
-const CREATE: u32 = 1;
-
-const WRITE: u32 = 2;
-
-const SYNC: u32 = 3;
-
-const RENAME: u32 = 4;
-
-const SYNC_DIR: u32 = 5;
-
-const UNLINK: u32 = 6;
+/// A point. Its number in the catalogue is its place here.
+#[derive(Clone, Copy)]
+enum Point {
+    Clear,
+    Create,
+    Write,
+    Sync,
+    Rename,
+    SyncDir,
+    Unlink,
+}
 
 /// The point that a stage asks.
 fn point_of(stage: Stage<'_>) -> Option<u32>
     ensures { result ≡ point_at (step_of stage.entry) }
 {
     match stage {
-        Stage::Clearing(_) => Some(CLEAR),
-        Stage::Creating(_) => Some(CREATE),
-        Stage::Writing(_, _) | Stage::WritingAgain(_, _) => Some(WRITE),
-        Stage::Syncing | Stage::SyncingLate => Some(SYNC),
-        Stage::Renaming => Some(RENAME),
-        Stage::SyncingDir => Some(SYNC_DIR),
-        Stage::Cleaning => Some(UNLINK),
+        Stage::Clearing(_) => Some(Point::Clear as u32),
+        Stage::Creating(_) => Some(Point::Create as u32),
+        Stage::Writing(_, _) | Stage::WritingAgain(_, _) => Some(Point::Write as u32),
+        Stage::Syncing | Stage::SyncingLate => Some(Point::Sync as u32),
+        Stage::Renaming => Some(Point::Rename as u32),
+        Stage::SyncingDir => Some(Point::SyncDir as u32),
+        Stage::Cleaning => Some(Point::Unlink as u32),
         Stage::Over => None,
     }
 }
@@ -90,7 +87,7 @@ fn write_on(
 {
     let mut stage = progress.stage();
     while let Stage::Writing(chunk, rest) = stage {
-        match session.hit(WRITE)? {
+        match session.hit(Point::Write as u32)? {
             Answer::Go => append(device, Name::Tmp, chunk)?,
             Answer::Return(_) => {
                 write_half(device, chunk)?;
@@ -102,7 +99,7 @@ fn write_on(
                 return Ok(());
             }
         }
-        let passed = session.pass(WRITE, rest.len())?;
+        let passed = session.pass(Point::Write as u32, rest.len())?;
         let (bytes, left) = rest.split_at(passed);
         append(device, Name::Tmp, bytes)?;
         stage = write_stage(variant, left);
