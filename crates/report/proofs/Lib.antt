@@ -1,3 +1,3 @@
 mod WritingLemmas
-mod Written
-mod ToldLines
+pub mod Written
+pub mod ToldLines

@@ -11,8 +11,10 @@ use Rattle.report.specs.BriefText.{told_line_of, told_lines}
 use Rattle.report.proofs.Written.{goes_on, next_of}
 
 -- lines are written, and the rest is left
-pub lines_on : (old new whole : List ℕ) (lines rest : List (List ℕ)) → new ≡ old ++ text_of lines → old ++ text_of (lines ++ rest) ≡ whole → new ++ text_of rest ≡ whole
-lines_on old new whole lines rest added h = goes_on old new (text_of lines) (text_of rest) whole (ap (λ (t : List ℕ). old ++ t) (sym (flat_map-append ended lines rest)) ∙ h) added
+pub lines_on : (old new whole : List ℕ) (lines rest : List (List ℕ)) → new ≡ old ++ text_of lines → old ++ text_of (lines ++ rest) ≡ whole
+    → new ++ text_of rest ≡ whole
+lines_on old new whole lines rest added h =
+    goes_on old new (text_of lines) (text_of rest) whole (ap (λ (t : List ℕ). old ++ t) (sym (flat_map-append ended lines rest)) ∙ h) added
 
 -- the line of a verdict is written, or none
 pub told_next : (code_name : ℕ → List ℕ) (old new whole : List ℕ) (n : ℕ) (v : Verdict) (plan : Entries) (verdicts vs : List Verdict) (plans ps : List Entries)
@@ -20,13 +22,16 @@ pub told_next : (code_name : ℕ → List ℕ) (old new whole : List ℕ) (n : �
     → old ++ text_of (told_lines code_name n verdicts plans) ≡ whole → new ++ text_of (told_lines code_name (n + 1) vs ps) ≡ whole
 told_next code_name old new whole n v plan verdicts vs plans ps vs_are ps_are added h =
     lines_on old new whole (told_line_of code_name n v plan) (told_lines code_name (n + 1) vs ps) added
-    (ap (λ (l : List Entries). old ++ text_of (told_lines code_name n (v ∷ vs) l)) (sym ps_are) ∙ ap (λ (l : List Verdict). old ++ text_of (told_lines code_name n l plans)) (sym vs_are) ∙ h)
+    (ap (λ (l : List Entries). old ++ text_of (told_lines code_name n (v ∷ vs) l)) (sym ps_are)
+    ∙ ap (λ (l : List Verdict). old ++ text_of (told_lines code_name n l plans)) (sym vs_are) ∙ h)
 
 -- what is written of the next finding
-pub finding_on : (f : FindingFacts → List ℕ) (old new whole : List ℕ) (i : ℕ) (fs : List FindingFacts) (x : FindingFacts) → i < length fs → x ≡ get_or fs i x → new ≡ old ++ f x
+pub finding_on : (f : FindingFacts → List ℕ) (old new whole : List ℕ) (i : ℕ) (fs : List FindingFacts) (x : FindingFacts) → i < length fs → x ≡ get_or fs i x
+    → new ≡ old ++ f x
     → old ++ flat_map f (drop i fs) ≡ whole → new ++ flat_map f (drop (i + 1) fs) ≡ whole
 finding_on f old new whole i fs x lt is added h =
-    goes_on old new (f x) (flat_map f (drop (i + 1) fs)) whole (ap (λ (l : List FindingFacts). old ++ flat_map f l) (sym (next_of fs i x lt ∙ ap (λ (g : FindingFacts). g ∷ drop (i + 1) fs) (sym is))) ∙ h) added
+    goes_on old new (f x) (flat_map f (drop (i + 1) fs)) whole
+    (ap (λ (l : List FindingFacts). old ++ flat_map f l) (sym (next_of fs i x lt ∙ ap (λ (g : FindingFacts). g ∷ drop (i + 1) fs) (sym is))) ∙ h) added
 
 -- what a call that may be refused leaves where it isn't
 pub on_ok_if : {T E : Type 0} (r : Result T E) (x a b : List ℕ) → x ≡ (if is_ok r then a else b) → OnOk r (x ≡ a)

@@ -10,7 +10,8 @@ fails-some E zero bs h = absurd (h refl)
 fails-some E (suc n) bs h = refl
 
 -- what two writes append one after the other is what one appends
-pub appends-more : (old mid new : Option (List ℕ)) (text : List ℕ) (w n : ℕ) → w ≤ length text → n ≤ length text - w → Appends old mid (take w text) → Appends mid new (take n (take (length text - w) (drop w text))) → Appends old new (take (w + n) text)
+pub appends-more : (old mid new : Option (List ℕ)) (text : List ℕ) (w n : ℕ) → w ≤ length text → n ≤ length text - w → Appends old mid (take w text)
+    → Appends mid new (take n (take (length text - w) (drop w text))) → Appends old new (take (w + n) text)
 appends-more None mid new text w n in_text in_rest one two = tt
 appends-more (Some xs) None new text w n in_text in_rest one two = absurd one
 appends-more (Some xs) (Some ys) None text w n in_text in_rest one two = absurd two

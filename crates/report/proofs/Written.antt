@@ -11,14 +11,18 @@ goes_on old new here rest whole h e = ap (λ r. r ++ rest) e ∙ append_assoc ol
 pub next_of : {A : Type 0} (xs : List A) (i : ℕ) (d : A) → i < length xs → drop i xs ≡ get_or xs i d ∷ drop (i + 1) xs
 next_of xs i d h = drop-cons xs i d h ∙ ap (λ k. get_or xs i d ∷ drop k xs) (sym (add-one i))
 
-pub census_next : (old new : List ℕ) (name : List ℕ) (n : ℕ) (names rest : List (List ℕ)) (counts left whole : List ℕ) → names ≡ name ∷ rest → counts ≡ n ∷ left → new ≡ old ++ ended (census_line name n) → old ++ text_of (census_lines names counts) ≡ whole → new ++ text_of (census_lines rest left) ≡ whole
+pub census_next : (old new : List ℕ) (name : List ℕ) (n : ℕ) (names rest : List (List ℕ)) (counts left whole : List ℕ) → names ≡ name ∷ rest → counts ≡ n ∷ left
+    → new ≡ old ++ ended (census_line name n) → old ++ text_of (census_lines names counts) ≡ whole → new ++ text_of (census_lines rest left) ≡ whole
 census_next old new name n names rest counts left whole a b added h =
     goes_on old new (ended (census_line name n)) (text_of (census_lines rest left)) whole
-    (ap (λ (l : List ℕ). old ++ text_of (census_lines (name ∷ rest) l)) (sym b) ∙ ap (λ (l : List (List ℕ)). old ++ text_of (census_lines l counts)) (sym a) ∙ h) added
+    (ap (λ (l : List ℕ). old ++ text_of (census_lines (name ∷ rest) l)) (sym b) ∙ ap (λ (l : List (List ℕ)). old ++ text_of (census_lines l counts)) (sym a)
+    ∙ h) added
 
-pub finding_next : (code_name : ℕ → List ℕ) (old new whole : List ℕ) (i : ℕ) (fs : List FindingFacts) (f : FindingFacts) → i < length fs → f ≡ get_or fs i f → new ≡ old ++ text_of (finding_lines code_name f)
+pub finding_next : (code_name : ℕ → List ℕ) (old new whole : List ℕ) (i : ℕ) (fs : List FindingFacts) (f : FindingFacts) → i < length fs → f ≡ get_or fs i f
+    → new ≡ old ++ text_of (finding_lines code_name f)
     → old ++ text_of (flat_map (finding_lines code_name) (drop i fs)) ≡ whole → new ++ text_of (flat_map (finding_lines code_name) (drop (i + 1) fs)) ≡ whole
 finding_next code_name old new whole i fs f lt is added h =
     goes_on old new (text_of (finding_lines code_name f)) (text_of (flat_map (finding_lines code_name) (drop (i + 1) fs))) whole
-    (ap (λ (t : List ℕ). old ++ t) (sym (ap (λ (l : List FindingFacts). text_of (flat_map (finding_lines code_name) l)) (next_of fs i f lt ∙ ap (λ (g : FindingFacts). g ∷ drop (i + 1) fs) (sym is))
+    (ap (λ (t : List ℕ). old ++ t)
+    (sym (ap (λ (l : List FindingFacts). text_of (flat_map (finding_lines code_name) l)) (next_of fs i f lt ∙ ap (λ (g : FindingFacts). g ∷ drop (i + 1) fs) (sym is))
     ∙ flat_map-append ended (finding_lines code_name f) (flat_map (finding_lines code_name) (drop (i + 1) fs)))) ∙ h) added

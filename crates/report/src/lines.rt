@@ -1,7 +1,8 @@
 //! The lines of a report.
 ghost use Rattle.std.specs.Prelude.{◌≡◌, ◌++◌, ◌∷◌, [], length, string_bytes, codes, IfOk, OnOk};
 ghost use Rattle.std.specs.Fmt.{decimal};
-ghost use Rattle.report.specs.ReportText.{verdict_text, scenario_text, census_line, census_lines, count_line, verdict_line, verdict_lines, finding_lines, findings_lines, report_lines, ended, text_of};
+ghost use Rattle.report.specs.ReportText.{verdict_text, scenario_text, census_line, census_lines, count_line, verdict_line, verdict_lines};
+ghost use Rattle.report.specs.ReportText.{finding_lines, findings_lines, report_lines, ended, text_of};
 
 use crate::facts::{Finding, Report};
 use crate::names::Names;
@@ -23,7 +24,8 @@ pub(crate) fn write_head<N: Names>(
     seed: u64,
     clean: Verdict,
 ) -> Result<(), AllocError>
-    ensures { OnOk result (string_bytes out.new ≡ string_bytes out.old ++ text_of ((codes "target " ++ label.now) ∷ (codes "seed " ++ decimal seed) ∷ (codes "clean " ++ verdict_text (N.code_text names.now) clean) ∷ [])) }
+    ensures { OnOk result (string_bytes out.new ≡ string_bytes out.old ++ text_of
+        ((codes "target " ++ label.now) ∷ (codes "seed " ++ decimal seed) ∷ (codes "clean " ++ verdict_text (N.code_text names.now) clean) ∷ [])) }
 {
     write!(out, "target {label}\nseed {seed}\nclean ")?;
     write_verdict(out, names, clean)?;

@@ -28,8 +28,12 @@ returns g c =
     let whole : List ℕ = text_of (head_lines name r ++ rest) in
     let begun : string_bytes c.new-out.result ++ text_of (head_lines name r ++ rest) ≡ whole = ap (λ (s : List ℕ). s ++ whole) c.new-out.ensures.bytes in
     let head = lines_on (string_bytes c.new-out.result) (string_bytes c.write_head.new.out) whole (head_lines name r) rest c.in_ok-write_head.ensures begun in
-    let census = lines_on (string_bytes c.write_head.new.out) (string_bytes c.write_census.new.out) whole (census_lines points r.census) (count_line r.verdicts ∷ (counts ∷ (told ++ found))) c.in_ok-write_census.ensures head in
-    let count = goes_on (string_bytes c.write_census.new.out) (string_bytes c.write_count.new.out) (ended (count_line r.verdicts)) (text_of (counts ∷ (told ++ found))) whole census c.in_ok-write_count.ensures in
+    let census =
+    lines_on (string_bytes c.write_head.new.out) (string_bytes c.write_census.new.out) whole (census_lines points r.census)
+    (count_line r.verdicts ∷ (counts ∷ (told ++ found))) c.in_ok-write_census.ensures head in
+    let count =
+    goes_on (string_bytes c.write_census.new.out) (string_bytes c.write_count.new.out) (ended (count_line r.verdicts))
+    (text_of (counts ∷ (told ++ found))) whole census c.in_ok-write_count.ensures in
     let counted =
     goes_on (string_bytes c.write_count.new.out) (string_bytes c.write_counts.new.out) (ended counts) (text_of (told ++ found)) whole count
     (c.in_ok-write_counts.ensures ∙ ap (λ fs. string_bytes c.write_count.new.out ++ ended (counts_line name r.verdicts fs)) c.deref.ensures.value)

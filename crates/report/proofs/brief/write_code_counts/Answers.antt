@@ -4,4 +4,5 @@ use Rattle.report.proofs.brief.write_code_counts.Goals as goal
 
 pub loop-finding-preserved : goal.loop-finding-preserved
 loop-finding-preserved g c =
-    finding_on (code_count (g.N.Names.code_text c.args.names.now) c.args.verdicts.now) _ _ _ _ _ _ c.loop-finding-test.true c.finding-item.is c.in_ok-write_code_count.ensures c.loop-finding.invariant
+    finding_on (code_count (g.N.Names.code_text c.args.names.now) c.args.verdicts.now) _ _ _ _ _ _ c.loop-finding-test.true c.finding-item.is
+    c.in_ok-write_code_count.ensures c.loop-finding.invariant
