@@ -2,35 +2,35 @@
 use Rattle.std.proofs.Common.{◌≡◌, ℕ, ◌+◌, ◌*◌, ◌≤◌, ◌==◌, Bool, true, false, cond, List, [], ◌∷◌, ◌++◌, refl, ap, sym, ◌∙◌, append_assoc, add-one, arith}
 use Rattle.std.specs.List.{range_with_len, flat_map}
 use Rattle.std.proofs.lemmas.Grind.{flat_map-append}
+use Rattle.std.proofs.lemmas.List.{append-nil}
 use Rattle.plan_gen.proofs.Lists.{range_more, zero_plus, goes_on}
 use Rattle.std.specs.Prelude.{max}
 use Rattle.std.proofs.Math.Nat.{mul-le-mul_left}
 use Rattle.campaign_map.specs.Map.{point_text, next_free, names_text}
 
-append_nil : {A : Type 0} (xs : List A) → xs ++ [] ≡ xs
-append_nil [] = refl
-append_nil (x ∷ xs) = ap (λ l. x ∷ l) (append_nil xs)
-
 -- one number more
 pub flat_more : (f : ℕ → List ℕ) (n : ℕ) → flat_map f (range_with_len 0 (n + 1)) ≡ flat_map f (range_with_len 0 n) ++ f n
 flat_more f n =
     ap (λ k. flat_map f (range_with_len 0 k)) (add-one n) ∙ ap (flat_map f) (range_more 0 n)
-    ∙ flat_map-append f (range_with_len 0 n) ((0 + n) ∷ []) ∙ ap (λ l. flat_map f (range_with_len 0 n) ++ l) (append_nil (f (0 + n)) ∙ ap f (zero_plus n))
+    ∙ flat_map-append f (range_with_len 0 n) ((0 + n) ∷ []) ∙ ap (λ l. flat_map f (range_with_len 0 n) ++ l) (append-nil (f (0 + n)) ∙ ap f (zero_plus n))
 
 -- a loop over numbers that writes
-pub wrote : (f : ℕ → List ℕ) (n : ℕ) (start old new : List ℕ) → old ≡ start ++ flat_map f (range_with_len 0 n) → new ≡ old ++ f n → new ≡ start ++ flat_map f (range_with_len 0 (n + 1))
+pub wrote : (f : ℕ → List ℕ) (n : ℕ) (start old new : List ℕ) → old ≡ start ++ flat_map f (range_with_len 0 n) → new ≡ old ++ f n
+    → new ≡ start ++ flat_map f (range_with_len 0 (n + 1))
 wrote f n start old new h e =
     e ∙ ap (λ l. l ++ f n) h ∙ append_assoc start (flat_map f (range_with_len 0 n)) (f n) ∙ ap (λ l. start ++ l) (sym (flat_more f n))
 
 -- the name of one point more
-pub names_next : (cell site free more room : ℕ) (old new name : List ℕ) (n : ℕ) (names rest : List (List ℕ)) (counts left whole : List ℕ) → names ≡ name ∷ rest → counts ≡ n ∷ left
+pub names_next : (cell site free more room : ℕ) (old new name : List ℕ) (n : ℕ) (names rest : List (List ℕ)) (counts left whole : List ℕ) → names ≡ name ∷ rest
+    → counts ≡ n ∷ left
     → new ≡ old ++ point_text name cell site free n → more ≡ site + n → room ≡ next_free cell site free n
     → old ++ names_text cell site free names counts ≡ whole → new ++ names_text cell more room rest left ≡ whole
 unfolding names_text
 names_next cell site free more room old new name n names rest counts left whole a b added moved roomy h =
     ap (λ (s : ℕ). new ++ names_text cell s room rest left) moved ∙ ap (λ (f : ℕ). new ++ names_text cell (site + n) f rest left) roomy
     ∙ goes_on old new (point_text name cell site free n) (names_text cell (site + n) (next_free cell site free n) rest left) whole
-    (ap (λ (l : List ℕ). old ++ names_text cell site free (name ∷ rest) l) (sym b) ∙ ap (λ (l : List (List ℕ)). old ++ names_text cell site free l counts) (sym a) ∙ h) added
+    (ap (λ (l : List ℕ). old ++ names_text cell site free (name ∷ rest) l) (sym b)
+    ∙ ap (λ (l : List (List ℕ)). old ++ names_text cell site free l counts) (sym a) ∙ h) added
 
 -- how far down the names come
 bounded : (cell site : ℕ) → cell ≤ 16 → site ≤ 65536 → cell * site ≤ 1048576
@@ -43,7 +43,8 @@ none_or_one : (none : Bool) (free low p : ℕ) → free ≤ 1048576 + 12 * p →
 none_or_one true free low p a b = omega arith
 none_or_one false free low p a b = omega arith
 
-pub room_small : (cell site free n p room : ℕ) → cell ≤ 16 → site ≤ 65536 → free ≤ 1048576 + 12 * p → room ≡ next_free cell site free n → room ≤ 1048576 + 12 * (p + 1)
+pub room_small : (cell site free n p room : ℕ) → cell ≤ 16 → site ≤ 65536 → free ≤ 1048576 + 12 * p → room ≡ next_free cell site free n
+    → room ≤ 1048576 + 12 * (p + 1)
 room_small cell site free n p room a b few is =
     let small = bounded cell site a b in
     let low : max free (cell * site) ≤ 1048576 + 12 * p = larger free (cell * site) (1048576 + 12 * p) few (omega arith) in

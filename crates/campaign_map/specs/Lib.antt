@@ -1,6 +1,6 @@
 pub mod Xml
 pub mod Mapped
 pub mod Cells
-pub mod Lines
 pub mod Layouts
 pub mod Map
+pub mod inside

@@ -2,7 +2,7 @@
 ghost use Rattle.std.specs.Prelude.{◌≡◌, ◌≤◌, ◌<◌, ◌^◌, length};
 ghost use Rattle.plan_gen.specs.Census.{sites_of};
 ghost use Rattle.plan_gen.specs.PlanList.{most_plans};
-ghost use Rattle.campaign_map.specs.Lines.{IsShort, IsSmall};
+ghost use Rattle.campaign_map.specs.inside.Lines.{IsShort, IsSmall};
 ghost use Rattle.campaign_map.specs.Layouts.{cell_of, strip_first, layout_of, kind_line, both_line, second_line, strip_line};
 
 use crate::cells::Line;

@@ -4,8 +4,9 @@ ghost use Rattle.target_trait.specs.declared.judgement.Verdict.TheVariants as ve
 ghost use Rattle.plan_gen.specs.Census.{sites_of};
 ghost use Rattle.plan_gen.specs.Counts.{total_of};
 ghost use Rattle.plan_gen.specs.PlanList.{most_plans};
-ghost use Rattle.campaign_map.specs.Lines.{IsSmall};
-ghost use Rattle.campaign_map.specs.Map.{style, size, view, label, numbers, head, count_of, legend_row, first_text, code_row, code_rows, legend, name_text, point_text, next_free, names_text, group, end, turned, heads, kind_text, kinds, pairs_text, square, row_text, strip, sites_part, pairs_head, pairs_part, strip_part, map_text};
+ghost use Rattle.campaign_map.specs.inside.Lines.{IsSmall};
+ghost use Rattle.campaign_map.specs.Map.{style, size, view, label, numbers, head, count_of, legend_row, first_text, code_row, code_rows, legend, name_text, point_text, next_free};
+ghost use Rattle.campaign_map.specs.Map.{names_text, group, end, turned, heads, kind_text, kinds, pairs_text, square, row_text, strip, sites_part, pairs_head, pairs_part, strip_part, map_text};
 
 use crate::cells::{shade, write_class, write_line};
 use crate::escaping::write_escaped;

@@ -11,10 +11,15 @@ loop-point-preserved g c =
     let within : point < length points = omega (arith, c.requires.counts) in
     let here : drop point points ≡ c.point.result.now ∷ drop (point + 1) points =
     subst (λ (name : List ℕ). drop point points ≡ name ∷ drop (point + 1) points) (sym c.point.ensures) (next_of points point [] within) in
-    let left : drop point c.args.census.now ≡ get_or c.args.census.now point 0 ∷ drop (point + 1) c.args.census.now = next_of c.args.census.now point 0 c.loop-point-test.true in
+    let left : drop point c.args.census.now ≡ get_or c.args.census.now point 0 ∷ drop (point + 1) c.args.census.now =
+    next_of c.args.census.now point 0 c.loop-point-test.true in
     let sums = ap total_of left in
     record {
       counted = omega (arith, sums, c.loop-point.invariant.counted);
-      few = room_small c.args.cell c.loop-point.site c.loop-point.free _ point _ c.requires.small (omega (arith, c.loop-point.invariant.counted)) c.loop-point.invariant.few c.in_ok-free.ensures.free;
-      written = names_next c.args.cell c.loop-point.site c.loop-point.free _ _ _ _ _ _ _ _ _ _ _ here left c.in_ok-free.ensures.text refl c.in_ok-free.ensures.free c.loop-point.invariant.written;
+      few =
+          room_small c.args.cell c.loop-point.site c.loop-point.free _ point _ c.requires.small (omega (arith, c.loop-point.invariant.counted))
+          c.loop-point.invariant.few c.in_ok-free.ensures.free;
+      written =
+          names_next c.args.cell c.loop-point.site c.loop-point.free _ _ _ _ _ _ _ _ _ _ _ here left c.in_ok-free.ensures.text refl c.in_ok-free.ensures.free
+          c.loop-point.invariant.written;
     }

@@ -4,4 +4,5 @@ use Rattle.campaign_map.specs.Map.{pairs_text}
 use Rattle.campaign_map.proofs.map.write_square.Given as goal
 
 abbrev pub invariant-loop-site : goal.invariant-loop-site
-invariant-loop-site g l = string_bytes l.out ≡ string_bytes l.initial.out ++ flat_map (pairs_text (g.N.Names.code_text l.names) l.facts l.layout) (range_with_len 0 l.site)
+invariant-loop-site g l =
+    string_bytes l.out ≡ string_bytes l.initial.out ++ flat_map (pairs_text (g.N.Names.code_text l.names) l.facts l.layout) (range_with_len 0 l.site)
