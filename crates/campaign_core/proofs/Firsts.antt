@@ -1,5 +1,6 @@
 -- The first failures, and what a report says of them.
-use Rattle.std.proofs.Common.{◌≡◌, ℕ, zero, suc, ◌+◌, ◌<◌, true, Bool, Option, option_map, slice_get, List, [], ◌∷◌, length, get_or, map, All, refl, sym, ap, ◌∙◌, arith, eq-eqb, zero-add, add-zero}
+use Rattle.std.proofs.Common.{◌≡◌, ℕ, zero, suc, ◌+◌, ◌<◌, true, Bool, Option, option_map, slice_get, List, [], ◌∷◌, length, get_or, map, All, refl, sym, ap}
+use Rattle.std.proofs.Common.{◌∙◌, arith, eq-eqb, zero-add, add-zero}
 use Rattle.std.proofs.lemmas.List.Elements.{All-map}
 use Rattle.scenario_values.specs.Scenario.{Entries, DistinctNames}
 use Rattle.action_eval.specs.Answers.{Reply}
@@ -27,14 +28,16 @@ plan_fails say n (plan ∷ plans) (suc i) code is =
     ((let e = later.0 in omega (arith, e)), ap (λ k. say k (get_or plans i [])) at ∙ later.1)
 
 -- each first failure is that of a plan that fails
-pub each_fails : (say : ℕ → Entries → Verdict) (plans : List Entries) (firsts : List (ℕ × ℕ)) → AreFirstFailures (FailsAt (verdicts_from say 0 plans)) firsts → All (IsFailure say plans) firsts
+pub each_fails : (say : ℕ → Entries → Verdict) (plans : List Entries) (firsts : List (ℕ × ℕ)) → AreFirstFailures (FailsAt (verdicts_from say 0 plans)) firsts
+    → All (IsFailure say plans) firsts
 each_fails say plans firsts are k d lt =
     let f : ℕ × ℕ = get_or firsts k d in
     let here = plan_fails say 0 plans f.0 f.1 (are.least k d lt).0 in
     (here.0, ap (λ i. say i (get_or plans f.0 [])) (sym (zero-add f.0)) ∙ here.1)
 
 -- it fails with its code
-pub failure_fails : (say : ℕ → Entries → Verdict) (plans : List Entries) (first : ℕ × ℕ) → IsFailure say plans first → fails_with first.1 (say first.0 (get_or plans first.0 [])) ≡ true
+pub failure_fails : (say : ℕ → Entries → Verdict) (plans : List Entries) (first : ℕ × ℕ) → IsFailure say plans first
+    → fails_with first.1 (say first.0 (get_or plans first.0 [])) ≡ true
 failure_fails say plans first fails = ap (fails_with first.1) fails.1 ∙ eq-eqb first.1 first.1 refl
 
 -- what is told of each first failure: what it is reduced to fails, and no single fault can be left out of it
@@ -52,11 +55,13 @@ findings_minimal asks names seed limit plans firsts distinct fail =
 -- what was found is what the definition says
 pub found_is : (say : ℕ → Entries → Verdict) (plans : List Entries) (number code tests stream : ℕ) (scenario left : Entries)
     → scenario ≡ get_or plans number [] → stream ≡ number → left ≡ reduced say stream code scenario → tests ≡ (reduction say stream code scenario).tests
-    → (let f : FindingFacts = record { number = number; code = code; scenario = scenario; reduced = left; tests = tests } in f) ≡ finding say plans (number, code)
+    → (let f : FindingFacts = record { number = number; code = code; scenario = scenario; reduced = left; tests = tests } in f)
+    ≡ finding say plans (number, code)
 found_is say plans number code tests stream scenario left plan same_stream same_left same_tests =
     let planned : Entries = get_or plans number [] in
     let left_is : left ≡ reduced say number code planned = same_left ∙ ap (λ k. reduced say k code scenario) same_stream ∙ ap (reduced say number code) plan in
-    let tests_is : tests ≡ (reduction say number code planned).tests = same_tests ∙ ap (λ k. (reduction say k code scenario).tests) same_stream ∙ ap (λ s. (reduction say number code s).tests) plan in
+    let tests_is : tests ≡ (reduction say number code planned).tests =
+    same_tests ∙ ap (λ k. (reduction say k code scenario).tests) same_stream ∙ ap (λ s. (reduction say number code s).tests) plan in
     let made : Entries → Entries → ℕ → FindingFacts = λ s l n. record { number = number; code = code; scenario = s; reduced = l; tests = n } in
     ap (λ s. made s left tests) plan ∙ ap (λ l. made planned l tests) left_is ∙ ap (made planned (reduced say number code planned)) tests_is
 
@@ -65,11 +70,15 @@ pub report_is : (say : ℕ → Entries → Verdict) (label : List ℕ) (seed : �
     (name : List ℕ) (same_seed : ℕ) (clean : Verdict) (counts : List ℕ) (vs : List Verdict) (told : List FindingFacts)
     → name ≡ label → same_seed ≡ seed → clean ≡ get_or vs 0 verdict.Unresolved → counts ≡ census → vs ≡ verdicts_from say 0 plans
     → told ≡ map (finding say plans) (first_failures (numbered (verdicts_from say 0 plans)))
-    → (let r : ReportFacts = record { label = name; seed = same_seed; clean = clean; census = counts; verdicts = vs; findings = told } in r) ≡ report_of say label seed census plans
+    → (let r : ReportFacts = record { label = name; seed = same_seed; clean = clean; census = counts; verdicts = vs; findings = told } in r)
+    ≡ report_of say label seed census plans
 report_is say label seed census plans name s clean counts vs told same_name same_seed same_clean same_counts same same_told =
-    let made : List ℕ → ℕ → Verdict → List ℕ → List Verdict → List FindingFacts → ReportFacts = λ n s c k v f. record { label = n; seed = s; clean = c; census = k; verdicts = v; findings = f } in
-    ap (λ n. made n s clean counts vs told) same_name ∙ ap (λ z. made label z clean counts vs told) same_seed ∙ ap (λ c. made label seed c counts vs told) same_clean ∙ ap (λ k. made label seed (get_or vs 0 verdict.Unresolved) k vs told) same_counts
-    ∙ ap (λ v. made label seed (get_or v 0 verdict.Unresolved) census v told) same ∙ ap (made label seed (get_or (verdicts_from say 0 plans) 0 verdict.Unresolved) census (verdicts_from say 0 plans)) same_told
+    let made : List ℕ → ℕ → Verdict → List ℕ → List Verdict → List FindingFacts → ReportFacts =
+    λ n s c k v f. record { label = n; seed = s; clean = c; census = k; verdicts = v; findings = f } in
+    ap (λ n. made n s clean counts vs told) same_name ∙ ap (λ z. made label z clean counts vs told) same_seed
+    ∙ ap (λ c. made label seed c counts vs told) same_clean ∙ ap (λ k. made label seed (get_or vs 0 verdict.Unresolved) k vs told) same_counts
+    ∙ ap (λ v. made label seed (get_or v 0 verdict.Unresolved) census v told) same
+    ∙ ap (made label seed (get_or (verdicts_from say 0 plans) 0 verdict.Unresolved) census (verdicts_from say 0 plans)) same_told
 
 -- the first of the first failures, by results over the same plans
 pub first_is : (say : ℕ → Entries → Verdict) (given plans : List Entries) (firsts : List (ℕ × ℕ)) (number : Option ℕ)
@@ -81,11 +90,21 @@ first_is say given plans firsts number is are same =
 -- what a map is made of is what the definition says
 pub mapped_is : (say : ℕ → Entries → Verdict) (label : List ℕ) (census : List ℕ) (pairs : Bool) (plans : List Entries)
     (name : List ℕ) (counts : List ℕ) (shown given : List Entries) (vs : List Verdict) (firsts : List (ℕ × ℕ))
-    → name ≡ label → counts ≡ census → shown ≡ plans → given ≡ plans → vs ≡ verdicts_from say 0 given → firsts ≡ first_failures (numbered (verdicts_from say 0 given))
+    → name ≡ label → counts ≡ census → shown ≡ plans → given ≡ plans → vs ≡ verdicts_from say 0 given
+    → firsts ≡ first_failures (numbered (verdicts_from say 0 given))
     → (let m : Mapped = record { label = name; census = counts; pairs = pairs; plans = shown; verdicts = vs; firsts = firsts } in m)
-    ≡ record { label = label; census = census; pairs = pairs; plans = plans; verdicts = verdicts_from say 0 plans; firsts = first_failures (numbered (verdicts_from say 0 plans)) }
+    ≡ record {
+      label = label;
+      census = census;
+      pairs = pairs;
+      plans = plans;
+      verdicts = verdicts_from say 0 plans;
+      firsts = first_failures
+          (numbered (verdicts_from say 0 plans));
+    }
 mapped_is say label census pairs plans name counts shown given vs firsts same_name same_counts same_shown same_given same are =
-    let made : List ℕ → List ℕ → List Entries → List Verdict → List (ℕ × ℕ) → Mapped = λ n c p v f. record { label = n; census = c; pairs = pairs; plans = p; verdicts = v; firsts = f } in
+    let made : List ℕ → List ℕ → List Entries → List Verdict → List (ℕ × ℕ) → Mapped =
+    λ n c p v f. record { label = n; census = c; pairs = pairs; plans = p; verdicts = v; firsts = f } in
     ap (λ n. made n counts shown vs firsts) same_name ∙ ap (λ k. made label k shown vs firsts) same_counts ∙ ap (λ p. made label census p vs firsts) same_shown
     ∙ ap (λ v. made label census plans v firsts) (same ∙ ap (verdicts_from say 0) same_given)
     ∙ ap (made label census plans (verdicts_from say 0 plans)) (are ∙ ap (λ ps. first_failures (numbered (verdicts_from say 0 ps))) same_given)

@@ -44,10 +44,12 @@ pub all_fail : (say : Entries → Verdict) (code : ℕ) (s : Entries) → fails_
     → fault_test say code s (range_with_len 0 (all_faults s)) ≡ true
 all_fail say code s fails =
     let all = range_with_len 0 (all_faults s) in
-    and_both (are_faults (all_faults s) all) (fails_with code (say (kept all s))) (all_are_faults (all_faults s)) (ap (λ t. fails_with code (say t)) (kept_all s) ∙ fails)
+    and_both (are_faults (all_faults s) all) (fails_with code (say (kept all s))) (all_are_faults (all_faults s))
+    (ap (λ t. fails_with code (say t)) (kept_all s) ∙ fails)
 
 -- a set whose test fails is of faults
-pub own_faults : (say : Entries → Verdict) (code : ℕ) (s : Entries) (set : List ℕ) → IsOneMinimal (fault_test say code s) set → are_faults (all_faults s) set ≡ true
+pub own_faults : (say : Entries → Verdict) (code : ℕ) (s : Entries) (set : List ℕ) → IsOneMinimal (fault_test say code s) set
+    → are_faults (all_faults s) set ≡ true
 own_faults say code s set minimal = and_left (are_faults (all_faults s) set) (fails_with code (say (kept set s))) minimal.fails
 
 -- the names stay
@@ -73,7 +75,9 @@ minimal_tidied asks names seed limit stream code s set own_names minimal =
     let distinct : DistinctNames t = kept_distinct set 0 s own_names in
     let own : are_faults (all_faults s) set ≡ true = own_faults say code s set minimal in
     let count : all_faults t ≡ length set = kept_count s set own in
-    let fails : fails_with code (say r) ≡ true = ap (fails_with code) (verdict_same r t (tidied_means t distinct) asks names seed limit stream) ∙ and_right (are_faults (all_faults s) set) (fails_with code (say t)) minimal.fails in (
+    let fails : fails_with code (say r) ≡ true =
+    ap (fails_with code) (verdict_same r t (tidied_means t distinct) asks names seed limit stream)
+    ∙ and_right (are_faults (all_faults s) set) (fails_with code (say t)) minimal.fails in (
       fails,
       record {
         fails = all_fail say code r fails;
@@ -84,7 +88,9 @@ minimal_tidied asks names seed limit stream code s set own_names minimal =
             let left : List ℕ = remove (range_with_len 0 (all_faults r)) i in
             let inside : j < length set = subst (λ n. j < n) count (origins_inside t i low) in
             let same : kept rest t ≡ kept (remove set j) s = ap (λ n. kept (remove (range_with_len 0 n) j) t) count ∙ kept_without s set j own in
-            let passes : fails_with code (say (kept (remove set j) s)) ≡ false = only_right (are_faults (all_faults s) (remove set j)) (fails_with code (say (kept (remove set j) s))) (without_are_faults (all_faults s) j set own) (minimal.each j inside) in
+            let passes : fails_with code (say (kept (remove set j) s)) ≡ false =
+            only_right (are_faults (all_faults s) (remove set j)) (fails_with code (say (kept (remove set j) s))) (without_are_faults (all_faults s) j set own)
+            (minimal.each j inside) in
             let means = means_back (kept rest t) (kept left r) (kept_means t rest left distinct (origins_without t i low)) in
             and_false (are_faults (all_faults r) left) (fails_with code (say (kept left r)))
             (ap (fails_with code) (verdict_same (kept left r) (kept rest t) means asks names seed limit stream ∙ ap say same) ∙ passes);

@@ -33,10 +33,12 @@ entry_new : (name other : List ℕ) (ts : List Term) → bytes_eq other name ≡
 entry_new name other [] h = tt
 entry_new name other (t ∷ ts) h = (h, tt)
 
-entries_new : (name : List ℕ) (p : ℕ) (names : List (List ℕ)) (rs : List Rig) → AllByRecursion (λ other. bytes_eq other name ≡ false) names → New name (entries_from p names rs)
+entries_new : (name : List ℕ) (p : ℕ) (names : List (List ℕ)) (rs : List Rig) → AllByRecursion (λ other. bytes_eq other name ≡ false) names
+    → New name (entries_from p names rs)
 entries_new name p [] rs h = tt
 entries_new name p (other ∷ names) rs h =
-    all_both (λ f. bytes_eq f.0 name ≡ false) (entry other (chain_from p 0 rs)) (entries_from (p + 1) names rs) (entry_new name other (chain_from p 0 rs) h.0) (entries_new name (p + 1) names rs h.1)
+    all_both (λ f. bytes_eq f.0 name ≡ false) (entry other (chain_from p 0 rs)) (entries_from (p + 1) names rs) (entry_new name other (chain_from p 0 rs) h.0)
+    (entries_new name (p + 1) names rs h.1)
 
 entry_distinct : (name : List ℕ) (ts : List Term) (s : Entries) → New name s → DistinctNames s → DistinctNames (entry name ts ++ s)
 entry_distinct name [] s h d = d
@@ -53,12 +55,15 @@ rigging_distinct names rs d = entries_distinct 0 names rs d
 
 -- ---- the list of plans
 
-pair_part_distinct : (names : List (List ℕ)) (wanted : Bool) (sites : List Site) → HasDistinct names → AllByRecursion (λ s. DistinctNames s) (pair_part names wanted sites)
+pair_part_distinct : (names : List (List ℕ)) (wanted : Bool) (sites : List Site) → HasDistinct names
+    → AllByRecursion (λ s. DistinctNames s) (pair_part names wanted sites)
 pair_part_distinct names true sites d =
-    all_flat (λ s. DistinctNames s) (pair_plans names) (λ p. all_map (λ s. DistinctNames s) _ (λ kind. rigging_distinct names (rig p.0 OnceReturn ∷ rig p.1 kind ∷ []) d) second) (pairs_of sites)
+    all_flat (λ s. DistinctNames s) (pair_plans names)
+    (λ p. all_map (λ s. DistinctNames s) _ (λ kind. rigging_distinct names (rig p.0 OnceReturn ∷ rig p.1 kind ∷ []) d) second) (pairs_of sites)
 pair_part_distinct names false sites d = tt
 
-listed_distinct : (names : List (List ℕ)) (counts : List ℕ) (asked : Asked) → HasDistinct names → AllByRecursion (λ s. DistinctNames s) asked.listed → AllByRecursion (λ s. DistinctNames s) (plan_list names counts asked)
+listed_distinct : (names : List (List ℕ)) (counts : List ℕ) (asked : Asked) → HasDistinct names → AllByRecursion (λ s. DistinctNames s) asked.listed
+    → AllByRecursion (λ s. DistinctNames s) (plan_list names counts asked)
 unfolding plan_list
 listed_distinct names counts asked d listed =
     let P : Entries → Type 0 = λ s. DistinctNames s in
@@ -70,9 +75,12 @@ listed_distinct names counts asked d listed =
     let one = all_flat P (site_plans names) (λ s. all_map P _ (λ kind. rigging_distinct names (rig s kind ∷ []) d) alone) sites in
     let two = pair_part_distinct names asked.pairs sites d in
     let many = all_map P _ (λ j. rigging_distinct names (storm asked.seed asked.rate sites j) d) (range_with_len 0 asked.storms) in
-    all_both P (empty ++ alone_part ++ pairs ++ storms) asked.listed (all_both P (empty ++ alone_part ++ pairs) storms (all_both P (empty ++ alone_part) pairs (all_both P empty alone_part (tt, tt) one) two) many) listed
+    all_both P (empty ++ alone_part ++ pairs ++ storms) asked.listed
+    (all_both P (empty ++ alone_part ++ pairs) storms (all_both P (empty ++ alone_part) pairs (all_both P empty alone_part (tt, tt) one) two) many) listed
 
 -- each plan's scenario has distinct names, where the names of the points are distinct and those in each listed scenario
-pub plans_distinct : (names : List (List ℕ)) (counts : List ℕ) (asked : Asked) → HasDistinct names → All (λ s. DistinctNames s) asked.listed → All (λ s. DistinctNames s) (plan_list names counts asked)
+pub plans_distinct : (names : List (List ℕ)) (counts : List ℕ) (asked : Asked) → HasDistinct names → All (λ s. DistinctNames s) asked.listed
+    → All (λ s. DistinctNames s) (plan_list names counts asked)
 plans_distinct names counts asked d listed =
-    All-from_recursion (λ s. DistinctNames s) (plan_list names counts asked) (listed_distinct names counts asked d (recursion_from_All (λ s. DistinctNames s) asked.listed listed))
+    All-from_recursion (λ s. DistinctNames s) (plan_list names counts asked)
+    (listed_distinct names counts asked d (recursion_from_All (λ s. DistinctNames s) asked.listed listed))

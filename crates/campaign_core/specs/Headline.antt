@@ -39,7 +39,14 @@ asked_of settings = record {
 }
 
 abbrev pub campaign_of : (List Reply → Move) → List (List ℕ) → (ℕ → List ℕ) → List ℕ → Settings → Campaign
-campaign_of asks points codes label settings = record { asks = asks; points = points; codes = codes; label = label; limit = settings.max_hits; plans = asked_of settings }
+campaign_of asks points codes label settings = record {
+  asks = asks;
+  points = points;
+  codes = codes;
+  label = label;
+  limit = settings.max_hits;
+  plans = asked_of settings;
+}
 
 -- the same by a target's setup, its workload and settings
 abbrev pub campaign_on : {T W : Type 0} → Ghosts T W → T → W → Settings → Campaign

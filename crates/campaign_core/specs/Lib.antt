@@ -1,5 +1,4 @@
 pub mod FaultTest
-pub mod Says
 pub mod Findings
 pub mod Headline
 pub mod CommandTexts

@@ -7,7 +7,7 @@ ghost use Rattle.result_book.specs.FirstFailures.{first_failures};
 ghost use Rattle.report.specs.ReportText.{text_of};
 ghost use Rattle.report.specs.BriefText.{brief_lines};
 ghost use Rattle.campaign_core.specs.Findings.{report_of, ReducesToMinimal};
-ghost use Rattle.campaign_core.specs.Says.{course_says};
+ghost use Rattle.campaign_core.specs.inside.Says.{course_says};
 ghost use Rattle.campaign_core.specs.Headline.{campaign_on, plans, brief_report_text, first_failure, EachIsMinimal};
 ghost use Rattle.campaign_core.specs.CommandTexts.{IsFault};
 
@@ -42,7 +42,8 @@ where
     ensures text { IfOk result (λ r. r.0.items ≡ text_of (brief_lines T.names T.code_text (report_of
         (course_says T.Target target.now course.now)
         (T.label_of target.now) course.now.seed census.now course.now.plans.now) course.now.plans.now)) }
-    ensures first { IfOk result (λ r. r.1.first ≡ option_map (λ f. f.0) (slice_get (first_failures (numbered (verdicts_from (course_says T.Target target.now course.now) 0 course.now.plans.now))) 0)) }
+    ensures first { IfOk result (λ r. r.1.first ≡ option_map (λ f. f.0)
+        (slice_get (first_failures (numbered (verdicts_from (course_says T.Target target.now course.now) 0 course.now.plans.now))) 0)) }
     ensures minimal { OnOk result (All (λ found. ReducesToMinimal (course_says T.Target target.now course.now) found)
         (report_of (course_says T.Target target.now course.now) (T.label_of target.now) course.now.seed census.now course.now.plans.now).findings) }
 {
@@ -67,12 +68,14 @@ pub fn brief_campaign<T: Target + Send, G: Gate, W: Sink, R: Threads + Wait + Sy
 where
     T::Workload: Sync,
     requires { W.has_failed sink.old ≡ false }
-    ensures text { IfOk result (λ _. Appends (W.told sink.old) (W.told sink.new) (brief_report_text (campaign_on T.Target target.now workload.now settings.now))) }
+    ensures text { IfOk result (λ _. Appends (W.told sink.old) (W.told sink.new)
+        (brief_report_text (campaign_on T.Target target.now workload.now settings.now))) }
     ensures first { IfOk result (λ ending. ending.first ≡ option_map (λ f. f.0) (first_failure (campaign_on T.Target target.now workload.now settings.now))) }
     ensures minimal { OnOk result (EachIsMinimal (campaign_on T.Target target.now workload.now settings.now)) }
     ensures few { OnOk result (length (plans (campaign_on T.Target target.now workload.now settings.now)) ≤ most_plans) }
     ensures sound { OnOk result (W.has_failed sink.new ≡ false) }
-    ensures fault { IfErr result (let c = campaign_on T.Target target.now workload.now settings.now in IsFault c (brief_report_text c) (W.told sink.old) (W.told sink.new) (W.has_failed sink.new)) }
+    ensures fault { IfErr result (let c = campaign_on T.Target target.now workload.now settings.now in
+        IsFault c (brief_report_text c) (W.told sink.old) (W.told sink.new) (W.has_failed sink.new)) }
 {
     let (census, plans) = planned(alloc, target, workload, settings)?;
     let course = Course {

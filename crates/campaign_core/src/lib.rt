@@ -15,6 +15,7 @@ mod runner;
 mod running;
 mod trying;
 mod workers;
+mod written;
 
 pub use brief::brief_campaign;
 pub use ending::{CampaignFault, Ending};
@@ -26,3 +27,4 @@ pub use probe::{fails_with, fault_count};
 pub use reducing::reduce_one;
 pub use running::campaign;
 pub use trying::try_one;
+pub use written::write_judged;

@@ -79,7 +79,8 @@ pub fn plan_list<T: Target, W: Sink>(
     ensures text { OnOk result (Appends (W.told sink.old) (W.told sink.new) (plans_text (campaign_on T.Target target.now workload.now settings.now))) }
     ensures few { OnOk result (length (plans (campaign_on T.Target target.now workload.now settings.now)) ≤ most_plans) }
     ensures sound { OnOk result (W.has_failed sink.new ≡ false) }
-    ensures fault { IfErr result (let c = campaign_on T.Target target.now workload.now settings.now in IsFault c (plans_text c) (W.told sink.old) (W.told sink.new) (W.has_failed sink.new)) }
+    ensures fault { IfErr result (let c = campaign_on T.Target target.now workload.now settings.now in
+        IsFault c (plans_text c) (W.told sink.old) (W.told sink.new) (W.has_failed sink.new)) }
 {
     let (_, plans) = planned(alloc, target, workload, settings)?;
     let text = plans_text(alloc, plans.as_slice())?;

@@ -6,12 +6,11 @@ ghost use Rattle.campaign_core.specs.Headline.{campaign_on, plans, campaign_map_
 ghost use Rattle.campaign_core.specs.CommandTexts.{IsFault};
 
 use crate::ending::{CampaignFault, Ending};
-use crate::planned::planned;
+use crate::planned::{course_of, planned};
 use crate::results::run_course;
 use campaign_map::{MapFacts, map_text};
 use campaign_settings::Settings;
 use report::write_report;
-use result_book::Course;
 use std::alloc::Global;
 use std::sync::Wait;
 use std::thread::Threads;
@@ -32,19 +31,17 @@ pub fn map_campaign<T: Target + Send, G: Gate, W: Sink, R: Threads + Wait + Sync
 where
     T::Workload: Sync,
     requires { W.has_failed sink.old ≡ false }
-    ensures text { IfOk result (λ _. Appends (W.told sink.old) (W.told sink.new) (campaign_map_text (campaign_on T.Target target.now workload.now settings.now))) }
+    ensures text { IfOk result (λ _. Appends (W.told sink.old) (W.told sink.new)
+        (campaign_map_text (campaign_on T.Target target.now workload.now settings.now))) }
     ensures first { IfOk result (λ ending. ending.first ≡ option_map (λ f. f.0) (first_failure (campaign_on T.Target target.now workload.now settings.now))) }
     ensures few { OnOk result (length (plans (campaign_on T.Target target.now workload.now settings.now)) ≤ most_plans) }
     ensures sound { OnOk result (W.has_failed sink.new ≡ false) }
-    ensures fault { IfErr result (let c = campaign_on T.Target target.now workload.now settings.now in IsFault c (campaign_map_text c) (W.told sink.old) (W.told sink.new) (W.has_failed sink.new)) }
+    ensures fault { IfErr result (let c = campaign_on T.Target target.now workload.now settings.now in
+        IsFault c (campaign_map_text c) (W.told sink.old) (W.told sink.new) (W.has_failed sink.new)) }
 {
     let (census, plans) = planned(alloc, target, workload, settings)?;
-    let course = Course {
-        workload,
-        plans: plans.as_slice(),
-        seed: settings.seed,
-        max_hits: settings.max_hits,
-    };
+    let plans = plans.as_slice();
+    let course = course_of(workload, plans, settings);
     let workers = settings.workers as usize;
     let results = run_course(rt, alloc, gate, target, &course, workers)?;
     let counts = census.counts.as_slice();
@@ -54,7 +51,7 @@ where
         label: target.label(),
         census: counts,
         pairs: settings.pairs,
-        plans: course.plans,
+        plans,
         verdicts,
         firsts,
     };

@@ -5,6 +5,7 @@ ghost use Rattle.campaign_core.specs.Headline.{asked_of, campaign_on, census, pl
 
 use campaign_settings::Settings;
 use plan_gen::{Census, Plan, PlanFault, PlanSettings, by_census, plans};
+use result_book::Course;
 use std::alloc::Global;
 use target_trait::Target;
 
@@ -45,5 +46,26 @@ pub fn planned<'a, T: Target>(
     match plans(alloc, &census, T::catalogue(), &asked_of(settings)) {
         Ok(plans) => Ok((census, plans)),
         Err(fault) => Err(fault),
+    }
+}
+
+/// A campaign's plans, with what all their runs share.
+pub fn course_of<'a, T: Target>(
+    workload: &'a T::Workload,
+    plans: &'a [Plan<'a>],
+    settings: &Settings,
+) -> Course<'a, T>
+    ensures { result ≡ record {
+      workload = workload.entry;
+      plans = plans.entry;
+      seed = settings.now.seed;
+      max_hits = settings.now.max_hits;
+    } }
+{
+    Course {
+        workload,
+        plans,
+        seed: settings.seed,
+        max_hits: settings.max_hits,
     }
 }

@@ -8,12 +8,13 @@ ghost use Rattle.campaign_core.specs.FaultTest.{fails_with};
 ghost use Rattle.campaign_core.specs.Findings.{reduction, reduced, IsMinimal};
 ghost use Rattle.campaign_core.specs.Headline.{campaign_on, say};
 ghost use Rattle.campaign_core.specs.CommandTexts.{found_lines, reduce_text, IsReducedToMinimal, LeavesOnly};
-ghost use Rattle.campaign_core.specs.Says.{failure_says};
+ghost use Rattle.campaign_core.specs.inside.Says.{failure_says};
 
 use crate::ending::CampaignFault;
 use crate::probe::{Failure, fault_count, reduced};
+use crate::written::write_judged;
 use campaign_settings::Settings;
-use report::{write_report, write_scenario, write_verdict};
+use report::{write_scenario, write_verdict};
 use scenario_values::{Scenario, keep, tidy};
 use std::alloc::{AllocError, Global};
 use std::fmt::Write;
@@ -56,7 +57,8 @@ fn verdict_of<T: Target>(
     stream: u64,
     scenario: &Scenario,
 ) -> Result<Verdict, AllocError>
-    ensures { IfOk result (λ verdict. verdict ≡ verdict_with (T.asks target.now workload.now) T.names settings.now.seed settings.now.max_hits stream scenario.now) }
+    ensures { IfOk result (λ verdict. verdict
+        ≡ verdict_with (T.asks target.now workload.now) T.names settings.now.seed settings.now.max_hits stream scenario.now) }
 {
     let case = Case {
         scenario,
@@ -75,7 +77,8 @@ fn write_left(
     left: &Scenario,
     tests: u64,
 ) -> Result<(), AllocError>
-    ensures { OnOk result (string_bytes out.new ≡ string_bytes out.old ++ text_of ((codes "reduced " ++ scenario_text left.now) ∷ (codes "tests " ++ decimal tests) ∷ [])) }
+    ensures { OnOk result (string_bytes out.new
+        ≡ string_bytes out.old ++ text_of ((codes "reduced " ++ scenario_text left.now) ∷ (codes "tests " ++ decimal tests) ∷ [])) }
 {
     out.push_str("reduced ")?;
     write_scenario(alloc, out, left)?;
@@ -96,7 +99,8 @@ where
     T::Workload: Sync,
     requires some { 0 < workers }
     requires fails { fails_with failure.now.code (failure_says T.Target target.now failure.now failure.now.stream failure.now.scenario.now) ≡ true }
-    ensures text { OnOk result (string_bytes out.new ≡ string_bytes out.old ++ text_of (found_lines (failure_says T.Target target.now failure.now) failure.now.stream failure.now.code failure.now.scenario.now)) }
+    ensures text { OnOk result (string_bytes out.new ≡ string_bytes out.old ++ text_of
+        (found_lines (failure_says T.Target target.now failure.now) failure.now.stream failure.now.code failure.now.scenario.now)) }
     ensures minimal { OnOk result (IsMinimal (failure_says T.Target target.now failure.now failure.now.stream) failure.now.code
         (reduced (failure_says T.Target target.now failure.now) failure.now.stream failure.now.code failure.now.scenario.now)) }
 {
@@ -142,13 +146,13 @@ where
     Ok(text)
 }
 
-/// Runs a scenario under a stream number, as a plan under its own, and, where it fails, reduces it, and writes the lines of `reduce`: the verdict, and of a failure
-/// the scenario that is left and how many sets of faults were tested.
+/// Runs a scenario under a stream number, as a plan under its own, and, where it fails, reduces it, and writes the lines of `reduce`: the
+/// verdict, and of a failure the scenario that is left and how many sets of faults were tested.
 ///
 /// As many threads as the settings say test sets of faults, each on a twin of the target; the text is that of one thread, and the
-/// caller's target isn't touched. The scenario that is left fails with the same code under the same stream number, and no single fault can be left out of it. Nothing
-/// is written before the text stands whole: for want of memory the sink is unchanged and hasn't failed. A failed write tells how many
-/// bytes of the text, fewer than all, went out.
+/// caller's target isn't touched. The scenario that is left fails with the same code under the same stream number, and no single fault can
+/// be left out of it. Nothing is written before the text stands whole: for want of memory the sink is unchanged and hasn't failed. A
+/// failed write tells how many bytes of the text, fewer than all, went out.
 pub fn reduce_one<T: Target + Send, G: Gate, W: Sink, R: Threads + Wait + Sync>(
     rt: &R,
     alloc: Global,
@@ -164,15 +168,16 @@ where
     T::Workload: Sync,
     requires { W.has_failed sink.old ≡ false }
     ensures verdict { IfOk result (λ verdict. verdict ≡ say (campaign_on T.Target target.now workload.now settings.now) stream scenario.now) }
-    ensures text { OnOk result (Appends (W.told sink.old) (W.told sink.new) (reduce_text (campaign_on T.Target target.now workload.now settings.now) stream scenario.now)) }
+    ensures text { OnOk result (Appends (W.told sink.old) (W.told sink.new)
+        (reduce_text (campaign_on T.Target target.now workload.now settings.now) stream scenario.now)) }
     ensures minimal { OnOk result (IsReducedToMinimal (campaign_on T.Target target.now workload.now settings.now) stream scenario.now) }
     ensures sound { OnOk result (W.has_failed sink.new ≡ false) }
-    ensures fault { IfErr result (LeavesOnly (W.told sink.old) (W.told sink.new) (W.has_failed sink.new) (reduce_text (campaign_on T.Target target.now workload.now settings.now) stream scenario.now)) }
+    ensures fault { IfErr result (LeavesOnly (W.told sink.old) (W.told sink.new) (W.has_failed sink.new)
+        (reduce_text (campaign_on T.Target target.now workload.now settings.now) stream scenario.now)) }
 {
     let verdict = verdict_of(alloc, target, workload, settings, stream, scenario)?;
     let text = reduce_text(
         rt, alloc, gate, target, workload, settings, stream, scenario, verdict,
     )?;
-    write_report(text.as_bytes(), sink)?;
-    Ok(verdict)
+    write_judged(verdict, text.as_str(), sink)
 }

@@ -1,6 +1,6 @@
 //! What the plans of a campaign come to.
 ghost use Rattle.std.specs.Prelude.{◌≡◌, ◌<◌, ◌≤◌, length, option_map, slice_get, IfOk};
-ghost use Rattle.campaign_core.specs.Says.{course_says};
+ghost use Rattle.campaign_core.specs.inside.Says.{course_says};
 ghost use Rattle.campaign_core.specs.inside.Results.{AreResults};
 
 use crate::ending::Ending;

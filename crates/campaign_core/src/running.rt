@@ -5,11 +5,11 @@ ghost use Rattle.plan_gen.specs.PlanList.{most_plans};
 ghost use Rattle.campaign_core.specs.Findings.{finding, report_of, IsFailure, ReducesToMinimal};
 ghost use Rattle.campaign_core.specs.Headline.{campaign_on, plans, report_text, first_failure, EachIsMinimal};
 ghost use Rattle.campaign_core.specs.CommandTexts.{IsFault};
-ghost use Rattle.campaign_core.specs.Says.{course_says};
+ghost use Rattle.campaign_core.specs.inside.Says.{course_says};
 ghost use Rattle.campaign_core.specs.inside.Results.{AreResults};
 
 use crate::ending::{CampaignFault, Ending};
-use crate::planned::planned;
+use crate::planned::{course_of, planned};
 use crate::probe::{Failure, fault_count};
 use crate::reducing::reduced_scenario;
 use crate::results::{Results, run_course};
@@ -149,15 +149,11 @@ where
     ensures minimal { OnOk result (EachIsMinimal (campaign_on T.Target target.now workload.now settings.now)) }
     ensures few { OnOk result (length (plans (campaign_on T.Target target.now workload.now settings.now)) ≤ most_plans) }
     ensures sound { OnOk result (W.has_failed sink.new ≡ false) }
-    ensures fault { IfErr result (let c = campaign_on T.Target target.now workload.now settings.now in IsFault c (report_text c) (W.told sink.old) (W.told sink.new) (W.has_failed sink.new)) }
+    ensures fault { IfErr result (let c = campaign_on T.Target target.now workload.now settings.now in
+        IsFault c (report_text c) (W.told sink.old) (W.told sink.new) (W.has_failed sink.new)) }
 {
     let (census, plans) = planned(alloc, target, workload, settings)?;
-    let course = Course {
-        workload,
-        plans: plans.as_slice(),
-        seed: settings.seed,
-        max_hits: settings.max_hits,
-    };
+    let course = course_of(workload, plans.as_slice(), settings);
     let workers = settings.workers as usize;
     let results = run_course(rt, alloc, gate, target, &course, workers)?;
     let counts = census.counts.as_slice();

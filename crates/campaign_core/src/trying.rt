@@ -6,7 +6,8 @@ ghost use Rattle.target_trait.specs.Outcomes.{outcome};
 ghost use Rattle.campaign_core.specs.CommandTexts.{try_text, LeavesOnly};
 
 use crate::ending::CampaignFault;
-use report::{Names, write_report, write_verdict};
+use crate::written::write_judged;
+use report::{Names, write_verdict};
 use scenario_values::Scenario;
 use std::alloc::{AllocError, Global};
 use std::fmt::Write;
@@ -33,9 +34,9 @@ fn try_text<N: Names>(alloc: Global, names: &N, outcome: &Outcome) -> Result<Str
 /// Runs the scenario on the target, and writes the five lines of `try`: the verdict, the number of points asked, the words taken, the
 /// simulated milliseconds and the number of notes.
 ///
-/// The seed and the stream number are those of the run's words: a plan of a campaign runs under its own number. After `max_hits` answered hits the run is stopped and unresolved. Nothing is
-/// written before the text stands whole: for want of memory the sink is unchanged and hasn't failed. A failed write tells
-/// how many bytes of the text, fewer than all, went out. The target keeps its setup in every case.
+/// The seed and the stream number are those of the run's words: a plan of a campaign runs under its own number. After `max_hits` answered
+/// hits the run is stopped and unresolved. Nothing is written before the text stands whole: for want of memory the sink is unchanged and
+/// hasn't failed. A failed write tells how many bytes of the text, fewer than all, went out. The target keeps its setup in every case.
 pub fn try_one<T: Target, W: Sink>(
     alloc: Global,
     target: &mut T,
@@ -47,10 +48,13 @@ pub fn try_one<T: Target, W: Sink>(
     sink: &mut W,
 ) -> Result<Verdict, CampaignFault>
     requires { W.has_failed sink.old ≡ false }
-    ensures verdict { IfOk result (λ verdict. verdict ≡ (outcome (T.asks target.old workload.now) (given_of scenario.now T.names seed stream max_hits)).verdict) }
-    ensures text { OnOk result (Appends (W.told sink.old) (W.told sink.new) (try_text T.code_text (outcome (T.asks target.old workload.now) (given_of scenario.now T.names seed stream max_hits)))) }
+    ensures verdict { IfOk result (λ verdict. verdict
+        ≡ (outcome (T.asks target.old workload.now) (given_of scenario.now T.names seed stream max_hits)).verdict) }
+    ensures text { OnOk result (Appends (W.told sink.old) (W.told sink.new)
+        (try_text T.code_text (outcome (T.asks target.old workload.now) (given_of scenario.now T.names seed stream max_hits)))) }
     ensures sound { OnOk result (W.has_failed sink.new ≡ false) }
-    ensures fault { IfErr result (LeavesOnly (W.told sink.old) (W.told sink.new) (W.has_failed sink.new) (try_text T.code_text (outcome (T.asks target.old workload.now) (given_of scenario.now T.names seed stream max_hits)))) }
+    ensures fault { IfErr result (LeavesOnly (W.told sink.old) (W.told sink.new) (W.has_failed sink.new)
+        (try_text T.code_text (outcome (T.asks target.old workload.now) (given_of scenario.now T.names seed stream max_hits)))) }
     ensures setup { target.new ≡ target.old }
 {
     let case = Case {
@@ -61,6 +65,5 @@ pub fn try_one<T: Target, W: Sink>(
     };
     let outcome = run_case(alloc, target, workload, &case)?;
     let text = try_text(alloc, target, &outcome)?;
-    write_report(text.as_bytes(), sink)?;
-    Ok(outcome.verdict)
+    write_judged(outcome.verdict, text.as_str(), sink)
 }

@@ -2,7 +2,7 @@
 ghost use Rattle.std.specs.Prelude.{◌≡◌, ◌<◌, ◌≤◌, ℕ, length, vec_len, map, Some, All, IfOk, slice_index_or};
 ghost use Rattle.result_book.specs.Verdicts.{verdicts_from};
 ghost use Rattle.worker_pool.specs.Hands.{hand_job, EachOnce};
-ghost use Rattle.campaign_core.specs.Says.{course_says};
+ghost use Rattle.campaign_core.specs.inside.Says.{course_says};
 
 use crate::runner::Runner;
 use action_eval::Rigging;

@@ -15,4 +15,5 @@ returns-in_err-write_report-clause-fault g c =
     c.as_slice-2.ensures.value ∙ c.in_ok-text.ensures.text
     ∙ ap (λ counts. of counts c.as_slice.result.now) (c.as_slice-counts.ensures.value ∙ c.in_ok-census.ensures.census)
     ∙ ap (of (census k)) (c.as_slice.ensures.value ∙ c.in_ok-census.ensures.plans) in
-    subst (λ (t : List ℕ). IfErr c.from_residual-in_err-write_report.result (IsFault k t (g.W.Sink.told c.args.sink.now) (g.W.Sink.told c.write_report.new.sink) (g.W.Sink.has_failed c.write_report.new.sink))) text (search rules)
+    subst (λ (t : List ℕ). IfErr c.from_residual-in_err-write_report.result
+    (IsFault k t (g.W.Sink.told c.args.sink.now) (g.W.Sink.told c.write_report.new.sink) (g.W.Sink.has_failed c.write_report.new.sink))) text (search rules)

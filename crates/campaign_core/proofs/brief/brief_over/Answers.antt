@@ -19,7 +19,8 @@ brief_text-requires-clause-verdicts g c =
 pub returns-clause-text : goal.returns-clause-text
 returns-clause-text g c =
     let course = c.args.course.now in
-    c.in_ok-text.ensures ∙ ap (λ (r : ReportFacts). text_of (brief_lines g.T.Target.names g.T.Target.code_text r course.plans.now)) c.in_ok-report.ensures.report
+    c.in_ok-text.ensures ∙ ap (λ (r : ReportFacts). text_of (brief_lines g.T.Target.names g.T.Target.code_text r course.plans.now))
+    c.in_ok-report.ensures.report
 
 pub returns-clause-first : goal.returns-clause-first
 returns-clause-first g c =

@@ -17,9 +17,11 @@ keep-requires g c =
     let s : Entries = f.scenario.now in
     let red : Reduced = reduction say f.stream f.code s in
     let set : c.as_slice.result.now ≡ red.kept = c.as_slice.ensures.value ∙ ap (λ (x : Reduced). x.kept) (c.reduction.view_is ∙ c.in_ok-reduction.ensures) in
-    ap (are_faults (all_faults s)) set ∙ own_faults (say f.stream) f.code s red.kept (minimal (fault_test (say f.stream) f.code s) (all_faults s) (all_fail (say f.stream) f.code s c.requires.fails))
+    ap (are_faults (all_faults s)) set ∙ own_faults (say f.stream) f.code s red.kept
+    (minimal (fault_test (say f.stream) f.code s) (all_faults s) (all_fail (say f.stream) f.code s c.requires.fails))
 
 pub returns-clause-minimal : goal.returns-clause-minimal
 returns-clause-minimal g c =
     let f = c.args.failure.now in
-    reduced_minimal (g.T.Target.asks c.args.target.now f.workload.now) g.T.Target.names f.seed f.max_hits f.stream f.code f.scenario.now c.entries.ensures.limits.distinct_names c.requires.fails
+    reduced_minimal (g.T.Target.asks c.args.target.now f.workload.now) g.T.Target.names f.seed f.max_hits f.stream f.code f.scenario.now
+    c.entries.ensures.limits.distinct_names c.requires.fails

@@ -9,7 +9,8 @@ use Rattle.campaign_core.specs.Findings.{finding, ReducesToMinimal}
 use Rattle.campaign_core.proofs.running.findings.Goals as goal
 
 -- one more
-more : (f : ℕ × ℕ → FindingFacts) (fs : List (ℕ × ℕ)) (i : ℕ) (all new : List FindingFacts) (x : FindingFacts) → i < length fs → new ≡ all ++ x ∷ [] → all ≡ map f (take i fs) → x ≡ f (get_or fs i (0, 0))
+more : (f : ℕ × ℕ → FindingFacts) (fs : List (ℕ × ℕ)) (i : ℕ) (all new : List FindingFacts) (x : FindingFacts) → i < length fs → new ≡ all ++ x ∷ []
+    → all ≡ map f (take i fs) → x ≡ f (get_or fs i (0, 0))
     → new ≡ map f (take (i + 1) fs)
 more f fs i all new x lt added so_far is =
     added ∙ ap (λ xs. xs ++ x ∷ []) so_far ∙ ap (λ y. map f (take i fs) ++ y ∷ []) is
@@ -21,6 +22,10 @@ loop-first-preserved g c =
     let say : ℕ → Entries → Verdict = verdict_with (g.T.Target.asks c.args.target.now course.workload.now) g.T.Target.names course.seed course.max_hits in
     let all : List FindingFacts = c.loop-first.all.items in
     record {
-      found = more (finding say course.plans.now) c.args.firsts.now c.loop-first.first-index all c.push.new.self.items c.in_ok-found.found c.loop-first-test.true c.in_ok-push.ensures.items c.loop-first.invariant.found c.in_ok-found.ensures.found;
-      minimal = subst (λ (xs : List FindingFacts). All (ReducesToMinimal say) xs) (sym c.in_ok-push.ensures.items) (All-push (ReducesToMinimal say) all c.in_ok-found.found c.loop-first.invariant.minimal c.in_ok-found.ensures.minimal);
+      found =
+          more (finding say course.plans.now) c.args.firsts.now c.loop-first.first-index all c.push.new.self.items c.in_ok-found.found c.loop-first-test.true
+          c.in_ok-push.ensures.items c.loop-first.invariant.found c.in_ok-found.ensures.found;
+      minimal =
+          subst (λ (xs : List FindingFacts). All (ReducesToMinimal say) xs) (sym c.in_ok-push.ensures.items)
+          (All-push (ReducesToMinimal say) all c.in_ok-found.found c.loop-first.invariant.minimal c.in_ok-found.ensures.minimal);
     }

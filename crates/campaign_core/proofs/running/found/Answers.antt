@@ -15,8 +15,10 @@ reduced_scenario-requires-clause-fails g c κs within =
     let number = c.args.first.0 in
     let code = c.args.first.1 in
     let plan = c.index-course-number in
-    let read : c.in_ok-scenario.scenario ≡ get_or course.plans.now number [] = c.in_ok-scenario.ensures ∙ sym plan.is ∙ get_or_read course.plans.now number plan.result c.requires.fails.0 plan.is [] in
-    ap (λ k. fails_with code (say k c.in_ok-scenario.scenario)) c.from.ensures ∙ ap (λ s. fails_with code (say number s)) read ∙ failure_fails say course.plans.now c.args.first c.requires.fails
+    let read : c.in_ok-scenario.scenario ≡ get_or course.plans.now number [] =
+    c.in_ok-scenario.ensures ∙ sym plan.is ∙ get_or_read course.plans.now number plan.result c.requires.fails.0 plan.is [] in
+    ap (λ k. fails_with code (say k c.in_ok-scenario.scenario)) c.from.ensures ∙ ap (λ s. fails_with code (say number s)) read
+    ∙ failure_fails say course.plans.now c.args.first c.requires.fails
 
 pub returns-clause-found : goal.returns-clause-found
 returns-clause-found g c =
@@ -24,7 +26,8 @@ returns-clause-found g c =
     let say : ℕ → Entries → Verdict = verdict_with (g.T.Target.asks c.args.target.now course.workload.now) g.T.Target.names course.seed course.max_hits in
     let number = c.args.first.0 in
     let plan = c.index-course-number in
-    let read : c.in_ok-scenario.scenario ≡ get_or course.plans.now number [] = c.in_ok-scenario.ensures ∙ sym plan.is ∙ get_or_read course.plans.now number plan.result c.requires.fails.0 plan.is [] in
+    let read : c.in_ok-scenario.scenario ≡ get_or course.plans.now number [] =
+    c.in_ok-scenario.ensures ∙ sym plan.is ∙ get_or_read course.plans.now number plan.result c.requires.fails.0 plan.is [] in
     found_is say course.plans.now number c.args.first.1 c.in_ok-reduced.tests c.from.result c.in_ok-scenario.scenario c.in_ok-reduced.reduced
     read c.from.ensures c.in_ok-reduced.ensures.scenario c.in_ok-reduced.ensures.tests
 
@@ -34,5 +37,6 @@ returns-clause-minimal g c =
     let say : ℕ → Entries → Verdict = verdict_with (g.T.Target.asks c.args.target.now course.workload.now) g.T.Target.names course.seed course.max_hits in
     let code = c.args.first.1 in
     let left : Entries = c.in_ok-reduced.reduced in
-    let own : IsMinimal (say c.from.result) code left = subst (λ (s : Entries). IsMinimal (say c.from.result) code s) (sym c.in_ok-reduced.ensures.scenario) c.in_ok-reduced.ensures.minimal in
+    let own : IsMinimal (say c.from.result) code left =
+    subst (λ (s : Entries). IsMinimal (say c.from.result) code s) (sym c.in_ok-reduced.ensures.scenario) c.in_ok-reduced.ensures.minimal in
     subst (λ (k : ℕ). IsMinimal (say k) code left) c.from.ensures own

@@ -17,7 +17,8 @@ findings-requires-clause-fail g c κs within =
     let say : ℕ → Entries → Verdict = verdict_with (g.T.Target.asks c.args.target.now course.workload.now) g.T.Target.names course.seed course.max_hits in
     let vs : List Verdict = verdicts_from say 0 course.plans.now in
     let firsts : c.as_slice-firsts.result.now ≡ first_failures (numbered vs) = c.as_slice-firsts.ensures.value ∙ c.requires.results.1 in
-    subst (λ (fs : List (ℕ × ℕ)). All (IsFailure say course.plans.now) fs) (sym firsts) (each_fails say course.plans.now (first_failures (numbered vs)) (c.first_failures_are_the_least.ensures.each vs))
+    subst (λ (fs : List (ℕ × ℕ)). All (IsFailure say course.plans.now) fs) (sym firsts)
+    (each_fails say course.plans.now (first_failures (numbered vs)) (c.first_failures_are_the_least.ensures.each vs))
 
 pub index-requires : goal.index-requires
 index-requires g c =
@@ -38,5 +39,6 @@ returns-clause-report g c =
     let firsts : c.as_slice-firsts.result.now ≡ first_failures (numbered vs) = c.as_slice-firsts.ensures.value ∙ c.requires.results.1 in
     report_is say (g.T.Target.label_of a.target.now) course.seed a.census.now course.plans.now
     c.label.result.now course.seed c.index.result.now a.census.now shown c.in_ok-findings.findings.items c.label.ensures refl
-    (get_or_read items 0 c.index.result.now some c.index.ensures verdict.Unresolved ∙ ap (λ v. get_or v 0 verdict.Unresolved) (sym c.as_slice.ensures.value)) refl
+    (get_or_read items 0 c.index.result.now some c.index.ensures verdict.Unresolved
+    ∙ ap (λ v. get_or v 0 verdict.Unresolved) (sym c.as_slice.ensures.value)) refl
     same (c.in_ok-findings.ensures.found ∙ ap (map (finding say course.plans.now)) firsts)

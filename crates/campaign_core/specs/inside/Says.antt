@@ -1,4 +1,4 @@
--- The verdicts of a target's runs, by what all of them share.
+-- The verdicts of a target's runs, by what all of them share; the private contracts cite it.
 use Rattle.std.specs.Prelude.{ℕ}
 use Rattle.scenario_values.specs.Scenario.{Entries}
 use Rattle.target_trait.specs.Outcomes.{verdict_with}
