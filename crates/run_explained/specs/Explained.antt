@@ -1,5 +1,6 @@
 -- One run, told hit by hit.
-use Rattle.std.specs.Prelude.{ℕ, ◌+◌, ◌==◌, ◌&&◌, not, if◌then◌else◌, List, [], ◌∷◌, ◌++◌, Option, Some, None, length, codes, count_by, flat_map, slice_index_or}
+use Rattle.std.specs.Prelude.{ℕ, ◌+◌, ◌==◌, ◌&&◌, not, if◌then◌else◌, List, [], ◌∷◌, ◌++◌, Option, Some, None}
+use Rattle.std.specs.Prelude.{length, codes, count_by, flat_map, slice_index_or}
 use Rattle.std.specs.Fmt.{decimal}
 use Rattle.scenario_values.specs.declared.term.Term.{Term}
 use Rattle.scenario_values.specs.declared.term.Task.{Task}
@@ -21,7 +22,8 @@ done_text t = if is_off t then codes "go" else task_text t
 -- the number of the hit, the name of its point, which hit of that point it is, and what was done
 abbrev pub hit_line : List (List ℕ) → List Hit → Hit → List ℕ
 hit_line names before h =
-    codes "hit " ++ decimal (length before + 1) ++ codes " " ++ slice_index_or names h.point [] ++ codes " " ++ decimal (count_by (λ b. b.point == h.point) before + 1) ++ codes " " ++ done_text h.did
+    codes "hit " ++ decimal (length before + 1) ++ codes " " ++ slice_index_or names h.point []
+    ++ codes " " ++ decimal (count_by (λ b. b.point == h.point) before + 1) ++ codes " " ++ done_text h.did
 
 -- a line for each hit that follows these
 abbrev pub hit_lines : List (List ℕ) → List Hit → List Hit → List (List ℕ)

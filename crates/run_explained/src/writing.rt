@@ -7,8 +7,7 @@ ghost use Rattle.campaign_core.specs.CommandTexts.{LeavesOnly};
 ghost use Rattle.run_explained.specs.Explained.{explain_text};
 
 use crate::telling::explain;
-use campaign_core::CampaignFault;
-use report::write_report;
+use campaign_core::{CampaignFault, write_judged};
 use scenario_values::Scenario;
 use std::alloc::Global;
 use target_trait::{Case, Sink, Target, Verdict};
@@ -30,10 +29,13 @@ pub fn explain_one<T: Target, W: Sink>(
     sink: &mut W,
 ) -> Result<Verdict, CampaignFault>
     requires { W.has_failed sink.old ≡ false }
-    ensures verdict { IfOk result (λ verdict. verdict ≡ (outcome (T.asks target.old workload.now) (given_of scenario.now T.names seed stream max_hits)).verdict) }
-    ensures text { OnOk result (Appends (W.told sink.old) (W.told sink.new) (explain_text T.code_text (T.asks target.old workload.now) (given_of scenario.now T.names seed stream max_hits))) }
+    ensures verdict { IfOk result (λ verdict. verdict
+        ≡ (outcome (T.asks target.old workload.now) (given_of scenario.now T.names seed stream max_hits)).verdict) }
+    ensures text { OnOk result (Appends (W.told sink.old) (W.told sink.new)
+        (explain_text T.code_text (T.asks target.old workload.now) (given_of scenario.now T.names seed stream max_hits))) }
     ensures sound { OnOk result (W.has_failed sink.new ≡ false) }
-    ensures fault { IfErr result (LeavesOnly (W.told sink.old) (W.told sink.new) (W.has_failed sink.new) (explain_text T.code_text (T.asks target.old workload.now) (given_of scenario.now T.names seed stream max_hits))) }
+    ensures fault { IfErr result (LeavesOnly (W.told sink.old) (W.told sink.new) (W.has_failed sink.new)
+        (explain_text T.code_text (T.asks target.old workload.now) (given_of scenario.now T.names seed stream max_hits))) }
     ensures setup { target.new ≡ target.old }
 {
     let case = Case {
@@ -43,6 +45,5 @@ pub fn explain_one<T: Target, W: Sink>(
         max_hits,
     };
     let told = explain(alloc, target, workload, &case)?;
-    write_report(told.text.as_bytes(), sink)?;
-    Ok(told.verdict)
+    write_judged(told.verdict, told.text.as_str(), sink)
 }

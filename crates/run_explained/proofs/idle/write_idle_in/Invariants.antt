@@ -6,4 +6,5 @@ use Rattle.run_explained.proofs.idle.write_idle_in.Given as goal
 
 abbrev pub invariant-loop-place : goal.invariant-loop-place
 invariant-loop-place l =
-    string_bytes l.out ++ text_of (idle_in l.hits l.name l.place (drop l.place l.terms)) ≡ string_bytes l.initial.out ++ text_of (idle_in l.hits l.name 0 l.terms)
+    string_bytes l.out ++ text_of (idle_in l.hits l.name l.place (drop l.place l.terms))
+    ≡ string_bytes l.initial.out ++ text_of (idle_in l.hits l.name 0 l.terms)

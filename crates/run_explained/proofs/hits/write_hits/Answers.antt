@@ -1,6 +1,0 @@
-use Rattle.std.proofs.Common.{refl}
-use Rattle.run_explained.proofs.Lines.{hit_on}
-use Rattle.run_explained.proofs.hits.write_hits.Goals as goal
-
-pub loop-number-preserved : goal.loop-number-preserved
-loop-number-preserved c = hit_on _ _ _ _ c.loop-number.number _ _ c.loop-number-test.true c.index-hits-number.is _ refl c.in_ok-write_hit.ensures c.loop-number.invariant
