@@ -169,7 +169,7 @@ answers.
   settings: target outside: only plans, asks and report
   [2]
   $ paklour asks early_end.toml < /dev/null
-  settings: target not outside: only run, plans, try and reduce
+  settings: target not outside: only run, plans, map, try, reduce and explain
   [2]
   $ paklour report no_such_file < /dev/null
   settings: not readable

@@ -61,7 +61,7 @@ refusal_line (bad_scenario f) = scenario_line (Bad f.kind f.entry f.term)
 refusal_line too_many_plans = codes "too many plans\n"
 refusal_line (no_plan number) = ended (codes "plan: out of range " ++ decimal number)
 refusal_line outside_target = codes "settings: target outside: only plans, asks and report\n"
-refusal_line bundled_target = codes "settings: target not outside: only run, plans, try and reduce\n"
+refusal_line bundled_target = codes "settings: target not outside: only run, plans, map, try, reduce and explain\n"
 refusal_line (bad_answers f) = ended (answers_line_of f)
 refusal_line (not_answered s) = ended (codes "not answered " ++ scenario_text s)
 

@@ -180,7 +180,7 @@ pub fn bundled<E: Sink>(faults: &mut E) -> Exit
     ensures told { IsTold (refusal_line bundled_target) (E.told faults.old) (E.told faults.new) (E.has_failed faults.new) }
 {
     refused(
-        "settings: target not outside: only run, plans, try and reduce\n",
+        "settings: target not outside: only run, plans, map, try, reduce and explain\n",
         faults,
     )
 }
