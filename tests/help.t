@@ -17,20 +17,22 @@ No line of it is longer than 100 letters, as has just been seen. It says what ea
     [FILE]  TOML settings, of which `paklour help` lists the keys; left out, standard input is read
   
   Options:
-        --brief  Count the verdicts that pass, and write the scenario beside each other verdict
-    -h, --help   Print help
+        --brief     Count the verdicts that pass, and write the scenario beside each other verdict
+        --progress  Show on standard error, in one line, how far plans or a reduction are
+    -h, --help      Print help
   
   Examples:
     paklour run my.toml             the verdict of each plan, and what the first failures come down to
     paklour run < my.toml           settings from standard input
     paklour run --brief my.toml     no line for a verdict that passes, and scenarios beside the others
+    paklour run --progress my.toml  the same report; meanwhile `plans 12 of 65025` on standard error
   $ paklour help try | grep -e ^Usage: -e ' --scenario <' -e ' --plan <' -e '^A scenario has '
   Usage: paklour try <--scenario <TEXT>|--plan <N>> [FILE]
         --scenario <TEXT>  The scenario, as 'POINT=TERM->TERM;POINT=TERM'
         --plan <N>         The scenario of plan N of the campaign, 0 to 65535, drawn as it is there
   A scenario has up to 65536 bytes, 256 entries, 256 terms in an entry, and 4096 terms besides off.
   $ for command in reduce explain; do paklour help $command | grep ^Usage:; done
-  Usage: paklour reduce <--scenario <TEXT>|--plan <N>> [FILE]
+  Usage: paklour reduce [OPTIONS] <--scenario <TEXT>|--plan <N>> [FILE]
   Usage: paklour explain <--scenario <TEXT>|--plan <N>> [FILE]
 
 Each option has an example.
@@ -40,6 +42,11 @@ Each option has an example.
     paklour try --plan 10 my.toml     what the line `verdict 10 ..` of the report tells, run again
   $ paklour help explain | grep 'paklour explain --'
     paklour explain --plan 10 my.toml the same run, hit by hit
+  $ paklour help reduce | grep -e ' --progress'
+        --progress         Show on standard error, in one line, how far plans or a reduction are
+    paklour reduce --progress --plan 10 my.toml   while it asks, how many tests there were so far
+  $ paklour help map | grep -e ' --progress'
+        --progress  Show on standard error, in one line, how far plans or a reduction are
   $ paklour help map | sed -n '/^Example/,$p'
   Example:
     paklour map my.toml > map.svg

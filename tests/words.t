@@ -153,6 +153,20 @@ What is wrong is told on standard error, and nothing is on standard output.
   error: unexpected argument '--brief' found
   $ refused asks --brief f
   error: unexpected argument '--brief' found
+  $ refused plans --progress
+  error: unexpected argument '--progress' found
+  $ refused try --progress --scenario a=off
+  error: unexpected argument '--progress' found
+  $ refused explain --progress --scenario a=off
+  error: unexpected argument '--progress' found
+  $ refused asks --progress f
+  error: unexpected argument '--progress' found
+  $ refused report --progress f
+  error: unexpected argument '--progress' found
+  $ refused --progress
+  error: unexpected argument '--progress' found
+  $ refused run --progress --progress
+  error: the argument '--progress' cannot be used multiple times
   $ refused map --brief
   error: unexpected argument '--brief' found
   $ refused map --plan 1
@@ -193,7 +207,7 @@ A plan has one of 65536 numbers, and a scenario is given in one way.
   $ paklour reduce --scenario a=off --plan 1 f
   error: the argument '--scenario <TEXT>' cannot be used with '--plan <N>'
   
-  Usage: paklour reduce <--scenario <TEXT>|--plan <N>> [FILE]
+  Usage: paklour reduce [OPTIONS] <--scenario <TEXT>|--plan <N>> [FILE]
   
   For more information, try '--help'.
   [2]

@@ -16,13 +16,14 @@ use maildir_target::Maildir;
 use std::alloc::Global;
 use std::sync::Wait;
 use std::thread::Threads;
-use target_trait::Sink;
+use target_trait::{Gate, Sink};
 
 /// Does what is ordered with a bundled target and its workload, or with a component from outside.
-pub fn chosen_command<W: Sink, H: Threads + Wait + Sync>(
+pub fn chosen_command<W: Sink, H: Threads + Wait + Sync, G: Gate>(
     rt: &H,
     alloc: Global,
     order: &Order,
+    gate: &G,
     choice: &Choice,
     settings: &Settings,
     output: &mut W,
@@ -34,15 +35,15 @@ pub fn chosen_command<W: Sink, H: Threads + Wait + Sync>(
     match choice {
         Choice::Replace(variant, work) => {
             let mut target = Replace::new(alloc, *variant);
-            command(rt, alloc, order, &mut target, work, settings, output)
+            command(rt, alloc, order, gate, &mut target, work, settings, output)
         }
         Choice::Maildir(variant, work) => {
             let mut target = Maildir::new(alloc, *variant);
-            command(rt, alloc, order, &mut target, work, settings, output)
+            command(rt, alloc, order, gate, &mut target, work, settings, output)
         }
         Choice::Commit(variant, work) => {
             let mut target = Commit::new(alloc, *variant);
-            command(rt, alloc, order, &mut target, work, settings, output)
+            command(rt, alloc, order, gate, &mut target, work, settings, output)
         }
         Choice::Outside(outside) => outside_command(alloc, order, outside, settings, output),
     }

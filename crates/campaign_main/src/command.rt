@@ -21,12 +21,13 @@ use scenario_grammar::{Scenario, parse};
 use std::alloc::Global;
 use std::sync::Wait;
 use std::thread::Threads;
-use target_trait::{FreeGate, Sink, Target};
+use target_trait::{Gate, Sink, Target};
 
 /// Runs a campaign, and writes its report in this form.
-fn report_plans<T: Target + Send, W: Sink, H: Threads + Wait + Sync>(
+fn report_plans<T: Target + Send, W: Sink, H: Threads + Wait + Sync, G: Gate>(
     rt: &H,
     alloc: Global,
+    gate: &G,
     target: &T,
     workload: &T::Workload,
     settings: &Settings,
@@ -44,15 +45,16 @@ where
     ensures fault { IfErr result (let c = campaign_on T.Target target.now workload.now settings.now in IsFault c (report_in form c) (W.told output.old) (W.told output.new) (W.has_failed output.new)) }
 {
     match form {
-        Form::Whole => campaign(rt, alloc, target, workload, settings, &FreeGate, output),
-        Form::Brief => brief_campaign(rt, alloc, target, workload, settings, &FreeGate, output),
+        Form::Whole => campaign(rt, alloc, target, workload, settings, gate, output),
+        Form::Brief => brief_campaign(rt, alloc, target, workload, settings, gate, output),
     }
 }
 
 /// Runs a campaign, writes its report in this form, and answers whether a plan fails.
-fn run_plans<T: Target + Send, W: Sink, H: Threads + Wait + Sync>(
+fn run_plans<T: Target + Send, W: Sink, H: Threads + Wait + Sync, G: Gate>(
     rt: &H,
     alloc: Global,
+    gate: &G,
     target: &T,
     workload: &T::Workload,
     settings: &Settings,
@@ -65,14 +67,15 @@ where
     ensures text { ComesTo (run_answer form (campaign_on T.Target target.now workload.now settings.now)) (W.told output.old) (W.told output.new) (W.has_failed output.new) result }
     ensures minimal { OnOk result (EachIsMinimal (campaign_on T.Target target.now workload.now settings.now)) }
 {
-    let ending = report_plans(rt, alloc, target, workload, settings, form, output)?;
+    let ending = report_plans(rt, alloc, gate, target, workload, settings, form, output)?;
     Ok(ending.first.is_some())
 }
 
 /// Runs a campaign, and writes its map.
-fn map_plans<T: Target + Send, W: Sink, H: Threads + Wait + Sync>(
+fn map_plans<T: Target + Send, W: Sink, H: Threads + Wait + Sync, G: Gate>(
     rt: &H,
     alloc: Global,
+    gate: &G,
     target: &T,
     workload: &T::Workload,
     settings: &Settings,
@@ -83,7 +86,7 @@ where
     requires { W.has_failed output.old ≡ false }
     ensures { ComesTo (map_answer (campaign_on T.Target target.now workload.now settings.now)) (W.told output.old) (W.told output.new) (W.has_failed output.new) result }
 {
-    let ending = map_campaign(rt, alloc, target, workload, settings, &FreeGate, output)?;
+    let ending = map_campaign(rt, alloc, target, workload, settings, gate, output)?;
     Ok(ending.first.is_some())
 }
 
@@ -170,9 +173,10 @@ fn explain_which<T: Target, W: Sink>(
 }
 
 /// Reduces the scenario that the command takes.
-fn reduce_which<T: Target + Send, W: Sink, H: Threads + Wait + Sync>(
+fn reduce_which<T: Target + Send, W: Sink, H: Threads + Wait + Sync, G: Gate>(
     rt: &H,
     alloc: Global,
+    gate: &G,
     target: &T,
     workload: &T::Workload,
     settings: &Settings,
@@ -188,9 +192,8 @@ where
         OnOk result (IfOk (taken c which.now) (λ t. IsReducedToMinimal c t.0 t.1)) }
 {
     let (stream, scenario) = take_scenario(alloc, target, workload, settings, which)?;
-    let gate = FreeGate;
     let verdict = reduce_one(
-        rt, alloc, target, workload, settings, stream, &scenario, &gate, output,
+        rt, alloc, target, workload, settings, stream, &scenario, gate, output,
     )?;
     Ok(is_fail(verdict))
 }
@@ -199,10 +202,11 @@ where
 ///
 /// It answers whether a verdict in the text is fail, where the whole text was written. Else nothing was written, or the fault tells
 /// how many bytes of the text, fewer than all, went out. Only then the output has failed.
-pub fn command<T: Target + Send, W: Sink, H: Threads + Wait + Sync>(
+pub fn command<T: Target + Send, W: Sink, H: Threads + Wait + Sync, G: Gate>(
     rt: &H,
     alloc: Global,
     order: &Order,
+    gate: &G,
     target: &mut T,
     workload: &T::Workload,
     settings: &Settings,
@@ -215,11 +219,13 @@ where
     ensures minimal { OnOk result (ReducesToMinimal order.now (campaign_on T.Target target.old workload.now settings.now)) }
 {
     match order {
-        Order::Run(form) => run_plans(rt, alloc, target, workload, settings, *form, output),
-        Order::Map => map_plans(rt, alloc, target, workload, settings, output),
+        Order::Run(form) => run_plans(rt, alloc, gate, target, workload, settings, *form, output),
+        Order::Map => map_plans(rt, alloc, gate, target, workload, settings, output),
         Order::Plans => list_plans(alloc, target, workload, settings, output),
         Order::Try(which) => try_which(alloc, target, workload, settings, which, output),
-        Order::Reduce(which) => reduce_which(rt, alloc, target, workload, settings, which, output),
+        Order::Reduce(which) => reduce_which(
+            rt, alloc, gate, target, workload, settings, which, output,
+        ),
         Order::Explain(which) => explain_which(alloc, target, workload, settings, which, output),
     }
 }

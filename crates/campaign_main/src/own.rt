@@ -17,13 +17,14 @@ use std::io::Read;
 use std::sync::Wait;
 use std::thread::Threads;
 use target_laws::broken_law;
-use target_trait::{Sink, Target};
+use target_trait::{Gate, Sink, Target};
 
 /// Does what is ordered with this target, unless it is seen to break a law, which none does that is proved.
-fn target_command<T: Target + Send, W: Sink, E: Sink, H: Threads + Wait + Sync>(
+fn target_command<T: Target + Send, W: Sink, E: Sink, H: Threads + Wait + Sync, G: Gate>(
     rt: &H,
     alloc: Global,
     order: &Order,
+    gate: &G,
     target: &mut T,
     workload: &T::Workload,
     settings: &Settings,
@@ -44,17 +45,18 @@ where
         Ok(Some(law)) => return unlawful(alloc, law, faults),
         Err(AllocError) => return no_memory(faults),
     }
-    match command(rt, alloc, order, target, workload, settings, output) {
+    match command(rt, alloc, order, gate, target, workload, settings, output) {
         Ok(found) => exit_of(found),
         Err(fault) => unanswered(alloc, &fault, faults),
     }
 }
 
 /// Does what is ordered with this target, by the settings that a text gives.
-fn target_text<T: Target + Send, W: Sink, E: Sink, H: Threads + Wait + Sync>(
+fn target_text<T: Target + Send, W: Sink, E: Sink, H: Threads + Wait + Sync, G: Gate>(
     rt: &H,
     alloc: Global,
     order: &Order,
+    gate: &G,
     target: &mut T,
     workload: &T::Workload,
     text: &str,
@@ -72,7 +74,7 @@ where
 {
     match Settings::read_own(alloc, text) {
         Ok(settings) => target_command(
-            rt, alloc, order, target, workload, &settings, output, faults,
+            rt, alloc, order, gate, target, workload, &settings, output, faults,
         ),
         Err(fault) => unset(alloc, &fault, faults),
     }
@@ -89,10 +91,18 @@ where
 ///
 /// What the answer tells, and for which readers and sinks the contract says which text, which fault and which reduced scenarios, is told
 /// at [`crate::perform`].
-pub fn perform_target<T: Target + Send, R: Read, W: Sink, E: Sink, H: Threads + Wait + Sync>(
+pub fn perform_target<
+    T: Target + Send,
+    R: Read,
+    W: Sink,
+    E: Sink,
+    H: Threads + Wait + Sync,
+    G: Gate,
+>(
     rt: &H,
     alloc: Global,
     order: &Order,
+    gate: &G,
     target: &mut T,
     workload: &T::Workload,
     reader: &mut R,
@@ -114,6 +124,7 @@ where
             rt,
             alloc,
             order,
+            gate,
             target,
             workload,
             text.as_str(),

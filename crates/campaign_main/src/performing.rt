@@ -15,13 +15,14 @@ use std::alloc::Global;
 use std::io::Read;
 use std::sync::Wait;
 use std::thread::Threads;
-use target_trait::Sink;
+use target_trait::{Gate, Sink};
 
 /// Does what is ordered with the target that the settings choose.
-fn perform_chosen<W: Sink, E: Sink, H: Threads + Wait + Sync>(
+fn perform_chosen<W: Sink, E: Sink, H: Threads + Wait + Sync, G: Gate>(
     rt: &H,
     alloc: Global,
     order: &Order,
+    gate: &G,
     choice: &Choice,
     settings: &Settings,
     output: &mut W,
@@ -34,17 +35,18 @@ fn perform_chosen<W: Sink, E: Sink, H: Threads + Wait + Sync>(
         result (E.told faults.old) (E.told faults.new) (E.has_failed faults.new) }
     ensures minimal { OnWhole result (IfSome (campaign_for (given_of settings.now) choice.now) (ReducesToMinimal order.now)) }
 {
-    match chosen_command(rt, alloc, order, choice, settings, output) {
+    match chosen_command(rt, alloc, order, gate, choice, settings, output) {
         Ok(found) => exit_of(found),
         Err(fault) => unanswered(alloc, &fault, faults),
     }
 }
 
 /// Does what is ordered, by the settings that a text gives.
-fn perform_text<W: Sink, E: Sink, H: Threads + Wait + Sync>(
+fn perform_text<W: Sink, E: Sink, H: Threads + Wait + Sync, G: Gate>(
     rt: &H,
     alloc: Global,
     order: &Order,
+    gate: &G,
     text: &str,
     output: &mut W,
     faults: &mut E,
@@ -61,7 +63,7 @@ fn perform_text<W: Sink, E: Sink, H: Threads + Wait + Sync>(
         Err(fault) => return unset(alloc, &fault, faults),
     };
     match &settings.choice {
-        Some(choice) => perform_chosen(rt, alloc, order, choice, &settings, output, faults),
+        Some(choice) => perform_chosen(rt, alloc, order, gate, choice, &settings, output, faults),
         None => unset(alloc, &SettingsFault::Missing(Key::Target), faults),
     }
 }
@@ -75,6 +77,8 @@ fn perform_text<W: Sink, E: Sink, H: Threads + Wait + Sync>(
 /// fewer than all, went out before the output failed. Where that line can't be written whole the answer stays. The line of a refusal
 /// names the first fault in the order in which faults are looked for.
 ///
+/// Workers arrive at the gate before each plan and each test of a reduction; what comes of the command is the same at every gate.
+///
 /// Each reduced scenario in a text that was written whole fails with its code, under the same seed, stream number and limit as what it
 /// was reduced from, and no single fault can be left out of it.
 ///
@@ -82,10 +86,11 @@ fn perform_text<W: Sink, E: Sink, H: Threads + Wait + Sync>(
 /// bytes were written, for sinks that tell theirs, as [`target_trait::Out`] over a `Vec` does. Of any other reader it says that the end
 /// and the line are those that some settings have; of any other sink, whether it has failed: the output only at Write, and then the
 /// sink of faults only where its line wasn't written whole.
-pub fn perform<R: Read, W: Sink, E: Sink, H: Threads + Wait + Sync>(
+pub fn perform<R: Read, W: Sink, E: Sink, H: Threads + Wait + Sync, G: Gate>(
     rt: &H,
     alloc: Global,
     order: &Order,
+    gate: &G,
     reader: &mut R,
     output: &mut W,
     faults: &mut E,
@@ -99,7 +104,7 @@ pub fn perform<R: Read, W: Sink, E: Sink, H: Threads + Wait + Sync>(
     ensures told { Tells result (E.told faults.old) (E.told faults.new) (E.has_failed faults.new) }
 {
     match read_all(alloc, reader) {
-        Ok(text) => perform_text(rt, alloc, order, text.as_str(), output, faults),
+        Ok(text) => perform_text(rt, alloc, order, gate, text.as_str(), output, faults),
         Err(fault) => unread(fault, faults),
     }
 }

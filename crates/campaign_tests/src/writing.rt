@@ -2,7 +2,7 @@
 
 use crate::late_sync::{LATE_SYNC, LATE_SYNC_REPORT};
 use crate::streams::{Answered, answer};
-use campaign_main::{Exit, Form, Order, Out, Which, perform, status};
+use campaign_main::{Exit, Form, FreeGate, Order, Out, Which, perform, status};
 use std::alloc::Global;
 use std::process::Abort;
 use std::sync::Wait;
@@ -104,6 +104,7 @@ fn a_line_that_cannot_be_written_changes_no_end(rt: HostRuntime) {
         &rt,
         rt.alloc(),
         &Order::Run(Form::Whole),
+        &FreeGate,
         &mut reader,
         &mut output,
         &mut faults,

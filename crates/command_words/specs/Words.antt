@@ -48,6 +48,10 @@ plan_rule = record (new_rule (codes "plan")) { long = Some (codes "plan"); value
 abbrev pub brief_rule : Rule
 brief_rule = record (new_rule (codes "brief")) { long = Some (codes "brief"); action = Some SetTrue }
 
+-- --progress, a flag
+abbrev pub progress_rule : Rule
+progress_rule = record (new_rule (codes "progress")) { long = Some (codes "progress"); action = Some SetTrue }
+
 -- ---- commands
 
 -- a command that takes FILE alone
@@ -62,6 +66,10 @@ report_app name = with_rule (with_rule (new_app name) brief_rule) file_rule
 abbrev pub scenario_app : Text → App
 scenario_app name = with_rule (with_rule (with_rule (new_app name) scenario_rule) plan_rule) file_rule
 
+-- a command that runs plans or a reduction, and that may show how far it is
+abbrev pub shown_app : App → App
+shown_app app = with_rule app progress_rule
+
 -- a command that takes FILE, which has to be there since standard input has the answers
 abbrev pub question_app : Text → App
 question_app name = with_rule (new_app name) needed_file_rule
@@ -75,10 +83,12 @@ with_commands app [] = app
 with_commands app (s ∷ rest) = with_commands (with_subcommand app s) rest
 
 abbrev pub campaign_commands : List Shape
-campaign_commands = (report_app (codes "run")).top ∷ (file_app (codes "plans")).top ∷ (file_app (codes "map")).top ∷ []
+campaign_commands =
+    (shown_app (report_app (codes "run"))).top ∷ (file_app (codes "plans")).top ∷ (shown_app (file_app (codes "map"))).top ∷ []
 
 abbrev pub scenario_commands : List Shape
-scenario_commands = (scenario_app (codes "try")).top ∷ (scenario_app (codes "reduce")).top ∷ (scenario_app (codes "explain")).top ∷ []
+scenario_commands =
+    (scenario_app (codes "try")).top ∷ (shown_app (scenario_app (codes "reduce"))).top ∷ (scenario_app (codes "explain")).top ∷ []
 
 abbrev pub question_commands : List Shape
 question_commands = (question_app (codes "asks")).top ∷ (question_report_app (codes "report")).top ∷ []
@@ -98,11 +108,12 @@ HasAlso app (Err fault) command = ⊥
 
 -- ---- what the words mean
 
--- the values that a command was given: TEXT, N, `true` where --brief was given, and FILE
+-- the values that a command was given: TEXT, N, `true` where --brief was given, and where --progress was, and FILE
 pub record Values : Type 0 where
   pub scenario : Option Text
   pub plan : Option Text
   pub brief : Option Text
+  pub progress : Option Text
   pub file : Option Text
 
 abbrev pub values_in : List Row → Values
@@ -110,6 +121,7 @@ values_in rows = record {
   scenario = first_of (codes "scenario") rows;
   plan = first_of (codes "plan") rows;
   brief = first_of (codes "brief") rows;
+  progress = first_of (codes "progress") rows;
   file = first_of (codes "file") rows;
 }
 
@@ -119,6 +131,7 @@ values_of f = record {
   scenario = first_value f (codes "scenario");
   plan = first_value f (codes "plan");
   brief = first_value f (codes "brief");
+  progress = first_value f (codes "progress");
   file = first_value f (codes "file");
 }
 
@@ -135,6 +148,10 @@ IsWhich v (Plan number) = (v.scenario ≡ None) × ((text : Text) × (v.plan ≡
 abbrev pub form_of : Values → Form
 form_of v = if option_map_or (bytes_eq (codes "true")) v.brief false then Brief else Whole
 
+-- whether it is to be shown how far the command is
+abbrev pub progress_of : Values → Bool
+progress_of v = option_map_or (bytes_eq (codes "true")) v.progress false
+
 -- the order that a command's name and its values give
 abbrev pub IsOrder : Text → Values → Order → Type 0
 IsOrder name v (order.Run form) = (name ≡ codes "run") × (form ≡ form_of v)
@@ -149,14 +166,14 @@ abbrev pub IsQuestion : Text → Values → Question → Type 0
 IsQuestion name v Asks = name ≡ codes "asks"
 IsQuestion name v (Report form) = (name ≡ codes "report") × (form ≡ form_of v)
 
--- the order of no command is Run, with the whole report, on the settings that come from standard input
+-- the order of no command is Run, with the whole report, on the settings that come from standard input, and nothing more is shown
 abbrev pub IsRun : Line → Type 0
-IsRun (Own (order.Run Whole) file) = file ≡ None
+IsRun (Own (order.Run Whole) progress file) = (progress ≡ false) × (file ≡ None)
 IsRun _ = ⊥
 
 -- the line of a command's name and its values
 abbrev pub IsLineOf : Text → Values → Line → Type 0
-IsLineOf name v (Own order own) = IsOrder name v order × (option_map string_bytes own ≡ v.file)
+IsLineOf name v (Own order progress own) = IsOrder name v order × (progress ≡ progress_of v) × (option_map string_bytes own ≡ v.file)
 IsLineOf name v (Outside question own) = IsQuestion name v question × (v.file ≡ Some (string_bytes own))
 
 -- the line that the matches give

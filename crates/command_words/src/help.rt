@@ -15,7 +15,8 @@ pub const RUN_EXAMPLES: &str = "\
 Examples:
   paklour run my.toml             the verdict of each plan, and what the first failures come down to
   paklour run < my.toml           settings from standard input
-  paklour run --brief my.toml     no line for a verdict that passes, and scenarios beside the others";
+  paklour run --brief my.toml     no line for a verdict that passes, and scenarios beside the others
+  paklour run --progress my.toml  the same report; meanwhile `plans 12 of 65025` on standard error";
 
 /// How a campaign is drawn.
 pub const MAP_EXAMPLES: &str = "\
@@ -50,6 +51,8 @@ pub const SCENARIO: &str = "The scenario, as 'POINT=TERM->TERM;POINT=TERM'";
 pub const BRIEF: &str =
     "Count the verdicts that pass, and write the scenario beside each other verdict";
 
+pub const PROGRESS: &str = "Show on standard error, in one line, how far plans or a reduction are";
+
 pub const PLAN: &str = "The scenario of plan N of the campaign, 0 to 65535, drawn as it is there";
 
 /// What a scenario's text is, for the commands that take one.
@@ -76,7 +79,8 @@ Examples:
 
   paklour try --scenario 'replace::sync=1*return' my.toml
   paklour try --plan 10 my.toml     what the line `verdict 10 ..` of the report tells, run again
-  paklour explain --plan 10 my.toml the same run, hit by hit";
+  paklour explain --plan 10 my.toml the same run, hit by hit
+  paklour reduce --progress --plan 10 my.toml   while it asks, how many tests there were so far";
 
 /// What answers are, for the commands that read them.
 pub const ANSWERS: &str = "\

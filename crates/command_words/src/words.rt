@@ -1,7 +1,7 @@
 ghost use Rattle.std.specs.Prelude.{◌≡◌, ◌↔◌, ◌∷◌, [], IsTrue, Some, None, option_map, is_some, true, false, IfOk, IfErr, IfSome, map, codes, string_bytes};
 ghost use Rattle.clap.specs.Words.{app_of, fault_of, first_value, found_of, rule_of, subcommand_of, takes};
 ghost use Rattle.clap.specs.declared.builder.command.Command.TheViews.{out-Command as fields_of};
-ghost use Rattle.command_words.specs.Words.{AsksToSee, HasAlso, HasNeeded, IsFaultOf, IsLine, IsLineOf, IsName, IsOrder, IsOrderName, IsQuestion, IsQuestionName, IsRefusedFor, IsScenarioName, IsWhich, Spells, bare_app, brief_rule, campaign_commands, choice_fault, choice_kinds, file_app, file_rule, form_of, needed_file_rule, paklour, plan_rule, question_app, question_commands, question_report_app, report_app, scenario_app, scenario_commands, scenario_rule, values_of, which_kinds, with_commands, words_fault};
+ghost use Rattle.command_words.specs.Words.{AsksToSee, HasAlso, HasNeeded, IsFaultOf, IsLine, IsLineOf, IsName, IsOrder, IsOrderName, IsQuestion, IsQuestionName, IsRefusedFor, IsScenarioName, IsWhich, Spells, bare_app, brief_rule, campaign_commands, choice_fault, choice_kinds, file_app, file_rule, form_of, needed_file_rule, paklour, plan_rule, progress_of, progress_rule, question_app, question_commands, question_report_app, report_app, scenario_app, scenario_commands, scenario_rule, shown_app, values_of, which_kinds, with_commands, words_fault};
 ghost use Rattle.command_words.specs.declared.words.WordsFault.TheVariants.{Memory};
 ghost use Rattle.clap.specs.Kinds.{value_kinds};
 ghost use Rattle.clap.specs.declared.builder.value_parser.ValueParser.TheVariants.{Unsigned};
@@ -63,10 +63,18 @@ pub enum Question {
 /// What the words ask for.
 #[derive(Debug, Drop)]
 pub enum Line {
-    /// A command over a target. `file` has the settings; `None` where they come from standard input.
-    Own { order: Order, file: Option<String> },
+    /// A command over a target. `file` has the settings; `None` where they come from standard input. Where `progress` is set, the program
+    /// shows how far plans or a reduction are while they run; it is for run, map and reduce alone.
+    Own {
+        order: Order,
+        progress: bool,
+        file: Option<String>,
+    },
     /// A question, by the settings of the file and the answers on standard input.
-    Outside { question: Question, file: String },
+    Outside {
+        question: Question,
+        file: String,
+    },
 }
 
 /// Why the words give no line.
@@ -161,6 +169,16 @@ fn brief_arg<'a>(alloc: Global) -> Arg<'a>
         .help(help::BRIEF)
 }
 
+fn progress_arg<'a>(alloc: Global) -> Arg<'a>
+    ensures rule { rule_of result ≡ progress_rule }
+    ensures local { result.global ≡ false }
+{
+    Arg::new(alloc, "progress")
+        .long("progress")
+        .action(ArgAction::SetTrue)
+        .help(help::PROGRESS)
+}
+
 fn file_command<'a>(
     alloc: Global,
     name: &'a str,
@@ -207,6 +225,30 @@ fn scenario_command<'a>(
         .arg(scenario_arg(alloc))?
         .arg(plan_arg(alloc))?
         .arg(file_arg(alloc))
+}
+
+// The command that runs a campaign and reports it.
+fn run_command<'a>(alloc: Global) -> Result<Command<'a>, AllocError>
+    ensures app { IfOk result (λ command. app_of command ≡ shown_app (report_app (codes "run"))) }
+    ensures local { IfOk result (λ command. (fields_of command).has_globals ≡ false) }
+{
+    report_command(alloc, "run", help::RUN, help::RUN_EXAMPLES)?.arg(progress_arg(alloc))
+}
+
+// The command that runs a campaign and draws it.
+fn map_command<'a>(alloc: Global) -> Result<Command<'a>, AllocError>
+    ensures app { IfOk result (λ command. app_of command ≡ shown_app (file_app (codes "map"))) }
+    ensures local { IfOk result (λ command. (fields_of command).has_globals ≡ false) }
+{
+    file_command(alloc, "map", help::MAP, help::MAP_EXAMPLES)?.arg(progress_arg(alloc))
+}
+
+// The command that reduces a scenario.
+fn reduce_command<'a>(alloc: Global) -> Result<Command<'a>, AllocError>
+    ensures app { IfOk result (λ command. app_of command ≡ shown_app (scenario_app (codes "reduce"))) }
+    ensures local { IfOk result (λ command. (fields_of command).has_globals ≡ false) }
+{
+    scenario_command(alloc, "reduce", help::REDUCE)?.arg(progress_arg(alloc))
 }
 
 fn question_command<'a>(
@@ -263,12 +305,10 @@ fn bare<'a>(alloc: Global) -> Command<'a>
 fn with_campaigns<'a>(alloc: Global, command: Command<'a>) -> Result<Command<'a>, AllocError>
     ensures { IfOk result (λ more. app_of more ≡ with_commands (app_of command.entry) campaign_commands) }
 {
-    let run = report_command(alloc, "run", help::RUN, help::RUN_EXAMPLES);
-    let command = with(command, run)?;
+    let command = with(command, run_command(alloc))?;
     let plans = file_command(alloc, "plans", help::PLANS, help::PLANS_EXAMPLES);
     let command = with(command, plans)?;
-    let map = file_command(alloc, "map", help::MAP, help::MAP_EXAMPLES);
-    with(command, map)
+    with(command, map_command(alloc))
 }
 
 // The command with what is done over one scenario.
@@ -276,7 +316,7 @@ fn with_scenarios<'a>(alloc: Global, command: Command<'a>) -> Result<Command<'a>
     ensures { IfOk result (λ more. app_of more ≡ with_commands (app_of command.entry) scenario_commands) }
 {
     let command = with(command, scenario_command(alloc, "try", help::TRY))?;
-    let command = with(command, scenario_command(alloc, "reduce", help::REDUCE))?;
+    let command = with(command, reduce_command(alloc))?;
     with(command, scenario_command(alloc, "explain", help::EXPLAIN))
 }
 
@@ -320,6 +360,7 @@ pub fn read_words(alloc: Global, words: &[String]) -> Result<Line, WordsFault>
         Some((name, own)) => line_of(alloc, name, own),
         None => Ok(Line::Own {
             order: Order::Run(Form::Whole),
+            progress: false,
             file: None,
         }),
     }
@@ -350,6 +391,7 @@ fn line_of<'a>(alloc: Global, name: &str, own: &ArgMatches<'a>) -> Result<Line, 
         }),
         None => Ok(Line::Own {
             order: order_of(alloc, name, own)?,
+            progress: is_shown(own),
             file: file_of(alloc, own)?,
         }),
     }
@@ -374,6 +416,13 @@ fn form_of<'a>(own: &ArgMatches<'a>) -> Form
         Some("true") => Form::Brief,
         _ => Form::Whole,
     }
+}
+
+// Whether it is to be shown how far the command is.
+fn is_shown<'a>(own: &ArgMatches<'a>) -> bool
+    ensures { result ≡ progress_of (values_of (found_of own.now)) }
+{
+    own.get_str("progress") == Some("true")
 }
 
 // The order of a command's name and its matches.
@@ -461,7 +510,7 @@ fn usage(name: &str) -> &'static str {
     match name {
         "try" => "paklour try <--scenario <TEXT>|--plan <N>> [FILE]",
         "explain" => "paklour explain <--scenario <TEXT>|--plan <N>> [FILE]",
-        _ => "paklour reduce <--scenario <TEXT>|--plan <N>> [FILE]",
+        _ => "paklour reduce [OPTIONS] <--scenario <TEXT>|--plan <N>> [FILE]",
     }
 }
 

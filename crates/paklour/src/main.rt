@@ -8,11 +8,12 @@ use campaign_main::{
     Exit, Line, Order, Question, perform, perform_outside, read_words, refuse_words, status,
     unreadable_settings, unreadable_words,
 };
+use campaign_progress::{Cleared, Progress};
 use std::process::ExitCode;
 use std::sync::Wait;
 use std::thread::Threads;
 use std::{env, fs, io};
-use target_trait::{Out, Sink};
+use target_trait::{Gate, Out, Sink};
 
 fn main(rt: HostRuntime) -> ExitCode {
     let exit = run(&rt, &rt);
@@ -35,8 +36,17 @@ fn run<H: Threads + Wait + Sync>(rt: &HostRuntime, threads: &H) -> Exit {
         Err(error) => return unreadable_words(&error, &mut faults),
     };
     match read_words(alloc, words.as_slice()) {
-        Ok(Line::Own { order, file }) => {
-            run_order(rt, threads, &order, file, &mut output, &mut faults)
+        Ok(
+            Line::Own {
+                order,
+                progress,
+                file,
+            },
+        ) => {
+            let gate = Progress::new(rt, progress);
+            let mut output = Cleared::new(&gate, output);
+            let mut faults = Cleared::new(&gate, faults);
+            run_order(rt, threads, &order, &gate, file, &mut output, &mut faults)
         }
         Ok(Line::Outside { question, file }) => {
             run_question(rt, &question, file, &mut output, &mut faults)
@@ -46,10 +56,11 @@ fn run<H: Threads + Wait + Sync>(rt: &HostRuntime, threads: &H) -> Exit {
 }
 
 /// Does what is ordered, by settings from a file or from standard input.
-fn run_order<W: Sink, E: Sink, H: Threads + Wait + Sync>(
+fn run_order<W: Sink, E: Sink, H: Threads + Wait + Sync, G: Gate>(
     rt: &HostRuntime,
     threads: &H,
     order: &Order,
+    gate: &G,
     file: Option<String>,
     output: &mut W,
     faults: &mut E,
@@ -60,10 +71,10 @@ fn run_order<W: Sink, E: Sink, H: Threads + Wait + Sync>(
     let alloc = rt.alloc();
     let Some(path) = file else {
         let mut input = rt.stdin();
-        return perform(threads, alloc, order, &mut input, output, faults);
+        return perform(threads, alloc, order, gate, &mut input, output, faults);
     };
     match fs::open(rt, path) {
-        Ok(mut input) => perform(threads, alloc, order, &mut input, output, faults),
+        Ok(mut input) => perform(threads, alloc, order, gate, &mut input, output, faults),
         Err(error) => unreadable_settings(&error, faults),
     }
 }

@@ -57,7 +57,7 @@ pub returns-clause-ok : goal.returns-clause-ok
 returns-clause-ok c =
     let words = map string_bytes c.args.words.now in
     let is = entered-is c.in_ok-command.command c.in-Ok.matches words c.in_ok-command.ensures c.in-Ok.ensures.matches in
-    rw (← is, none-entered c.in-Ok.matches c.in-None.ensures.name) refl
+    rw (← is, none-entered c.in-Ok.matches c.in-None.ensures.name) (refl, refl)
 
 pub returns-clause-taken : goal.returns-clause-taken
 returns-clause-taken c =

@@ -6,6 +6,6 @@ use Rattle.command_words.proofs.words.with_campaigns.Goals as goal
 
 pub returns : goal.returns
 returns c =
-    let run = also c.report_command-run.result (app_of c.args.command) (app_of c.args.command) _ c.in_ok-command.command refl c.report_command-run.ensures.app c.in_ok-command.ensures in
+    let run = also c.run_command.result (app_of c.args.command) (app_of c.args.command) _ c.in_ok-command.command refl c.run_command.ensures.app c.in_ok-command.ensures in
     let plans = also c.file_command-plans.result (app_of c.in_ok-command.command) _ _ c.in_ok-command-2.command run c.file_command-plans.ensures.app c.in_ok-command-2.ensures in
-    IfOk-weaker c.with-3.result _ _ (λ r h. also c.file_command-map.result _ _ _ r plans c.file_command-map.ensures.app h) c.with-3.ensures
+    IfOk-weaker c.with-3.result _ _ (λ r h. also c.map_command.result _ _ _ r plans c.map_command.ensures.app h) c.with-3.ensures

@@ -7,5 +7,5 @@ use Rattle.command_words.proofs.words.with_scenarios.Goals as goal
 pub returns : goal.returns
 returns c =
     let one = also c.scenario_command.result (app_of c.args.command) (app_of c.args.command) _ c.in_ok-command.command refl c.scenario_command.ensures.app c.in_ok-command.ensures in
-    let two = also c.scenario_command-2.result (app_of c.in_ok-command.command) _ _ c.in_ok-command-2.command one c.scenario_command-2.ensures.app c.in_ok-command-2.ensures in
-    IfOk-weaker c.with-3.result _ _ (λ r h. also c.scenario_command-3.result _ _ _ r two c.scenario_command-3.ensures.app h) c.with-3.ensures
+    let two = also c.reduce_command.result (app_of c.in_ok-command.command) _ _ c.in_ok-command-2.command one c.reduce_command.ensures.app c.in_ok-command-2.ensures in
+    IfOk-weaker c.with-3.result _ _ (λ r h. also c.scenario_command-2.result _ _ _ r two c.scenario_command-2.ensures.app h) c.with-3.ensures
