@@ -68,11 +68,23 @@ Notes and sleeping change nothing of the run.
 
 A fault is idle that never acted: its point isn't asked, isn't there, or not so often.
 
-  $ explains 'replace::unlink=return;elsewhere=2*panic;replace::write=2*off->return' | tail -n 4
+  $ explains 'replace::unlink=return;elsewhere=2*panic;replace::write=2*off->return' 2> strange | tail -n 4
   hit 6 replace::sync_dir 1 go
   idle replace::unlink=return
   idle elsewhere=2*panic
   idle replace::write=return
+
+That no point has such a name stands on standard error, once the text stands there whole.
+
+  $ cat strange
+  scenario: no point is named elsewhere
+  $ explains 'b=off;replace::sync=off;a=off' | tail -n 1
+  scenario: no point is named b
+  scenario: no point is named a
+  hit 6 replace::sync_dir 1 go
+  $ paklour explain --scenario 'elsewhere=panic' small.toml 2>&1 > /dev/full
+  write failed after 0 bytes
+  [4]
 
 A message is delivered, and a transaction committed.
 

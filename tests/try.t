@@ -38,10 +38,34 @@ Sleeping takes no time, and a note has no text here; both are counted.
   $ tries 'replace::create=3*print(x);replace::sync=sleep(5)'
   verdict pass asked 6 words 0 millis 5 notes 1
 
-A name that the target doesn't have never acts.
+A name that the target doesn't have never acts. Each such name is told on standard error, once the verdict stands there, in the scenario's
+order; the verdict and the exit status stay.
 
   $ tries 'elsewhere=panic'
+  scenario: no point is named elsewhere
   verdict pass asked 6 words 0 millis 0 notes 0
+  $ paklour try --scenario 'replace::sink=off;replace::sync=off; replace::Sync =off;Elsewhere=panic' small.toml 2>&1 > /dev/null
+  scenario: no point is named replace::sink
+  scenario: no point is named replace::Sync
+  scenario: no point is named Elsewhere
+  $ paklour try --scenario 'elsewhere=panic' small.toml 2> /dev/full | head -n 1
+  verdict pass
+  $ paklour try --scenario 'elsewhere=panic' small.toml 2> /dev/full > /dev/null
+  $ paklour try --scenario 'elsewhere=panic' small.toml 2>&1 > /dev/full
+  write failed after 0 bytes
+  [4]
+
+`run`, `plans`, `map` and `reduce` say nothing of it.
+
+  $ sed '2a scenarios = ["elsewhere=panic"]' small.toml > listed.toml
+  $ for command in run plans map 'reduce --scenario elsewhere=panic' 'reduce --plan 19'; do paklour $command listed.toml 2>&1 > /dev/null; done
+  $ paklour try --plan 19 listed.toml
+  verdict pass
+  asked 6
+  words 0
+  millis 0
+  notes 0
+  scenario: no point is named elsewhere
 
 Each of the two writes draws a word for a term that can't act.
 

@@ -1,5 +1,5 @@
 -- Answers, by what a command did.
-use Rattle.std.proofs.Common.{◌≡◌, ◌≤◌, ◌<◌, ◌∙◌, ℕ, Bool, true, false, List, Option, Some, None, Result, Ok, Err, IfOk, IsErrAnd, length, refl, sym, ap, is_some, option_map, slice_get, subst, take, if◌then◌else◌}
+use Rattle.std.proofs.Common.{◌≡◌, ◌≤◌, ◌<◌, ◌∙◌, [], ◌∷◌, ℕ, Bool, true, false, List, Option, Some, None, Result, Ok, Err, IfErr, IfOk, IsErrAnd, length, refl, sym, ap, is_some, option_map, slice_get, subst, take, if◌then◌else◌}
 use Rattle.std.proofs.lemmas.Bool.{le-ltb, lt-ltb}
 use Rattle.std.specs.Io.KnownBytes.{Appends}
 use Rattle.scenario_values.specs.Scenario.{Entries}
@@ -19,14 +19,15 @@ use Rattle.campaign_main.specs.declared.fault.CommandFault.{CommandFault}
 use Rattle.campaign_main.specs.declared.fault.CommandFault.TheVariants as faults
 use Rattle.campaign_main.specs.Exit.{is_fail}
 use Rattle.campaign_main.specs.Commands.{Answer, Refusal, explain_answer, map_answer, numbered, of_few_plans, outside_answer, planned, plans_answer, reduce_answer, report_in, run_answer, taken_answer, too_many_plans, try_answer}
-use Rattle.campaign_main.specs.Ends.{ComesTo, FallsShort, IsCutOff, IsUntaken, IsUntouched, IsWritten}
+use Rattle.campaign_main.specs.Notes.{notes_of}
+use Rattle.campaign_main.specs.Ends.{ComesTo, FallsShort, IsCutOff, IsNoted, IsUntaken, IsUntouched, IsWritten, TellsNotes}
 
 module _ (plans : List Entries) (a : List ℕ × Bool) where
-  few_plans : length plans ≤ most_plans → of_few_plans plans a ≡ Ok a
-  few_plans few = let f : Bool → Answer = λ b. if b then Err too_many_plans else Ok a in ap f (le-ltb most_plans (length plans) few)
+  few_plans : length plans ≤ most_plans → of_few_plans plans a ≡ Ok (a.0, a.1, [])
+  few_plans few = let f : Bool → Answer = λ b. if b then Err too_many_plans else Ok (a.0, a.1, []) in ap f (le-ltb most_plans (length plans) few)
 
   many_plans : most_plans < length plans → of_few_plans plans a ≡ Err too_many_plans
-  many_plans many = let f : Bool → Answer = λ b. if b then Err too_many_plans else Ok a in ap f (lt-ltb most_plans (length plans) many)
+  many_plans many = let f : Bool → Answer = λ b. if b then Err too_many_plans else Ok (a.0, a.1, []) in ap f (lt-ltb most_plans (length plans) many)
 
 -- what comes of a list of plans and of its text, where that is the answer
 module _ (plans : List Entries) (answer : Answer) (text : List ℕ) (found : Bool) (is : answer ≡ of_few_plans plans (text, found)) (old new : Option (List ℕ)) where
@@ -50,7 +51,7 @@ module _ (c : Campaign) (answer : Answer) (text : List ℕ) (found : Bool) (is :
   short_of_plans failed (campaign.Write n) h = part_of_plans (plans c) answer text found is old new failed n (h.0, h.1, h.2) h.3
 
 -- what comes of a scenario and of its text, where that is the answer
-module _ (answer : Answer) (text : List ℕ) (found : Bool) (is : answer ≡ Ok (text, found)) (old new : Option (List ℕ)) where
+module _ (answer : Answer) (text : List ℕ) (found : Bool) (notes : List ℕ) (is : answer ≡ Ok (text, found, notes)) (old new : Option (List ℕ)) where
   of_scenario : (failed : Bool) → Appends old new text → failed ≡ false → IsWritten answer old new failed found
   of_scenario failed written sound =
       let P : Answer → Type 0 = λ x. IsWritten x old new failed found in
@@ -107,7 +108,7 @@ module _ (c : Campaign) (old new : Option (List ℕ)) where
   plans-short failed f h = short_of_plans c (plans_answer c) (plans_text c) false refl old new failed f h
 
 module _ (c : Campaign) (read : Result (ℕ × Entries) Refusal) (t : ℕ × Entries) (takes : read ≡ Ok t) (old new : Option (List ℕ)) where
-  tried-is : taken_answer (try_answer c) read ≡ Ok (try_text c.codes (tried c t.0 t.1), is_fail (tried c t.0 t.1).verdict)
+  tried-is : taken_answer (try_answer c) read ≡ Ok (try_text c.codes (tried c t.0 t.1), is_fail (tried c t.0 t.1).verdict, notes_of c.points t.1)
   unfolding try_answer
   tried-is = ap (taken_answer (try_answer c)) takes
 
@@ -115,12 +116,19 @@ module _ (c : Campaign) (read : Result (ℕ × Entries) Refusal) (t : ℕ × Ent
       → IsWritten (taken_answer (try_answer c) read) old new failed found
   try-written failed found written sound is =
       let P : Bool → Type 0 = λ b. IsWritten (taken_answer (try_answer c) read) old new failed b in
-      subst P (sym is) (of_scenario _ _ _ tried-is old new failed written sound)
+      subst P (sym is) (of_scenario _ _ _ _ tried-is old new failed written sound)
 
   pub try-short : (failed : Bool) (f : CampaignFault) → LeavesOnly old new failed (try_text c.codes (tried c t.0 t.1)) f → FallsShort (taken_answer (try_answer c) read) old new failed (faults.Campaign f)
-  try-short failed f h = short_of_scenario _ _ _ tried-is old new failed f h
+  try-short failed f h = short_of_scenario _ _ _ _ tried-is old new failed f h
 
-  explained-is : taken_answer (explain_answer c) read ≡ Ok (explain_text c.codes c.asks (given_of t.1 c.points c.plans.seed t.0 c.limit), is_fail (tried c t.0 t.1).verdict)
+  pub try-noted : (notes : List ℕ) (told told' : Option (List ℕ)) (broken : Bool) → notes ≡ notes_of c.points t.1 → IsNoted notes told told' broken
+      → TellsNotes (taken_answer (try_answer c) read) told told' broken
+  try-noted notes told told' broken same h =
+      let P : Answer → Type 0 = λ a. TellsNotes a told told' broken in
+      let Q : List ℕ → Type 0 = λ n. IsNoted n told told' broken in
+      subst P (sym tried-is) (subst Q same h)
+
+  explained-is : taken_answer (explain_answer c) read ≡ Ok (explain_text c.codes c.asks (given_of t.1 c.points c.plans.seed t.0 c.limit), is_fail (tried c t.0 t.1).verdict, notes_of c.points t.1)
   unfolding explain_answer
   explained-is = ap (taken_answer (explain_answer c)) takes
 
@@ -128,23 +136,30 @@ module _ (c : Campaign) (read : Result (ℕ × Entries) Refusal) (t : ℕ × Ent
       → IsWritten (taken_answer (explain_answer c) read) old new failed found
   explain-written failed found written sound is =
       let P : Bool → Type 0 = λ b. IsWritten (taken_answer (explain_answer c) read) old new failed b in
-      subst P (sym is) (of_scenario _ _ _ explained-is old new failed written sound)
+      subst P (sym is) (of_scenario _ _ _ _ explained-is old new failed written sound)
 
   pub explain-short : (failed : Bool) (f : CampaignFault) → LeavesOnly old new failed (explain_text c.codes c.asks (given_of t.1 c.points c.plans.seed t.0 c.limit)) f
       → FallsShort (taken_answer (explain_answer c) read) old new failed (faults.Campaign f)
-  explain-short failed f h = short_of_scenario _ _ _ explained-is old new failed f h
+  explain-short failed f h = short_of_scenario _ _ _ _ explained-is old new failed f h
 
-  reduced-is : taken_answer (reduce_answer c) read ≡ Ok (reduce_text c t.0 t.1, is_fail (say c t.0 t.1))
+  pub explain-noted : (notes : List ℕ) (told told' : Option (List ℕ)) (broken : Bool) → notes ≡ notes_of c.points t.1 → IsNoted notes told told' broken
+      → TellsNotes (taken_answer (explain_answer c) read) told told' broken
+  explain-noted notes told told' broken same h =
+      let P : Answer → Type 0 = λ a. TellsNotes a told told' broken in
+      let Q : List ℕ → Type 0 = λ n. IsNoted n told told' broken in
+      subst P (sym explained-is) (subst Q same h)
+
+  reduced-is : taken_answer (reduce_answer c) read ≡ Ok (reduce_text c t.0 t.1, is_fail (say c t.0 t.1), [])
   unfolding reduce_answer
   reduced-is = ap (taken_answer (reduce_answer c)) takes
 
   pub reduce-written : (failed found : Bool) → Appends old new (reduce_text c t.0 t.1) → failed ≡ false → found ≡ is_fail (say c t.0 t.1) → IsWritten (taken_answer (reduce_answer c) read) old new failed found
   reduce-written failed found written sound is =
       let P : Bool → Type 0 = λ b. IsWritten (taken_answer (reduce_answer c) read) old new failed b in
-      subst P (sym is) (of_scenario _ _ _ reduced-is old new failed written sound)
+      subst P (sym is) (of_scenario _ _ _ _ reduced-is old new failed written sound)
 
   pub reduce-short : (failed : Bool) (f : CampaignFault) → LeavesOnly old new failed (reduce_text c t.0 t.1) f → FallsShort (taken_answer (reduce_answer c) read) old new failed (faults.Campaign f)
-  reduce-short failed f h = short_of_scenario _ _ _ reduced-is old new failed f h
+  reduce-short failed f h = short_of_scenario _ _ _ _ reduced-is old new failed f h
 
   pub reduce-minimal : IsReducedToMinimal c t.0 t.1 → IfOk read (λ t. IsReducedToMinimal c t.0 t.1)
   reduce-minimal minimal = let P : Result (ℕ × Entries) Refusal → Type 0 = λ r. IfOk r (λ t. IsReducedToMinimal c t.0 t.1) in subst P (sym takes) minimal
@@ -166,6 +181,11 @@ pub unplanned : (c : Campaign) (number : ℕ) (f : CampaignFault) → IsUnlisted
 unplanned c number campaign.TooManyPlans h = planned-many (plans c) number h
 unplanned c number campaign.Memory h = tt
 unplanned c number (campaign.Write n) h = absurd h
+
+-- nor one that memory is refused
+pub memory-untaken : {T : Type 0} (taken : Result (ℕ × Entries) Refusal) (result : Result T CommandFault) → IsErrAnd result (λ f. f ≡ faults.Campaign campaign.Memory) → IfErr result (IsUntaken taken)
+memory-untaken taken (Ok t) is = absurd is
+memory-untaken taken (Err f) is = let P : CommandFault → Type 0 = λ x. IsUntaken taken x in subst P (sym is) tt
 
 -- a command that takes no scenario wrote nothing
 pub untaken-short : (answer : ℕ → Entries → Answer) (read : Result (ℕ × Entries) Refusal) (old : Option (List ℕ)) (failed : Bool) (fault : CommandFault) → failed ≡ false → IsUntaken read fault

@@ -20,7 +20,7 @@ use Rattle.campaign_main.specs.declared.exit.Exit.TheVariants as exit
 use Rattle.campaign_main.specs.declared.input.ReadFault.{ReadFault}
 use Rattle.campaign_main.specs.declared.input.ReadFault.TheVariants as read
 use Rattle.campaign_main.specs.Commands.{Answer, Refusal, answer_of, bad_scenario, bad_settings, campaign_for, choice_answer, chosen_answer, given_answer, no_plan, not_text, of_text, text_answer}
-use Rattle.campaign_main.specs.Ends.{EndsAs, FallsShort, IsCutOff, IsEndOf, IsRefused, IsUntouched, IsWritten, Leaves, OnWhole, RefusesWith, Tells, TellsARefusal, TellsBy, TellsRefusal}
+use Rattle.campaign_main.specs.Ends.{EndsAs, FallsShort, IsCutOff, IsEndOf, IsRefused, IsUntouched, IsWritten, Leaves, OnWhole, RefusesWith, Tells, TellsANote, TellsARefusal, TellsAs, TellsBy, TellsNotes, TellsOf, TellsRefusal}
 use Rattle.campaign_main.specs.Exit.{exit_of}
 use Rattle.campaign_main.specs.Minimal.{ReducesToMinimal, TextReducesToMinimal}
 use Rattle.campaign_main.specs.FaultLines.{refusal_line, scenario_line, settings_line, read_fault_line, unreadable_line}
@@ -45,13 +45,17 @@ tells-refusal answer refusal end old new failed is refused told =
     subst Q (sym is) (subst P refused told)
 
 -- what an end tells that refuses with a line
+pub tells-of : (noted refusal : Type 0) (line : List ℕ) (end : Exit) (old new : Option (List ℕ)) (failed : Bool) → RefusesWith line end old new failed → (end ≡ exit.Refused → refusal)
+    → TellsOf noted refusal end old new failed
+tells-of noted refusal line exit.Kept old new failed told why = absurd told
+tells-of noted refusal line exit.Found old new failed told why = absurd told
+tells-of noted refusal line exit.Refused old new failed told why = why refl
+tells-of noted refusal line exit.Memory old new failed told why = told
+tells-of noted refusal line (exit.Write n) old new failed told why = absurd told
+
 pub tells-by : (refusal : Type 0) (line : List ℕ) (end : Exit) (old new : Option (List ℕ)) (failed : Bool) → RefusesWith line end old new failed → (end ≡ exit.Refused → refusal)
     → TellsBy refusal end old new failed
-tells-by refusal line exit.Kept old new failed told why = absurd told
-tells-by refusal line exit.Found old new failed told why = absurd told
-tells-by refusal line exit.Refused old new failed told why = why refl
-tells-by refusal line exit.Memory old new failed told why = told
-tells-by refusal line (exit.Write n) old new failed told why = absurd told
+tells-by refusal line end old new failed told why = tells-of (IsUntouched old new failed) refusal line end old new failed told why
 
 -- an end that refuses with a line wrote nothing
 pub refuses-leaves : (line : List ℕ) (end : Exit) (old new : Option (List ℕ)) (failed : Bool) (answer : Answer) (output : Option (List ℕ)) (broken : Bool)
@@ -68,18 +72,6 @@ refuses-whole line exit.Found old new failed claim told = absurd told
 refuses-whole line exit.Refused old new failed claim told = tt
 refuses-whole line exit.Memory old new failed claim told = tt
 refuses-whole line (exit.Write n) old new failed claim told = absurd told
-
--- what is told of an answer's refusal is the line of some refusal
-pub some-refusal : (answer : Answer) (end : Exit) (old new : Option (List ℕ)) (failed : Bool) → TellsBy (TellsRefusal answer old new failed) end old new failed → Tells end old new failed
-some-refusal answer exit.Kept old new failed told = told
-some-refusal answer exit.Found old new failed told = told
-some-refusal answer exit.Refused old new failed told = of answer told
-  where
-    of : (answer : Answer) → TellsRefusal answer old new failed → TellsARefusal old new failed
-    of (Ok text) told = absurd told
-    of (Err refusal) told = inl (refusal, told)
-some-refusal answer exit.Memory old new failed told = told
-some-refusal answer (exit.Write n) old new failed told = told
 
 -- ---- by what a command over a target came to
 
@@ -121,24 +113,31 @@ module _ (answer : Answer) (old new : Option (List ℕ)) (failed : Bool) where
     fault-ends (command.Campaign (campaign.Write n)) end short is = let P : Exit → Type 0 = λ e. EndsAs e answer old new failed in subst P (sym is.0) short
     fault-ends command.Outside end short is = let P : Exit → Type 0 = λ e. EndsAs e answer old new failed in subst P (sym is.0) short.0
 
-    pub fault-tells : (fault : CommandFault) (end : Exit) → FallsShort answer old new failed fault → IsEndOf fault end line line' broken → TellsBy (TellsRefusal answer line line' broken) end line line' broken
-    fault-tells (command.Scenario scenario.Memory) end short is = let P : Exit → Type 0 = λ e. TellsBy (TellsRefusal answer line line' broken) e line line' broken in subst P (sym is.0) is.1
+    pub fault-tells : (fault : CommandFault) (end : Exit) → FallsShort answer old new failed fault → IsEndOf fault end line line' broken → TellsAs end answer line line' broken
+    fault-tells (command.Scenario scenario.Memory) end short is = let P : Exit → Type 0 = λ e. TellsAs e answer line line' broken in subst P (sym is.0) is.1
     fault-tells (command.Scenario (scenario.Bad kind entry term)) end short is =
-        tells-by (TellsRefusal answer line line' broken) (scenario_line (scenario.Bad kind entry term)) end line line' broken is
+        tells-of (TellsNotes answer line line' broken) (TellsRefusal answer line line' broken) (scenario_line (scenario.Bad kind entry term)) end line line' broken is
         (λ refused. tells-refusal answer (bad_scenario (record { kind = kind; entry = entry; term = term })) end line line' broken short.1 refused is)
     fault-tells (command.Plan number) end short is =
-        tells-by (TellsRefusal answer line line' broken) (refusal_line (no_plan number)) end line line' broken is
+        tells-of (TellsNotes answer line line' broken) (TellsRefusal answer line line' broken) (refusal_line (no_plan number)) end line line' broken is
         (λ refused. tells-refusal answer (no_plan number) end line line' broken short.1 refused is)
     fault-tells (command.Campaign campaign.TooManyPlans) end short is =
-        let P : Exit → Type 0 = λ e. TellsBy (TellsRefusal answer line line' broken) e line line' broken in
+        let P : Exit → Type 0 = λ e. TellsAs e answer line line' broken in
         let Q : Answer → Type 0 = λ a. TellsRefusal a line line' broken in
         subst P (sym is.0) (subst Q (sym short.1) is.1)
-    fault-tells (command.Campaign campaign.Memory) end short is = let P : Exit → Type 0 = λ e. TellsBy (TellsRefusal answer line line' broken) e line line' broken in subst P (sym is.0) is.1
-    fault-tells (command.Campaign (campaign.Write n)) end short is = let P : Exit → Type 0 = λ e. TellsBy (TellsRefusal answer line line' broken) e line line' broken in subst P (sym is.0) is.1
+    fault-tells (command.Campaign campaign.Memory) end short is = let P : Exit → Type 0 = λ e. TellsAs e answer line line' broken in subst P (sym is.0) is.1
+    fault-tells (command.Campaign (campaign.Write n)) end short is = let P : Exit → Type 0 = λ e. TellsAs e answer line line' broken in subst P (sym is.0) is.1
     fault-tells command.Outside end short is =
-        let P : Exit → Type 0 = λ e. TellsBy (TellsRefusal answer line line' broken) e line line' broken in
+        let P : Exit → Type 0 = λ e. TellsAs e answer line line' broken in
         let Q : Answer → Type 0 = λ a. TellsRefusal a line line' broken in
         subst P (sym is.0) (subst Q (sym short.1) is.1)
+
+-- the same where nothing was told before
+pub fault-told : (answer : Answer) (old new : Option (List ℕ)) (failed : Bool) (line mid line' : Option (List ℕ)) (sound broken : Bool) (fault : CommandFault) (end : Exit)
+    → IsUntouched line mid sound → FallsShort answer old new failed fault → IsEndOf fault end mid line' broken → TellsAs end answer line line' broken
+fault-told answer old new failed line mid line' sound broken fault end untouched short is =
+    let P : Option (List ℕ) → Type 0 = λ o. TellsAs end answer o line' broken in
+    subst P untouched.0 (fault-tells answer old new failed mid line' broken fault end short is)
 
 -- a fault is no end of a text that was written whole
 pub fault-whole : (line line' : Option (List ℕ)) (broken : Bool) (claim : Type 0) (fault : CommandFault) (end : Exit) → IsEndOf fault end line line' broken → OnWhole end claim
@@ -265,8 +264,9 @@ pub read-whole : (known : Option (List ℕ)) (text shown : List ℕ) (P : List �
 read-whole known text shown P same is h = if_some known (λ bytes. text ≡ bytes) P (λ bytes e. subst P e (subst P same h)) is
 
 -- a reader that gave no text tells why
-pub tells-unread : (fault : ReadFault) (end : Exit) (old new : Option (List ℕ)) (failed : Bool) → RefusesWith (read_fault_line fault) end old new failed → (fault ≡ read.Memory → end ≡ exit.Memory) → Tells end old new failed
-tells-unread fault end old new failed told memory = tells-by (TellsARefusal old new failed) (read_fault_line fault) end old new failed told (which fault end told memory)
+pub tells-unread : (o : Order) (fault : ReadFault) (end : Exit) (old new : Option (List ℕ)) (failed : Bool) → RefusesWith (read_fault_line fault) end old new failed → (fault ≡ read.Memory → end ≡ exit.Memory)
+    → Tells o end old new failed
+tells-unread o fault end old new failed told memory = tells-of (TellsANote o old new failed) (TellsARefusal old new failed) (read_fault_line fault) end old new failed told (which fault end told memory)
   where
     which : (fault : ReadFault) (end : Exit) → RefusesWith (read_fault_line fault) end old new failed → (fault ≡ read.Memory → end ≡ exit.Memory) → end ≡ exit.Refused → TellsARefusal old new failed
     which read.TooLong end told memory refused = let P : Exit → Type 0 = λ e. RefusesWith (read_fault_line read.TooLong) e old new failed in inl (bad_settings too_long, subst P refused told)

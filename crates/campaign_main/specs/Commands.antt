@@ -1,5 +1,5 @@
 -- What a command answers to the bytes of its settings: its text and its end, or why it is refused.
-use Rattle.std.specs.Prelude.{ℕ, Bool, false, List, length, Option, Some, None, is_some, Result, Ok, Err, nat_lt, if◌then◌else◌, slice_get, string_bytes}
+use Rattle.std.specs.Prelude.{ℕ, Bool, false, [], List, length, Option, Some, None, is_some, Result, Ok, Err, nat_lt, if◌then◌else◌, slice_get, string_bytes}
 use Rattle.std.specs.Str.{is_utf8}
 use Rattle.scenario_values.specs.Scenario.{Entries}
 use Rattle.scenario_grammar.specs.FirstFault.{Fault, reading}
@@ -30,6 +30,7 @@ use Rattle.command_words.specs.declared.words.Which.{Which}
 use Rattle.command_words.specs.declared.words.Which.TheVariants.{Scenario, Plan}
 use Rattle.run_explained.specs.Explained.{explain_text}
 use Rattle.campaign_main.specs.Exit.{is_fail}
+use Rattle.campaign_main.specs.Notes.{notes_of}
 
 -- ---- answers
 
@@ -47,15 +48,15 @@ pub data Refusal : Type 0 where
   bad_answers : AnswersFault → Refusal
   not_answered : Entries → Refusal
 
--- a command's text and whether a verdict in it is fail, or why the command is refused
+-- a command's text, whether a verdict in it is fail, and what is noted beside it; or why the command is refused
 abbrev pub Answer : Type 0
-Answer = Result (List ℕ × Bool) Refusal
+Answer = Result (List ℕ × Bool × List ℕ) Refusal
 
 -- ---- a command on what a campaign is given
 
--- what comes of a list of plans that isn't too long
+-- what comes of a list of plans that isn't too long; nothing is noted
 abbrev pub of_few_plans : List Entries → List ℕ × Bool → Answer
-of_few_plans plans text = if nat_lt most_plans (length plans) then Err too_many_plans else Ok text
+of_few_plans plans text = if nat_lt most_plans (length plans) then Err too_many_plans else Ok (text.0, text.1, [])
 
 -- the report of a form
 abbrev pub report_in : Form → Campaign → List ℕ
@@ -74,17 +75,22 @@ map_answer c = of_few_plans (plans c) (campaign_map_text c, is_some (first_failu
 unfoldable pub plans_answer : Campaign → Answer
 plans_answer c = of_few_plans (plans c) (plans_text c, false)
 
--- a scenario tried under a stream number, and whether it fails
+-- a scenario tried under a stream number, whether it fails, and which of its names no point has
 unfoldable pub try_answer : Campaign → ℕ → Entries → Answer
-try_answer c stream scenario = Ok (try_text c.codes (tried c stream scenario), is_fail (tried c stream scenario).verdict)
+try_answer c stream scenario =
+    Ok (try_text c.codes (tried c stream scenario), is_fail (tried c stream scenario).verdict, notes_of c.points scenario)
 
 -- a scenario reduced under a stream number, and whether it fails
 unfoldable pub reduce_answer : Campaign → ℕ → Entries → Answer
-reduce_answer c stream scenario = Ok (reduce_text c stream scenario, is_fail (say c stream scenario))
+reduce_answer c stream scenario = Ok (reduce_text c stream scenario, is_fail (say c stream scenario), [])
 
--- a scenario's run under a stream number, told hit by hit, and whether it fails
+-- a scenario's run under a stream number, told hit by hit, whether it fails, and which of its names no point has
 unfoldable pub explain_answer : Campaign → ℕ → Entries → Answer
-explain_answer c stream scenario = Ok (explain_text c.codes c.asks (given_of scenario c.points c.plans.seed stream c.limit), is_fail (tried c stream scenario).verdict)
+explain_answer c stream scenario = Ok (
+  explain_text c.codes c.asks (given_of scenario c.points c.plans.seed stream c.limit),
+  is_fail (tried c stream scenario).verdict,
+  notes_of c.points scenario,
+)
 
 -- the stream number and the scenario that a command takes: of a text the one that it spells, under 0
 abbrev pub spelled : Result Entries Fault → Result (ℕ × Entries) Refusal

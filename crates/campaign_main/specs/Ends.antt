@@ -1,16 +1,18 @@
 -- How a command ends, by its answer. A sink held `old` and holds `new`, where it tells its bytes, and says whether it failed.
-use Rattle.std.specs.Prelude.{◌≡◌, ◌<◌, ◌⊎◌, ℕ, Bool, true, false, List, Option, Result, Ok, Err, IsErrAnd, IsOkAnd, length, take}
+use Rattle.std.specs.Prelude.{◌≡◌, ◌<◌, ◌⊎◌, ◌∷◌, [], ℕ, Bool, true, false, List, Option, Result, Ok, Err, IsErrAnd, IsOkAnd, length, take}
 use Rattle.std.specs.Io.KnownBytes.{Appends}
 use Rattle.scenario_grammar.specs.declared.fault.ScenarioFault.TheVariants as scenario
 use Rattle.scenario_values.specs.Scenario.{Entries}
 use Rattle.campaign_core.specs.declared.ending.CampaignFault.TheVariants as campaign
 use Rattle.command_words.specs.Words.{AsksToSee}
+use Rattle.command_words.specs.declared.words.Order.{Order}
 use Rattle.command_words.specs.declared.words.WordsFault.{WordsFault}
 use Rattle.campaign_main.specs.declared.exit.Exit.{Exit}
 use Rattle.campaign_main.specs.declared.exit.Exit.TheVariants.{Kept, Found, Refused, Memory, Write}
 use Rattle.campaign_main.specs.declared.fault.CommandFault.{CommandFault}
 use Rattle.campaign_main.specs.declared.fault.CommandFault.TheVariants.{Scenario, Plan, Campaign, Outside}
 use Rattle.campaign_main.specs.Commands.{Answer, Refusal, bad_scenario, no_plan, outside_target, too_many_plans}
+use Rattle.campaign_main.specs.Notes.{MayNote}
 use Rattle.campaign_main.specs.FaultLines.{cut_off_line, memory_line, refusal_line, scenario_line, unreadable_line}
 
 -- nothing was written, and the sink hasn't failed
@@ -85,6 +87,24 @@ abbrev pub IsTold : List ℕ → Option (List ℕ) → Option (List ℕ) → Boo
 IsTold line old new failed = (Appends old new line × (failed ≡ false))
     ⊎ ((written : ℕ) × Appends old new (take written line) × (written < length line) × (failed ≡ true))
 
+-- what is noted was told, and where that is nothing, nothing was
+abbrev pub IsNoted : List ℕ → Option (List ℕ) → Option (List ℕ) → Bool → Type 0
+IsNoted [] old new failed = IsUntouched old new failed
+IsNoted (byte ∷ more) old new failed = IsTold (byte ∷ more) old new failed
+
+-- the answer has a text, and what it notes was told
+abbrev pub TellsNotes : Answer → Option (List ℕ) → Option (List ℕ) → Bool → Type 0
+TellsNotes answer old new failed = IsOkAnd answer (λ a. IsNoted a.2 old new failed)
+
+-- something was told that the order may note
+abbrev pub TellsANote : Order → Option (List ℕ) → Option (List ℕ) → Bool → Type 0
+TellsANote order old new failed = (notes : List ℕ) × MayNote order notes × IsNoted notes old new failed
+
+-- what a command told that came to this: its notes, where its text was written whole, and nothing before a fault is told
+abbrev pub Noted : Answer → Option (List ℕ) → Option (List ℕ) → Bool → Result Bool CommandFault → Type 0
+Noted answer old new failed (Ok found) = TellsNotes answer old new failed
+Noted answer old new failed (Err fault) = IsUntouched old new failed
+
 -- the answer is a refusal, and its line is told
 abbrev pub TellsRefusal : Answer → Option (List ℕ) → Option (List ℕ) → Bool → Type 0
 TellsRefusal answer old new failed = IsErrAnd answer (λ refusal. IsTold (refusal_line refusal) old new failed)
@@ -97,17 +117,25 @@ IsRefused answer old new failed = TellsRefusal answer old new failed ⊎ IsTold 
 abbrev pub TellsARefusal : Option (List ℕ) → Option (List ℕ) → Bool → Type 0
 TellsARefusal old new failed = ((refusal : Refusal) × IsTold (refusal_line refusal) old new failed) ⊎ IsTold unreadable_line old new failed
 
--- what an end tells on the sink of faults: nothing where a whole text was written, and else why there is none; of a refusal, `refusal`
-abbrev pub TellsBy : Type 0 → Exit → Option (List ℕ) → Option (List ℕ) → Bool → Type 0
-TellsBy refusal Kept old new failed = IsUntouched old new failed
-TellsBy refusal Found old new failed = IsUntouched old new failed
-TellsBy refusal Refused old new failed = refusal
-TellsBy refusal Memory old new failed = IsTold memory_line old new failed
-TellsBy refusal (Write written) old new failed = IsTold (cut_off_line written) old new failed
+-- what an end tells on the sink of faults: `noted` where a whole text was written, and else why there is none; of a refusal, `refusal`
+abbrev pub TellsOf : Type 0 → Type 0 → Exit → Option (List ℕ) → Option (List ℕ) → Bool → Type 0
+TellsOf noted refusal Kept old new failed = noted
+TellsOf noted refusal Found old new failed = noted
+TellsOf noted refusal Refused old new failed = refusal
+TellsOf noted refusal Memory old new failed = IsTold memory_line old new failed
+TellsOf noted refusal (Write written) old new failed = IsTold (cut_off_line written) old new failed
 
--- the same of a command, whatever was read: which refusal it is, its answer says
-abbrev pub Tells : Exit → Option (List ℕ) → Option (List ℕ) → Bool → Type 0
-Tells end old new failed = TellsBy (TellsARefusal old new failed) end old new failed
+-- the same where nothing is noted beside a text
+abbrev pub TellsBy : Type 0 → Exit → Option (List ℕ) → Option (List ℕ) → Bool → Type 0
+TellsBy refusal end old new failed = TellsOf (IsUntouched old new failed) refusal end old new failed
+
+-- the same of a command, by its answer
+abbrev pub TellsAs : Exit → Answer → Option (List ℕ) → Option (List ℕ) → Bool → Type 0
+TellsAs end answer old new failed = TellsOf (TellsNotes answer old new failed) (TellsRefusal answer old new failed) end old new failed
+
+-- the same of a command, whatever was read: which notes and which refusal these are, its answer says
+abbrev pub Tells : Order → Exit → Option (List ℕ) → Option (List ℕ) → Bool → Type 0
+Tells order end old new failed = TellsOf (TellsANote order old new failed) (TellsARefusal old new failed) end old new failed
 
 -- what was read has a fault, and this line is told, or memory was refused, and that is
 abbrev pub RefusesWith : List ℕ → Exit → Option (List ℕ) → Option (List ℕ) → Bool → Type 0

@@ -1,5 +1,6 @@
 pub mod Exit
 pub mod FaultLines
+pub mod Notes
 pub mod Commands
 pub mod Ends
 pub mod Minimal

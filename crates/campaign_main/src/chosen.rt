@@ -2,7 +2,7 @@
 ghost use Rattle.std.specs.Prelude.{◌≡◌, false, IfSome, OnOk};
 ghost use Rattle.campaign_settings.specs.Settings.{given_of};
 ghost use Rattle.campaign_main.specs.Commands.{campaign_for, choice_answer};
-ghost use Rattle.campaign_main.specs.Ends.{ComesTo};
+ghost use Rattle.campaign_main.specs.Ends.{ComesTo, Noted};
 ghost use Rattle.campaign_main.specs.Minimal.{ReducesToMinimal};
 
 use crate::command::command;
@@ -19,7 +19,7 @@ use std::thread::Threads;
 use target_trait::{Gate, Sink};
 
 /// Does what is ordered with a bundled target and its workload, or with a component from outside.
-pub fn chosen_command<W: Sink, H: Threads + Wait + Sync, G: Gate>(
+pub fn chosen_command<W: Sink, E: Sink, H: Threads + Wait + Sync, G: Gate>(
     rt: &H,
     alloc: Global,
     order: &Order,
@@ -27,23 +27,57 @@ pub fn chosen_command<W: Sink, H: Threads + Wait + Sync, G: Gate>(
     choice: &Choice,
     settings: &Settings,
     output: &mut W,
+    faults: &mut E,
 ) -> Result<bool, CommandFault>
-    requires { W.has_failed output.old ≡ false }
+    requires output { W.has_failed output.old ≡ false }
+    requires faults { E.has_failed faults.old ≡ false }
     ensures text { ComesTo (choice_answer order.now (given_of settings.now) choice.now) (W.told output.old) (W.told output.new) (W.has_failed output.new) result }
+    ensures noted { Noted (choice_answer order.now (given_of settings.now) choice.now)
+        (E.told faults.old) (E.told faults.new) (E.has_failed faults.new) result }
     ensures minimal { OnOk result (IfSome (campaign_for (given_of settings.now) choice.now) (ReducesToMinimal order.now)) }
 {
     match choice {
         Choice::Replace(variant, work) => {
             let mut target = Replace::new(alloc, *variant);
-            command(rt, alloc, order, gate, &mut target, work, settings, output)
+            command(
+                rt,
+                alloc,
+                order,
+                gate,
+                &mut target,
+                work,
+                settings,
+                output,
+                faults,
+            )
         }
         Choice::Maildir(variant, work) => {
             let mut target = Maildir::new(alloc, *variant);
-            command(rt, alloc, order, gate, &mut target, work, settings, output)
+            command(
+                rt,
+                alloc,
+                order,
+                gate,
+                &mut target,
+                work,
+                settings,
+                output,
+                faults,
+            )
         }
         Choice::Commit(variant, work) => {
             let mut target = Commit::new(alloc, *variant);
-            command(rt, alloc, order, gate, &mut target, work, settings, output)
+            command(
+                rt,
+                alloc,
+                order,
+                gate,
+                &mut target,
+                work,
+                settings,
+                output,
+                faults,
+            )
         }
         Choice::Outside(outside) => outside_command(alloc, order, outside, settings, output),
     }

@@ -1,15 +1,18 @@
 //! The commands over one target.
-ghost use Rattle.std.specs.Prelude.{◌≡◌, ◌≤◌, false, length, option_map, IfErr, IfOk, Ok, OnOk};
+ghost use Rattle.std.specs.Prelude.{◌≡◌, ◌≤◌, false, length, option_map, string_bytes, IfErr, IfOk, Ok, OnOk};
 ghost use Rattle.std.specs.Io.KnownBytes.{Appends};
 ghost use Rattle.plan_gen.specs.PlanList.{most_plans};
 ghost use Rattle.campaign_core.specs.CommandTexts.{IsFault, IsReducedToMinimal};
 ghost use Rattle.campaign_core.specs.Headline.{campaign_on, first_failure, plans, EachIsMinimal};
 ghost use Rattle.campaign_main.specs.Commands.{explain_answer, map_answer, order_answer, plans_answer, reduce_answer, report_in, run_answer, taken, taken_answer, try_answer};
-ghost use Rattle.campaign_main.specs.Ends.{ComesTo, IsUntaken};
+ghost use Rattle.campaign_main.specs.Ends.{ComesTo, IsUntaken, Noted};
+ghost use Rattle.campaign_main.specs.Notes.{notes_of};
 ghost use Rattle.campaign_main.specs.Minimal.{ReducesToMinimal};
 
 use crate::exit::is_fail;
 use crate::fault::CommandFault;
+use crate::lines::note;
+use crate::notes::notes_on;
 use campaign_core::{
     CampaignFault, Ending, brief_campaign, campaign, map_campaign, plan_list, plan_scenario,
     reduce_one, try_one,
@@ -128,47 +131,74 @@ fn take_scenario<T: Target>(
     }
 }
 
+/// The same with what is noted beside the command's text. Nothing is written.
+fn take_noted<T: Target>(
+    alloc: Global,
+    target: &T,
+    workload: &T::Workload,
+    settings: &Settings,
+    which: &Which,
+) -> Result<(u64, Scenario, String), CommandFault>
+    ensures ok { IfOk result (λ t. taken (campaign_on T.Target target.now workload.now settings.now) which.now ≡ Ok (t.0, t.1)) }
+    ensures notes { IfOk result (λ t. string_bytes t.2 ≡ notes_of T.names t.1) }
+    ensures fault { IfErr result (IsUntaken (taken (campaign_on T.Target target.now workload.now settings.now) which.now)) }
+{
+    let (stream, scenario) = take_scenario(alloc, target, workload, settings, which)?;
+    let lines = notes_on(alloc, T::catalogue(), &scenario)?;
+    Ok((stream, scenario, lines))
+}
+
 /// Tries the scenario that the command takes.
-fn try_which<T: Target, W: Sink>(
+fn try_which<T: Target, W: Sink, E: Sink>(
     alloc: Global,
     target: &mut T,
     workload: &T::Workload,
     settings: &Settings,
     which: &Which,
     output: &mut W,
+    faults: &mut E,
 ) -> Result<bool, CommandFault>
-    requires { W.has_failed output.old ≡ false }
-    ensures { let c = campaign_on T.Target target.old workload.now settings.now in
+    requires output { W.has_failed output.old ≡ false }
+    requires faults { E.has_failed faults.old ≡ false }
+    ensures text { let c = campaign_on T.Target target.old workload.now settings.now in
         ComesTo (taken_answer (try_answer c) (taken c which.now)) (W.told output.old) (W.told output.new) (W.has_failed output.new) result }
+    ensures noted { let c = campaign_on T.Target target.old workload.now settings.now in
+        Noted (taken_answer (try_answer c) (taken c which.now)) (E.told faults.old) (E.told faults.new) (E.has_failed faults.new) result }
 {
-    let (stream, scenario) = take_scenario(alloc, target, workload, settings, which)?;
+    let (stream, scenario, notes) = take_noted(alloc, target, workload, settings, which)?;
     let seed = settings.seed;
     let max_hits = settings.max_hits;
     let verdict = try_one(
         alloc, target, workload, seed, stream, max_hits, &scenario, output,
     )?;
+    note(notes.as_str(), faults);
     Ok(is_fail(verdict))
 }
 
 /// Tells the run of the scenario that the command takes.
-fn explain_which<T: Target, W: Sink>(
+fn explain_which<T: Target, W: Sink, E: Sink>(
     alloc: Global,
     target: &mut T,
     workload: &T::Workload,
     settings: &Settings,
     which: &Which,
     output: &mut W,
+    faults: &mut E,
 ) -> Result<bool, CommandFault>
-    requires { W.has_failed output.old ≡ false }
-    ensures { let c = campaign_on T.Target target.old workload.now settings.now in
+    requires output { W.has_failed output.old ≡ false }
+    requires faults { E.has_failed faults.old ≡ false }
+    ensures text { let c = campaign_on T.Target target.old workload.now settings.now in
         ComesTo (taken_answer (explain_answer c) (taken c which.now)) (W.told output.old) (W.told output.new) (W.has_failed output.new) result }
+    ensures noted { let c = campaign_on T.Target target.old workload.now settings.now in
+        Noted (taken_answer (explain_answer c) (taken c which.now)) (E.told faults.old) (E.told faults.new) (E.has_failed faults.new) result }
 {
-    let (stream, scenario) = take_scenario(alloc, target, workload, settings, which)?;
+    let (stream, scenario, notes) = take_noted(alloc, target, workload, settings, which)?;
     let seed = settings.seed;
     let max_hits = settings.max_hits;
     let verdict = explain_one(
         alloc, target, workload, seed, stream, max_hits, &scenario, output,
     )?;
+    note(notes.as_str(), faults);
     Ok(is_fail(verdict))
 }
 
@@ -198,11 +228,11 @@ where
     Ok(is_fail(verdict))
 }
 
-/// Does what is ordered with this target, and writes the command's text.
+/// Does what is ordered with this target, writes the command's text, and after it to the sink of faults what is noted beside it.
 ///
 /// It answers whether a verdict in the text is fail, where the whole text was written. Else nothing was written, or the fault tells
 /// how many bytes of the text, fewer than all, went out. Only then the output has failed.
-pub fn command<T: Target + Send, W: Sink, H: Threads + Wait + Sync, G: Gate>(
+pub fn command<T: Target + Send, W: Sink, E: Sink, H: Threads + Wait + Sync, G: Gate>(
     rt: &H,
     alloc: Global,
     order: &Order,
@@ -211,21 +241,27 @@ pub fn command<T: Target + Send, W: Sink, H: Threads + Wait + Sync, G: Gate>(
     workload: &T::Workload,
     settings: &Settings,
     output: &mut W,
+    faults: &mut E,
 ) -> Result<bool, CommandFault>
 where
     T::Workload: Sync,
-    requires { W.has_failed output.old ≡ false }
+    requires output { W.has_failed output.old ≡ false }
+    requires faults { E.has_failed faults.old ≡ false }
     ensures text { ComesTo (order_answer order.now (campaign_on T.Target target.old workload.now settings.now)) (W.told output.old) (W.told output.new) (W.has_failed output.new) result }
+    ensures noted { Noted (order_answer order.now (campaign_on T.Target target.old workload.now settings.now))
+        (E.told faults.old) (E.told faults.new) (E.has_failed faults.new) result }
     ensures minimal { OnOk result (ReducesToMinimal order.now (campaign_on T.Target target.old workload.now settings.now)) }
 {
     match order {
         Order::Run(form) => run_plans(rt, alloc, gate, target, workload, settings, *form, output),
         Order::Map => map_plans(rt, alloc, gate, target, workload, settings, output),
         Order::Plans => list_plans(alloc, target, workload, settings, output),
-        Order::Try(which) => try_which(alloc, target, workload, settings, which, output),
+        Order::Try(which) => try_which(alloc, target, workload, settings, which, output, faults),
         Order::Reduce(which) => reduce_which(
             rt, alloc, gate, target, workload, settings, which, output,
         ),
-        Order::Explain(which) => explain_which(alloc, target, workload, settings, which, output),
+        Order::Explain(which) => explain_which(
+            alloc, target, workload, settings, which, output, faults,
+        ),
     }
 }

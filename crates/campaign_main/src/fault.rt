@@ -1,9 +1,11 @@
 //! Why a command over a target wrote no whole text.
 ghost use Rattle.std.specs.Prelude.{◌≡◌};
 ghost use Rattle.campaign_main.specs.declared.fault.CommandFault.TheVariants.{Campaign, Scenario};
+ghost use Rattle.campaign_core.specs.declared.ending.CampaignFault.TheVariants.{Memory};
 
 use campaign_core::CampaignFault;
 use scenario_grammar::ScenarioFault;
+use std::alloc::AllocError;
 
 /// Why a command over a target wrote no whole text.
 #[derive(Debug, Drop)]
@@ -23,6 +25,14 @@ impl From<ScenarioFault> for CommandFault {
 
     fn from(cause: ScenarioFault) -> CommandFault {
         CommandFault::Scenario(cause)
+    }
+}
+
+impl From<AllocError> for CommandFault {
+    ghost from_gives = { λ _ fault. fault ≡ Campaign Memory };
+
+    fn from(_: AllocError) -> CommandFault {
+        CommandFault::Campaign(CampaignFault::Memory)
     }
 }
 

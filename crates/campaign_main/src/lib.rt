@@ -8,6 +8,7 @@ mod exit;
 mod fault;
 mod input;
 mod lines;
+mod notes;
 mod outside;
 mod own;
 mod performing;

@@ -2,7 +2,7 @@
 ghost use Rattle.std.specs.Prelude.{◌≡◌, ℕ, List, false, IfOk, string_bytes};
 ghost use Rattle.campaign_settings.specs.declared.fault.SettingsFault.TheVariants as settings;
 ghost use Rattle.campaign_main.specs.Commands.{bad_answers, bundled_target, no_plan, not_answered};
-ghost use Rattle.campaign_main.specs.Ends.{IsEndOf, IsTold, RefusesWith};
+ghost use Rattle.campaign_main.specs.Ends.{IsEndOf, IsNoted, IsTold, RefusesWith};
 ghost use Rattle.campaign_main.specs.FaultLines.{answers_read_line, cut_off_line, memory_line, read_fault_line, refusal_line, scenario_line, settings_line};
 ghost use Rattle.campaign_main.specs.Questions.{IsEndOfQuestion};
 
@@ -26,6 +26,16 @@ fn tell<E: Sink>(line: &[u8], faults: &mut E)
     ensures { IsTold line.now (E.told faults.old) (E.told faults.new) (E.has_failed faults.new) }
 {
     let _ = write_report(line, faults);
+}
+
+/// Writes what is noted beside a text, or as much of it as the sink takes, and nothing where nothing is noted.
+pub fn note<E: Sink>(lines: &str, faults: &mut E)
+    requires { E.has_failed faults.old ≡ false }
+    ensures { IsNoted lines.now (E.told faults.old) (E.told faults.new) (E.has_failed faults.new) }
+{
+    if !lines.is_empty() {
+        tell(lines.as_bytes(), faults);
+    }
 }
 
 /// Ends as refused, with these lines.

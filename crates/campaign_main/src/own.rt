@@ -2,7 +2,7 @@
 ghost use Rattle.std.specs.Prelude.{◌≡◌, false, IfSome};
 ghost use Rattle.campaign_core.specs.Headline.{campaign_on};
 ghost use Rattle.campaign_main.specs.Commands.{order_answer};
-ghost use Rattle.campaign_main.specs.Ends.{EndsAs, IsRefused, Leaves, OnWhole, Tells, TellsBy, TellsRefusal};
+ghost use Rattle.campaign_main.specs.Ends.{EndsAs, IsRefused, Leaves, OnWhole, Tells, TellsAs, TellsNotes};
 ghost use Rattle.campaign_main.specs.Minimal.{ReducesToMinimal};
 ghost use Rattle.campaign_main.specs.OwnTarget.{OwnReducesToMinimal, own_answer, own_campaign, own_text_answer};
 
@@ -36,8 +36,8 @@ where
     requires output { W.has_failed output.old ≡ false }
     requires faults { E.has_failed faults.old ≡ false }
     ensures end { EndsAs result (order_answer order.now (campaign_on T.Target target.old workload.now settings.now)) (W.told output.old) (W.told output.new) (W.has_failed output.new) }
-    ensures told { TellsBy (TellsRefusal (order_answer order.now (campaign_on T.Target target.old workload.now settings.now)) (E.told faults.old) (E.told faults.new) (E.has_failed faults.new))
-        result (E.told faults.old) (E.told faults.new) (E.has_failed faults.new) }
+    ensures told { TellsAs result (order_answer order.now (campaign_on T.Target target.old workload.now settings.now))
+        (E.told faults.old) (E.told faults.new) (E.has_failed faults.new) }
     ensures minimal { OnWhole result (ReducesToMinimal order.now (campaign_on T.Target target.old workload.now settings.now)) }
 {
     match broken_law(alloc, target, workload, settings.seed, settings.max_hits) {
@@ -45,7 +45,9 @@ where
         Ok(Some(law)) => return unlawful(alloc, law, faults),
         Err(AllocError) => return no_memory(faults),
     }
-    match command(rt, alloc, order, gate, target, workload, settings, output) {
+    match command(
+        rt, alloc, order, gate, target, workload, settings, output, faults,
+    ) {
         Ok(found) => exit_of(found),
         Err(fault) => unanswered(alloc, &fault, faults),
     }
@@ -68,8 +70,8 @@ where
     requires output { W.has_failed output.old ≡ false }
     requires faults { E.has_failed faults.old ≡ false }
     ensures end { EndsAs result (own_text_answer order.now (own_campaign T.Target target.old workload.now) text.now) (W.told output.old) (W.told output.new) (W.has_failed output.new) }
-    ensures told { TellsBy (TellsRefusal (own_text_answer order.now (own_campaign T.Target target.old workload.now) text.now) (E.told faults.old) (E.told faults.new) (E.has_failed faults.new))
-        result (E.told faults.old) (E.told faults.new) (E.has_failed faults.new) }
+    ensures told { TellsAs result (own_text_answer order.now (own_campaign T.Target target.old workload.now) text.now)
+        (E.told faults.old) (E.told faults.new) (E.has_failed faults.new) }
     ensures minimal { OnWhole result (OwnReducesToMinimal order.now (own_campaign T.Target target.old workload.now) text.now) }
 {
     match Settings::read_own(alloc, text) {
@@ -114,10 +116,12 @@ where
     requires output { W.has_failed output.old ≡ false }
     requires faults { E.has_failed faults.old ≡ false }
     ensures end { IfSome (R.remaining reader.old) (λ bytes. EndsAs result (own_answer order.now (own_campaign T.Target target.old workload.now) bytes) (W.told output.old) (W.told output.new) (W.has_failed output.new)) }
+    ensures noted { OnWhole result (IfSome (R.remaining reader.old) (λ bytes.
+        TellsNotes (own_answer order.now (own_campaign T.Target target.old workload.now) bytes) (E.told faults.old) (E.told faults.new) (E.has_failed faults.new))) }
     ensures cause { result ≡ Exit.Refused → IfSome (R.remaining reader.old) (λ bytes. IsRefused (own_answer order.now (own_campaign T.Target target.old workload.now) bytes) (E.told faults.old) (E.told faults.new) (E.has_failed faults.new)) }
     ensures minimal { OnWhole result (IfSome (R.remaining reader.old) (OwnReducesToMinimal order.now (own_campaign T.Target target.old workload.now))) }
     ensures output { Leaves result (W.told output.old) (W.told output.new) (W.has_failed output.new) }
-    ensures told { Tells result (E.told faults.old) (E.told faults.new) (E.has_failed faults.new) }
+    ensures told { Tells order.now result (E.told faults.old) (E.told faults.new) (E.has_failed faults.new) }
 {
     match read_all(alloc, reader) {
         Ok(text) => target_text(

@@ -2,7 +2,7 @@
 ghost use Rattle.std.specs.Prelude.{◌≡◌, false, IfSome};
 ghost use Rattle.campaign_settings.specs.Settings.{given_of};
 ghost use Rattle.campaign_main.specs.Commands.{answer_of, campaign_for, choice_answer, text_answer};
-ghost use Rattle.campaign_main.specs.Ends.{EndsAs, IsRefused, Leaves, OnWhole, Tells, TellsBy, TellsRefusal};
+ghost use Rattle.campaign_main.specs.Ends.{EndsAs, IsRefused, Leaves, OnWhole, Tells, TellsAs, TellsNotes};
 ghost use Rattle.campaign_main.specs.Minimal.{ReducesToMinimal, TextReducesToMinimal};
 
 use crate::chosen::chosen_command;
@@ -31,11 +31,11 @@ fn perform_chosen<W: Sink, E: Sink, H: Threads + Wait + Sync, G: Gate>(
     requires output { W.has_failed output.old ≡ false }
     requires faults { E.has_failed faults.old ≡ false }
     ensures end { EndsAs result (choice_answer order.now (given_of settings.now) choice.now) (W.told output.old) (W.told output.new) (W.has_failed output.new) }
-    ensures told { TellsBy (TellsRefusal (choice_answer order.now (given_of settings.now) choice.now) (E.told faults.old) (E.told faults.new) (E.has_failed faults.new))
-        result (E.told faults.old) (E.told faults.new) (E.has_failed faults.new) }
+    ensures told { TellsAs result (choice_answer order.now (given_of settings.now) choice.now)
+        (E.told faults.old) (E.told faults.new) (E.has_failed faults.new) }
     ensures minimal { OnWhole result (IfSome (campaign_for (given_of settings.now) choice.now) (ReducesToMinimal order.now)) }
 {
-    match chosen_command(rt, alloc, order, gate, choice, settings, output) {
+    match chosen_command(rt, alloc, order, gate, choice, settings, output, faults) {
         Ok(found) => exit_of(found),
         Err(fault) => unanswered(alloc, &fault, faults),
     }
@@ -54,8 +54,8 @@ fn perform_text<W: Sink, E: Sink, H: Threads + Wait + Sync, G: Gate>(
     requires output { W.has_failed output.old ≡ false }
     requires faults { E.has_failed faults.old ≡ false }
     ensures end { EndsAs result (text_answer order.now text.now) (W.told output.old) (W.told output.new) (W.has_failed output.new) }
-    ensures told { TellsBy (TellsRefusal (text_answer order.now text.now) (E.told faults.old) (E.told faults.new) (E.has_failed faults.new))
-        result (E.told faults.old) (E.told faults.new) (E.has_failed faults.new) }
+    ensures told { TellsAs result (text_answer order.now text.now)
+        (E.told faults.old) (E.told faults.new) (E.has_failed faults.new) }
     ensures minimal { OnWhole result (TextReducesToMinimal order.now text.now) }
 {
     let settings = match Settings::read(alloc, text) {
@@ -76,6 +76,9 @@ fn perform_text<W: Sink, E: Sink, H: Threads + Wait + Sync, G: Gate>(
 /// listed; and Memory where memory was refused, both with the output unchanged; or Write, which tells how many bytes of the text,
 /// fewer than all, went out before the output failed. Where that line can't be written whole the answer stays. The line of a refusal
 /// names the first fault in the order in which faults are looked for.
+///
+/// Beside the text of try and explain, once it stands there whole, the sink of faults has a line for each name of the scenario that no point
+/// of the target has, in the scenario's order: `scenario: no point is named NAME`. A line that can't be written changes no end.
 ///
 /// Workers arrive at the gate before each plan and each test of a reduction; what comes of the command is the same at every gate.
 ///
@@ -98,10 +101,12 @@ pub fn perform<R: Read, W: Sink, E: Sink, H: Threads + Wait + Sync, G: Gate>(
     requires output { W.has_failed output.old ≡ false }
     requires faults { E.has_failed faults.old ≡ false }
     ensures end { IfSome (R.remaining reader.old) (λ bytes. EndsAs result (answer_of order.now bytes) (W.told output.old) (W.told output.new) (W.has_failed output.new)) }
+    ensures noted { OnWhole result (IfSome (R.remaining reader.old) (λ bytes.
+        TellsNotes (answer_of order.now bytes) (E.told faults.old) (E.told faults.new) (E.has_failed faults.new))) }
     ensures cause { result ≡ Exit.Refused → IfSome (R.remaining reader.old) (λ bytes. IsRefused (answer_of order.now bytes) (E.told faults.old) (E.told faults.new) (E.has_failed faults.new)) }
     ensures minimal { OnWhole result (IfSome (R.remaining reader.old) (TextReducesToMinimal order.now)) }
     ensures output { Leaves result (W.told output.old) (W.told output.new) (W.has_failed output.new) }
-    ensures told { Tells result (E.told faults.old) (E.told faults.new) (E.has_failed faults.new) }
+    ensures told { Tells order.now result (E.told faults.old) (E.told faults.new) (E.has_failed faults.new) }
 {
     match read_all(alloc, reader) {
         Ok(text) => perform_text(rt, alloc, order, gate, text.as_str(), output, faults),

@@ -1,15 +1,25 @@
-use Rattle.std.proofs.Common.{◌∙◌, ap}
+use Rattle.std.proofs.Common.{◌∙◌, None, ap}
 use Rattle.campaign_main.specs.Exit.{is_fail}
 use Rattle.campaign_main.specs.declared.fault.CommandFault.TheVariants.{Campaign}
-use Rattle.campaign_main.proofs.AnswerLemmas.{explain-short, explain-written, short-up}
+use Rattle.campaign_main.proofs.AnswerLemmas.{explain-noted, explain-short, explain-written, short-up}
+use Rattle.campaign_main.proofs.NoteLemmas.{err-noted}
 use Rattle.campaign_main.proofs.command.explain_which.Goals as goal
 
-pub returns : goal.returns
-returns g c =
+pub returns-clause-text : goal.returns-clause-text
+returns-clause-text g c =
     explain-written _ _ (c.in_ok-stream.stream, c.in_ok-stream.scenario) c.in_ok-stream.ensures.ok _ _ _ _ c.in_ok-verdict.ensures.text c.in_ok-verdict.ensures.sound
     (c.is_fail.ensures ∙ ap is_fail c.in_ok-verdict.ensures.verdict)
 
-pub returns-in_err-verdict : goal.returns-in_err-verdict
-returns-in_err-verdict g c =
+pub returns-in_err-verdict-clause-text : goal.returns-in_err-verdict-clause-text
+returns-in_err-verdict-clause-text g c =
     short-up _ _ _ _ _ (Campaign c.in_err-verdict.field-0.0) c.from_residual-in_err-verdict.ensures.1
     (explain-short _ _ (c.in_ok-stream.stream, c.in_ok-stream.scenario) c.in_ok-stream.ensures.ok _ _ _ _ c.in_err-verdict.ensures.fault)
+
+pub returns-clause-noted : goal.returns-clause-noted
+returns-clause-noted g c =
+    explain-noted _ _ (c.in_ok-stream.stream, c.in_ok-stream.scenario) c.in_ok-stream.ensures.ok None None _ _ _ _
+    (c.as_str.ensures.value ∙ c.in_ok-stream.ensures.notes) c.note.ensures
+
+pub returns-in_err-verdict-clause-noted : goal.returns-in_err-verdict-clause-noted
+returns-in_err-verdict-clause-noted g c =
+    err-noted _ _ _ _ (Campaign c.in_err-verdict.field-0.0) c.from_residual-in_err-verdict.ensures.1 c.requires.faults

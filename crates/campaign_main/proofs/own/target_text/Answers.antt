@@ -1,9 +1,9 @@
 use Rattle.std.proofs.Common.{subst, sym}
 use Rattle.campaign_settings.specs.Settings.{Given, Read}
 use Rattle.campaign_main.specs.Commands.{Answer}
-use Rattle.campaign_main.specs.Ends.{EndsAs, TellsBy, TellsRefusal}
+use Rattle.campaign_main.specs.Ends.{EndsAs, TellsAs}
 use Rattle.campaign_main.specs.OwnTarget.{own_campaign}
-use Rattle.campaign_main.proofs.EndLemmas.{tells-by}
+use Rattle.campaign_main.proofs.EndLemmas.{tells-of}
 use Rattle.campaign_main.proofs.OwnLemmas.{own-answered, own-tells}
 use Rattle.campaign_main.proofs.own.target_text.Goals as goal
 
@@ -20,10 +20,10 @@ returns-in-Ok-clause-told g c =
     let old = E.told c.args.faults.now in
     let new = E.told c.target_command.new.faults in
     let failed = E.has_failed c.target_command.new.faults in
-    let P : Answer → Type 0 = λ a. TellsBy (TellsRefusal a old new failed) c.target_command.result old new failed in
+    let P : Answer → Type 0 = λ a. TellsAs c.target_command.result a old new failed in
     subst P (sym (own-answered _ (own_campaign g.T.Target c.args.target.now c.args.workload.now) _ c.in-Ok.settings c.in-Ok.ensures.ok)) c.target_command.ensures.told
 
 pub returns-in-Err-clause-told : goal.returns-in-Err-clause-told
 returns-in-Err-clause-told g c =
-    tells-by _ _ _ _ _ _ c.unset.ensures.end
+    tells-of _ _ _ _ _ _ _ c.unset.ensures.end
     (λ refused. own-tells _ (own_campaign g.T.Target c.args.target.now c.args.workload.now) _ _ _ _ _ refused c.in-Err.fault c.in-Err.ensures.refused c.unset.ensures.memory c.unset.ensures.end)

@@ -2,8 +2,9 @@ use Rattle.std.proofs.Common.{List, ℕ, Err, ap, inl, subst}
 use Rattle.campaign_main.specs.declared.exit.Exit.{Exit}
 use Rattle.campaign_main.specs.Commands.{Answer, answer_of, text_answer}
 use Rattle.campaign_main.specs.Minimal.{TextReducesToMinimal}
-use Rattle.campaign_main.specs.Ends.{EndsAs, IsRefused, TellsBy, TellsRefusal}
-use Rattle.campaign_main.proofs.EndLemmas.{cause-unread, read-answer, read-whole, tells-unread, whole-map}
+use Rattle.campaign_main.specs.Ends.{EndsAs, IsRefused, TellsAs, TellsNotes}
+use Rattle.campaign_main.proofs.EndLemmas.{cause-unread, read-answer, read-whole, refuses-whole, tells-unread, whole-map}
+use Rattle.campaign_main.proofs.NoteLemmas.{may-text, some-tells, told-notes}
 use Rattle.campaign_main.proofs.performing.perform.Goals as goal
 
 pub returns-in-Ok-clause-end : goal.returns-in-Ok-clause-end
@@ -23,7 +24,7 @@ returns-in-Ok-clause-cause g c =
     let new = E.told c.perform_text.new.faults in
     let failed = E.has_failed c.perform_text.new.faults in
     let P : Answer → Type 0 = λ a. IsRefused a old new failed in
-    let Q : Exit → Type 0 = λ e. TellsBy (TellsRefusal (text_answer c.args.order.now c.as_str.result.now) old new failed) e old new failed in
+    let Q : Exit → Type 0 = λ e. TellsAs e (text_answer c.args.order.now c.as_str.result.now) old new failed in
     read-answer (text_answer c.args.order.now) _ _ _ P c.as_str.ensures.value c.in-Ok.ensures.ok c.in-Ok.ensures.limit c.as_str.utf8 (inl (subst Q refused c.perform_text.ensures.told))
 
 pub returns-in-Err-clause-cause : goal.returns-in-Err-clause-cause
@@ -34,9 +35,28 @@ returns-in-Err-clause-cause g c =
     c.unread.ensures.end c.unread.ensures.memory refused
 
 pub returns-in-Err-clause-told : goal.returns-in-Err-clause-told
-returns-in-Err-clause-told g c = tells-unread c.in-Err.fault c.unread.result _ _ _ c.unread.ensures.end c.unread.ensures.memory
+returns-in-Err-clause-told g c = tells-unread c.args.order.now c.in-Err.fault c.unread.result _ _ _ c.unread.ensures.end c.unread.ensures.memory
 
 pub returns-in-Ok-clause-minimal : goal.returns-in-Ok-clause-minimal
 returns-in-Ok-clause-minimal g c =
     let P : List ℕ → Type 0 = TextReducesToMinimal c.args.order.now in
     whole-map c.perform_text.result _ _ (λ h. read-whole _ _ _ P c.as_str.ensures.value c.in-Ok.ensures.ok h) c.perform_text.ensures.minimal
+
+pub returns-in-Ok-clause-told : goal.returns-in-Ok-clause-told
+returns-in-Ok-clause-told g c = some-tells _ _ _ c.args.order.now _ c.perform_text.result (may-text c.args.order.now c.as_str.result.now) c.perform_text.ensures.told
+
+pub returns-in-Ok-clause-noted : goal.returns-in-Ok-clause-noted
+unfolding answer_of
+returns-in-Ok-clause-noted g c =
+    let E = g.E.Sink in
+    let old = E.told c.args.faults.now in
+    let new = E.told c.perform_text.new.faults in
+    let failed = E.has_failed c.perform_text.new.faults in
+    let meaning = (text_answer c.args.order.now) in
+    let P : Answer → Type 0 = λ a. TellsNotes a old new failed in
+    whole-map c.perform_text.result _ _
+    (λ h. read-answer meaning _ _ _ P c.as_str.ensures.value c.in-Ok.ensures.ok c.in-Ok.ensures.limit c.as_str.utf8 h)
+    (told-notes old new failed (meaning c.as_str.result.now) c.perform_text.result c.perform_text.ensures.told)
+
+pub returns-in-Err-clause-noted : goal.returns-in-Err-clause-noted
+returns-in-Err-clause-noted g c = refuses-whole _ c.unread.result _ _ _ _ c.unread.ensures.end
