@@ -32,8 +32,8 @@ Each line has this form, and there are at most ten a second, so that a campaign 
 
   $ paklour run --progress given 2>&1 > /dev/null | lines | tr '<' '\n' | grep -v -x -e 'plans [0-9]* of 49' -e 'reducing: test [0-9]*' -e ''
   [1]
-  $ paklour reduce --progress --scenario 'replace::sync=return;replace::write=off' given 2>&1 > /dev/null | lines
-  <reducing: test 1< (no-eol)
+  $ paklour reduce --progress --scenario 'replace::sync=return;replace::write=off' given 2>&1 > /dev/null | lines | grep -c -x '<reducing: test 1\(<reducing: test [0-9]*\)*<'
+  1
 
 Where the command is refused before anything has run, or its output takes nothing, the line of the fault stands alone at the end.
 

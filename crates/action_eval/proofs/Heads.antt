@@ -10,7 +10,7 @@ use Rattle.action_eval.specs.declared.found.Found.{Found}
 use Rattle.action_eval.specs.declared.found.Head.{Head}
 use Rattle.action_eval.specs.declared.found.Head.TheVariants as head
 use Rattle.action_eval.specs.Answers.{Run, name_of}
-use Rattle.action_eval.specs.Session.{Keeps, found_of, seen, head_of, first_head, with_one_less, IsRest}
+use Rattle.action_eval.specs.inside.Session.{Keeps, found_of, seen, head_of, first_head, with_one_less, IsRest}
 use Rattle.action_eval.proofs.Tidied.{off_is}
 use Rattle.action_eval.proofs.Steps.{Finds, finds_none, finds_off, found_within, known_found, point_found}
 

@@ -14,7 +14,7 @@ use Rattle.action_eval.specs.declared.found.Found.{Found}
 use Rattle.action_eval.specs.declared.found.Head.{Head}
 use Rattle.action_eval.specs.Catalogue.{HasDistinct}
 use Rattle.action_eval.specs.Rigging.{chain_from, entry, entries_from, rigging}
-use Rattle.action_eval.specs.Session.{found_of, start_of, left_row, left_counts, seen, head_of}
+use Rattle.action_eval.specs.inside.Session.{found_of, start_of, left_row, left_counts, seen, head_of}
 use Rattle.action_eval.specs.inside.Laid.{laid, AreSizes, joined, sizes_of, placed}
 use Rattle.action_eval.proofs.NamedCounts.{length-left_row}
 use Rattle.action_eval.proofs.TidiedEntries.{flipped}

@@ -15,7 +15,7 @@ use Rattle.scenario_values.specs.Scenario.{Entries, chain_of, entry_of, chain_at
 use Rattle.action_eval.specs.Words.{word}
 use Rattle.action_eval.specs.Trial.{tried, is_spent}
 use Rattle.action_eval.specs.Answers.{Given, Hit, acted, is_term, trial, words_of}
-use Rattle.action_eval.specs.Session.{left_of, left_row, left_counts, with_one_less, start_of, found_of}
+use Rattle.action_eval.specs.inside.Session.{left_of, left_row, left_counts, with_one_less, start_of, found_of}
 use Rattle.action_eval.proofs.Trials.{same_trial}
 use Rattle.action_eval.proofs.TidiedEntries.{flipped}
 use Rattle.action_eval.proofs.Alike.{acted-more, once, bytes_self}

@@ -13,8 +13,8 @@ use Rattle.action_eval.specs.declared.found.Found.{Found}
 use Rattle.action_eval.specs.declared.found.Head.{Head}
 use Rattle.action_eval.specs.declared.found.Head.TheVariants as head
 use Rattle.action_eval.specs.Answers.{Run, Reply, Go, AllGo, GoesOn, hit, hits_of, replies, rounds, reply_to, stopped, stopped_by, history_of}
-use Rattle.action_eval.specs.Session.{Keeps, seen, head_of, with_one_less}
-use Rattle.action_eval.specs.Quiet.{CountsWithin, head_at, taken_by, taken_at, IsCounted, AreCounted, Spent, SpentBy}
+use Rattle.action_eval.specs.inside.Session.{Keeps, seen, head_of, with_one_less}
+use Rattle.action_eval.specs.inside.Quiet.{CountsWithin, head_at, taken_by, taken_at, IsCounted, AreCounted, Spent, SpentBy}
 use Rattle.action_eval.proofs.Steps.{Finds, keeps_off, known_found, reply_found}
 use Rattle.action_eval.proofs.Heads.{heads_length, nothing_by, off_by}
 use Rattle.action_eval.proofs.CallerLemmas.{replies_more, goes_on}

@@ -7,7 +7,7 @@ use Rattle.scenario_values.specs.Scenario.{Entries, IsScenario, chain_at, chain_
 use Rattle.action_eval.specs.Words.{word, Drawn}
 use Rattle.action_eval.specs.Trial.{tried, is_spent}
 use Rattle.action_eval.specs.Answers.{Given, Run, Hit, next, hit_by, history_of, name_of, trial, acted, is_used_up, words_of, task_at}
-use Rattle.action_eval.specs.Session.{left_counts, found_of, left_after, start_of}
+use Rattle.action_eval.specs.inside.Session.{left_counts, found_of, left_after, start_of}
 use Rattle.action_eval.specs.inside.Replay.{trial_by, chain_or_none}
 use Rattle.action_eval.proofs.NamedCounts.{found, trial_by_counts, stands, stands_nowhere, ends_within}
 use Rattle.action_eval.proofs.Histories.{words-more, history-hit}

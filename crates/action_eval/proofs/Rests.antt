@@ -9,7 +9,7 @@ use Rattle.action_eval.specs.declared.found.Found.{Found}
 use Rattle.action_eval.specs.declared.found.Head.{Head}
 use Rattle.action_eval.specs.Trial.{tried, is_spent, Trial}
 use Rattle.action_eval.specs.Answers.{task_at}
-use Rattle.action_eval.specs.Session.{AllSpent, StartsUnspent, Rest, IsRest, AreRests, left_after, with_one_less, seen}
+use Rattle.action_eval.specs.inside.Session.{AllSpent, StartsUnspent, Rest, IsRest, AreRests, left_after, with_one_less, seen}
 
 at_next : (i k : ℕ) → (i + 1) + k ≡ i + suc k
 at_next i k = omega arith

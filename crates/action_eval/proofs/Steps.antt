@@ -15,7 +15,7 @@ use Rattle.action_eval.specs.declared.found.Found.{Found}
 use Rattle.action_eval.specs.Words.{word, Drawn}
 use Rattle.action_eval.specs.Trial.{tried, is_spent, Trial}
 use Rattle.action_eval.specs.Answers.{Given, given_of, Run, Hit, Halt, next, hit, hit_by, history_of, and_then, name_of, trial, acted, is_used_up, words_of, notes_of, notes_of_task, total_millis, millis_of, stopped_by, stop_of, stopped, place_in, task_at, reply_to, reply_of}
-use Rattle.action_eval.specs.Session.{IsOpen, Keeps, left_counts, start_of, found_of, with_one_less, left_after, seen, Rest, IsRest, AreRests, StartsUnspent}
+use Rattle.action_eval.specs.inside.Session.{IsOpen, Keeps, left_counts, start_of, found_of, with_one_less, left_after, seen, Rest, IsRest, AreRests, StartsUnspent}
 use Rattle.action_eval.proofs.Rests.{Stays, after_stays, whole_of, trial_of_rest, further, after_rest, within_rest, task_of_rest, length_of_rest, none_of_rest, rest_at, rests_with, rests_stay, rests_self, rests_length, rest_on, starts_in}
 use Rattle.action_eval.proofs.Trials.{few_words}
 use Rattle.action_eval.proofs.NamedCounts.{found, trial_by_counts, counts_spent, counts_stay, ends_within, stands, stands_nowhere}

@@ -5,7 +5,7 @@ use Rattle.std.proofs.lemmas.Bool.Decides.{nat_tests}
 use Rattle.scenario_values.specs.declared.term.Term.{Term}
 use Rattle.action_eval.specs.Trial.{tried, is_spent, Trial}
 use Rattle.action_eval.specs.Answers.{is_used_up}
-use Rattle.action_eval.specs.Session.{left_row}
+use Rattle.action_eval.specs.inside.Session.{left_row}
 
 zero_test : (a b : ℕ) → eqb (a - b) 0 ≡ leb a b
 zero_test a b = grind (arith, nat_tests)

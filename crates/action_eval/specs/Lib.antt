@@ -7,6 +7,4 @@ pub mod Rigging
 pub mod FullShares
 pub mod LeftTerms
 pub mod LeftFrom
-pub mod Session
-pub mod Quiet
 pub mod inside

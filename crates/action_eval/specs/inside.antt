@@ -2,3 +2,5 @@
 pub mod Replay
 pub mod Laid
 pub mod Layout
+pub mod Session
+pub mod Quiet

@@ -2,7 +2,7 @@
 ghost use Rattle.std.specs.Prelude.{◌≡◌, ◌+◌, ◌++◌, ◌<◌, ◌≤◌, [], length, vec_len, vec_capacity, OnOk, OnErr};
 ghost use Rattle.std.specs.Option.{ForSome};
 ghost use Rattle.scenario_values.specs.Scenario.{IsScenario};
-ghost use Rattle.action_eval.specs.Session.{left_row, left_counts, left_after};
+ghost use Rattle.action_eval.specs.inside.Session.{left_row, left_counts, left_after};
 
 use crate::found::start_of;
 use scenario_values::{Scenario, Term};

@@ -2,7 +2,7 @@
 ghost use Rattle.std.specs.Prelude.{◌≡◌, ◌+◌, ◌<◌, ◌≤◌, length, map};
 ghost use Rattle.scenario_values.specs.Scenario.{IsScenario};
 ghost use Rattle.action_eval.specs.Answers.{texts};
-ghost use Rattle.action_eval.specs.Session.{seen, found_of, start_of, head_of, Rest, StartsUnspent};
+ghost use Rattle.action_eval.specs.inside.Session.{seen, found_of, start_of, head_of, Rest, StartsUnspent};
 ghost use Rattle.action_eval.specs.Trial.{is_spent};
 ghost use Rattle.action_eval.specs.inside.Laid.{placed};
 

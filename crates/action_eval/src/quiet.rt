@@ -1,7 +1,7 @@
 //! Hits that surely come to nothing, many at once.
 ghost use Rattle.std.specs.Prelude.{◌≡◌, ℕ, true, false, List, ◌+◌, ◌*◌, ◌^◌, ◌<◌, ◌≤◌, [], slice_index, ◌∷◌, ◌++◌, All, IfOk, OnErr, length, replicate, vec_len, vec_capacity};
 ghost use Rattle.action_eval.specs.Answers.{rounds};
-ghost use Rattle.action_eval.specs.Quiet.{CountsWithin, IsCounted, Spent, SpentBy, head_at, quiet_of, taken_by};
+ghost use Rattle.action_eval.specs.inside.Quiet.{CountsWithin, IsCounted, Spent, SpentBy, head_at, quiet_of, taken_by};
 
 use crate::found::Head;
 use std::alloc::AllocError;

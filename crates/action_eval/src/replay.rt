@@ -1,7 +1,7 @@
 //! The hits of a run, each with the term that acted: for who tells of a run after its end.
 ghost use Rattle.std.specs.Prelude.{◌≡◌, ◌+◌, ◌<◌, ◌≤◌, ◌^◌, [], length, slice_index_or, IfOk, IfSome};
 ghost use Rattle.action_eval.specs.Answers.{texts, run_of, history_of, hit_by, did, stop_of, is_term};
-ghost use Rattle.action_eval.specs.Session.{found_of, left_after};
+ghost use Rattle.action_eval.specs.inside.Session.{found_of, left_after};
 ghost use Rattle.action_eval.specs.inside.Replay.{chain_or_none, trial_by};
 
 use crate::answer::{Stop, stop_of};

@@ -1,7 +1,7 @@
 //! A session: one run, hit by hit.
 ghost use Rattle.std.specs.Prelude.{◌≡◌, ◌+◌, ◌^◌, ◌<◌, ◌≤◌, [], All, replicate, length, IfOk, OnOk, OnErr, None, Some, false, ◌++◌, ◌∷◌};
 ghost use Rattle.action_eval.specs.Answers.{AllGo, hits_of, rounds, SameCourse, did, task_at, replies, GoesOn, reply_to, reply_of_answer, hit, stopped, notes_of_task, asked, history_of, notes_of, total_millis, words_of, start, given_of, texts, name_of};
-ghost use Rattle.action_eval.specs.Session.{found_of, seen, left_counts, IsRest};
+ghost use Rattle.action_eval.specs.inside.Session.{found_of, seen, left_counts, IsRest};
 ghost use Rattle.action_eval.specs.inside.Layout.{faults_of, IsLayout};
 
 use crate::answer::{Answer, Note, Stop, answer_of, millis_of, push_note, stop_of};
@@ -104,7 +104,7 @@ pub struct Session<'a> {
 impl<'a> Model for Session<'a> {
     ghost use Rattle.std.specs.Prelude.{◌≡◌, map};
     ghost use Rattle.action_eval.specs.Answers.{Run};
-    ghost use Rattle.action_eval.specs.Session.{IsOpen, Keeps, seen, head_of};
+    ghost use Rattle.action_eval.specs.inside.Session.{IsOpen, Keeps, seen, head_of};
     ghost use Rattle.action_eval.specs.inside.Layout.{faults_of};
 
     ghost Value = { Run };

@@ -4,7 +4,7 @@ ghost use Rattle.std.specs.Prelude.{◌≡◌, ◌+◌, ◌<◌, ◌^◌, ℕ, B
 ghost use Rattle.action_eval.specs.Words.{word};
 ghost use Rattle.action_eval.specs.Trial.{tried, is_spent};
 ghost use Rattle.action_eval.specs.Answers.{did, task_at};
-ghost use Rattle.action_eval.specs.Session.{StartsUnspent};
+ghost use Rattle.action_eval.specs.inside.Session.{StartsUnspent};
 ghost use Rattle.scenario_values.specs.declared.term.Task.TheVariants.{Off};
 ghost use Rattle.scenario_values.specs.declared.term.Term.{Term};
 

@@ -4,7 +4,7 @@ ghost use Rattle.action_eval.specs.Answers.{texts};
 ghost use Rattle.action_eval.specs.Catalogue.{IsCatalogue};
 ghost use Rattle.action_eval.specs.declared.rig.Kind.TheVariants.{OnceReturn};
 ghost use Rattle.action_eval.specs.Rigging.{rig, rigging, CanBeRigged};
-ghost use Rattle.plan_gen.specs.PlanForm.{rigs_of};
+ghost use Rattle.plan_gen.specs.inside.PlanForm.{rigs_of};
 ghost use Rattle.plan_gen.specs.PlanList.{most_plans, site_plans, pair_plans, pairs_of, storm_part};
 
 use crate::plan::{Plan, Rigs};

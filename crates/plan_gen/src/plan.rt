@@ -2,7 +2,7 @@
 ghost use Rattle.std.specs.Prelude.{◌≡◌, [], IfOk, OnOk, true};
 ghost use Rattle.action_eval.specs.Answers.{texts};
 ghost use Rattle.action_eval.specs.Catalogue.{IsCatalogue};
-ghost use Rattle.plan_gen.specs.PlanForm.{rigs_of};
+ghost use Rattle.plan_gen.specs.inside.PlanForm.{rigs_of};
 ghost use Rattle.action_eval.specs.Rigging.{rigging, rigged_as, CanBeRigged};
 
 use crate::copies::copy_of;
@@ -55,7 +55,7 @@ pub struct Plan<'a> {
 
 impl<'a> Model for Plan<'a> {
     ghost use Rattle.scenario_values.specs.Scenario.{Entries};
-    ghost use Rattle.plan_gen.specs.PlanForm.{planned, IsPlanned};
+    ghost use Rattle.plan_gen.specs.inside.PlanForm.{planned, IsPlanned};
 
     ghost Value = { Entries };
 

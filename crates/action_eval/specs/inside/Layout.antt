@@ -4,7 +4,7 @@ use Rattle.scenario_values.specs.Scenario.{Entries, IsScenario}
 use Rattle.action_eval.specs.declared.found.Layout.{Layout}
 use Rattle.action_eval.specs.declared.session.Faults.{Faults}
 use Rattle.action_eval.specs.declared.session.Faults.TheVariants.{Written, Rigged}
-use Rattle.action_eval.specs.Session.{seen, found_of, head_of, left_counts}
+use Rattle.action_eval.specs.inside.Session.{seen, found_of, head_of, left_counts}
 
 -- the scenario that a session's hits are answered by
 abbrev pub faults_of : Faults → Entries

@@ -1,6 +1,6 @@
 use Rattle.std.proofs.Common.{◌≡◌, ◌+◌, ◌<◌, ℕ, zero, suc, [], ◌∷◌, ◌++◌, length, drop, refl, ap, sym, ◌∙◌, arith, append_assoc, length-append}
 use Rattle.scenario_values.specs.Scenario.{Entries, chain_at}
-use Rattle.action_eval.specs.Session.{left_row, left_counts, start_of}
+use Rattle.action_eval.specs.inside.Session.{left_row, left_counts, start_of}
 use Rattle.action_eval.proofs.NamedCounts.{length-left_row}
 use Rattle.action_eval.proofs.counts.fill_counts.Goals as goal
 

@@ -1,5 +1,5 @@
 use Rattle.std.proofs.Common.{◌≡◌, ◌≤◌, ◌++◌, drop, length, [], vec_capacity}
-use Rattle.action_eval.specs.Session.{left_counts}
+use Rattle.action_eval.specs.inside.Session.{left_counts}
 use Rattle.action_eval.proofs.counts.fill_counts.Given as goal
 
 abbrev pub invariant-loop-entry : goal.invariant-loop-entry

@@ -1,5 +1,5 @@
 use Rattle.std.proofs.Common.{◌≡◌, ◌≤◌, ◌+◌, ◌-◌, ◌++◌, drop, length, vec_len, vec_capacity}
-use Rattle.action_eval.specs.Session.{left_row}
+use Rattle.action_eval.specs.inside.Session.{left_row}
 use Rattle.action_eval.proofs.counts.push_counts.Given as goal
 
 abbrev pub invariant-loop-term : goal.invariant-loop-term

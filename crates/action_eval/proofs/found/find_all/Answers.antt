@@ -2,7 +2,7 @@ use Rattle.std.proofs.Common.{◌≡◌, ℕ, ◌<◌, List, [], ◌∷◌, leng
 use Rattle.std.proofs.lemmas.List.{take_all, length-set}
 use Rattle.scenario_values.specs.declared.term.Term.{Term}
 use Rattle.scenario_values.specs.Scenario.{Entries}
-use Rattle.action_eval.specs.Session.{found_of, head_of, seen}
+use Rattle.action_eval.specs.inside.Session.{found_of, head_of, seen}
 use Rattle.action_eval.proofs.Rests.{found_more, heads_more, length_seen}
 use Rattle.action_eval.proofs.found.find_all.Goals as goal
 

@@ -1,5 +1,5 @@
 use Rattle.std.proofs.Common.{◌≡◌, length, map, take}
-use Rattle.action_eval.specs.Session.{seen, found_of, head_of}
+use Rattle.action_eval.specs.inside.Session.{seen, found_of, head_of}
 use Rattle.action_eval.proofs.found.find_all.Given as goal
 
 abbrev pub invariant-loop-point : goal.invariant-loop-point

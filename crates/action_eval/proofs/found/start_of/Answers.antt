@@ -1,7 +1,7 @@
 use Rattle.std.proofs.Common.{◌≡◌, ℕ, zero, suc, ◌+◌, ◌*◌, ◌<◌, ◌≤◌, [], ◌∷◌, length, refl, ap, sym, ◌∙◌, arith}
 use Rattle.std.specs.List.{AllByRecursion}
 use Rattle.scenario_values.specs.Scenario.{Entries, chain_at}
-use Rattle.action_eval.specs.Session.{start_of}
+use Rattle.action_eval.specs.inside.Session.{start_of}
 use Rattle.action_eval.proofs.Steps.{short_at}
 use Rattle.action_eval.proofs.found.start_of.Goals as goal
 

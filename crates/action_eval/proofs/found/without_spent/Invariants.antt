@@ -1,6 +1,6 @@
 use Rattle.std.proofs.Common.{take}
 use Rattle.action_eval.specs.Trial.{is_spent}
-use Rattle.action_eval.specs.Session.{AllSpent}
+use Rattle.action_eval.specs.inside.Session.{AllSpent}
 use Rattle.action_eval.proofs.found.without_spent.Given as goal
 
 -- the terms that were passed are spent

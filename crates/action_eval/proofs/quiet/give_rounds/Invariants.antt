@@ -1,5 +1,5 @@
 use Rattle.std.proofs.Common.{◌≡◌, ◌<◌, ℕ, List, length, slice_index, drop}
-use Rattle.action_eval.specs.Quiet.{Spent}
+use Rattle.action_eval.specs.inside.Quiet.{Spent}
 use Rattle.action_eval.proofs.quiet.give_rounds.Given as goal
 
 abbrev pub invariant-loop-point : goal.invariant-loop-point

@@ -1,5 +1,5 @@
 use Rattle.std.proofs.Common.{◌≤◌, ◌<◌, ℕ, get_or}
-use Rattle.action_eval.specs.Quiet.{head_at, quiet_of}
+use Rattle.action_eval.specs.inside.Quiet.{head_at, quiet_of}
 use Rattle.action_eval.proofs.quiet.rounds_left.Given as goal
 
 abbrev pub invariant-loop-point : goal.invariant-loop-point

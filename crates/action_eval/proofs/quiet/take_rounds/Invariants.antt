@@ -1,5 +1,5 @@
 use Rattle.std.proofs.Common.{take}
-use Rattle.action_eval.specs.Quiet.{Spent}
+use Rattle.action_eval.specs.inside.Quiet.{Spent}
 use Rattle.action_eval.proofs.quiet.take_rounds.Given as goal
 
 abbrev pub invariant-loop-place : goal.invariant-loop-place

@@ -1,7 +1,7 @@
 use Rattle.std.proofs.Common.{◌≡◌, ◌+◌, ◌++◌, ◌∷◌, [], ℕ, List, Option, length, take, drop, map, get_or, ap, sym, subst, arith, ◌∙◌}
 use Rattle.action_eval.specs.Answers.{texts}
 use Rattle.scenario_values.specs.declared.term.Term.{Term}
-use Rattle.action_eval.specs.Session.{seen, left_row, left_counts}
+use Rattle.action_eval.specs.inside.Session.{seen, left_row, left_counts}
 use Rattle.action_eval.specs.inside.Laid.{laid, AreSizes, placed}
 use Rattle.action_eval.proofs.LaidChains.{next_of, texts_next, all_found, sizes_split, distinct_split, left_next, found_next, seen_push, heads_push, counted, many_left}
 use Rattle.action_eval.proofs.rigging.layout_of.Goals as goal

@@ -1,7 +1,7 @@
 use Rattle.std.proofs.Common.{◌≡◌, ◌++◌, drop, length, map, []}
 use Rattle.action_eval.specs.Answers.{texts}
 use Rattle.action_eval.specs.Catalogue.{HasDistinct}
-use Rattle.action_eval.specs.Session.{seen, found_of, head_of, left_counts}
+use Rattle.action_eval.specs.inside.Session.{seen, found_of, head_of, left_counts}
 use Rattle.action_eval.specs.inside.Laid.{laid, AreSizes}
 use Rattle.action_eval.proofs.LaidChains.{all_found}
 use Rattle.action_eval.proofs.rigging.layout_of.Given as goal
