@@ -127,6 +127,7 @@ impl Logs {
     /// Forces a record to the log of each of so many participants in a row, from one on. A participant without a log writes nothing.
     ///
     /// An error means that memory was refused: some of them may have the record.
+    #[inline(always)]
     pub(crate) fn force_each(
         &mut self,
         first: usize,
@@ -143,6 +144,7 @@ impl Logs {
     }
 
     /// Appends a record in the same way, which does not last yet.
+    #[inline(always)]
     pub(crate) fn append_each(
         &mut self,
         first: usize,
