@@ -30,4 +30,5 @@ meaning_of scenario catalogue seed stream limit hits = meaning (run_of scenario 
 
 -- two scenarios mean the same
 pub record MeansTheSame (s t : Entries) : Type 0 where
-  pub at : (catalogue : List (List ℕ)) (seed stream limit : ℕ) (hits : List ℕ) → meaning_of s catalogue seed stream limit hits ≡ meaning_of t catalogue seed stream limit hits
+  pub at : (catalogue : List (List ℕ)) (seed stream limit : ℕ) (hits : List ℕ)
+      → meaning_of s catalogue seed stream limit hits ≡ meaning_of t catalogue seed stream limit hits

@@ -42,14 +42,16 @@ pub fn keep_of_tidied(scenario: &Scenario, set: &[u32])
 pub fn tidied_without_a_fault(scenario: &Scenario, fault: u32)
     requires { fault < all_faults (tidied scenario.now) }
     ensures origin { slice_index (origins scenario.now) fault < all_faults scenario.now }
-    ensures meaning { MeansTheSame (kept (remove (range_with_len 0 (all_faults (tidied scenario.now))) fault) (tidied scenario.now)) (kept (remove (range_with_len 0 (all_faults scenario.now)) (slice_index (origins scenario.now) fault)) scenario.now) }
+    ensures meaning { MeansTheSame (kept (remove (range_with_len 0 (all_faults (tidied scenario.now))) fault) (tidied scenario.now))
+        (kept (remove (range_with_len 0 (all_faults scenario.now)) (slice_index (origins scenario.now) fault)) scenario.now) }
 {
     let _ = scenario.entries();
 }
 
 /// A term that tidying drops never acts.
 pub fn dropped_terms_never_act(scenario: &Scenario)
-    ensures { (catalogue : List (List ℕ)) (seed stream limit : ℕ) (hits : List ℕ) → OnlyLeftActed scenario.now (history_of (run_of scenario.now catalogue seed stream limit hits)) }
+    ensures { (catalogue : List (List ℕ)) (seed stream limit : ℕ) (hits : List ℕ)
+        → OnlyLeftActed scenario.now (history_of (run_of scenario.now catalogue seed stream limit hits)) }
 {}
 
 /// Of the faults of a scenario tidying leaves those whose terms it leaves: the number of a fault is among the origins just where its term

@@ -67,7 +67,8 @@ fn take_hits(left: &mut Vec<u32>, head: Head, times: u32) -> bool
 fn give_hits(left: &mut Vec<u32>, head: Head, times: u32)
     requires { CountsWithin (length left.old.items) head }
     ensures size { length left.new.items ≡ length left.old.items }
-    ensures each { (j : ℕ) → slice_index left.old.items j + times * taken_by j head < 2 ^ 32 → slice_index left.new.items j ≡ slice_index left.old.items j + times * taken_by j head }
+    ensures each { (j : ℕ) → slice_index left.old.items j + times * taken_by j head < 2 ^ 32
+        → slice_index left.new.items j ≡ slice_index left.old.items j + times * taken_by j head }
 {
     if let Head::Off(at) = head {
         left[at] = left[at].saturating_add(times);

@@ -105,8 +105,10 @@ fn answer_again<'a>(
     requires within { found.start + length found.chain.now ≤ length left.old.items }
     requires room { draws.old.taken + length found.chain.now < 2 ^ 64 }
     ensures within { IfSome (trial_by left.old.items draws.old (found.entry.chain.now, found.entry.start)).place (λ i. i < length found.entry.chain.now) }
-    ensures hit { result ≡ hit_by found.entry.chain.now name.now draws.old.taken point (trial_by left.old.items draws.old (found.entry.chain.now, found.entry.start)) }
-    ensures left { left.new.items ≡ left_after left.old.items found.entry.start (trial_by left.old.items draws.old (found.entry.chain.now, found.entry.start)).place }
+    ensures hit { result ≡ hit_by found.entry.chain.now name.now draws.old.taken point
+        (trial_by left.old.items draws.old (found.entry.chain.now, found.entry.start)) }
+    ensures left { left.new.items ≡ left_after left.old.items found.entry.start
+        (trial_by left.old.items draws.old (found.entry.chain.now, found.entry.start)).place }
     ensures draws { draws.new ≡ record draws.old { taken = (trial_by left.old.items draws.old (found.entry.chain.now, found.entry.start)).next } }
 {
     let taken = draws.taken();

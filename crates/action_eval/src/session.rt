@@ -293,7 +293,8 @@ impl<'a> Session<'a> {
         requires room { length self.old.hits < self.old.given.limit }
         requires limit { self.old.given.limit < 2 ^ 32 }
         requires known { point < length self.old.given.catalogue }
-        requires chain { IsRest (left_counts (history_of self.old) self.old.given.scenario) (found_of self.old.given.scenario (name_of self.old.given point)) (seen (Some found)) }
+        requires chain { IsRest (left_counts (history_of self.old) self.old.given.scenario)
+            (found_of self.old.given.scenario (name_of self.old.given point)) (seen (Some found)) }
         requires running { stopped self.old ≡ None }
         ensures answer { IfOk result (λ a. reply_of_answer a ≡ reply_to self.old point) }
         ensures ok { OnOk result (self.new ≡ hit self.old point) }

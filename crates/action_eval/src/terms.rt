@@ -21,7 +21,10 @@ pub fn try_terms(terms: &[Term], left: &[u32], draws: &mut Draws) -> Option<usiz
     requires room { draws.old.taken + length terms.now < 2 ^ 64 }
     ensures within { IfSome result (λ i. i < length terms.now) }
     ensures place { result ≡ (tried (word draws.old.seed draws.old.stream) (is_spent left.now) 0 terms.now draws.old.taken).place }
-    ensures next { draws.new ≡ record draws.old { taken = (tried (word draws.old.seed draws.old.stream) (is_spent left.now) 0 terms.now draws.old.taken).next } }
+    ensures next { draws.new ≡ record draws.old {
+      taken = (tried (word draws.old.seed draws.old.stream)
+          (is_spent left.now) 0 terms.now draws.old.taken).next;
+    } }
 {
     let mut unseen = 0;
     for (place, term) in terms.iter().enumerate() {

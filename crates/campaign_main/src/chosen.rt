@@ -31,7 +31,8 @@ pub fn chosen_command<W: Sink, E: Sink, H: Threads + Wait + Sync, G: Gate>(
 ) -> Result<bool, CommandFault>
     requires output { W.has_failed output.old ≡ false }
     requires faults { E.has_failed faults.old ≡ false }
-    ensures text { ComesTo (choice_answer order.now (given_of settings.now) choice.now) (W.told output.old) (W.told output.new) (W.has_failed output.new) result }
+    ensures text { ComesTo (choice_answer order.now (given_of settings.now) choice.now) (W.told output.old) (W.told output.new)
+        (W.has_failed output.new) result }
     ensures noted { Noted (choice_answer order.now (given_of settings.now) choice.now)
         (E.told faults.old) (E.told faults.new) (E.has_failed faults.new) result }
     ensures minimal { OnOk result (IfSome (campaign_for (given_of settings.now) choice.now) (ReducesToMinimal order.now)) }

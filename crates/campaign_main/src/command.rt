@@ -40,12 +40,14 @@ fn report_plans<T: Target + Send, W: Sink, H: Threads + Wait + Sync, G: Gate>(
 where
     T::Workload: Sync,
     requires { W.has_failed output.old ≡ false }
-    ensures text { IfOk result (λ _. Appends (W.told output.old) (W.told output.new) (report_in form (campaign_on T.Target target.now workload.now settings.now))) }
+    ensures text { IfOk result (λ _. Appends (W.told output.old) (W.told output.new)
+        (report_in form (campaign_on T.Target target.now workload.now settings.now))) }
     ensures first { IfOk result (λ ending. ending.first ≡ option_map (λ f. f.0) (first_failure (campaign_on T.Target target.now workload.now settings.now))) }
     ensures minimal { OnOk result (EachIsMinimal (campaign_on T.Target target.now workload.now settings.now)) }
     ensures few { OnOk result (length (plans (campaign_on T.Target target.now workload.now settings.now)) ≤ most_plans) }
     ensures sound { OnOk result (W.has_failed output.new ≡ false) }
-    ensures fault { IfErr result (let c = campaign_on T.Target target.now workload.now settings.now in IsFault c (report_in form c) (W.told output.old) (W.told output.new) (W.has_failed output.new)) }
+    ensures fault { IfErr result (let c = campaign_on T.Target target.now workload.now settings.now in IsFault c (report_in form c)
+        (W.told output.old) (W.told output.new) (W.has_failed output.new)) }
 {
     match form {
         Form::Whole => campaign(rt, alloc, target, workload, settings, gate, output),
@@ -67,7 +69,8 @@ fn run_plans<T: Target + Send, W: Sink, H: Threads + Wait + Sync, G: Gate>(
 where
     T::Workload: Sync,
     requires { W.has_failed output.old ≡ false }
-    ensures text { ComesTo (run_answer form (campaign_on T.Target target.now workload.now settings.now)) (W.told output.old) (W.told output.new) (W.has_failed output.new) result }
+    ensures text { ComesTo (run_answer form (campaign_on T.Target target.now workload.now settings.now)) (W.told output.old) (W.told output.new)
+        (W.has_failed output.new) result }
     ensures minimal { OnOk result (EachIsMinimal (campaign_on T.Target target.now workload.now settings.now)) }
 {
     let ending = report_plans(rt, alloc, gate, target, workload, settings, form, output)?;
@@ -87,7 +90,8 @@ fn map_plans<T: Target + Send, W: Sink, H: Threads + Wait + Sync, G: Gate>(
 where
     T::Workload: Sync,
     requires { W.has_failed output.old ≡ false }
-    ensures { ComesTo (map_answer (campaign_on T.Target target.now workload.now settings.now)) (W.told output.old) (W.told output.new) (W.has_failed output.new) result }
+    ensures { ComesTo (map_answer (campaign_on T.Target target.now workload.now settings.now)) (W.told output.old) (W.told output.new)
+        (W.has_failed output.new) result }
 {
     let ending = map_campaign(rt, alloc, target, workload, settings, gate, output)?;
     Ok(ending.first.is_some())
@@ -102,7 +106,8 @@ fn list_plans<T: Target, W: Sink>(
     output: &mut W,
 ) -> Result<bool, CommandFault>
     requires { W.has_failed output.old ≡ false }
-    ensures { ComesTo (plans_answer (campaign_on T.Target target.now workload.now settings.now)) (W.told output.old) (W.told output.new) (W.has_failed output.new) result }
+    ensures { ComesTo (plans_answer (campaign_on T.Target target.now workload.now settings.now)) (W.told output.old) (W.told output.new)
+        (W.has_failed output.new) result }
 {
     plan_list(alloc, target, workload, settings, output)?;
     Ok(false)
@@ -247,7 +252,8 @@ where
     T::Workload: Sync,
     requires output { W.has_failed output.old ≡ false }
     requires faults { E.has_failed faults.old ≡ false }
-    ensures text { ComesTo (order_answer order.now (campaign_on T.Target target.old workload.now settings.now)) (W.told output.old) (W.told output.new) (W.has_failed output.new) result }
+    ensures text { ComesTo (order_answer order.now (campaign_on T.Target target.old workload.now settings.now)) (W.told output.old)
+        (W.told output.new) (W.has_failed output.new) result }
     ensures noted { Noted (order_answer order.now (campaign_on T.Target target.old workload.now settings.now))
         (E.told faults.old) (E.told faults.new) (E.has_failed faults.new) result }
     ensures minimal { OnOk result (ReducesToMinimal order.now (campaign_on T.Target target.old workload.now settings.now)) }

@@ -68,7 +68,8 @@ pub fn unlawful<E: Sink>(alloc: Global, law: BrokenLaw, faults: &mut E) -> Exit
 /// Ends as refused with a line, or for want of the memory that it takes.
 fn refused_by<E: Sink>(line: Result<String, AllocError>, faults: &mut E) -> Exit
     requires { E.has_failed faults.old ≡ false }
-    ensures { (text : List ℕ) → IfOk line (λ l. string_bytes l ≡ text) → RefusesWith text result (E.told faults.old) (E.told faults.new) (E.has_failed faults.new) }
+    ensures { (text : List ℕ) → IfOk line (λ l. string_bytes l ≡ text)
+        → RefusesWith text result (E.told faults.old) (E.told faults.new) (E.has_failed faults.new) }
 {
     match line {
         Ok(line) => refused(line.as_str(), faults),

@@ -19,7 +19,8 @@ fn list<W: Sink>(
     output: &mut W,
 ) -> Result<bool, CommandFault>
     requires { W.has_failed output.old ≡ false }
-    ensures { ComesTo (outside_answer Order.Plans (outside_plans (given_of settings.now) outside.now)) (W.told output.old) (W.told output.new) (W.has_failed output.new) result }
+    ensures { ComesTo (outside_answer Order.Plans (outside_plans (given_of settings.now) outside.now)) (W.told output.old) (W.told output.new)
+        (W.has_failed output.new) result }
 {
     list_plans(alloc, outside, settings, output)?;
     Ok(false)
@@ -35,7 +36,8 @@ pub fn outside_command<W: Sink>(
     output: &mut W,
 ) -> Result<bool, CommandFault>
     requires { W.has_failed output.old ≡ false }
-    ensures { ComesTo (outside_answer order.now (outside_plans (given_of settings.now) outside.now)) (W.told output.old) (W.told output.new) (W.has_failed output.new) result }
+    ensures { ComesTo (outside_answer order.now (outside_plans (given_of settings.now) outside.now)) (W.told output.old) (W.told output.new)
+        (W.has_failed output.new) result }
 {
     match order {
         Order::Plans => list(alloc, outside, settings, output),

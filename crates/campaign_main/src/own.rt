@@ -35,7 +35,8 @@ where
     T::Workload: Sync,
     requires output { W.has_failed output.old ≡ false }
     requires faults { E.has_failed faults.old ≡ false }
-    ensures end { EndsAs result (order_answer order.now (campaign_on T.Target target.old workload.now settings.now)) (W.told output.old) (W.told output.new) (W.has_failed output.new) }
+    ensures end { EndsAs result (order_answer order.now (campaign_on T.Target target.old workload.now settings.now)) (W.told output.old)
+        (W.told output.new) (W.has_failed output.new) }
     ensures told { TellsAs result (order_answer order.now (campaign_on T.Target target.old workload.now settings.now))
         (E.told faults.old) (E.told faults.new) (E.has_failed faults.new) }
     ensures minimal { OnWhole result (ReducesToMinimal order.now (campaign_on T.Target target.old workload.now settings.now)) }
@@ -69,7 +70,8 @@ where
     T::Workload: Sync,
     requires output { W.has_failed output.old ≡ false }
     requires faults { E.has_failed faults.old ≡ false }
-    ensures end { EndsAs result (own_text_answer order.now (own_campaign T.Target target.old workload.now) text.now) (W.told output.old) (W.told output.new) (W.has_failed output.new) }
+    ensures end { EndsAs result (own_text_answer order.now (own_campaign T.Target target.old workload.now) text.now) (W.told output.old)
+        (W.told output.new) (W.has_failed output.new) }
     ensures told { TellsAs result (own_text_answer order.now (own_campaign T.Target target.old workload.now) text.now)
         (E.told faults.old) (E.told faults.new) (E.has_failed faults.new) }
     ensures minimal { OnWhole result (OwnReducesToMinimal order.now (own_campaign T.Target target.old workload.now) text.now) }
@@ -115,10 +117,14 @@ where
     T::Workload: Sync,
     requires output { W.has_failed output.old ≡ false }
     requires faults { E.has_failed faults.old ≡ false }
-    ensures end { IfSome (R.remaining reader.old) (λ bytes. EndsAs result (own_answer order.now (own_campaign T.Target target.old workload.now) bytes) (W.told output.old) (W.told output.new) (W.has_failed output.new)) }
+    ensures end { IfSome (R.remaining reader.old) (λ bytes. EndsAs result
+        (own_answer order.now (own_campaign T.Target target.old workload.now) bytes) (W.told output.old) (W.told output.new) (W.has_failed output.new)) }
     ensures noted { OnWhole result (IfSome (R.remaining reader.old) (λ bytes.
-        TellsNotes (own_answer order.now (own_campaign T.Target target.old workload.now) bytes) (E.told faults.old) (E.told faults.new) (E.has_failed faults.new))) }
-    ensures cause { result ≡ Exit.Refused → IfSome (R.remaining reader.old) (λ bytes. IsRefused (own_answer order.now (own_campaign T.Target target.old workload.now) bytes) (E.told faults.old) (E.told faults.new) (E.has_failed faults.new)) }
+        TellsNotes (own_answer order.now (own_campaign T.Target target.old workload.now) bytes) (E.told faults.old) (E.told faults.new)
+        (E.has_failed faults.new))) }
+    ensures cause { result ≡ Exit.Refused → IfSome (R.remaining reader.old)
+        (λ bytes. IsRefused (own_answer order.now (own_campaign T.Target target.old workload.now) bytes) (E.told faults.old) (E.told faults.new)
+        (E.has_failed faults.new)) }
     ensures minimal { OnWhole result (IfSome (R.remaining reader.old) (OwnReducesToMinimal order.now (own_campaign T.Target target.old workload.now))) }
     ensures output { Leaves result (W.told output.old) (W.told output.new) (W.has_failed output.new) }
     ensures told { Tells order.now result (E.told faults.old) (E.told faults.new) (E.has_failed faults.new) }

@@ -100,10 +100,12 @@ pub fn perform<R: Read, W: Sink, E: Sink, H: Threads + Wait + Sync, G: Gate>(
 ) -> Exit
     requires output { W.has_failed output.old ≡ false }
     requires faults { E.has_failed faults.old ≡ false }
-    ensures end { IfSome (R.remaining reader.old) (λ bytes. EndsAs result (answer_of order.now bytes) (W.told output.old) (W.told output.new) (W.has_failed output.new)) }
+    ensures end { IfSome (R.remaining reader.old) (λ bytes. EndsAs result (answer_of order.now bytes) (W.told output.old) (W.told output.new)
+        (W.has_failed output.new)) }
     ensures noted { OnWhole result (IfSome (R.remaining reader.old) (λ bytes.
         TellsNotes (answer_of order.now bytes) (E.told faults.old) (E.told faults.new) (E.has_failed faults.new))) }
-    ensures cause { result ≡ Exit.Refused → IfSome (R.remaining reader.old) (λ bytes. IsRefused (answer_of order.now bytes) (E.told faults.old) (E.told faults.new) (E.has_failed faults.new)) }
+    ensures cause { result ≡ Exit.Refused → IfSome (R.remaining reader.old)
+        (λ bytes. IsRefused (answer_of order.now bytes) (E.told faults.old) (E.told faults.new) (E.has_failed faults.new)) }
     ensures minimal { OnWhole result (IfSome (R.remaining reader.old) (TextReducesToMinimal order.now)) }
     ensures output { Leaves result (W.told output.old) (W.told output.new) (W.has_failed output.new) }
     ensures told { Tells order.now result (E.told faults.old) (E.told faults.new) (E.has_failed faults.new) }

@@ -24,7 +24,8 @@ fn write_asked<W: Sink>(
     output: &mut W,
 ) -> Result<bool, OutsideFault>
     requires { W.has_failed output.old ≡ false }
-    ensures { ComesToText Question.Asks (given_of settings.now, outside.now) answers.now (W.told output.old) (W.told output.new) (W.has_failed output.new) result }
+    ensures { ComesToText Question.Asks (given_of settings.now, outside.now) answers.now (W.told output.old) (W.told output.new)
+        (W.has_failed output.new) result }
 {
     write_asks(alloc, outside, settings, answers, output)?;
     Ok(false)
@@ -39,7 +40,8 @@ fn write_reported<W: Sink>(
     output: &mut W,
 ) -> Result<bool, OutsideFault>
     requires { W.has_failed output.old ≡ false }
-    ensures { ComesToText (Question.Report Form.Whole) (given_of settings.now, outside.now) answers.now (W.told output.old) (W.told output.new) (W.has_failed output.new) result }
+    ensures { ComesToText (Question.Report Form.Whole) (given_of settings.now, outside.now) answers.now (W.told output.old) (W.told output.new)
+        (W.has_failed output.new) result }
 {
     let ending = write_told(alloc, outside, settings, answers, output)?;
     Ok(ending.first.is_some())
@@ -54,7 +56,8 @@ fn write_brief_reported<W: Sink>(
     output: &mut W,
 ) -> Result<bool, OutsideFault>
     requires { W.has_failed output.old ≡ false }
-    ensures { ComesToText (Question.Report Form.Brief) (given_of settings.now, outside.now) answers.now (W.told output.old) (W.told output.new) (W.has_failed output.new) result }
+    ensures { ComesToText (Question.Report Form.Brief) (given_of settings.now, outside.now) answers.now (W.told output.old) (W.told output.new)
+        (W.has_failed output.new) result }
 {
     let told = write_brief(alloc, outside, settings, answers, output)?;
     Ok(told.first.is_some())
@@ -70,7 +73,8 @@ fn write_answer<W: Sink>(
     output: &mut W,
 ) -> Result<bool, OutsideFault>
     requires { W.has_failed output.old ≡ false }
-    ensures { ComesToText question.now (given_of settings.now, outside.now) answers.now (W.told output.old) (W.told output.new) (W.has_failed output.new) result }
+    ensures { ComesToText question.now (given_of settings.now, outside.now) answers.now (W.told output.old) (W.told output.new)
+        (W.has_failed output.new) result }
 {
     match question {
         Question::Asks => write_asked(alloc, outside, settings, answers, output),
@@ -93,8 +97,10 @@ fn answer_by<W: Sink, E: Sink>(
 ) -> Exit
     requires output { W.has_failed output.old ≡ false }
     requires faults { E.has_failed faults.old ≡ false }
-    ensures end { EndsAnswered question.now (given_of settings.now, outside.now) answers.now result (W.told output.old) (W.told output.new) (W.has_failed output.new) }
-    ensures told { TellsBy (TellsWhy question.now (Ok (given_of settings.now, outside.now)) answers.now (E.told faults.old) (E.told faults.new) (E.has_failed faults.new))
+    ensures end { EndsAnswered question.now (given_of settings.now, outside.now) answers.now result (W.told output.old) (W.told output.new)
+        (W.has_failed output.new) }
+    ensures told { TellsBy (TellsWhy question.now (Ok (given_of settings.now, outside.now)) answers.now (E.told faults.old) (E.told faults.new)
+        (E.has_failed faults.new))
         result (E.told faults.old) (E.told faults.new) (E.has_failed faults.new) }
 {
     match write_answer(alloc, question, outside, settings, answers, output) {
@@ -115,8 +121,11 @@ fn answer_on<A: Read, W: Sink, E: Sink>(
 ) -> Exit
     requires output { W.has_failed output.old ≡ false }
     requires faults { E.has_failed faults.old ≡ false }
-    ensures end { IfSome (A.remaining answers.old) (λ bytes. EndsAnswered question.now (given_of settings.now, outside.now) bytes result (W.told output.old) (W.told output.new) (W.has_failed output.new)) }
-    ensures cause { result ≡ Exit.Refused → IfSome (A.remaining answers.old) (λ bytes. IsNotAnswered question.now (Ok (given_of settings.now, outside.now)) bytes (E.told faults.old) (E.told faults.new) (E.has_failed faults.new)) }
+    ensures end { IfSome (A.remaining answers.old) (λ bytes. EndsAnswered question.now (given_of settings.now, outside.now) bytes result
+        (W.told output.old) (W.told output.new) (W.has_failed output.new)) }
+    ensures cause { result ≡ Exit.Refused → IfSome (A.remaining answers.old)
+        (λ bytes. IsNotAnswered question.now (Ok (given_of settings.now, outside.now)) bytes (E.told faults.old) (E.told faults.new)
+        (E.has_failed faults.new)) }
     ensures output { Leaves result (W.told output.old) (W.told output.new) (W.has_failed output.new) }
     ensures told { TellsOfQuestion result (E.told faults.old) (E.told faults.new) (E.has_failed faults.new) }
 {
@@ -146,8 +155,11 @@ fn answer_choice<A: Read, W: Sink, E: Sink>(
 ) -> Exit
     requires output { W.has_failed output.old ≡ false }
     requires faults { E.has_failed faults.old ≡ false }
-    ensures end { IfSome (A.remaining answers.old) (λ bytes. EndsQuestion question.now (chosen_subject (given_of settings.now) (Some choice.now)) bytes result (W.told output.old) (W.told output.new) (W.has_failed output.new)) }
-    ensures cause { result ≡ Exit.Refused → IfSome (A.remaining answers.old) (λ bytes. IsNotAnswered question.now (chosen_subject (given_of settings.now) (Some choice.now)) bytes (E.told faults.old) (E.told faults.new) (E.has_failed faults.new)) }
+    ensures end { IfSome (A.remaining answers.old) (λ bytes. EndsQuestion question.now
+        (chosen_subject (given_of settings.now) (Some choice.now)) bytes result (W.told output.old) (W.told output.new) (W.has_failed output.new)) }
+    ensures cause { result ≡ Exit.Refused → IfSome (A.remaining answers.old)
+        (λ bytes. IsNotAnswered question.now (chosen_subject (given_of settings.now) (Some choice.now)) bytes (E.told faults.old) (E.told faults.new)
+        (E.has_failed faults.new)) }
     ensures output { Leaves result (W.told output.old) (W.told output.new) (W.has_failed output.new) }
     ensures told { TellsOfQuestion result (E.told faults.old) (E.told faults.new) (E.has_failed faults.new) }
 {
@@ -170,8 +182,10 @@ fn answer_text<A: Read, W: Sink, E: Sink>(
 ) -> Exit
     requires output { W.has_failed output.old ≡ false }
     requires faults { E.has_failed faults.old ≡ false }
-    ensures end { IfSome (A.remaining answers.old) (λ bytes. EndsQuestion question.now (text_subject text.now) bytes result (W.told output.old) (W.told output.new) (W.has_failed output.new)) }
-    ensures cause { result ≡ Exit.Refused → IfSome (A.remaining answers.old) (λ bytes. IsNotAnswered question.now (text_subject text.now) bytes (E.told faults.old) (E.told faults.new) (E.has_failed faults.new)) }
+    ensures end { IfSome (A.remaining answers.old) (λ bytes. EndsQuestion question.now (text_subject text.now) bytes result (W.told output.old)
+        (W.told output.new) (W.has_failed output.new)) }
+    ensures cause { result ≡ Exit.Refused → IfSome (A.remaining answers.old)
+        (λ bytes. IsNotAnswered question.now (text_subject text.now) bytes (E.told faults.old) (E.told faults.new) (E.has_failed faults.new)) }
     ensures output { Leaves result (W.told output.old) (W.told output.new) (W.has_failed output.new) }
     ensures told { TellsOfQuestion result (E.told faults.old) (E.told faults.new) (E.has_failed faults.new) }
 {
@@ -209,8 +223,11 @@ pub fn perform_outside<R: Read, A: Read, W: Sink, E: Sink>(
 ) -> Exit
     requires output { W.has_failed output.old ≡ false }
     requires faults { E.has_failed faults.old ≡ false }
-    ensures end { IfSome (R.remaining settings.old) (λ given. IfSome (A.remaining answers.old) (λ bytes. EndsQuestion question.now (subject_of given) bytes result (W.told output.old) (W.told output.new) (W.has_failed output.new))) }
-    ensures cause { result ≡ Exit.Refused → IfSome (R.remaining settings.old) (λ given. IfSome (A.remaining answers.old) (λ bytes. IsNotAnswered question.now (subject_of given) bytes (E.told faults.old) (E.told faults.new) (E.has_failed faults.new))) }
+    ensures end { IfSome (R.remaining settings.old) (λ given. IfSome (A.remaining answers.old)
+        (λ bytes. EndsQuestion question.now (subject_of given) bytes result (W.told output.old) (W.told output.new) (W.has_failed output.new))) }
+    ensures cause { result ≡ Exit.Refused → IfSome (R.remaining settings.old)
+        (λ given. IfSome (A.remaining answers.old) (λ bytes. IsNotAnswered question.now (subject_of given) bytes (E.told faults.old)
+        (E.told faults.new) (E.has_failed faults.new))) }
     ensures output { Leaves result (W.told output.old) (W.told output.new) (W.has_failed output.new) }
     ensures told { TellsOfQuestion result (E.told faults.old) (E.told faults.new) (E.has_failed faults.new) }
 {

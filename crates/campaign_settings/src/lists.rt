@@ -228,7 +228,8 @@ fn copy_vote_lists(
     participants: usize,
     items: &Array,
 ) -> Result<Option<Vec<Votes>>, AllocError>
-    ensures { IfOk result (λ r. option_map (λ lists. lists.items) r ≡ all_in (λ d. option_and_then (wishes_of participants) (list_in d)) (array_view items.now)) }
+    ensures { IfOk result (λ r. option_map (λ lists. lists.items) r
+        ≡ all_in (λ d. option_and_then (wishes_of participants) (list_in d)) (array_view items.now)) }
 {
     let mut lists = Vec::new(alloc);
     for item in items {

@@ -75,7 +75,8 @@ storm_part names seed rate storms sites = map (λ j. rigging names (storm seed r
 -- the list of plans, by the sites
 abbrev pub plans_over : List (List ℕ) → Asked → List Site → List Entries
 plans_over names asked sites =
-    ([] ∷ []) ++ flat_map (site_plans names) sites ++ pair_part names asked.pairs sites ++ storm_part names asked.seed asked.rate asked.storms sites ++ asked.listed
+    ([] ∷ []) ++ flat_map (site_plans names) sites ++ pair_part names asked.pairs sites ++ storm_part names asked.seed asked.rate asked.storms sites
+    ++ asked.listed
 
 -- the list of plans, by the counts of a census
 unfoldable pub plan_list : List (List ℕ) → List ℕ → Asked → List Entries

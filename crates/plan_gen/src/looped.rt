@@ -20,7 +20,8 @@ fn meets<T: Target>(
     max_hits: u32,
     rig: Rig,
 ) -> Result<bool, AllocError>
-    ensures met { IfOk result (λ met. met ≡ nat_le rig.site.hit (times_of (T.asks target.old workload.now) T.names seed max_hits (rigging T.names (rig ∷ [])) rig.site.point)) }
+    ensures met { IfOk result (λ met. met ≡ nat_le rig.site.hit
+        (times_of (T.asks target.old workload.now) T.names seed max_hits (rigging T.names (rig ∷ [])) rig.site.point)) }
     ensures setup { target.new ≡ target.old }
 {
     let scenario = scenario_of(alloc, T::catalogue(), &[rig])?;

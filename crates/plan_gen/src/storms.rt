@@ -50,7 +50,8 @@ fn storm_kind(word: u32) -> Kind
 
 /// Adds a site that its word takes, while fewer than the most are taken.
 fn draw(rigs: &mut Vec<Rig>, rate: u32, word: u32, site: Site) -> Result<(), AllocError>
-    ensures drawn { OnOk result (rigs.new.items ≡ rigs.old.items ++ (if nat_lt (word % 1000) rate && nat_lt (length rigs.old.items) most_rigs then rig site (storm_kind word) ∷ [] else [])) }
+    ensures drawn { OnOk result (rigs.new.items ≡ rigs.old.items
+        ++ (if nat_lt (word % 1000) rate && nat_lt (length rigs.old.items) most_rigs then rig site (storm_kind word) ∷ [] else [])) }
     ensures few { OnOk result (length rigs.old.items ≤ most_rigs → length rigs.new.items ≤ most_rigs) }
     ensures small { OnOk result (AllByRecursion (λ r. r.site.hit < 2 ^ 32) rigs.old.items → AllByRecursion (λ r. r.site.hit < 2 ^ 32) rigs.new.items) }
 {

@@ -54,7 +54,8 @@ impl Book {
 
     /// Puts a result in its place. No memory is taken, and after a fault the book is as it was.
     pub fn put<'a, T: Target>(&mut self, pair: Numbered<'a, T>) -> Result<(), PutFault<'a, T>>
-        ensures ok { OnOk result ((pair.entry.number < length self.old) × (has self.old pair.entry.number ≡ false) × (self.new ≡ slice_set self.old pair.entry.number (Some pair.entry.verdict))) }
+        ensures ok { OnOk result ((pair.entry.number < length self.old) × (has self.old pair.entry.number ≡ false)
+            × (self.new ≡ slice_set self.old pair.entry.number (Some pair.entry.verdict))) }
         ensures err { OnErr result (self.new ≡ self.old) }
         ensures fault { IfErr result (λ fault. IsRefused self.old pair.entry fault) }
         ensures entered { self.new ≡ enter self.old pair.entry.number pair.entry.verdict }

@@ -43,7 +43,8 @@ number_up_to most text = if is_number text && nat_le (number text) most then Som
 -- a percentage in millionths: whole percents, or whole percents, a point and up to four decimals
 abbrev pub share_by : List ℕ → Option (List ℕ × List ℕ) → Option ℕ
 share_by text None = if is_number text then Some (min 1000000 (number text * 10000)) else None
-share_by text (Some parts) = if is_number parts.0 && is_number parts.1 && nat_le (length parts.1) 4 then Some (min 1000000 (number parts.0 * 10000 + number parts.1 * 10 ^ (4 - length parts.1))) else None
+share_by text (Some parts) = if is_number parts.0 && is_number parts.1 && nat_le (length parts.1) 4 then Some
+    (min 1000000 (number parts.0 * 10000 + number parts.1 * 10 ^ (4 - length parts.1))) else None
 
 unfoldable pub share_of : List ℕ → Option ℕ
 share_of text = share_by text (cut 46 text)

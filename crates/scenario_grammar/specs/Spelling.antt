@@ -104,7 +104,8 @@ abbrev pub SpellsPieces : List (List ℕ) → List (List ℕ × List Term) → T
 SpellsPieces [] [] = Unit {0}
 SpellsPieces [] (e ∷ es) = ⊥
 SpellsPieces (p ∷ ps) [] = (length (trimmed p) ≡ 0) × SpellsPieces ps []
-SpellsPieces (p ∷ ps) (e ∷ es) = ((length (trimmed p) ≡ 0) × SpellsPieces ps (e ∷ es)) ⊎ ((0 < length (trimmed p)) × SpellsAction (trimmed p) e × SpellsPieces ps es)
+SpellsPieces (p ∷ ps) (e ∷ es) = ((length (trimmed p) ≡ 0) × SpellsPieces ps (e ∷ es)) ⊎ ((0 < length (trimmed p)) × SpellsAction (trimmed p) e
+    × SpellsPieces ps es)
 
 -- the actions that a text writes, in order, overwritten ones too
 abbrev pub Writes : List ℕ → List (List ℕ × List Term) → Type 0

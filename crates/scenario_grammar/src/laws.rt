@@ -36,7 +36,8 @@ pub fn texts_spell_one_scenario()
 
 /// What a text is read as it spells, within the limits.
 pub fn texts_read_are_spelled()
-    ensures { (text : List ℕ) (s : Entries) → reading text ≡ Ok s → (actions : List (List ℕ × List Term)) × Writes text actions × Within text actions × (s ≡ entries_of actions) }
+    ensures { (text : List ℕ) (s : Entries) → reading text ≡ Ok s
+        → (actions : List (List ℕ × List Term)) × Writes text actions × Within text actions × (s ≡ entries_of actions) }
 {}
 
 /// There is a fault just where the text spells nothing or passes a limit.

@@ -43,7 +43,8 @@ ChangesName old new name file = (n : ℕ) → entry_at new n ≡ (if n == name t
 -- one name leads to this file now, and another to none
 abbrev pub MovesName : List Entry → List Entry → ℕ → ℕ → ℕ → Type 0
 MovesName old new file from to = (n : ℕ) → entry_at new n
-    ≡ (if n == to then record { live = Some file; lasting = (entry_at old n).lasting } else (if n == from then record { live = None; lasting = (entry_at old n).lasting } else entry_at old n))
+    ≡ (if n == to then record { live = Some file; lasting = (entry_at old n).lasting } else
+    (if n == from then record { live = None; lasting = (entry_at old n).lasting } else entry_at old n))
 
 -- each name leads to a file in use
 pub record Keeps (names : List Entry) (used all : ℕ) : Type 0 where

@@ -64,7 +64,8 @@ pub fn first_failure<T: Target>(
     target: &mut T,
     workload: &T::Workload,
 ) -> Result<Option<Scenario>, PlanFault>
-    ensures ok { IfOk result (λ found. found ≡ first_failing (T.asks target.old workload.now) T.names (single_faults (T.asks target.old workload.now) T.names)) }
+    ensures ok { IfOk result (λ found. found ≡ first_failing (T.asks target.old workload.now) T.names
+        (single_faults (T.asks target.old workload.now) T.names)) }
     ensures many { IsErrOf result PlanFault.TooManyPlans → most_plans < length (single_faults (T.asks target.old workload.now) T.names) }
     ensures setup { target.new ≡ target.old }
 {

@@ -7,14 +7,17 @@ use Rattle.target_trait.specs.Machine.{Machine, led, after, asks_by, EndsBy}
 use Rattle.target_trait.specs.Protocol.{Table, table_step, table_move, by_table}
 
 -- ---- machines
-pub within_by : {S : Type 0} (m : Machine S) (points : ℕ) → ((s : S) → IsWithin points (m.move s)) → (answers : List Reply) → IsWithin points (asks_by m answers)
+pub within_by : {S : Type 0} (m : Machine S) (points : ℕ) → ((s : S) → IsWithin points (m.move s)) → (answers : List Reply)
+    → IsWithin points (asks_by m answers)
 within_by m points each answers = each (after m answers)
 
-stays_done : {S : Type 0} (m : Machine S) (IsOver : S → Type 0) → EndsBy m IsOver → (s : S) → IsOver s → (answers : List Reply) → IsDone (m.move (led m s answers))
+stays_done : {S : Type 0} (m : Machine S) (IsOver : S → Type 0) → EndsBy m IsOver → (s : S) → IsOver s → (answers : List Reply)
+    → IsDone (m.move (led m s answers))
 stays_done m IsOver k s over [] = k.done s over
 stays_done m IsOver k s over (a ∷ answers) = stays_done m IsOver k (m.step s a) (k.stays s a over) answers
 
-halts_from : {S : Type 0} (m : Machine S) (IsOver : S → Type 0) → EndsBy m IsOver → (s : S) (before rest : List Reply) → IsDone (m.move (led m s (before ++ Halt ∷ rest)))
+halts_from : {S : Type 0} (m : Machine S) (IsOver : S → Type 0) → EndsBy m IsOver → (s : S) (before rest : List Reply)
+    → IsDone (m.move (led m s (before ++ Halt ∷ rest)))
 halts_from m IsOver k s [] rest = stays_done m IsOver k (m.step s Halt) (k.halts s) rest
 halts_from m IsOver k s (a ∷ before) rest = halts_from m IsOver k (m.step s a) before rest
 
@@ -23,11 +26,13 @@ halts_by m IsOver k before rest = halts_from m IsOver k m.first before rest
 
 -- ---- tables
 
-within_move : {S : Type 0} (t : Table S) (points : ℕ) → ((s : S) → IsWithin points (move_by (t.judge s) (t.point s))) → (x : S × Bool) → IsWithin points (table_move t x)
+within_move : {S : Type 0} (t : Table S) (points : ℕ) → ((s : S) → IsWithin points (move_by (t.judge s) (t.point s))) → (x : S × Bool)
+    → IsWithin points (table_move t x)
 within_move t points each (s, true) = tt
 within_move t points each (s, false) = each s
 
-pub within_table : {S : Type 0} (t : Table S) (points : ℕ) → ((s : S) → IsWithin points (move_by (t.judge s) (t.point s))) → (answers : List Reply) → IsWithin points (asks_by (by_table t) answers)
+pub within_table : {S : Type 0} (t : Table S) (points : ℕ) → ((s : S) → IsWithin points (move_by (t.judge s) (t.point s))) → (answers : List Reply)
+    → IsWithin points (asks_by (by_table t) answers)
 within_table t points each answers = within_by (by_table t) points (within_move t points each) answers
 
 done_halted : {S : Type 0} (t : Table S) (x : S × Bool) → x.1 ≡ true → IsDone (table_move t x)

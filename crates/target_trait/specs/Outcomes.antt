@@ -63,4 +63,5 @@ verdict_with asks names seed limit stream scenario = (outcome asks (given_of sce
 
 -- two scenarios have the same verdict under everything that asks, every catalogue, seed, limit and stream number
 abbrev pub SameVerdicts : Entries → Entries → Type 0
-SameVerdicts s t = (asks : List Reply → Move) (names : List (List ℕ)) (seed limit stream : ℕ) → verdict_with asks names seed limit stream s ≡ verdict_with asks names seed limit stream t
+SameVerdicts s t = (asks : List Reply → Move) (names : List (List ℕ)) (seed limit stream : ℕ)
+    → verdict_with asks names seed limit stream s ≡ verdict_with asks names seed limit stream t

@@ -99,7 +99,8 @@ head_of (Some rest) = first_head rest.0 rest.1
 
 -- ---- the fields of a session keep a run
 
-pub record Keeps (r : Run) (found : List (Option (List Term × ℕ))) (left : List ℕ) (taken : ℕ) (notes : List Note) (millis : ℕ) (stop : Option Stop) : Type 0 where
+pub record Keeps (r : Run) (found : List (Option (List Term × ℕ))) (left : List ℕ) (taken : ℕ) (notes : List Note) (millis : ℕ)
+    (stop : Option Stop) : Type 0 where
   pub scenario : IsScenario r.given.scenario
   pub found_is : AreRests left (map (found_of r.given.scenario) r.given.catalogue) found
   pub left_is : left ≡ left_counts (history_of r) r.given.scenario
