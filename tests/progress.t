@@ -28,7 +28,7 @@ With one worker the first line is that of the first plan, of as many as `plans` 
   $ paklour run --progress given 2>&1 > /dev/null | lines | grep -c '<$'
   1
 
-Each line has this form, and there are at most ten a second, so that a campaign of less than a second shows at most eleven plans and tests.
+Each line has one of these forms.
 
   $ paklour run --progress given 2>&1 > /dev/null | lines | tr '<' '\n' | grep -v -x -e 'plans [0-9]* of 49' -e 'reducing: test [0-9]*' -e ''
   [1]
