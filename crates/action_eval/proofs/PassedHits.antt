@@ -1,9 +1,8 @@
 -- Hits that surely come to nothing, many at once.
-use Rattle.std.proofs.Common.{◌≡◌, ℕ, zero, suc, ◌+◌, ◌-◌, ◌*◌, ◌<◌, ◌≤◌, cond, Bool, true, false, eqb, List, [], ◌∷◌, ◌++◌, length, map, replicate, slice_index, take, drop, get_or, All, Option, Some, None, Result, Ok, Err, is_ok, IsOk, inl, inr, refl, ap, sym, ◌∙◌, arith, subst, append_assoc, length-append, get_or-set_same, get_or-set_other, ext_get_or, nat_lt}
+use Rattle.std.proofs.Common.{◌≡◌, ℕ, zero, suc, ◌+◌, ◌-◌, ◌*◌, ◌<◌, ◌≤◌, cond, Bool, true, false, eqb, List, [], ◌∷◌, ◌++◌, length, map, replicate, slice_index, take, drop, get_or, All, Option, Some, None, inl, inr, refl, ap, sym, ◌∙◌, arith, subst, append_assoc, length-append, get_or-set_same, get_or-set_other, ext_get_or, nat_lt}
 use Rattle.std.proofs.lemmas.List.{append-nil, length-set, get_or_past}
 use Rattle.std.proofs.lemmas.Bool.Decides.{nat_tests}
 use Rattle.std.proofs.lemmas.Bool.{cases_lt}
-use Rattle.std.specs.declared.alloc.AllocError.{AllocError}
 use Rattle.scenario_values.specs.declared.term.Term.{Term}
 use Rattle.scenario_values.specs.declared.term.Task.TheVariants as task
 use Rattle.action_eval.specs.declared.answer.Stop.{Stop}
@@ -224,10 +223,6 @@ all_given heads points n i whole left le s =
     drop_past (suc i) [] h = refl
     drop_past zero (x ∷ xs) h = absurd (omega arith)
     drop_past (suc i) (x ∷ xs) h = drop_past i xs (omega arith)
-
-pub is_fine : {A : Type 0} (r : Result (Unit {0}) AllocError) → IsOk r → (x y : A) → cond (is_ok r) x y ≡ x
-is_fine (Ok u) h x y = refl
-is_fine (Err e) h x y = cc
 
 pub rounds_more : (n : ℕ) (ps : List ℕ) → rounds (n + 1) ps ≡ rounds n ps ++ ps
 rounds_more zero ps = append-nil ps

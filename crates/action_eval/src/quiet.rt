@@ -1,10 +1,11 @@
 //! Hits that surely come to nothing, many at once.
-ghost use Rattle.std.specs.Prelude.{◌≡◌, ℕ, true, false, List, ◌+◌, ◌*◌, ◌^◌, ◌<◌, ◌≤◌, [], slice_index, ◌∷◌, ◌++◌, All, IfOk, OnErr, length, replicate, vec_len, vec_capacity};
+ghost use Rattle.std.specs.Prelude.{◌≡◌, ℕ, true, false, List, ◌+◌, ◌*◌, ◌^◌, ◌<◌, ◌≤◌, [], slice_index, ◌∷◌, ◌++◌, All, IfOk, OnOk, OnErr, length, replicate, vec_len, vec_capacity};
 ghost use Rattle.action_eval.specs.Answers.{rounds};
 ghost use Rattle.action_eval.specs.inside.Quiet.{CountsWithin, IsCounted, Spent, SpentBy, head_at, quiet_of, taken_by};
 
 use crate::found::Head;
 use std::alloc::AllocError;
+use std::mem;
 
 /// How many of the next hits of a point surely come to nothing, by its head.
 #[inline(always)]
@@ -90,7 +91,7 @@ fn give_rounds(left: &mut Vec<u32>, heads: &[Head], points: &[u32], times: u32)
 
 /// Takes off the counts what so many rounds of hits of these points take that come to nothing; or takes nothing, where they don't all
 /// surely come to nothing.
-pub fn take_rounds(left: &mut Vec<u32>, heads: &[Head], points: &[u32], times: u32) -> bool
+fn take_rounds(left: &mut Vec<u32>, heads: &[Head], points: &[u32], times: u32) -> bool
     requires known { All (λ p. p < length heads.now) points.now }
     requires within { All (λ p. CountsWithin (length left.old.items) (head_at heads.now p)) points.now }
     ensures taken { result ≡ true → Spent heads.now points.now times left.old.items left.new.items }
@@ -106,7 +107,7 @@ pub fn take_rounds(left: &mut Vec<u32>, heads: &[Head], points: &[u32], times: u
 }
 
 /// How many rounds of hits of these points come to nothing by each point's own count.
-pub fn rounds_left(left: &[u32], heads: &[Head], points: &[u32]) -> u32
+fn rounds_left(left: &[u32], heads: &[Head], points: &[u32]) -> u32
     requires known { All (λ p. p < length heads.now) points.now }
     requires within { All (λ p. CountsWithin (length left.now) (head_at heads.now p)) points.now }
     ensures { All (λ p. result ≤ quiet_of left.now (head_at heads.now p)) points.now }
@@ -118,12 +119,83 @@ pub fn rounds_left(left: &[u32], heads: &[Head], points: &[u32]) -> u32
     least
 }
 
-/// Adds so many rounds of hits of these points, for which there is room.
-pub fn push_rounds(hits: &mut Vec<u32>, points: &[u32], times: usize)
-    requires { vec_len hits.old + times * length points.now ≤ vec_capacity hits.old }
-    ensures { hits.new.items ≡ hits.old.items ++ rounds times points.now }
+/// Takes off the counts what rounds of hits of these points take that surely come to nothing, at most so many rounds, and gives how many
+/// these are.
+// Mostly all of them do, so that is tried first.
+#[inline(always)]
+fn take_most_rounds(left: &mut Vec<u32>, heads: &[Head], points: &[u32], most: u32) -> u32
+    requires known { All (λ p. p < length heads.now) points.now }
+    requires within { All (λ p. CountsWithin (length left.old.items) (head_at heads.now p)) points.now }
+    ensures count { result ≤ most }
+    ensures left { Spent heads.now points.now result left.old.items left.new.items }
 {
-    for _ in 0..times {
-        let _ = hits.extend_from_slice(points);
+    if take_rounds(left, heads, points, most) {
+        return most;
     }
+    let fewer = rounds_left(left, heads, points).min(most);
+    if fewer > 0 && take_rounds(left, heads, points, fewer) {
+        return fewer;
+    }
+    0
+}
+
+/// Adds a round of hits of these points, for which there is room.
+#[inline(always)]
+fn push_round(hits: &mut Vec<u32>, points: &[u32])
+    requires { vec_len hits.old + length points.now ≤ vec_capacity hits.old }
+    ensures items { hits.new.items ≡ hits.old.items ++ points.now }
+    ensures len { vec_len hits.new ≡ vec_len hits.old + length points.now }
+    ensures room { vec_capacity hits.new ≡ vec_capacity hits.old }
+{
+    for point in points {
+        hits.push_reserved(*point);
+    }
+}
+
+/// Adds so many rounds of hits of these points, or nothing where memory is refused.
+// They are added to a vector of the function's own: what is written into that doesn't change its length, as the compiler knows.
+#[inline(always)]
+fn push_rounds(hits: &mut Vec<u32>, points: &[u32], times: u32) -> Result<(), AllocError>
+    requires { times * length points.now < 2 ^ 32 }
+    ensures ok { OnOk result (hits.new.items ≡ hits.old.items ++ rounds times points.now) }
+    ensures err { OnErr result (hits.new.items ≡ hits.old.items) }
+{
+    hits.reserve(times as usize * points.len())?;
+    let alloc = *hits.allocator();
+    let mut longer = mem::replace(hits, Vec::new(alloc));
+    for _ in 0..times {
+        push_round(&mut longer, points);
+    }
+    *hits = longer;
+    Ok(())
+}
+
+/// Hits these points in turn, round after round, as often as that surely comes to nothing, at most so many rounds, and gives how many these
+/// were.
+#[inline(always)]
+pub fn pass_points(
+    heads: &[Head],
+    left: &mut Vec<u32>,
+    hits: &mut Vec<u32>,
+    points: &[u32],
+    most: u32,
+) -> Result<u32, AllocError>
+    requires known { All (λ p. p < length heads.now) points.now }
+    requires within { All (λ p. CountsWithin (length left.old.items) (head_at heads.now p)) points.now }
+    requires limit { most * length points.now < 2 ^ 32 }
+    ensures count { IfOk result (λ n. n ≤ most) }
+    ensures left { IfOk result (λ n. Spent heads.now points.now n left.old.items left.new.items) }
+    ensures hits { IfOk result (λ n. hits.new.items ≡ hits.old.items ++ rounds n points.now) }
+    ensures err_left { OnErr result (left.new.items ≡ left.old.items) }
+    ensures err_hits { OnErr result (hits.new.items ≡ hits.old.items) }
+{
+    let count = take_most_rounds(left, heads, points, most);
+    if count == 0 {
+        return Ok(0);
+    }
+    if let Err(refused) = push_rounds(hits, points, count) {
+        give_rounds(left, heads, points, count);
+        return Err(refused);
+    }
+    Ok(count)
 }

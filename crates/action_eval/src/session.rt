@@ -8,7 +8,7 @@ use crate::answer::{Answer, Note, Stop, answer_of, millis_of, push_note, stop_of
 use crate::counts::{fill_counts, spend};
 use crate::draws::Draws;
 use crate::found::{Found, Head, Layout, find_all, head_of, without_spent};
-use crate::quiet::{pass_hits, push_rounds, rounds_left, take_rounds};
+use crate::quiet::{pass_hits, pass_points};
 use crate::rigging::Rigging;
 use crate::terms::{task_at, try_terms};
 use scenario_values::{Scenario, Task};
@@ -355,15 +355,9 @@ impl<'a> Session<'a> {
             return Ok(0);
         }
         let room = (self.answerable as usize).saturating_sub(self.hits.len()) / points.len();
-        let count = (rounds_left(&self.left, &self.heads, points) as usize)
-            .min(most)
-            .min(room);
-        self.hits.reserve(count * points.len())?;
-        if !take_rounds(&mut self.left, &self.heads, points, count as u32) {
-            return Ok(0);
-        }
-        push_rounds(&mut self.hits, points, count);
-        Ok(count)
+        let most = most.min(room) as u32;
+        let count = pass_points(&self.heads, &mut self.left, &mut self.hits, points, most)?;
+        Ok(count as usize)
     }
 
     /// Begins a new run of this scenario, under the stream of this number. The catalogue, the seed and the limit stay, and so does the room

@@ -4,6 +4,6 @@ use Rattle.action_eval.proofs.quiet.push_rounds.Given as goal
 
 abbrev pub invariant-loop : goal.invariant-loop
 invariant-loop l = record {
-  items : l.hits.items ≡ l.fn.hits.items ++ rounds l.counter l.points;
-  room : vec_len l.hits + (l.times - l.counter) * length l.points ≤ vec_capacity l.hits;
+  items : l.longer.items ≡ l.fn.hits.items ++ rounds l.counter l.points;
+  room : vec_len l.longer + (l.times - l.counter) * length l.points ≤ vec_capacity l.longer;
 }
