@@ -4,7 +4,7 @@ ghost use Rattle.sim_device.specs.Disk.{entry_at, held_at, StandsFor, AddsEffect
 ghost use Rattle.sim_device.specs.Refusals.{Refuses, RefusesOnly, RefusesLink};
 
 use crate::fault::DeviceFault;
-use crate::file::File;
+use crate::file::{File, append_at};
 use crate::names::Directory;
 use std::alloc::{AllocError, Global};
 use std::marker::Model;
@@ -12,7 +12,7 @@ use std::marker::Model;
 /// A simulated disk of files under names, on which a power cut keeps only what was synced.
 ///
 /// A name is a small number that the component under test chooses, mostly through an enum of its own: the device
-/// keeps a table of all numbers up to the greatest one in use, so the memory of a device grows with that number.
+/// keeps a table of all numbers up to the greatest one in use and some after it, so the memory of a device grows with that number.
 ///
 /// A device stands for the list of the effects that it accepted since it was made or cleared. A call that is refused
 /// changes nothing, and adds no effect. `clear` keeps the memory of names and files for those to come.
@@ -34,17 +34,6 @@ impl Model for FileDevice {
     ghost view = { λ d. record { names = d.directory; files = take d.used d.files.items } };
 
     ghost invariant = { λ d. Keeps d.directory d.used (length d.files.items) };
-}
-
-/// Adds bytes to a file.
-fn append_at(files: &mut [File], file: usize, bytes: &[u8]) -> Result<(), AllocError>
-    requires { file < length files.old }
-    ensures ok { let old = held_at files.old file in
-        OnOk result (files.new ≡ slice_set files.old file (record { live = old.live ++ bytes.now; lasting = old.lasting })) }
-    ensures err { OnErr result (files.new ≡ files.old) }
-{
-    let file = &mut files[file];
-    file.append(bytes)
 }
 
 /// Makes what a file holds last.

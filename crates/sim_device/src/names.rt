@@ -1,4 +1,4 @@
-ghost use Rattle.std.specs.Prelude.{◌≡◌, ◌≢◌, ◌<◌, ℕ, [], length, None, Some, OnOk, OnErr};
+ghost use Rattle.std.specs.Prelude.{◌≡◌, ◌≢◌, ◌<◌, ◌≤◌, ℕ, [], length, None, Some, OnOk, OnErr};
 ghost use Rattle.sim_device.specs.Disk.{entry_at, ChangesName, MovesName, IsSettledOutside};
 
 use std::alloc::{AllocError, Global};
@@ -89,21 +89,33 @@ impl Directory {
     }
 
     /// Makes room for a name.
+    #[inline(always)]
     fn cover(&mut self, name: u32) -> Result<(), AllocError>
         ensures same { (n : ℕ) → entry_at self.new n ≡ entry_at self.old n }
         ensures room { OnOk result (name < length self.new) }
         ensures err { OnErr result (self.new ≡ self.old) }
     {
         if name as usize >= self.entries.len() {
-            self.entries.resize(
-                name as usize + 1,
-                Entry {
-                    live: None,
-                    lasting: None,
-                },
-            )?;
+            return self.grow(name);
         }
         Ok(())
+    }
+
+    /// Makes room for a name past the table, and for some that come after it: names mostly come one after another.
+    #[inline(never)]
+    fn grow(&mut self, name: u32) -> Result<(), AllocError>
+        requires { length self.old ≤ name }
+        ensures same { (n : ℕ) → entry_at self.new n ≡ entry_at self.old n }
+        ensures room { OnOk result (name < length self.new) }
+        ensures err { OnErr result (self.new ≡ self.old) }
+    {
+        self.entries.resize(
+            name as usize + 16,
+            Entry {
+                live: None,
+                lasting: None,
+            },
+        )
     }
 
     /// Leads a name of the table to a file, or to none.
@@ -123,6 +135,7 @@ impl Directory {
     }
 
     /// Leads a name to a file.
+    #[inline(always)]
     pub fn point(&mut self, name: u32, file: usize) -> Result<(), AllocError>
         ensures ok { OnOk result (ChangesName self.old self.new name (Some file)) }
         ensures err { OnErr result (self.new ≡ self.old) }
