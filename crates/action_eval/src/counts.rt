@@ -9,23 +9,15 @@ use scenario_values::{Scenario, Term};
 use std::alloc::AllocError;
 
 /// Adds the counts of a chain, for which there is room; a term without one has more than a session answers hits.
-fn push_counts(left: &mut Vec<u32>, terms: &[Term])
+pub fn push_counts(left: &mut Vec<u32>, terms: &[Term])
     requires { vec_len left.old + length terms.now ≤ vec_capacity left.old }
     ensures counts { left.new.items ≡ left.old.items ++ left_row (λ _. 0) 0 terms.now }
+    ensures len { vec_len left.new ≡ vec_len left.old + length terms.now }
     ensures room { vec_capacity left.new ≡ vec_capacity left.old }
 {
     for term in terms {
         left.push_reserved(term.count.unwrap_or(u32::MAX));
     }
-}
-
-/// Adds the counts of a chain. An error means that memory was refused.
-pub fn add_counts(left: &mut Vec<u32>, terms: &[Term]) -> Result<(), AllocError>
-    ensures { OnOk result (left.new.items ≡ left.old.items ++ left_row (λ _. 0) 0 terms.now) }
-{
-    left.reserve(terms.len())?;
-    push_counts(left, terms);
-    Ok(())
 }
 
 /// The counts of all chains, in place of those that stood there. Want of memory leaves these.

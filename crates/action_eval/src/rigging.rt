@@ -7,7 +7,7 @@ ghost use Rattle.action_eval.specs.inside.Laid.{joined, sizes_of, laid, AreSizes
 ghost use Rattle.scenario_values.specs.Scenario.{IsScenario};
 ghost use Rattle.action_eval.specs.inside.Layout.{IsLayout};
 
-use crate::counts::add_counts;
+use crate::counts::push_counts;
 use crate::found::{Found, Layout, head_of};
 use crate::rig::{Kind, Rig};
 use crate::terms::FULL_SHARE;
@@ -35,6 +35,8 @@ fn term_of(kind: Kind) -> Term
 }
 
 /// Adds the terms of a rigged hit, after some hits of its point.
+// Most rigged hits that are walked are of other points; those are passed over within the loop.
+#[inline(never)]
 fn push_rigged(terms: &mut Vec<Term>, done: u32, rig: Rig) -> Result<(), AllocError>
     ensures { OnOk result (terms.new.items ≡ terms.old.items ++ rigged done rig) }
 {
@@ -51,6 +53,7 @@ fn push_rigged(terms: &mut Vec<Term>, done: u32, rig: Rig) -> Result<(), AllocEr
 }
 
 /// Adds what a rigged hit adds to the chain of a point, and gives the hits of the point after it.
+#[inline(always)]
 fn push_at(terms: &mut Vec<Term>, point: u32, done: u32, rig: Rig) -> Result<u32, AllocError>
     ensures terms { OnOk result (terms.new.items ≡ terms.old.items ++ terms_at point done rig) }
     ensures done { IfOk result (λ next. next ≡ done_after point done rig) }
@@ -65,6 +68,7 @@ fn push_at(terms: &mut Vec<Term>, point: u32, done: u32, rig: Rig) -> Result<u32
 /// Adds the chain of the point of this number, for rigged hits that ascend.
 ///
 /// An error means that memory was refused. A part of the chain may have been added then.
+#[inline(always)]
 pub fn push_chain(terms: &mut Vec<Term>, point: u32, rigs: &[Rig]) -> Result<(), AllocError>
     ensures { OnOk result (terms.new.items ≡ terms.old.items ++ chain_from point 0 rigs.now) }
 {
@@ -114,9 +118,9 @@ fn layout_of<'a>(
     for point in 0..catalogue.len() {
         let (chain, behind) = rest.split_at(sizes[point]);
         let here = Found::of(chain, left.len());
-        add_counts(&mut left, chain)?;
-        heads.push(head_of(here))?;
-        found.push(here)?;
+        push_counts(&mut left, chain);
+        heads.push_reserved(head_of(here));
+        found.push_reserved(here);
         rest = behind;
     }
     Ok(Layout { found, heads, left })

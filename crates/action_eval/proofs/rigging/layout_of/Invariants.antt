@@ -1,4 +1,4 @@
-use Rattle.std.proofs.Common.{◌≡◌, ◌++◌, drop, length, map, []}
+use Rattle.std.proofs.Common.{◌≡◌, ◌++◌, ◌+◌, ◌-◌, ◌≤◌, vec_len, vec_capacity, drop, length, map, []}
 use Rattle.action_eval.specs.Answers.{texts}
 use Rattle.action_eval.specs.Catalogue.{HasDistinct}
 use Rattle.action_eval.specs.inside.Session.{seen, found_of, head_of, left_counts}
@@ -8,6 +8,9 @@ use Rattle.action_eval.proofs.rigging.layout_of.Given as goal
 
 abbrev pub invariant-loop-point : goal.invariant-loop-point
 invariant-loop-point l = record {
+  found_room : vec_len l.found + (length l.catalogue - l.point) ≤ vec_capacity l.found;
+  heads_room : vec_len l.heads + (length l.catalogue - l.point) ≤ vec_capacity l.heads;
+  left_room : vec_len l.left + length l.rest ≤ vec_capacity l.left;
   distinct : HasDistinct (texts (drop l.point l.catalogue));
   are_sizes : AreSizes (texts (drop l.point l.catalogue)) (drop l.point l.sizes) l.rest;
   counts : l.left.items ++ left_counts [] (laid (texts (drop l.point l.catalogue)) (drop l.point l.sizes) l.rest) ≡ left_counts [] (laid (texts l.catalogue) l.sizes l.terms);
