@@ -1,7 +1,7 @@
 -- What is left of a chain when terms at its head that are spent are left out: it is tried as the whole is, and they stay spent.
 use Rattle.std.proofs.Common.{◌≡◌, ℕ, zero, suc, ◌+◌, ◌-◌, ◌<◌, ◌≤◌, ◌%◌, nat_lt, Bool, true, false, cond, eqb, ◌&&◌, List, [], ◌∷◌, ◌++◌, length, map, take, drop, get_or, slice_index, slice_set, slice_get, slice_range, Option, Some, None, option_map, is_some, IfSome, refl, ap, sym, ◌∙◌, arith, add-zero, zero-add, append_assoc, length-append, subst, get_or-take, get_or-drop}
 use Rattle.std.proofs.lemmas.Bool.Decides.{nat_tests}
-use Rattle.std.proofs.lemmas.List.{map-append}
+use Rattle.std.proofs.lemmas.List.{map-append, length-set}
 use Rattle.std.specs.Option.{option_map_or}
 use Rattle.scenario_values.specs.declared.term.Term.{Term}
 use Rattle.scenario_values.specs.declared.term.Task.TheVariants as task
@@ -174,6 +174,11 @@ pub after_stays : (left : List ℕ) (start : ℕ) (place : Option ℕ) → Stays
 after_stays left start None = λ j h. h
 after_stays left start (Some i) = λ j h. lower left (start + i) (slice_index left (start + i) - 1) j (omega arith) h
 
+-- and there are as many
+pub length_after : (left : List ℕ) (start : ℕ) (place : Option ℕ) → length (left_after left start place) ≡ length left
+length_after left start None = refl
+length_after left start (Some i) = length-set left (start + i) (slice_index left (start + i) - 1)
+
 spent_case : (b : Bool) (l l' : ℕ) → (b && eqb l 0) ≡ true → (l ≡ 0 → l' ≡ 0) → (b && eqb l' 0) ≡ true
 spent_case true l l' h f = let z : l ≡ 0 = grind (arith, nat_tests, h) in let z' = f z in grind (arith, nat_tests, z')
 spent_case false l l' h f = h
@@ -182,7 +187,7 @@ all_spent_stays : (left left' : List ℕ) (i : ℕ) (ts : List Term) → Stays l
 all_spent_stays left left' i [] s h = tt
 all_spent_stays left left' i (t ∷ ts) s h = (spent_case (is_some t.count) (slice_index left i) (slice_index left' i) h.0 (s i), all_spent_stays left left' (i + 1) ts s h.1)
 
-is_rest_stays : (left left' : List ℕ) (w r : Option (List Term × ℕ)) → Stays left left' → IsRest left w r → IsRest left' w r
+pub is_rest_stays : (left left' : List ℕ) (w r : Option (List Term × ℕ)) → Stays left left' → IsRest left w r → IsRest left' w r
 is_rest_stays left left' None None s h = tt
 is_rest_stays left left' None (Some r) s h = h
 is_rest_stays left left' (Some w) None s h = h

@@ -192,7 +192,7 @@ many s [] p h = absurd (omega arith)
 many s (n ∷ ns) zero h = omega arith
 many s (n ∷ ns) (suc p) h = omega (arith, many s ns p (omega arith))
 
-known_by : (r now : Run) (p : ℕ) → r ≡ now → p < length now.given.catalogue → p < length r.given.catalogue
+pub known_by : (r now : Run) (p : ℕ) → r ≡ now → p < length now.given.catalogue → p < length r.given.catalogue
 known_by r now p e h = subst (λ (x : Run). p < length x.given.catalogue) (sym e) h
 
 pub point_found : (r now : Run) (found : List (Option Found)) (left : List ℕ) (taken : ℕ) (notes : List Note) (millis : ℕ) (halt : Option Stop) → Keeps r (map seen found) left taken notes millis halt
@@ -237,22 +237,34 @@ pub point_some : (r now : Run) (found : List (Option Found)) (left : List ℕ) (
 point_some r now found left taken notes millis halt k same p h d o e f is =
     subst (λ (x : Option Found). IsRest left (found_of r.given.scenario (name_of r.given p)) (seen x)) is (point_found r now found left taken notes millis halt k same p h d o e)
 
--- and of what is left of that without its spent terms
-pub point_rest : (r now : Run) (found : List (Option Found)) (left : List ℕ) (taken : ℕ) (notes : List Note) (millis : ℕ) (halt : Option Stop) → Keeps r (map seen found) left taken notes millis halt
-    → r ≡ now → (p : ℕ) → p < length now.given.catalogue → (d o : Option Found) → o ≡ get_or found p d → (f : Found) → o ≡ Some f → (read : List ℕ) → read ≡ left → (g : Found) → Rest read (f.chain.now, f.start) (g.chain.now, g.start)
-    → IsRest left (found_of r.given.scenario (name_of r.given p)) (seen (Some g))
-point_rest r now found left taken notes millis halt k same p h d o e f is read read_is g rest =
-    rest_on left (found_of r.given.scenario (name_of r.given p)) (f.chain.now, f.start) (g.chain.now, g.start) (point_some r now found left taken notes millis halt k same p h d o e f is)
-    (subst (λ (l : List ℕ). Rest l (f.chain.now, f.start) (g.chain.now, g.start)) read_is rest)
-
 -- the rests, where that of a point is another one
-pub rests_after : (r now : Run) (found : List (Option Found)) (left : List ℕ) (taken : ℕ) (notes : List Note) (millis : ℕ) (halt : Option Stop) → Keeps r (map seen found) left taken notes millis halt
+rests_after : (r now : Run) (found : List (Option Found)) (left : List ℕ) (taken : ℕ) (notes : List Note) (millis : ℕ) (halt : Option Stop) → Keeps r (map seen found) left taken notes millis halt
     → r ≡ now → (p : ℕ) → p < length now.given.catalogue → (f : Option Found) → IsRest left (found_of r.given.scenario (name_of r.given p)) (seen f)
     → AreRests left (map (found_of r.given.scenario) r.given.catalogue) (map seen (slice_set found p f))
 rests_after r now found left taken notes millis halt k same p h f at =
     let s = r.given.scenario in
     rests_with left (map (found_of s) r.given.catalogue) found p None f k.found_is
     (subst (λ (o : Option (List Term × ℕ)). IsRest left o (seen f)) (sym (entry_at s r.given.catalogue p None (known_by r now p same h))) at)
+
+-- the fields after a hit of a point, where terms that are spent then are left out of what is left of its chain
+pub keeps_rest : (r : Run) (p : ℕ) (found : List (Option Found)) (left : List ℕ) (taken : ℕ) (notes : List Note) (millis : ℕ) (halt : Option Stop) → Keeps r (map seen found) left taken notes millis halt
+    → p < length r.given.catalogue → (f g : Found) → IsRest left (found_of r.given.scenario (name_of r.given p)) (seen (Some f)) → (read : List ℕ) → read ≡ left → Rest read (f.chain.now, f.start) (g.chain.now, g.start)
+    → Keeps r (map seen (slice_set found p (Some g))) left taken notes millis halt
+keeps_rest r p found left taken notes millis halt k h f g at read read_is rest =
+    let less = rest_on left (found_of r.given.scenario (name_of r.given p)) (f.chain.now, f.start) (g.chain.now, g.start) at
+    (subst (λ (l : List ℕ). Rest l (f.chain.now, f.start) (g.chain.now, g.start)) read_is rest) in
+    record {
+      scenario = k.scenario;
+      found_is = rests_after r r found left taken notes millis halt k refl p h (Some g) less;
+      left_is = k.left_is;
+      taken_is = k.taken_is;
+      notes_are = k.notes_are;
+      millis_are = k.millis_are;
+      stop_is = k.stop_is;
+      few_hits = k.few_hits;
+      few_words = k.few_words;
+      few_millis = k.few_millis;
+    }
 
 -- what is known of a session's value is known of the run that its fields keep
 pub room_of : (r now : Run) → r ≡ now → length now.hits < now.given.limit → length r.hits < r.given.limit

@@ -284,7 +284,6 @@ impl<'a> Session<'a> {
             self.hits.push(point)?;
             return Ok(Answer::Go);
         };
-        let found = without_spent(found, &self.left);
         self.hit_chain(point, found)
     }
 
@@ -311,6 +310,7 @@ impl<'a> Session<'a> {
             return Err(refused);
         }
         spend(&mut self.left, found.start, place);
+        let found = without_spent(found, &self.left);
         self.found[point as usize] = Some(found);
         self.heads[point as usize] = head_of(Some(found));
         self.millis += u64::from(millis_of(task));

@@ -1,6 +1,6 @@
 use Rattle.std.proofs.Common.{ap, ◌∙◌, arith}
 use Rattle.action_eval.specs.Answers.{stopped, reply_to}
-use Rattle.action_eval.proofs.Steps.{point_none, point_some, point_rest, known_found, rest_by_point, finds_none, keeps_idle, reply_found, found_within, room_of}
+use Rattle.action_eval.proofs.Steps.{point_none, point_some, known_found, rest_by_point, finds_none, keeps_idle, reply_found, room_of}
 use Rattle.action_eval.proofs.CallerLemmas.{told_by, goes_by}
 use Rattle.action_eval.proofs.session.Session.hit_terms.Goals as goal
 
@@ -29,15 +29,8 @@ returns-in_default-clause-goes_on c = goes_by _ _ c.args.point _ _ c.self.view_i
 
 -- ---- a point with one
 
-pub without_spent-found-requires : goal.without_spent-found-requires
-without_spent-found-requires c =
-    let k = c.self.invariant.0 in
-    let had = point_some _ _ _ _ _ _ _ _ k c.self.view_is c.args.point c.requires.known _ _ c.index.ensures c.in-Some.found c.in-Some.is in
-    let f = found_within _ _ _ _ _ _ _ k _ _ _ had in
-    omega (arith, f.0, c.deref.ensures.len)
-
 pub hit_chain-requires-clause-chain : goal.hit_chain-requires-clause-chain
 hit_chain-requires-clause-chain c =
     let k = c.self.invariant.0 in
-    let rest = point_rest _ _ _ _ _ _ _ _ k c.self.view_is c.args.point c.requires.known _ _ c.index.ensures c.in-Some.found c.in-Some.is _ c.deref.ensures.value c.without_spent-found.result c.without_spent-found.ensures.rest in
-    rest_by_point _ _ _ _ _ _ _ _ k c.self.view_is c.args.point _ rest
+    let had = point_some _ _ _ _ _ _ _ _ k c.self.view_is c.args.point c.requires.known _ _ c.index.ensures c.in-Some.found c.in-Some.is in
+    rest_by_point _ _ _ _ _ _ _ _ k c.self.view_is c.args.point _ had
