@@ -4,7 +4,7 @@ ghost use Rattle.sim_device.specs.FileEffects.{Effect};
 ghost use Rattle.sim_device.specs.Disk.{StandsFor, entry_at};
 ghost use Rattle.maildir_target.specs.Steps.{Looking, Creating, Syncing, Linking, Unlinking, SyncingDir, Cleaning};
 ghost use Rattle.maildir_target.specs.Steps.{first_step, created_by, after_create, after_sync, after_link};
-ghost use Rattle.maildir_target.specs.inside.Seen.{tmp_of_delivery, CanCreate, IsAt, HasEnded, Leads, Delivers};
+ghost use Rattle.maildir_target.specs.inside.Seen.{IsNamed, tmp_of_delivery, CanCreate, IsAt, HasEnded, Leads, Delivers};
 
 use crate::delivery::Delivery;
 use crate::disk::{create, link, sync, unlink};
@@ -19,6 +19,7 @@ use target_trait::{Answer, Session};
 
 /// Takes the name under `tmp/` away after a failure. The attempt has failed, whether the name is gone or not.
 pub fn clean_up(delivery: &Delivery<'_>, mailbox: &mut Mailbox, session: &mut Session<'_>) -> Ended
+    requires named { IsNamed delivery.now }
     requires at { IsAt delivery.now session.old mailbox.old Cleaning }
     ensures ended { HasEnded delivery.now session.new mailbox.new result }
     ensures given { session.new.given ≡ session.old.given }
@@ -40,6 +41,7 @@ fn stat(
     mailbox: &mut Mailbox,
     session: &mut Session<'_>,
 ) -> Result<(), Ended>
+    requires named { IsNamed delivery.now }
     requires at { IsAt delivery.now session.old mailbox.old Looking }
     ensures leads { Leads delivery.now session.new mailbox.new Creating result }
     ensures given { session.new.given ≡ session.old.given }
@@ -62,6 +64,7 @@ fn look(
     mailbox: &mut Mailbox,
     session: &mut Session<'_>,
 ) -> Result<(), Ended>
+    requires named { IsNamed delivery.now }
     requires at { IsAt delivery.now session.old mailbox.old (first_step delivery.now.variant) }
     ensures leads { Leads delivery.now session.new mailbox.new Creating result }
     ensures given { session.new.given ≡ session.old.given }
@@ -76,7 +79,8 @@ fn look(
 
 /// A new file, or with append_tmp the one that is there.
 fn create_by(delivery: &Delivery<'_>, device: &mut FileDevice) -> Result<(), AllocError>
-    requires { CanCreate delivery.now.variant (entry_at device.old.names (tmp_of_delivery delivery.now)).live }
+    requires named { IsNamed delivery.now }
+    requires ready { CanCreate delivery.now.variant (entry_at device.old.names (tmp_of_delivery delivery.now)).live }
     ensures { OnOk result ((es : List Effect) → StandsFor device.old es →
         StandsFor device.new (created_by delivery.now.variant (tmp_of_delivery delivery.now) es)) }
 {
@@ -99,6 +103,7 @@ fn create_file(
     mailbox: &mut Mailbox,
     session: &mut Session<'_>,
 ) -> Result<(), Ended>
+    requires named { IsNamed delivery.now }
     requires at { IsAt delivery.now session.old mailbox.old Creating }
     ensures leads { Leads delivery.now session.new mailbox.new (after_create delivery.now.variant delivery.now.chunks.now) result }
     ensures given { session.new.given ≡ session.old.given }
@@ -119,6 +124,7 @@ fn sync_file(
     mailbox: &mut Mailbox,
     session: &mut Session<'_>,
 ) -> Result<(), Ended>
+    requires named { IsNamed delivery.now }
     requires at { IsAt delivery.now session.old mailbox.old Syncing }
     ensures leads { Leads delivery.now session.new mailbox.new (after_sync delivery.now.variant) result }
     ensures given { session.new.given ≡ session.old.given }
@@ -139,6 +145,7 @@ fn link_new(
     mailbox: &mut Mailbox,
     session: &mut Session<'_>,
 ) -> Result<(), Ended>
+    requires named { IsNamed delivery.now }
     requires at { IsAt delivery.now session.old mailbox.old Linking }
     ensures leads { Leads delivery.now session.new mailbox.new (after_link delivery.now.variant delivery.now.chunks.now) result }
     ensures given { session.new.given ≡ session.old.given }
@@ -162,6 +169,7 @@ fn remove(
     mailbox: &mut Mailbox,
     session: &mut Session<'_>,
 ) -> Result<(), Ended>
+    requires named { IsNamed delivery.now }
     requires at { IsAt delivery.now session.old mailbox.old Unlinking }
     ensures leads { Leads delivery.now session.new mailbox.new SyncingDir result }
     ensures given { session.new.given ≡ session.old.given }
@@ -205,6 +213,7 @@ fn fill(
     mailbox: &mut Mailbox,
     session: &mut Session<'_>,
 ) -> Result<(), Ended>
+    requires named { IsNamed delivery.now }
     requires at { IsAt delivery.now session.old mailbox.old (after_create delivery.now.variant delivery.now.chunks.now) }
     ensures leads { Leads delivery.now session.new mailbox.new Unlinking result }
     ensures given { session.new.given ≡ session.old.given }
@@ -229,6 +238,7 @@ pub fn attempt(
     mailbox: &mut Mailbox,
     session: &mut Session<'_>,
 ) -> Result<(), Ended>
+    requires named { IsNamed delivery.now }
     requires at { IsAt delivery.now session.old mailbox.old (first_step delivery.now.variant) }
     ensures delivers { Delivers delivery.now session.new mailbox.new result }
     ensures given { session.new.given ≡ session.old.given }

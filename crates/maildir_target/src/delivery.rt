@@ -1,6 +1,7 @@
 ghost use Rattle.std.specs.Prelude.{◌≡◌};
 ghost use Rattle.maildir_target.specs.Steps.{named_by};
-ghost use Rattle.maildir_target.specs.inside.Seen.{tmp_of_delivery, new_of_delivery};
+ghost use Rattle.maildir_target.specs.Words.{tmp_name};
+ghost use Rattle.maildir_target.specs.inside.Seen.{IsNamed, tmp_of_delivery, new_of_delivery};
 
 use crate::messages::Messages;
 use crate::name::{Attempt, Folder, Name};
@@ -19,6 +20,8 @@ pub struct Delivery<'w> {
     pub chunks: &'w Chunks,
     // the messages after it
     pub rest: &'w [Chunks],
+    // its name under `tmp/`, which most of its steps use
+    pub tmp: u32,
 }
 
 /// The attempt whose names an attempt uses.
@@ -31,17 +34,25 @@ fn named_by(variant: Variant, attempt: Attempt) -> Attempt
     }
 }
 
+/// The name under `tmp/` of an attempt at a message.
+pub fn tmp_of(variant: Variant, message: u16, attempt: Attempt) -> u32
+    ensures { result ≡ tmp_name message (named_by variant attempt) }
+{
+    let name = Name {
+        folder: Folder::Tmp,
+        message,
+        attempt: named_by(variant, attempt),
+    };
+    name.number()
+}
+
 impl Delivery<'_> {
     /// The name under `tmp/`.
     pub fn tmp(&self) -> u32
+        requires { IsNamed self.now }
         ensures { result ≡ tmp_of_delivery self.now }
     {
-        let name = Name {
-            folder: Folder::Tmp,
-            message: self.message,
-            attempt: named_by(self.variant, self.attempt),
-        };
-        name.number()
+        self.tmp
     }
 
     /// The name under `new/`.

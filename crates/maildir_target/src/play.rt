@@ -5,10 +5,10 @@ ghost use Rattle.target_trait.specs.Play.{IsPlay};
 ghost use Rattle.maildir_target.specs.declared.name.Attempt.TheVariants.{First};
 ghost use Rattle.maildir_target.specs.Words.{point_names};
 ghost use Rattle.maildir_target.specs.Steps.{asks_of, first_step};
-ghost use Rattle.maildir_target.specs.inside.Seen.{IsAt, IsBetween, HasLeft, IsOver};
+ghost use Rattle.maildir_target.specs.inside.Seen.{IsNamed, IsAt, IsBetween, HasLeft, IsOver};
 
 use crate::attempt::attempt;
-use crate::delivery::Delivery;
+use crate::delivery::{Delivery, tmp_of};
 use crate::ended::Ended;
 use crate::judge::judge;
 use crate::mailbox::Mailbox;
@@ -25,6 +25,7 @@ fn deliver(
     session: &mut Session<'_>,
 ) -> Result<(), Ended>
     requires first { first.now.attempt ≡ First }
+    requires named { IsNamed first.now }
     requires at { IsAt first.now session.old mailbox.old (first_step first.now.variant) }
     ensures leaves { MatchResult result (λ _. IsBetween first.now.variant first.now.messages.now session.new mailbox.new first.now.message first.now.rest.now)
         (λ e. HasLeft first.now session.new mailbox.new e) }
@@ -34,6 +35,7 @@ fn deliver(
         Err(Ended::Failed) => {
             let second = Delivery {
                 attempt: Attempt::Second,
+                tmp: tmp_of(first.variant, first.message, Attempt::Second),
                 ..*first
             };
             attempt(&second, mailbox, session)
@@ -65,6 +67,7 @@ fn deliver_all(
             attempt: Attempt::First,
             chunks,
             rest,
+            tmp: tmp_of(variant, message, Attempt::First),
         };
         match deliver(&first, mailbox, session) {
             Ok(()) | Err(Ended::Failed) => {}

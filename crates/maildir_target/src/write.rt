@@ -1,7 +1,7 @@
 //! The writes of an attempt.
 ghost use Rattle.std.specs.Prelude.{◌≡◌, ◌≤◌, ◌<◌, ◌+◌, [], length, drop, slice_index_or, IfOk, MatchResult};
 ghost use Rattle.maildir_target.specs.Steps.{Writing, Syncing, write_step, after_half};
-ghost use Rattle.maildir_target.specs.inside.Seen.{IsAt, HasEnded, Leads};
+ghost use Rattle.maildir_target.specs.inside.Seen.{IsNamed, IsAt, HasEnded, Leads};
 
 use crate::attempt::clean_up;
 use crate::delivery::Delivery;
@@ -19,6 +19,7 @@ fn go_on(
     mailbox: &mut Mailbox,
     session: &mut Session<'_>,
 ) -> Result<(), Ended>
+    requires named { IsNamed delivery.now }
     requires at { IsAt delivery.now session.old mailbox.old (after_half delivery.now.variant (drop (at + 1) delivery.now.chunks.now)) }
     ensures leads { Leads delivery.now session.new mailbox.new (write_step (drop (at + 1) delivery.now.chunks.now)) result }
     ensures given { session.new.given ≡ session.old.given }
@@ -39,6 +40,7 @@ fn write_one(
     session: &mut Session<'_>,
 ) -> Result<(), Ended>
     requires place { at < length delivery.now.chunks.now }
+    requires named { IsNamed delivery.now }
     requires at { IsAt delivery.now session.old mailbox.old (Writing (slice_index_or delivery.now.chunks.now at []) (drop (at + 1) delivery.now.chunks.now)) }
     ensures leads { Leads delivery.now session.new mailbox.new (write_step (drop (at + 1) delivery.now.chunks.now)) result }
     ensures given { session.new.given ≡ session.old.given }
@@ -64,6 +66,7 @@ fn write_some(
     session: &mut Session<'_>,
 ) -> Result<usize, Ended>
     requires place { at < length delivery.now.chunks.now }
+    requires named { IsNamed delivery.now }
     requires at { IsAt delivery.now session.old mailbox.old (write_step (drop at delivery.now.chunks.now)) }
     ensures within { IfOk result (λ next. next ≤ length delivery.now.chunks.now) }
     ensures nearer { IfOk result (λ next. at < next) }
@@ -91,6 +94,7 @@ pub fn write_all(
     mailbox: &mut Mailbox,
     session: &mut Session<'_>,
 ) -> Result<(), Ended>
+    requires named { IsNamed delivery.now }
     requires at { IsAt delivery.now session.old mailbox.old (write_step delivery.now.chunks.now) }
     ensures leads { Leads delivery.now session.new mailbox.new Syncing result }
     ensures given { session.new.given ≡ session.old.given }

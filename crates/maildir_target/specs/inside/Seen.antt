@@ -40,6 +40,10 @@ tmp_of_delivery a = tmp_name a.message (named_by a.variant a.attempt)
 abbrev pub new_of_delivery : Delivery → ℕ
 new_of_delivery a = new_name a.message (named_by a.variant a.attempt)
 
+-- it keeps the number of its name under `tmp/`
+abbrev pub IsNamed : Delivery → Type 0
+IsNamed a = a.tmp ≡ tmp_of_delivery a
+
 -- a file can be created, by the file that the name under `tmp/` leads to: append_tmp needs nothing
 abbrev pub CanCreate : Variant → Option ℕ → Type 0
 CanCreate Sound tmp = is_some tmp ≡ false

@@ -6,8 +6,7 @@ use Rattle.maildir_target.specs.inside.Seen.{tally_at}
 use Rattle.maildir_target.proofs.attempt.clean_up.Goals as goal
 
 pub unlink-requires : goal.unlink-requires
-unlink-requires c =
-    ready_now _ _ _ _ _ c.requires.at
+unlink-requires c = record { named = c.requires.named; there = ready_now _ _ _ _ _ c.requires.at }
 
 pub returns-in-Ok-Go-clause-ended : goal.returns-in-Ok-Go-clause-ended
 returns-in-Ok-Go-clause-ended c =

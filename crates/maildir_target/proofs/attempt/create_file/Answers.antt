@@ -4,8 +4,7 @@ use Rattle.maildir_target.proofs.Readying.{ready_now}
 use Rattle.maildir_target.proofs.attempt.create_file.Goals as goal
 
 pub create_by-requires : goal.create_by-requires
-create_by-requires c =
-    ready_now _ _ _ _ _ c.requires.at
+create_by-requires c = record { named = c.requires.named; ready = ready_now _ _ _ _ _ c.requires.at }
 
 pub returns-in_ok-create_by-in-Go-clause-leads : goal.returns-in_ok-create_by-in-Go-clause-leads
 returns-in_ok-create_by-in-Go-clause-leads c =

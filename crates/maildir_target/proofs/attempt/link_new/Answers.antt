@@ -9,6 +9,7 @@ pub clean_up-requires : goal.clean_up-requires
 clean_up-requires c =
     let there : is_some (entry_at c.args.mailbox.now.device.names (new_of_delivery c.args.delivery.now)).live ≡ true = cc in
     record {
+      named = c.requires.named;
       at = played_go _ c.requires.at refl _ c.in_ok-hit.ensures.ok _ c.in-Go.is c.in_ok-hit.ensures.told c.in_ok-hit.ensures.goes_on _ _
           (λ es k. shows_linked _ _ _ _ true there es k k);
     }
@@ -20,6 +21,7 @@ link-requires-clause-from c =
 pub clean_up-requires-in-Return : goal.clean_up-requires-in-Return
 clean_up-requires-in-Return c =
     record {
+      named = c.requires.named;
       at = played_return _ c.requires.at refl _ c.in_ok-hit.ensures.ok _ _ c.in-Return.is c.in_ok-hit.ensures.told c.in_ok-hit.ensures.goes_on _ _
           (λ es k. record { tally = refl; device = k });
     }

@@ -4,8 +4,7 @@ use Rattle.maildir_target.proofs.Readying.{ready_now}
 use Rattle.maildir_target.proofs.attempt.remove.Goals as goal
 
 pub unlink-requires : goal.unlink-requires
-unlink-requires c =
-    ready_now _ _ _ _ _ c.requires.at
+unlink-requires c = record { named = c.requires.named; there = ready_now _ _ _ _ _ c.requires.at }
 
 pub returns-in-Go-clause-leads : goal.returns-in-Go-clause-leads
 returns-in-Go-clause-leads c =

@@ -4,12 +4,12 @@ use Rattle.maildir_target.proofs.Readying.{ready_now}
 use Rattle.maildir_target.proofs.attempt.sync_file.Goals as goal
 
 pub sync-requires : goal.sync-requires
-sync-requires c =
-    ready_now _ _ _ _ _ c.requires.at
+sync-requires c = record { named = c.requires.named; there = ready_now _ _ _ _ _ c.requires.at }
 
 pub clean_up-requires : goal.clean_up-requires
 clean_up-requires c =
     record {
+      named = c.requires.named;
       at = played_return _ c.requires.at refl _ c.in_ok-hit.ensures.ok _ _ c.in-Return.is c.in_ok-hit.ensures.told c.in_ok-hit.ensures.goes_on _ _
           (λ es k. record { tally = refl; device = k });
     }

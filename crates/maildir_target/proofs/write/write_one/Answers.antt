@@ -5,14 +5,15 @@ use Rattle.maildir_target.proofs.Writing.{appends_as}
 use Rattle.maildir_target.proofs.write.write_one.Goals as goal
 
 pub append-requires : goal.append-requires
-append-requires c = ready_now _ _ _ _ _ c.requires.at
+append-requires c = record { named = c.requires.named; there = ready_now _ _ _ _ _ c.requires.at }
 
 pub append-requires-in-Return : goal.append-requires-in-Return
-append-requires-in-Return c = ready_now _ _ _ _ _ c.requires.at
+append-requires-in-Return c = record { named = c.requires.named; there = ready_now _ _ _ _ _ c.requires.at }
 
 pub go_on-requires : goal.go_on-requires
 go_on-requires c =
     record {
+      named = c.requires.named;
       at = played_return _ c.requires.at refl _ c.in_ok-hit.ensures.ok _ _ c.in-Return.is c.in_ok-hit.ensures.told c.in_ok-hit.ensures.goes_on _ _
           (λ es k. record { tally = refl; device = appends_as _ _ _ _ _ c.half.ensures c.in_ok-append-in-Return.ensures es k });
     }

@@ -7,12 +7,13 @@ use Rattle.maildir_target.proofs.write.write_some.Goals as goal
 
 pub append-requires : goal.append-requires
 append-requires c =
-    ready_now _ _ _ _ _ (at_chunk _ _ _ (tally_at c.args.delivery.now c.args.mailbox.now Over) _ _ _ c.requires.place c.requires.at)
+    let here = at_chunk _ _ _ (tally_at c.args.delivery.now c.args.mailbox.now Over) _ _ _ c.requires.place c.requires.at in
+    record { named = c.requires.named; there = ready_now _ _ _ _ _ here }
 
 pub write_one-requires : goal.write_one-requires
 write_one-requires c =
     let here = played_none c.requires.at _ _ c.if-passed-eq0.true _ c.in_ok-passed.ensures.ok in
-    record { place = c.requires.place; at = at_chunk _ _ _ (tally_at c.args.delivery.now c.args.mailbox.now Over) _ _ _ c.requires.place here }
+    record { place = c.requires.place; named = c.requires.named; at = at_chunk _ _ _ (tally_at c.args.delivery.now c.args.mailbox.now Over) _ _ _ c.requires.place here }
 
 pub returns-clause-leads : goal.returns-clause-leads
 returns-clause-leads c =
