@@ -1,8 +1,8 @@
 //! Faults rigged for hits of points, laid out for a session.
-ghost use Rattle.std.specs.Prelude.{◌≡◌, ◌++◌, [], ◌≤◌, ◌^◌, OnOk, OnErr, IfOk, length, map};
+ghost use Rattle.std.specs.Prelude.{◌≡◌, ◌-◌, ◌∷◌, ◌++◌, [], ◌≤◌, ◌^◌, OnOk, OnErr, IfOk, length, map};
 ghost use Rattle.action_eval.specs.Answers.{texts};
 ghost use Rattle.action_eval.specs.Catalogue.{IsCatalogue, HasDistinct};
-ghost use Rattle.action_eval.specs.Rigging.{term_of, rigged, terms_at, done_after, chain_from, rigging, CanBeRigged, rigged_as};
+ghost use Rattle.action_eval.specs.Rigging.{term_of, offs, terms_at, done_after, chain_from, rigging, CanBeRigged, rigged_as};
 ghost use Rattle.action_eval.specs.inside.Laid.{joined, sizes_of, laid, AreSizes};
 ghost use Rattle.scenario_values.specs.Scenario.{IsScenario};
 ghost use Rattle.action_eval.specs.inside.Layout.{IsLayout};
@@ -34,13 +34,13 @@ fn term_of(kind: Kind) -> Term
     }
 }
 
-/// Adds the terms of a rigged hit, after some hits of its point.
+/// Adds the terms of a rigged hit of this number and kind, after some hits of its point.
 // Most rigged hits that are walked are of other points; those are passed over within the loop.
 #[inline(never)]
-fn push_rigged(terms: &mut Vec<Term>, done: u32, rig: Rig) -> Result<(), AllocError>
-    ensures { OnOk result (terms.new.items ≡ terms.old.items ++ rigged done rig) }
+fn push_rigged(terms: &mut Vec<Term>, done: u32, hit: u32, kind: Kind) -> Result<(), AllocError>
+    ensures { OnOk result (terms.new.items ≡ terms.old.items ++ offs (hit - done - 1) ++ term_of kind ∷ []) }
 {
-    let between = rig.site.hit.saturating_sub(done).saturating_sub(1);
+    let between = hit.saturating_sub(done).saturating_sub(1);
     if between > 0 {
         terms.push(Term {
             share: FULL_SHARE,
@@ -48,20 +48,20 @@ fn push_rigged(terms: &mut Vec<Term>, done: u32, rig: Rig) -> Result<(), AllocEr
             task: Task::Off,
         })?;
     }
-    terms.push(term_of(rig.kind))?;
+    terms.push(term_of(kind))?;
     Ok(())
 }
 
 /// Adds what a rigged hit adds to the chain of a point, and gives the hits of the point after it.
 #[inline(always)]
-fn push_at(terms: &mut Vec<Term>, point: u32, done: u32, rig: Rig) -> Result<u32, AllocError>
-    ensures terms { OnOk result (terms.new.items ≡ terms.old.items ++ terms_at point done rig) }
-    ensures done { IfOk result (λ next. next ≡ done_after point done rig) }
+fn push_at(terms: &mut Vec<Term>, point: u32, done: u32, rig: &Rig) -> Result<u32, AllocError>
+    ensures terms { OnOk result (terms.new.items ≡ terms.old.items ++ terms_at point done rig.now) }
+    ensures done { IfOk result (λ next. next ≡ done_after point done rig.now) }
 {
     if rig.site.point != point {
         return Ok(done);
     }
-    push_rigged(terms, done, rig)?;
+    push_rigged(terms, done, rig.site.hit, rig.kind)?;
     Ok(rig.site.hit)
 }
 
@@ -74,7 +74,7 @@ pub fn push_chain(terms: &mut Vec<Term>, point: u32, rigs: &[Rig]) -> Result<(),
 {
     let mut done = 0;
     for rig in rigs {
-        done = push_at(terms, point, done, *rig)?;
+        done = push_at(terms, point, done, rig)?;
     }
     Ok(())
 }
