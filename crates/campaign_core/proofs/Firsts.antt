@@ -13,6 +13,9 @@ use Rattle.result_book.specs.FirstFailure.{FailsAt}
 use Rattle.result_book.specs.FirstFailures.{first_failures, AreFirstFailures}
 use Rattle.report.specs.Reports.{FindingFacts, ReportFacts}
 use Rattle.campaign_map.specs.Mapped.{Mapped}
+use Rattle.report.specs.ReportText.{text_of}
+use Rattle.report.specs.BriefText.{brief_lines}
+use Rattle.campaign_core.specs.Headline.{Campaign, census, plans, say, brief_report_text}
 use Rattle.campaign_core.specs.FaultTest.{fails_with}
 use Rattle.campaign_core.specs.Findings.{finding, reduced, reduction, report_of, IsFailure, ReducesToMinimal}
 use Rattle.campaign_core.proofs.Minimal.{reduced_minimal}
@@ -108,3 +111,11 @@ mapped_is say label census pairs plans name counts shown given vs firsts same_na
     ap (λ n. made n counts shown vs firsts) same_name ∙ ap (λ k. made label k shown vs firsts) same_counts ∙ ap (λ p. made label census p vs firsts) same_shown
     ∙ ap (λ v. made label census plans v firsts) (same ∙ ap (verdicts_from say 0) same_given)
     ∙ ap (made label census plans (verdicts_from say 0 plans)) (are ∙ ap (λ ps. first_failures (numbered (verdicts_from say 0 ps))) same_given)
+
+-- the brief text over the counts and plans of a campaign is the campaign's
+pub brief_is : (k : Campaign) (text counts : List ℕ) (ps : List Entries)
+    → text ≡ text_of (brief_lines k.points k.codes (report_of (say k) k.label k.plans.seed counts ps) ps) → counts ≡ census k → ps ≡ plans k
+    → text ≡ brief_report_text k
+brief_is k text counts ps told counted planned =
+    let of : List ℕ → List Entries → List ℕ = λ counts ps. text_of (brief_lines k.points k.codes (report_of (say k) k.label k.plans.seed counts ps) ps) in
+    told ∙ ap (λ counts. of counts ps) counted ∙ ap (of (census k)) planned

@@ -1,8 +1,8 @@
 -- A list of plans has room for few sites.
-use Rattle.std.proofs.Common.{◌≡◌, ℕ, ◌+◌, ◌*◌, ◌≤◌, cond, List, length, subst, sym, ◌∙◌, arith}
+use Rattle.std.proofs.Common.{◌≡◌, ℕ, ◌+◌, ◌*◌, ◌≤◌, cond, List, length, arith}
 use Rattle.plan_gen.specs.PlanList.{Asked, plan_list}
 use Rattle.plan_gen.specs.Census.{sites_of}
-use Rattle.plan_gen.specs.Counts.{total_of, pairs_count, plan_count}
+use Rattle.plan_gen.specs.Counts.{total_of, pairs_count}
 use Rattle.plan_gen.proofs.Counting.{plans_length, sites_length}
 
 -- each site makes plans of its own

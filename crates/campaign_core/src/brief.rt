@@ -12,7 +12,7 @@ ghost use Rattle.campaign_core.specs.Headline.{campaign_on, plans, brief_report_
 ghost use Rattle.campaign_core.specs.CommandTexts.{IsFault};
 
 use crate::ending::{CampaignFault, Ending};
-use crate::planned::planned;
+use crate::planned::{course_of, planned};
 use crate::results::run_course;
 use crate::running::report_over;
 use campaign_settings::Settings;
@@ -78,12 +78,8 @@ where
         IsFault c (brief_report_text c) (W.told sink.old) (W.told sink.new) (W.has_failed sink.new)) }
 {
     let (census, plans) = planned(alloc, target, workload, settings)?;
-    let course = Course {
-        workload,
-        plans: plans.as_slice(),
-        seed: settings.seed,
-        max_hits: settings.max_hits,
-    };
+    let plans = plans.as_slice();
+    let course = course_of(workload, plans, settings);
     let workers = settings.workers as usize;
     let counts = census.counts.as_slice();
     let (text, ending) = brief_over(rt, alloc, gate, target, &course, counts, workers)?;

@@ -1,11 +1,11 @@
-use Rattle.std.proofs.Common.{◌≡◌, ℕ, List, length, ap, ◌∙◌, refl, All, subst}
+use Rattle.std.proofs.Common.{ℕ, length, ap, ◌∙◌, refl, All, subst}
 use Rattle.scenario_values.specs.Scenario.{Entries}
 use Rattle.target_trait.specs.declared.judgement.Verdict.{Verdict}
 use Rattle.target_trait.specs.Outcomes.{verdict_with}
 use Rattle.result_book.proofs.SlotLemmas.{length_verdicts}
 use Rattle.report.specs.ReportText.{text_of}
 use Rattle.report.specs.BriefText.{brief_lines}
-use Rattle.report.specs.Reports.{FindingFacts, ReportFacts}
+use Rattle.report.specs.Reports.{ReportFacts}
 use Rattle.campaign_core.specs.Findings.{ReducesToMinimal}
 use Rattle.campaign_core.proofs.Firsts.{first_is}
 use Rattle.campaign_core.proofs.brief.brief_over.Goals as goal

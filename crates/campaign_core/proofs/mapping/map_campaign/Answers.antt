@@ -1,12 +1,10 @@
-use Rattle.std.proofs.Common.{◌≡◌, ◌≤◌, ℕ, List, length, ap, sym, subst, ◌∙◌, arith}
+use Rattle.std.proofs.Common.{◌≤◌, ℕ, List, length, ap, sym, subst, ◌∙◌, arith}
 use Rattle.scenario_values.specs.Scenario.{Entries}
 use Rattle.target_trait.specs.declared.judgement.Verdict.{Verdict}
 use Rattle.target_trait.specs.Outcomes.{verdict_with}
 use Rattle.plan_gen.specs.Census.{sites_of}
-use Rattle.campaign_map.specs.Mapped.{Mapped}
-use Rattle.campaign_map.specs.Map.{map_text}
-use Rattle.campaign_core.specs.Headline.{Campaign, campaign_on, census, plans}
-use Rattle.campaign_core.proofs.Firsts.{first_is, mapped_is}
+use Rattle.campaign_core.specs.Headline.{Campaign, campaign_on, census}
+use Rattle.campaign_core.proofs.Firsts.{first_is}
 use Rattle.campaign_core.proofs.Sites.{few_sites}
 use Rattle.campaign_core.proofs.mapping.map_campaign.Goals as goal
 
