@@ -147,8 +147,9 @@ pub fn add_storms<'a>(
     requires few { length sites.now ≤ most_plans }
     ensures { OnOk result (plans.new.items ≡ plans.old.items ++ storm_part (texts catalogue.now) seed rate storms sites.now) }
 {
+    let mut drawn = Vec::new(alloc);
     for number in 0..storms {
-        let rigs = storm(alloc, seed, rate, sites, number)?;
+        let rigs = storm(alloc, &mut drawn, seed, rate, sites, number)?;
         add_plan(plans, catalogue, Rigs::Many(rigs))?;
     }
     Ok(())

@@ -48,14 +48,16 @@ fn storm_kind(word: u32) -> Kind
     }
 }
 
-/// Adds a site that its word takes, while fewer than the most are taken.
-fn draw(rigs: &mut Vec<Rig>, rate: u32, word: u32, site: Site) -> Result<(), AllocError>
-    ensures drawn { OnOk result (rigs.new.items ≡ rigs.old.items
-        ++ (if nat_lt (word % 1000) rate && nat_lt (length rigs.old.items) most_rigs then rig site (storm_kind word) ∷ [] else [])) }
+/// Adds a site that is taken, while fewer than the most are.
+// Few sites are taken. The loop over the words stays small, as this is a call.
+#[inline(never)]
+fn add_taken(rigs: &mut Vec<Rig>, word: u32, site: Site) -> Result<(), AllocError>
+    ensures drawn { OnOk result (rigs.new.items
+        ≡ rigs.old.items ++ (if nat_lt (length rigs.old.items) most_rigs then rig site (storm_kind word) ∷ [] else [])) }
     ensures few { OnOk result (length rigs.old.items ≤ most_rigs → length rigs.new.items ≤ most_rigs) }
     ensures small { OnOk result (AllByRecursion (λ r. r.site.hit < 2 ^ 32) rigs.old.items → AllByRecursion (λ r. r.site.hit < 2 ^ 32) rigs.new.items) }
 {
-    if word % 1000 < rate && rigs.len() < MOST_SITES {
+    if rigs.len() < MOST_SITES {
         rigs.push(Rig {
             site,
             kind: storm_kind(word),
@@ -64,10 +66,46 @@ fn draw(rigs: &mut Vec<Rig>, rate: u32, word: u32, site: Site) -> Result<(), All
     Ok(())
 }
 
-/// The rigged hits of a storm: each site takes a word, also after the most are taken.
+/// Adds a site that its word takes, while fewer than the most are taken.
+#[inline(always)]
+fn draw(rigs: &mut Vec<Rig>, rate: u32, word: u32, site: &Site) -> Result<(), AllocError>
+    ensures drawn { OnOk result (rigs.new.items ≡ rigs.old.items
+        ++ (if nat_lt (word % 1000) rate && nat_lt (length rigs.old.items) most_rigs then rig site.now (storm_kind word) ∷ [] else [])) }
+    ensures few { OnOk result (length rigs.old.items ≤ most_rigs → length rigs.new.items ≤ most_rigs) }
+    ensures small { OnOk result (AllByRecursion (λ r. r.site.hit < 2 ^ 32) rigs.old.items → AllByRecursion (λ r. r.site.hit < 2 ^ 32) rigs.new.items) }
+{
+    if word % 1000 < rate {
+        return add_taken(rigs, word, *site);
+    }
+    Ok(())
+}
+
+/// Draws the rigged hits of a storm, in place of what stood there: each site takes a word, also after the most are taken.
 #[tactic(auto, unfolding(crate::specs::PlanList::storm))]
+fn draw_storm(
+    rigs: &mut Vec<Rig>,
+    seed: u64,
+    rate: u32,
+    sites: &[Site],
+    number: u32,
+) -> Result<(), AllocError>
+    requires { length sites.now ≤ most_plans }
+    ensures rigs { OnOk result (rigs.new.items ≡ storm seed rate sites.now number) }
+    ensures few { OnOk result (length rigs.new.items ≤ most_rigs) }
+    ensures small { OnOk result (AllByRecursion (λ r. r.site.hit < 2 ^ 32) rigs.new.items) }
+{
+    let mut rng = generator(seed, FIRST_STREAM + u64::from(number));
+    rigs.clear();
+    for site in sites {
+        draw(rigs, rate, rng.next_word(), site)?;
+    }
+    Ok(())
+}
+
+/// The rigged hits of a storm, drawn in a vector that serves storm after storm, so that each takes only the room that it needs.
 pub fn storm(
     alloc: Global,
+    drawn: &mut Vec<Rig>,
     seed: u64,
     rate: u32,
     sites: &[Site],
@@ -78,10 +116,6 @@ pub fn storm(
     ensures few { IfOk result (λ rigs. length rigs.items ≤ most_rigs) }
     ensures small { IfOk result (λ rigs. AllByRecursion (λ r. r.site.hit < 2 ^ 32) rigs.items) }
 {
-    let mut rng = generator(seed, FIRST_STREAM + u64::from(number));
-    let mut rigs = Vec::new(alloc);
-    for site in sites {
-        draw(&mut rigs, rate, rng.next_word(), *site)?;
-    }
-    Ok(rigs)
+    draw_storm(drawn, seed, rate, sites, number)?;
+    Vec::from_slice(alloc, drawn.as_slice())
 }

@@ -4,7 +4,7 @@ use Rattle.rand_chacha.specs.ChaCha.{ChaCha, word_at}
 use Rattle.action_eval.specs.Words.{at_word}
 use Rattle.action_eval.specs.declared.rig.Rig.{Rig}
 use Rattle.plan_gen.proofs.StormLemmas.{storm_next, storm_is, storm_whole}
-use Rattle.plan_gen.proofs.storms.storm.Goals as goal
+use Rattle.plan_gen.proofs.storms.draw_storm.Goals as goal
 
 pub loop-site-init : goal.loop-site-init
 unfolding at_word
@@ -14,9 +14,9 @@ loop-site-init c =
       key = refl;
       stream = refl;
       place = ap (λ (g : ChaCha). g.word_pos) c.generator-rng.ensures;
-      small = subst (λ (l : List Rig). AllByRecursion (λ (r : Rig). r.site.hit < 2 ^ 32) l) (sym c.new-rigs.ensures.items) tt;
-      few = omega (arith, ap (λ (l : List Rig). length l) c.new-rigs.ensures.items);
-      built = c.new-rigs.ensures.items;
+      small = subst (λ (l : List Rig). AllByRecursion (λ (r : Rig). r.site.hit < 2 ^ 32) l) (sym c.clear.ensures.items) tt;
+      few = omega (arith, ap (λ (l : List Rig). length l) c.clear.ensures.items);
+      built = c.clear.ensures.items;
     }
 
 pub loop-site-preserved : goal.loop-site-preserved
