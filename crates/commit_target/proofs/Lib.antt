@@ -9,3 +9,6 @@ pub mod Sets
 pub mod Playing
 pub mod Batches
 pub mod Rounds
+pub mod Rows
+pub mod First
+pub mod Fronts

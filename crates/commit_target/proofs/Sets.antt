@@ -1,10 +1,12 @@
 -- Sets of transactions, kept as the bits of a word.
-use Rattle.std.proofs.Common.{◌≡◌, ℕ, zero, suc, ◌+◌, ◌-◌, ◌*◌, ◌^◌, ◌%◌, ◌<◌, ◌≤◌, ◌==◌, max, min, Bool, true, false, cond, List, length, take, set, get_or, ◌||◌, ◌&&◌, not, bit_or, bit_and, refl, ap, sym, ◌∙◌, arith, inl, inr}
+use Rattle.std.proofs.Common.{◌≡◌, ℕ, zero, suc, ◌+◌, ◌-◌, ◌*◌, ◌^◌, ◌%◌, ◌<◌, ◌≤◌, ◌==◌, max, min, Bool, true, false, cond, List, [], ◌∷◌, ◌++◌, length, take, set, get_or, ◌||◌, ◌&&◌, not, bit_or, bit_and, refl, ap, sym, subst, ◌∙◌, arith, inl, inr}
 use Rattle.std.specs.Int.{bit_at, bit_not, w64}
 use Rattle.std.proofs.lemmas.Bool.{eq-eqb, ne_eqb, cases_eq}
 use Rattle.std.proofs.lemmas.Nat.{one_shl}
 use Rattle.std.proofs.lemmas.Nat.Bits.{bit_at-lt, bit_at_or, bit_at_and, bit_at_not, bit_at-pow_same, bit_at-pow_other}
 use Rattle.std.proofs.lemmas.List.{get_or-set_same, get_or-set_other}
+use Rattle.std.proofs.lemmas.List.{length-append}
+use Rattle.std.proofs.Math.Seq.{get_or-append_seam, take-append_seam, take-append-add}
 use Rattle.std.proofs.lemmas.List.Folds.{list_any_more}
 use Rattle.commit_target.specs.declared.records.Record.{Record}
 use Rattle.commit_target.specs.declared.records.Kind.{Kind}
@@ -120,6 +122,22 @@ one_mark sets log first i d one four_sets within marks is kind k h =
     or_none : (b : Bool) → b ≡ (b || false)
     or_none true = refl
     or_none false = refl
+
+-- the same, of a log with one record more
+pub mark_added : (sets : List ℕ) (log : List Record) (first : ℕ) (r : Record) (one : ℕ) → length sets ≡ 4 → AreMarks sets log first
+    → ((k : ℕ) → k < 64 → among one k ≡ (r.transaction == first + k))
+    → AreMarks (set sets (place_of r.kind) (bit_or (get_or sets (place_of r.kind) 0) one)) (log ++ r ∷ []) first
+mark_added sets log first r one four_sets marks is =
+    let more : List Record = log ++ r ∷ [] in
+    let at : ℕ = length log in
+    let there : get_or more at r ≡ r = get_or-append_seam log r [] r in
+    let all : take (at + 1) more ≡ more = take-append-add log (r ∷ []) 1 in
+    let within : at < length more = omega (arith, length-append log (r ∷ [])) in
+    subst (λ (l : List Record). AreMarks (set sets (place_of r.kind) (bit_or (get_or sets (place_of r.kind) 0) one)) l first) all
+    (subst (λ (x : Record). AreMarks (set sets (place_of x.kind) (bit_or (get_or sets (place_of x.kind) 0) one)) (take (at + 1) more) first) there
+    (one_mark sets more first at r one four_sets within
+    (subst (λ (l : List Record). AreMarks sets l first) (sym (take-append_seam log (r ∷ []))) marks)
+    (λ k h. is k h ∙ ap (λ (x : Record). x.transaction == first + k) (sym there))))
 
 pub one_told : (told : List ℕ) (first i one s : ℕ) → i < length told → ((k : ℕ) → k < 64 → among s k ≡ was_told (take i told) (first + k))
     → ((k : ℕ) → k < 64 → among one k ≡ (get_or told i 0 == first + k)) → (k : ℕ) → k < 64 → among (bit_or s one) k ≡ was_told (take (i + 1) told) (first + k)

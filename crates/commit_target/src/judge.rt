@@ -59,10 +59,7 @@ impl Ends {
         let mut committed_by = 0;
         let mut aborted_by = 0;
         for participant in 0..participants {
-            let ends = committed(
-                &coordinator,
-                &Marks::of(logs.participant(participant), first),
-            );
+            let ends = committed(&coordinator, &logs.participant(participant, first));
             committed_by |= ends;
             aborted_by |= !ends;
         }

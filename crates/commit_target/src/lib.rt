@@ -6,6 +6,7 @@ mod cut;
 mod judge;
 mod laws;
 mod logs;
+mod marked;
 mod marks;
 mod outcomes;
 mod play;

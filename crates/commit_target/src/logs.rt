@@ -1,11 +1,14 @@
 ghost use Rattle.std.specs.Prelude.{◌≡◌, ◌<◌, ◌≤◌, ◌+◌, ℕ, List, [], OnOk, OnErr, length};
 ghost use Rattle.sim_device.specs.FileEffects.{Live};
-ghost use Rattle.sim_device.specs.LogEffects.{Restart, LogStandsFor, AddsLogEffect, records};
+ghost use Rattle.sim_device.specs.LogEffects.{Append, Force, Restart, LogStandsFor, AddsLogEffect, records};
 ghost use Rattle.commit_target.specs.declared.records.Party.TheVariants.{Participant};
 ghost use Rattle.commit_target.specs.declared.records.Write.TheVariants as write;
 ghost use Rattle.commit_target.specs.Writes.{Event, Written, AllRestart, LogsStandFor, AddsEvent, log_at, on_coordinator, on_participant};
-ghost use Rattle.commit_target.specs.inside.Batches.{AddsAll};
+ghost use Rattle.commit_target.specs.inside.Batches.{AddsAll, AddsRow};
+ghost use Rattle.commit_target.specs.inside.Marks.{AreMarks};
 
+use crate::marked::MarkedLog;
+use crate::marks::Marks;
 use crate::records::{Party, Record, Write};
 use sim_device::RecordLog;
 use std::alloc::{AllocError, Global};
@@ -16,7 +19,7 @@ use std::marker::Model;
 pub struct Logs {
     alloc: Global,
     coordinator: RecordLog<Record>,
-    participants: Vec<RecordLog<Record>>,
+    participants: Vec<MarkedLog>,
 }
 
 impl Model for Logs {
@@ -27,34 +30,71 @@ impl Model for Logs {
     ghost view = { λ l. record { coordinator = l.coordinator; participants = l.participants.items } };
 }
 
+/// Each log is emptied.
+fn clear_each(logs: &mut [MarkedLog])
+    ensures same { length logs.new ≡ length logs.old }
+    ensures empty { (n : ℕ) → n < length logs.old → LogStandsFor (log_at logs.new n) [] }
+{
+    for number in 0..logs.len() {
+        logs[number].clear();
+    }
+}
+
 /// Empty logs for so many participants.
-fn clear_first(
-    alloc: Global,
-    logs: &mut Vec<RecordLog<Record>>,
-    count: usize,
-) -> Result<(), AllocError>
+fn clear_first(alloc: Global, logs: &mut Vec<MarkedLog>, count: usize) -> Result<(), AllocError>
     ensures enough { OnOk result (count ≤ length logs.new.items) }
     ensures empty { OnOk result ((n : ℕ) → n < count → LogStandsFor (log_at logs.new.items n) []) }
     ensures err { OnErr result ((n : ℕ) → n < length logs.new.items → LogStandsFor (log_at logs.new.items n) []) }
 {
-    for number in 0..count {
-        if number < logs.len() {
-            logs[number].clear();
-        } else {
-            logs.push(RecordLog::new(alloc))?;
-        }
+    clear_each(logs.as_mut_slice());
+    for _number in logs.len()..count {
+        logs.push(MarkedLog::new(alloc))?;
     }
     Ok(())
 }
 
 /// Each log keeps what lasts.
-fn restart_each(logs: &mut [RecordLog<Record>])
+fn restart_each(logs: &mut [MarkedLog])
     ensures same { length logs.new ≡ length logs.old }
     ensures each { (n : ℕ) → n < length logs.old → AddsLogEffect (log_at logs.old n) (log_at logs.new n) Restart }
 {
     for number in 0..logs.len() {
         logs[number].restart();
     }
+}
+
+/// Forces a record to each log, from one on, up to another.
+#[inline(always)]
+fn force_row(
+    logs: &mut [MarkedLog],
+    first: usize,
+    end: usize,
+    entry: Record,
+) -> Result<(), AllocError>
+    requires { end ≤ length logs.old }
+    ensures { OnOk result (AddsRow logs.old logs.new (Force entry) first end) }
+{
+    for number in first..end {
+        logs[number].force(entry)?;
+    }
+    Ok(())
+}
+
+/// Appends a record in the same way, which does not last yet.
+#[inline(always)]
+fn append_row(
+    logs: &mut [MarkedLog],
+    first: usize,
+    end: usize,
+    entry: Record,
+) -> Result<(), AllocError>
+    requires { end ≤ length logs.old }
+    ensures { OnOk result (AddsRow logs.old logs.new (Append entry) first end) }
+{
+    for number in first..end {
+        logs[number].append(entry)?;
+    }
+    Ok(())
 }
 
 impl Logs {
@@ -137,9 +177,8 @@ impl Logs {
         requires { first + count ≤ usize.MAX }
         ensures { OnOk result (AddsAll self.old self.new (λ i. write.Force (Participant i) entry) first count) }
     {
-        for number in first..first + count {
-            self.force(Party::Participant(number), entry)?;
-        }
+        let end = self.participants.len().min(first + count);
+        force_row(self.participants.as_mut_slice(), first, end, entry)?;
         Ok(())
     }
 
@@ -154,9 +193,8 @@ impl Logs {
         requires { first + count ≤ usize.MAX }
         ensures { OnOk result (AddsAll self.old self.new (λ i. write.Append (Participant i) entry) first count) }
     {
-        for number in first..first + count {
-            self.append(Party::Participant(number), entry)?;
-        }
+        let end = self.participants.len().min(first + count);
+        append_row(self.participants.as_mut_slice(), first, end, entry)?;
         Ok(())
     }
 
@@ -175,13 +213,15 @@ impl Logs {
         self.coordinator.records()
     }
 
-    /// The records in a participant's log, the oldest first. A participant without a log has none.
-    pub(crate) fn participant(&self, number: usize) -> &[Record]
-        ensures { (count : ℕ) (es : List Event) → LogsStandFor count self.now es → number < count → result.now ≡ records (on_participant es number) Live }
+    /// The marks of a participant's log, of the transactions from the first one on. A participant without a log has none.
+    #[inline(always)]
+    pub(crate) fn participant(&self, number: usize, first: usize) -> Marks
+        ensures { (count : ℕ) (es : List Event) → LogsStandFor count self.now es → number < count
+            → AreMarks result.sets (records (on_participant es number) Live) first }
     {
         match self.participants.get(number) {
-            Some(log) => log.records(),
-            None => &[],
+            Some(log) => log.marks(first),
+            None => Marks::none(),
         }
     }
 }

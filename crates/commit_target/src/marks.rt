@@ -1,5 +1,6 @@
 //! What logs say of 64 transactions in a row: sets of transactions, a bit of a word for each.
-ghost use Rattle.std.specs.Prelude.{◌≡◌, ◌<◌, ◌+◌, ◌==◌, ℕ, slice_index};
+ghost use Rattle.std.specs.Prelude.{◌≡◌, ◌<◌, ◌+◌, ◌==◌, ◌∷◌, ◌++◌, ℕ, List, [], slice_index};
+ghost use Rattle.commit_target.specs.declared.records.Record.{Record};
 ghost use Rattle.commit_target.specs.Judgement.{was_told};
 ghost use Rattle.commit_target.specs.inside.Marks.{among, place_of, AreMarks};
 
@@ -67,6 +68,21 @@ impl Marks {
             sets[place_of(record.kind)] |= only(record.transaction, first);
         }
         Marks { sets }
+    }
+
+    /// Those of a log without a record.
+    pub fn none() -> Marks
+        ensures { (first : ℕ) → AreMarks result.sets [] first }
+    {
+        Marks { sets: [0; 4] }
+    }
+
+    /// Marks one record more, of the transactions from the first one on.
+    #[inline(always)]
+    pub fn add(&mut self, entry: Record, first: usize)
+        ensures { (log : List Record) → AreMarks self.old.sets log first → AreMarks self.new.sets (log ++ entry ∷ []) first }
+    {
+        self.sets[place_of(entry.kind)] |= only(entry.transaction, first);
     }
 
     /// The transactions with a record of this kind.

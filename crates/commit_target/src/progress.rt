@@ -1,5 +1,5 @@
 ghost use Rattle.std.specs.Prelude.{◌≡◌, ◌+◌, ◌<◌, ◌≤◌, OnOk, OnErr, length, slice_index_or};
-ghost use Rattle.commit_target.specs.Steps.{with_told, with_vote, unacknowledged, entry, number, prepare_write, end_write, opened, before_all};
+ghost use Rattle.commit_target.specs.Steps.{with_told, with_vote, with_yes, unacknowledged, entry, number, prepare_write, end_write, opened, before_all};
 ghost use Rattle.commit_target.specs.inside.Batches.{with_all_yes};
 
 use crate::records::{Kind, Party, Record, Write};
@@ -8,21 +8,36 @@ use crate::work::Vote;
 use std::alloc::{AllocError, Global};
 use std::marker::Model;
 
+/// So many of the first participants are counted at most: as many as a workload has.
+const MOST: usize = 8;
+
 /// How far the transactions of a run have come, beside the step, which is the place in the code.
 #[derive(Drop)]
 pub struct Progress {
     begun: usize,
-    yes: Vec<usize>,
+    // The participants whose yes arrived are mostly the first ones: so many of these, and only others are listed.
+    front: usize,
+    rest: Vec<usize>,
     acknowledged: bool,
     told: Vec<usize>,
 }
 
 impl Model for Progress {
+    ghost use Rattle.std.specs.Prelude.{◌++◌, ◌≤◌};
     ghost use Rattle.commit_target.specs.Steps.{Tally, Over};
+    ghost use Rattle.commit_target.specs.inside.Batches.{first_ones};
 
     ghost Value = { Tally };
 
-    ghost view = { λ p. record { step = Over; begun = p.begun; yes = p.yes.items; acknowledged = p.acknowledged; told = p.told.items } };
+    ghost view = { λ p. record {
+      step = Over;
+      begun = p.begun;
+      yes = first_ones p.front ++ p.rest.items;
+      acknowledged = p.acknowledged;
+      told = p.told.items;
+    } };
+
+    ghost invariant = { λ p. p.front ≤ 8 };
 }
 
 impl Progress {
@@ -32,7 +47,8 @@ impl Progress {
     {
         Progress {
             begun: 0,
-            yes: Vec::new(alloc),
+            front: 0,
+            rest: Vec::new(alloc),
             acknowledged: true,
             told: Vec::new(alloc),
         }
@@ -43,7 +59,8 @@ impl Progress {
         ensures { self.new ≡ before_all }
     {
         self.begun = 0;
-        self.yes.clear();
+        self.front = 0;
+        self.rest.clear();
         self.acknowledged = true;
         self.told.clear();
     }
@@ -73,14 +90,18 @@ impl Progress {
     pub fn voters(&self) -> usize
         ensures { result ≡ length self.now.yes }
     {
-        self.yes.len()
+        self.front + self.rest.len()
     }
 
     /// The participant at this place among those whose yes arrived.
     pub fn voter(&self, place: usize) -> usize
         ensures { result ≡ slice_index_or self.now.yes place 0 }
     {
-        self.yes.get(place).copied().unwrap_or(0)
+        if place < self.front {
+            place
+        } else {
+            self.rest.get(place - self.front).copied().unwrap_or(0)
+        }
     }
 
     /// Begins the next transaction.
@@ -89,8 +110,22 @@ impl Progress {
         ensures { self.new ≡ opened self.old }
     {
         self.begun += 1;
-        self.yes.clear();
+        self.front = 0;
+        self.rest.clear();
         self.acknowledged = true;
+    }
+
+    /// The yes of a participant arrived.
+    fn take_one(&mut self, participant: usize) -> Result<(), AllocError>
+        ensures ok { OnOk result (self.new ≡ with_yes self.old participant) }
+        ensures err { OnErr result (self.new ≡ self.old) }
+    {
+        if participant == self.front && participant < MOST && self.rest.is_empty() {
+            self.front += 1;
+        } else {
+            self.rest.push(participant)?;
+        }
+        Ok(())
     }
 
     /// A vote arrived.
@@ -99,10 +134,9 @@ impl Progress {
         ensures err { OnErr result (self.new ≡ self.old) }
     {
         match vote {
-            Vote::Yes => self.yes.push(participant)?,
-            Vote::No => {}
+            Vote::Yes => self.take_one(participant),
+            Vote::No => Ok(()),
         }
-        Ok(())
     }
 
     /// A yes of each of so many participants in a row arrived, from one on.
@@ -111,8 +145,12 @@ impl Progress {
         ensures begun { self.new.begun ≡ self.old.begun }
         ensures ok { OnOk result (self.new ≡ with_all_yes self.old first count) }
     {
+        if first == self.front && first + count <= MOST && self.rest.is_empty() {
+            self.front = first + count;
+            return Ok(());
+        }
         for participant in first..first + count {
-            self.take_vote(participant, Vote::Yes)?;
+            self.take_one(participant)?;
         }
         Ok(())
     }

@@ -1,7 +1,7 @@
 ghost use Rattle.std.specs.Prelude.{◌≡◌, ◌+◌, ◌<◌, ◌≤◌, ℕ, [], length, slice_index_or, All};
-ghost use Rattle.commit_target.specs.declared.work.Vote.TheVariants.{Yes, No};
+ghost use Rattle.commit_target.specs.declared.work.Vote.TheVariants.{No};
 ghost use Rattle.commit_target.specs.Work.{wish};
-ghost use Rattle.commit_target.specs.inside.Seen.{WishYes};
+ghost use Rattle.commit_target.specs.inside.Seen.{AllYes, WishYes};
 
 use std::marker::Model;
 
@@ -16,15 +16,20 @@ pub enum Vote {
 #[derive(Debug, Drop)]
 pub struct Votes {
     votes: Vec<Vote>,
+    // How many in a row wish yes, from the first one on. Each run asks for it, so it is counted once.
+    willing: usize,
 }
 
 impl Model for Votes {
     ghost use Rattle.std.specs.Prelude.{List};
     ghost use Rattle.commit_target.specs.declared.work.Vote.{Vote};
+    ghost use Rattle.commit_target.specs.inside.Seen.{AllYes};
 
     ghost Value = { List Vote };
 
     ghost view = { λ v. v.votes.items };
+
+    ghost invariant = { λ v. AllYes v.votes.items 0 v.willing };
 }
 
 impl Votes {
@@ -32,7 +37,8 @@ impl Votes {
     pub fn new(votes: Vec<Vote>) -> Self
         ensures { result ≡ votes.items }
     {
-        Votes { votes }
+        let willing = yes_from(votes.as_slice(), 0);
+        Votes { votes, willing }
     }
 
     /// The wishes, in the order of the participants.
@@ -40,6 +46,17 @@ impl Votes {
         ensures { result.now ≡ self.now }
     {
         self.votes.as_slice()
+    }
+
+    /// How many in a row wish yes, from this participant on.
+    fn willing(&self, first: usize) -> usize
+        ensures { AllYes self.now first result }
+    {
+        if first < self.willing {
+            self.willing - first
+        } else {
+            yes_from(self.votes.as_slice(), first)
+        }
     }
 }
 
@@ -52,8 +69,7 @@ fn wish_at(votes: &[Vote], place: usize) -> Vote
 
 /// How many wishes in a row are yes, from this one on.
 fn yes_from(votes: &[Vote], first: usize) -> usize
-    requires { first ≤ length votes.now }
-    ensures { (k : ℕ) → k < result → slice_index_or votes.now (first + k) No ≡ Yes }
+    ensures { AllYes votes.now first result }
 {
     for place in first..votes.len() {
         match wish_at(votes, place) {
@@ -61,7 +77,7 @@ fn yes_from(votes: &[Vote], first: usize) -> usize
             Vote::No => return place - first,
         }
     }
-    votes.len() - first
+    votes.len().saturating_sub(first)
 }
 
 /// The workload of a run: how many participants there are, 1 to 8, and the transactions in order, at most 100, each with one wish for
@@ -135,10 +151,9 @@ impl Transactions {
         ensures within { first + result ≤ self.now.participants }
         ensures yes { WishYes self.now transaction first result }
     {
-        let votes = self.wishes(transaction);
-        if first > votes.len() {
+        let Some(votes) = self.transactions.get(transaction) else {
             return 0;
-        }
-        yes_from(votes, first).min(self.participants - first)
+        };
+        votes.willing(first).min(self.participants - first)
     }
 }

@@ -1,10 +1,12 @@
 -- Many at once: writes of participants in a row, and their votes.
-use Rattle.std.specs.Prelude.{◌≡◌, ℕ, zero, suc, ◌+◌, ◌-◌, List, ◌∷◌, slice_index_or}
+use Rattle.std.specs.Prelude.{◌≡◌, ℕ, zero, suc, ◌+◌, ◌-◌, ◌<◌, ◌≤◌, List, [], ◌∷◌, ◌++◌, length, slice_index_or}
+use Rattle.sim_device.specs.LogEffects.{LogEffect, Log, AddsLogEffect}
+use Rattle.commit_target.specs.declared.records.Record.{Record}
 use Rattle.commit_target.specs.declared.records.Kind.TheVariants as kind
 use Rattle.commit_target.specs.declared.records.Party.TheVariants.{Participant}
 use Rattle.commit_target.specs.declared.records.Write.{Write}
 use Rattle.commit_target.specs.declared.records.Write.TheVariants.{Append}
-use Rattle.commit_target.specs.Writes.{Event, Written, AllLogs, LogsStandFor}
+use Rattle.commit_target.specs.Writes.{Event, Written, AllLogs, LogsStandFor, log_at}
 use Rattle.commit_target.specs.Steps.{Tally, with_yes, entry}
 
 -- these writes, of so many numbers in a row, from one on
@@ -33,3 +35,15 @@ abort_write t place = Append (Participant (slice_index_or t.yes place 0)) (entry
 abbrev pub with_all_yes : Tally → ℕ → ℕ → Tally
 with_all_yes t i zero = t
 with_all_yes t i (suc n) = with_all_yes (with_yes t i) (i + 1) n
+
+-- each log from one on, up to another, has this effect more, and the others are as they were
+pub record AddsRow (old new : List (Log Record)) (effect : LogEffect Record) (first end : ℕ) : Type 0 where
+  pub same : length new ≡ length old
+  pub written : (n : ℕ) → first ≤ n → n < end → AddsLogEffect (log_at old n) (log_at new n) effect
+  pub below : (n : ℕ) → n < first → log_at new n ≡ log_at old n
+  pub above : (n : ℕ) → first ≤ n → end ≤ n → log_at new n ≡ log_at old n
+
+-- the numbers of so many participants, the first ones
+abbrev pub first_ones : ℕ → List ℕ
+first_ones zero = []
+first_ones (suc n) = first_ones n ++ n ∷ []

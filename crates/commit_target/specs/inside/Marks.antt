@@ -1,6 +1,7 @@
 -- How the judge keeps sets of transactions: a bit of a word for each of 64 transactions in a row.
 use Rattle.std.specs.Prelude.{◌≡◌, ℕ, ◌<◌, ◌+◌, ◌==◌, Bool, true, false, List, slice_index}
 use Rattle.std.specs.Int.{bit_at}
+use Rattle.sim_device.specs.LogEffects.{LogEffect, Log, LogStandsFor}
 use Rattle.commit_target.specs.declared.judge.Ends.{Ends}
 use Rattle.commit_target.specs.declared.records.Record.{Record}
 use Rattle.commit_target.specs.declared.records.Kind.{Kind}
@@ -28,3 +29,9 @@ pub record EndsOf (participants : ℕ) (told : List ℕ) (es : List Event) (ends
   pub committed : (k : ℕ) → k < 64 → among ends.committed k ≡ some_ends (λ n. is_committed (known es) (own es n) (ends.first + k)) true participants
   pub aborted : (k : ℕ) → k < 64 → among ends.aborted k ≡ some_ends (λ n. is_committed (known es) (own es n) (ends.first + k)) false participants
   pub told_so : (k : ℕ) → k < 64 → among ends.told k ≡ was_told told (ends.first + k)
+
+-- a log that stands for some effects, with its sets, of the first 64 transactions
+pub record Marked (log : Log Record) (sets : List ℕ) : Type 0 where
+  pub effects : List (LogEffect Record)
+  pub stands : LogStandsFor log effects
+  pub marks : AreMarks sets log.live 0

@@ -1,6 +1,7 @@
 -- What the values of a run say: how far it has come, and what of it stands in the logs.
-use Rattle.commit_target.specs.declared.work.Vote.TheVariants.{Yes}
-use Rattle.std.specs.Prelude.{◌<◌, ◌+◌, length, [], ◌∷◌, ℕ, ◌≡◌, Bool, true, false, List, Option, None, Result, Ok, Err}
+use Rattle.commit_target.specs.declared.work.Vote.{Vote}
+use Rattle.commit_target.specs.declared.work.Vote.TheVariants.{Yes, No}
+use Rattle.std.specs.Prelude.{◌<◌, ◌+◌, length, [], ◌∷◌, ℕ, ◌≡◌, Bool, true, false, List, Option, None, Result, Ok, Err, slice_index_or}
 use Rattle.action_eval.specs.Answers.{Run, stopped}
 use Rattle.target_trait.specs.Machine.{Reached}
 use Rattle.commit_target.specs.declared.cut.Cut.{Cut}
@@ -52,6 +53,10 @@ Answered v w r t logs false = Due v w r (on_return v w t t.step) (return_write v
 -- a participant is asked to prepare next, or the votes are in
 abbrev pub at_vote : Work → Tally → ℕ → List Event → State
 at_vote w t i es = record { tally = prepare_to w t (one_of i w.participants); events = es }
+
+-- so many of these wishes from one on are yes
+abbrev pub AllYes : List Vote → ℕ → ℕ → Type 0
+AllYes votes first count = (k : ℕ) → k < count → slice_index_or votes (first + k) No ≡ Yes
 
 -- these participants, so many from one on, wish yes
 abbrev pub WishYes : Work → ℕ → ℕ → ℕ → Type 0

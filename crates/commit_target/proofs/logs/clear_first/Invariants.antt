@@ -5,6 +5,6 @@ use Rattle.commit_target.proofs.logs.clear_first.Given as goal
 
 abbrev pub invariant-loop-number : goal.invariant-loop-number
 invariant-loop-number l = record {
-  enough : l.number ≤ length l.logs.items;
-  done : (n : ℕ) → n < l.number → LogStandsFor (log_at l.logs.items n) [];
+  enough : l._number ≤ length l.logs.items;
+  empty : (n : ℕ) → n < length l.logs.items → LogStandsFor (log_at l.logs.items n) [];
 }

@@ -17,7 +17,7 @@ loop-participant-preserved c =
     let this : (es : List Event) → LogsStandFor c.args.participants c.args.logs.now (AllRestart ∷ es) → (k : ℕ) → k < 64 → among c.committed-ends.result k ≡ ends es k n = λ es h.
     c.committed-ends.ensures first (known es) (own es n)
     (subst (λ (log : List Record). AreMarks c.of-coordinator.result.sets log first) (c.coordinator.ensures _ _ h) c.of-coordinator.ensures)
-    (subst (λ (log : List Record). AreMarks c.of.result.sets log first) (c.participant.ensures _ _ h within) c.of.ensures) in
+    (c.participant.ensures _ _ h within) in
     record {
       committed = λ es h k below.
           among_or c.loop-participant.committed_by c.committed-ends.result k

@@ -1,21 +1,25 @@
-use Rattle.std.proofs.Common.{◌≤◌, ◌<◌, ◌+◌, ℕ, arith}
+use Rattle.std.proofs.Common.{◌≡◌, ℕ, List, refl, sym, subst, arith}
+use Rattle.std.specs.Vec.{with_items}
+use Rattle.std.proofs.lemmas.List.{with_items_is}
+use Rattle.sim_device.specs.LogEffects.{Log, Force}
+use Rattle.commit_target.specs.declared.records.Record.{Record}
 use Rattle.commit_target.specs.declared.records.Party.TheVariants.{Participant}
 use Rattle.commit_target.specs.declared.records.Write.{Write}
-use Rattle.commit_target.specs.declared.records.Write.TheVariants.{Force}
-use Rattle.commit_target.proofs.Batches.{none_added, one_added, all_added}
+use Rattle.commit_target.specs.declared.records.Write.TheVariants as write
+use Rattle.commit_target.specs.Writes.{AllLogs}
+use Rattle.commit_target.specs.inside.Batches.{AddsAll, AddsRow}
+use Rattle.commit_target.proofs.Rows.{row_added, forces}
 use Rattle.commit_target.proofs.logs.Logs.force_each.Goals as goal
-
-pub loop-number-init : goal.loop-number-init
-loop-number-init c = none_added _ _ c.args.first c.args.count
-
-pub loop-number-preserved : goal.loop-number-preserved
-loop-number-preserved c =
-    let write : ℕ → Write = λ i. Force (Participant i) c.args.entry in
-    let from : c.args.first ≤ c.loop-number.number = omega arith in
-    let before : c.loop-number.number < c.args.first + c.args.count = omega arith in
-    one_added _ _ _ write c.args.first c.args.count c.loop-number.number from before c.loop-number.invariant c.in_ok-force.ensures.ok
 
 pub returns : goal.returns
 returns c =
-    let there : c.args.first + c.args.count ≤ c.loop-number.number = omega arith in
-    all_added _ _ _ c.args.first c.args.count c.loop-number.number there c.loop-number.invariant
+    let each : ℕ → Write = λ i. write.Force (Participant i) c.args.entry in
+    let new : AllLogs = record { coordinator = c.self.inside.coordinator; participants = c.force_row.new.logs } in
+    let whole : (with_items c.self.inside.participants c.force_row.new.logs).items ≡ c.force_row.new.logs =
+    with_items_is c.self.inside.participants c.force_row.new.logs (omega (arith, c.in_ok-force_row.ensures.same)) in
+    let old : AllLogs = record { coordinator = c.self.inside.coordinator; participants = c.self.inside.participants.items } in
+    let row : AddsRow old.participants new.participants (Force c.args.entry) c.args.first c.min-end.result =
+    subst (λ (logs : List (Log Record)). AddsRow logs new.participants (Force c.args.entry) c.args.first c.min-end.result) c.as_mut_slice.ensures.value c.in_ok-force_row.ensures in
+    subst (λ (logs : AllLogs). AddsAll logs (record { coordinator = c.self.inside.coordinator; participants = (with_items c.self.inside.participants c.force_row.new.logs).items }) each c.args.first c.args.count) c.self.view_is
+    (subst (λ (logs : List (Log Record)). AddsAll old (record { coordinator = c.self.inside.coordinator; participants = logs }) each c.args.first c.args.count) (sym whole)
+    (row_added old new each (Force c.args.entry) (forces c.args.entry) c.args.first c.args.count c.min-end.result (omega arith) (λ n there before. omega arith) refl row))

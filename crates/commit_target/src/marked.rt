@@ -1,0 +1,102 @@
+//! A log of a participant, with the marks of its records. These are kept as records come: to walk each log after each run costs more.
+ghost use Rattle.std.specs.Prelude.{◌≡◌, List, [], OnOk, OnErr};
+ghost use Rattle.sim_device.specs.FileEffects.{Live};
+ghost use Rattle.sim_device.specs.LogEffects.{LogEffect, Append, Force, Restart, records, LogStandsFor, AddsLogEffect};
+ghost use Rattle.commit_target.specs.declared.records.Record.{Record};
+ghost use Rattle.commit_target.specs.inside.Marks.{AreMarks};
+
+use crate::marks::Marks;
+use crate::records::Record;
+use sim_device::RecordLog;
+use std::alloc::{AllocError, Global};
+use std::marker::Model;
+
+/// A log of records, and what it says of the first transactions.
+#[derive(Drop)]
+pub struct MarkedLog {
+    log: RecordLog<Record>,
+    marks: Marks,
+}
+
+impl Model for MarkedLog {
+    ghost use Rattle.sim_device.specs.LogEffects.{Log};
+    ghost use Rattle.commit_target.specs.declared.records.Record.{Record};
+    ghost use Rattle.commit_target.specs.inside.Marks.{Marked};
+
+    ghost Value = { Log Record };
+
+    ghost view = { λ l. l.log };
+
+    ghost invariant = { λ l. Marked l.log l.marks.sets };
+}
+
+impl MarkedLog {
+    /// A log with no records. It takes no memory.
+    pub fn new(alloc: Global) -> Self
+        ensures { LogStandsFor result [] }
+    {
+        MarkedLog {
+            log: RecordLog::new(alloc),
+            marks: Marks::none(),
+        }
+    }
+
+    /// A log with no records again. Its memory is kept for the records to come.
+    pub fn clear(&mut self)
+        ensures { LogStandsFor self.new [] }
+    {
+        self.log.clear();
+        self.marks = Marks::none();
+    }
+
+    /// Adds a record, which does not last yet.
+    ///
+    /// An error means that memory was refused. The log is as it was.
+    #[inline(always)]
+    pub fn append(&mut self, entry: Record) -> Result<(), AllocError>
+        ensures ok { OnOk result (AddsLogEffect self.old self.new (Append entry)) }
+        ensures err { OnErr result (self.new ≡ self.old) }
+    {
+        self.log.append(entry)?;
+        self.marks.add(entry, 0);
+        Ok(())
+    }
+
+    /// Adds a record, and makes all records so far last.
+    ///
+    /// An error means that memory was refused. The log is as it was.
+    #[inline(always)]
+    pub fn force(&mut self, entry: Record) -> Result<(), AllocError>
+        ensures ok { OnOk result (AddsLogEffect self.old self.new (Force entry)) }
+        ensures err { OnErr result (self.new ≡ self.old) }
+    {
+        self.log.force(entry)?;
+        self.marks.add(entry, 0);
+        Ok(())
+    }
+
+    /// Leaves only the records that last.
+    // These are a front of all: where they are as many, they are the same.
+    pub fn restart(&mut self)
+        ensures { AddsLogEffect self.old self.new Restart }
+    {
+        let before = self.log.records().len();
+        self.log.restart();
+        let left = self.log.records();
+        if left.len() < before {
+            self.marks = Marks::of(left, 0);
+        }
+    }
+
+    /// The marks of the log, of the transactions from the first one on.
+    #[inline(always)]
+    pub fn marks(&self, first: usize) -> Marks
+        ensures { (es : List (LogEffect Record)) → LogStandsFor self.now es → AreMarks result.sets (records es Live) first }
+    {
+        if first == 0 {
+            self.marks
+        } else {
+            Marks::of(self.log.records(), first)
+        }
+    }
+}
