@@ -1,9 +1,9 @@
 -- Sets of transactions, kept as the bits of a word.
 use Rattle.std.proofs.Common.{◌≡◌, ℕ, zero, suc, ◌+◌, ◌-◌, ◌*◌, ◌^◌, ◌%◌, ◌<◌, ◌≤◌, ◌==◌, max, min, Bool, true, false, cond, List, [], ◌∷◌, ◌++◌, length, take, set, get_or, ◌||◌, ◌&&◌, not, bit_or, bit_and, refl, ap, sym, subst, ◌∙◌, arith, inl, inr}
 use Rattle.std.specs.Int.{bit_at, bit_not, w64}
-use Rattle.std.proofs.lemmas.Bool.{eq-eqb, ne_eqb, cases_eq}
+use Rattle.std.proofs.lemmas.Bool.{false≢true, eq-eqb, ne_eqb, cases_eq}
 use Rattle.std.proofs.lemmas.Nat.{one_shl}
-use Rattle.std.proofs.lemmas.Nat.Bits.{bit_at-lt, bit_at_or, bit_at_and, bit_at_not, bit_at-pow_same, bit_at-pow_other}
+use Rattle.std.proofs.lemmas.Nat.Bits.{bit_at-zero, bit_at-lt, bit_at_or, bit_at_and, bit_at_not, bit_at-pow_same, bit_at-pow_other}
 use Rattle.std.proofs.lemmas.List.{get_or-set_same, get_or-set_other}
 use Rattle.std.proofs.lemmas.List.{length-append}
 use Rattle.std.proofs.Math.Seq.{get_or-append_seam, take-append_seam, take-append-add}
@@ -13,6 +13,7 @@ use Rattle.commit_target.specs.declared.records.Kind.{Kind}
 use Rattle.commit_target.specs.declared.records.Kind.TheVariants.{Prepare, Commit, Abort, End}
 use Rattle.commit_target.specs.declared.judge.Ends.{Ends}
 use Rattle.target_trait.specs.declared.judgement.Judgement.{Judgement}
+use Rattle.target_trait.specs.declared.judgement.Judgement.TheVariants.{Kept}
 use Rattle.commit_target.specs.Writes.{Event}
 use Rattle.commit_target.specs.Judgement.{is_kind, has, is_committed, some_ends, known, own, judged_ends, judged_one, or_then, judged, was_told}
 use Rattle.commit_target.specs.inside.Marks.{among, place_of, AreMarks, EndsOf}
@@ -195,3 +196,38 @@ next_judged p told es ends k t from within j is =
     ∙ ap (λ (x : ℕ). or_then j (judged_one p told es x)) there
     ∙ ap (λ (x : Judgement). or_then x (judged_one p told es t)) is
     ∙ sym (one_judged p told es t)
+
+-- ---- none is broken
+
+nothing_at : (k : ℕ) → among 0 k ≡ false
+nothing_at k = ap (λ (x : ℕ). x == 1) (bit_at-zero k)
+
+kept_by : (c a t : Bool) → ((c && a) || (c && not t) || (t && not c)) ≡ false → judged_ends c a t ≡ Kept
+kept_by true true t e = absurd (false≢true (sym e))
+kept_by true false true e = refl
+kept_by true false false e = absurd (false≢true (sym e))
+kept_by false a true e = absurd (false≢true (sym e))
+kept_by false a false e = refl
+
+pub kept_at : (c a t : ℕ) → c < 2 ^ 64 → t < 2 ^ 64 → bit_or (bit_or (bit_and c a) (bit_and c (bit_not w64 t))) (bit_and t (bit_not w64 c)) ≡ 0
+    → (k : ℕ) → k < 64 → judged_ends (among c k) (among a k) (among t k) ≡ Kept
+kept_at c a t c_fits t_fits none k h = kept_by (among c k) (among a k) (among t k) (
+    sym (among_or (bit_or (bit_and c a) (bit_and c (bit_not w64 t))) (bit_and t (bit_not w64 c)) k
+    ∙ ap (λ (x : Bool). x || among (bit_and t (bit_not w64 c)) k) (among_or (bit_and c a) (bit_and c (bit_not w64 t)) k)
+    ∙ ap (λ (x : Bool). (x || among (bit_and c (bit_not w64 t)) k) || among (bit_and t (bit_not w64 c)) k) (among_and c a k)
+    ∙ ap (λ (x : Bool). ((among c k && among a k) || x) || among (bit_and t (bit_not w64 c)) k) (among_and c (bit_not w64 t) k ∙ ap (λ (y : Bool). among c k && y) (among_not t k t_fits h))
+    ∙ ap (λ (x : Bool). ((among c k && among a k) || (among c k && not (among t k))) || x) (among_and t (bit_not w64 c) k ∙ ap (λ (y : Bool). among t k && y) (among_not c k c_fits h)))
+    ∙ ap (λ (x : ℕ). among x k) none ∙ nothing_at k)
+
+pub all_kept : (p : ℕ) (told : List ℕ) (es : List Event) (ends : Ends) → EndsOf p told es ends → ends.first ≡ 0
+    → ((k : ℕ) → k < 64 → judged_ends (among ends.committed k) (among ends.aborted k) (among ends.told k) ≡ Kept) → (n : ℕ) → n ≤ 64 → judged p told es n ≡ Kept
+all_kept p told es ends k first kept zero h = refl
+all_kept p told es ends k first kept (suc n) h =
+    let place : n - ends.first ≡ n = omega (arith, first) in
+    let before : judged p told es n ≡ Kept = all_kept p told es ends k first kept n (omega arith) in
+    ap (judged p told es) (the_next n)
+    ∙ sym (next_judged p told es ends k n (omega (arith, first)) (omega (arith, first)) Kept (sym before))
+    ∙ kept (n - ends.first) (omega (arith, first))
+  where
+    the_next : (n : ℕ) → suc n ≡ n + 1
+    the_next n = omega arith

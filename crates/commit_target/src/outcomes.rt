@@ -119,11 +119,9 @@ fn abort_to(
 fn abort_each(count: usize, progress: &Progress, logs: &mut Logs) -> Result<(), AllocError>
     ensures { OnOk result (AddsAll logs.old logs.new (λ place. abort_write progress.now place) 0 count) }
 {
+    let entry = progress.entry(Kind::Abort);
     for place in 0..count {
-        logs.write(Write::Append(
-            Party::Participant(progress.voter(place)),
-            progress.entry(Kind::Abort),
-        ))?;
+        logs.write(Write::Append(Party::Participant(progress.voter(place)), entry))?;
     }
     Ok(())
 }

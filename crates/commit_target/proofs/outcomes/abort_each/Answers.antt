@@ -17,9 +17,9 @@ loop-place-preserved c =
     let writes : ℕ → Write = λ j. abort_write c.args.progress.now j in
     let from : 0 ≤ k = omega arith in
     let before : k < 0 + c.args.count = omega arith in
-    let is : Append (Participant c.voter.result) c.entry.result ≡ abort_write c.args.progress.now k =
-    ap (λ (i : ℕ). Append (Participant i) c.entry.result) c.voter.ensures
-    ∙ ap (λ (r : Record). Append (Participant (get_or c.args.progress.now.yes k 0)) r) c.entry.ensures in
+    let is : Append (Participant c.voter.result) c.entry-entry.result ≡ abort_write c.args.progress.now k =
+    ap (λ (i : ℕ). Append (Participant i) c.entry-entry.result) c.voter.ensures
+    ∙ ap (λ (r : Record). Append (Participant (get_or c.args.progress.now.yes k 0)) r) c.entry-entry.ensures in
     one_added _ _ _ writes 0 c.args.count k from before c.loop-place.invariant
     (subst (λ (x : Write). AddsEvent c.loop-place.logs c.write.new.self (Written x)) is c.in_ok-write.ensures.ok)
 
