@@ -22,4 +22,4 @@ pub use laws::{
 pub use replay::{Answered, history, name_of};
 pub use rig::{Kind, Rig, Site};
 pub use rigging::{Rigging, push_chain};
-pub use session::Session;
+pub use session::{Room, Session};

@@ -8,7 +8,7 @@ ghost use Rattle.scenario_values.specs.Scenario.{IsScenario};
 ghost use Rattle.action_eval.specs.inside.Layout.{IsLayout};
 
 use crate::counts::push_counts;
-use crate::found::{Found, Layout, head_of};
+use crate::found::{Found, Head, Layout, head_of};
 use crate::rig::{Kind, Rig};
 use crate::terms::FULL_SHARE;
 use scenario_values::{Task, Term};
@@ -99,12 +99,14 @@ fn lay(
     Ok(())
 }
 
-/// Where the chains of points stand that have so many of the terms each, and their counts.
+/// Where the chains of points stand that have so many of the terms each, and their counts, in the room of these vectors.
 fn layout_of<'a>(
     alloc: Global,
     catalogue: &[&str],
     sizes: &[usize],
     terms: &'a [Term],
+    mut heads: Vec<Head>,
+    mut left: Vec<u32>,
 ) -> Result<Layout<'a>, AllocError>
     requires distinct { HasDistinct (texts catalogue.now) }
     requires sizes { AreSizes (texts catalogue.now) sizes.now terms.now }
@@ -112,8 +114,10 @@ fn layout_of<'a>(
     ensures { IfOk result (λ layout. IsLayout (laid (texts catalogue.now) sizes.now terms.now) (texts catalogue.now) layout) }
 {
     let mut found = Vec::with_capacity(alloc, catalogue.len())?;
-    let mut heads = Vec::with_capacity(alloc, catalogue.len())?;
-    let mut left = Vec::with_capacity(alloc, terms.len())?;
+    heads.clear();
+    heads.reserve(catalogue.len())?;
+    left.clear();
+    left.reserve(terms.len())?;
     let mut rest = terms;
     for point in 0..catalogue.len() {
         let (chain, behind) = rest.split_at(sizes[point]);
@@ -195,8 +199,13 @@ impl<'a> Rigging<'a> {
         self.catalogue
     }
 
-    /// Where the chains of the points stand, and their counts. An error means that memory was refused.
-    pub(crate) fn layout<'s>(&'s self, alloc: Global) -> Result<Layout<'s>, AllocError>
+    /// Where the chains of the points stand, and their counts, in the room of these vectors. An error means that memory was refused.
+    pub(crate) fn layout<'s>(
+        &'s self,
+        alloc: Global,
+        heads: Vec<Head>,
+        left: Vec<u32>,
+    ) -> Result<Layout<'s>, AllocError>
         ensures { IfOk result (λ layout. IsLayout self.now.scenario self.now.names layout) }
     {
         layout_of(
@@ -204,6 +213,8 @@ impl<'a> Rigging<'a> {
             self.catalogue,
             self.sizes.as_slice(),
             self.terms.as_slice(),
+            heads,
+            left,
         )
     }
 }

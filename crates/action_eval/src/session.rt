@@ -72,6 +72,47 @@ fn keep(
     noted
 }
 
+/// What a session writes its hits and its notes into.
+#[derive(Drop)]
+struct Records {
+    hits: Vec<u32>,
+    notes: Vec<Note>,
+}
+
+/// Room that a session leaves for another one: memory, and nothing of its run.
+///
+/// Contracts see it as how many hits there is room for.
+#[derive(Drop)]
+pub struct Room {
+    records: Records,
+    heads: Vec<Head>,
+    left: Vec<u32>,
+}
+
+impl Model for Room {
+    ghost use Rattle.std.specs.Prelude.{ℕ, vec_capacity};
+
+    ghost Value = { ℕ };
+
+    ghost view = { λ r. vec_capacity r.records.hits };
+}
+
+impl Room {
+    /// Room for nothing yet.
+    pub fn new(alloc: Global) -> Self
+        ensures { result ≡ 0 }
+    {
+        Room {
+            records: Records {
+                hits: Vec::new(alloc),
+                notes: Vec::new(alloc),
+            },
+            heads: Vec::new(alloc),
+            left: Vec::new(alloc),
+        }
+    }
+}
+
 /// What a session's hits are answered by.
 #[derive(Clone, Copy)]
 pub enum Faults<'a> {
@@ -150,10 +191,10 @@ impl<'a> Session<'a> {
     {
         let layout = layout_of(alloc, scenario, catalogue)?;
         Session::begin(
-            alloc,
             Faults::Written(scenario),
             catalogue,
             layout,
+            Room::new(alloc).records,
             seed,
             stream,
             max_hits,
@@ -171,24 +212,38 @@ impl<'a> Session<'a> {
     ) -> Result<Self, AllocError>
         ensures { IfOk result (λ s. s ≡ start (given_of rigging.now.scenario rigging.now.names seed stream max_hits)) }
     {
-        let layout = rigging.layout(alloc)?;
+        Session::over_in(alloc, Room::new(alloc), rigging, seed, stream, max_hits)
+    }
+
+    /// The same in the room that an earlier session left, of whatever run that was. Want of memory gives the room back to the system.
+    pub fn over_in(
+        alloc: Global,
+        room: Room,
+        rigging: &'a Rigging<'a>,
+        seed: u64,
+        stream: u64,
+        max_hits: u32,
+    ) -> Result<Self, AllocError>
+        ensures { IfOk result (λ s. s ≡ start (given_of rigging.now.scenario rigging.now.names seed stream max_hits)) }
+    {
+        let layout = rigging.layout(alloc, room.heads, room.left)?;
         Session::begin(
-            alloc,
             Faults::Rigged(rigging),
             rigging.catalogue(),
             layout,
+            room.records,
             seed,
             stream,
             max_hits,
         )
     }
 
-    /// A session with no hit yet, where the chains of the points are known.
+    /// A session with no hit yet, where the chains of the points are known. It writes into the room of these records.
     fn begin(
-        alloc: Global,
         faults: Faults<'a>,
         catalogue: &'a [&'a str],
         layout: Layout<'a>,
+        records: Records,
         seed: u64,
         stream: u64,
         max_hits: u32,
@@ -196,16 +251,21 @@ impl<'a> Session<'a> {
         requires { IsLayout (faults_of faults) (texts catalogue.now) layout }
         ensures { IfOk result (λ s. s ≡ start (given_of (faults_of faults.entry) (texts catalogue.now) seed stream max_hits)) }
     {
+        let mut hits = records.hits;
+        hits.clear();
+        hits.reserve(first_room(max_hits))?;
+        let mut notes = records.notes;
+        notes.clear();
         Ok(Session {
             faults,
             catalogue,
             max_hits,
-            hits: Vec::with_capacity(alloc, first_room(max_hits))?,
+            hits,
             found: layout.found,
             heads: layout.heads,
             left: layout.left,
             draws: Draws::new(seed, stream),
-            notes: Vec::new(alloc),
+            notes,
             millis: 0,
             stopped: None,
             answerable: max_hits,
@@ -406,6 +466,20 @@ impl<'a> Session<'a> {
         ensures { result.items ≡ notes_of (history_of self.entry) }
     {
         self.notes
+    }
+
+    /// The room that the session has taken, for another one: room for as many hits as it had, at least.
+    pub fn into_room(self) -> Room
+        ensures { length self.entry.hits ≤ result }
+    {
+        Room {
+            records: Records {
+                hits: self.hits,
+                notes: self.notes,
+            },
+            heads: self.heads,
+            left: self.left,
+        }
     }
 
     /// The simulated milliseconds so far: those of each `sleep` and `delay` that acted.
