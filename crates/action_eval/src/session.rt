@@ -239,6 +239,7 @@ impl<'a> Session<'a> {
     }
 
     /// A session with no hit yet, where the chains of the points are known. It writes into the room of these records.
+    #[inline(always)]
     fn begin(
         faults: Faults<'a>,
         catalogue: &'a [&'a str],
