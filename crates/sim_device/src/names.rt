@@ -4,6 +4,9 @@ ghost use Rattle.sim_device.specs.Disk.{entry_at, ChangesName, MovesName, IsSett
 use std::alloc::{AllocError, Global};
 use std::marker::Model;
 
+/// How many names the table makes room for at once: names mostly come one after another.
+const AT_ONCE: usize = 16;
+
 /// The files that a name leads to, by number: now, and after a power cut.
 #[derive(Clone, Copy, Debug)]
 pub struct Entry {
@@ -101,7 +104,7 @@ impl Directory {
         Ok(())
     }
 
-    /// Makes room for a name past the table, and for some that come after it: names mostly come one after another.
+    /// Makes room for a name past the table, and for some after it.
     #[inline(never)]
     fn grow(&mut self, name: u32) -> Result<(), AllocError>
         requires { length self.old ≤ name }
@@ -110,7 +113,7 @@ impl Directory {
         ensures err { OnErr result (self.new ≡ self.old) }
     {
         self.entries.resize(
-            name as usize + 16,
+            name as usize + AT_ONCE,
             Entry {
                 live: None,
                 lasting: None,
