@@ -2,7 +2,7 @@
 ghost use Rattle.std.specs.Prelude.{◌≡◌, ℕ, List, [], length, slice_index_or};
 ghost use Rattle.target_trait.specs.Outcomes.{verdict_with};
 
-use action_eval::Rigging;
+use action_eval::{Rigging, Room};
 use plan_gen::Plan;
 use result_book::{Course, Numbered};
 use std::alloc::{AllocError, Global};
@@ -19,12 +19,14 @@ pub struct Setup<T: Target> {
     pub max_hits: u32,
 }
 
-/// A target, with the course whose plans it runs, and with a rigging of its own that each run takes over from the one before.
+/// A target, with the course whose plans it runs, and with a rigging and a session's room of its own that each run takes over from the one
+/// before.
 #[derive(Drop)]
 pub struct Runner<'a, T: Target> {
     pub target: T,
     pub course: &'a Course<'a, T>,
     pub rigging: Rigging<'static>,
+    pub room: Room,
     pub alloc: Global,
 }
 
@@ -56,6 +58,7 @@ where
             self.alloc,
             &mut self.target,
             &mut self.rigging,
+            &mut self.room,
             self.course,
             number,
         )

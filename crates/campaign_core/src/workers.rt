@@ -5,7 +5,7 @@ ghost use Rattle.worker_pool.specs.Hands.{hand_job, EachOnce};
 ghost use Rattle.campaign_core.specs.inside.Says.{course_says};
 
 use crate::runner::Runner;
-use action_eval::Rigging;
+use action_eval::{Rigging, Room};
 use result_book::{Book, Course, put_all};
 use std::alloc::{AllocError, Global};
 use std::sync::Wait;
@@ -66,6 +66,7 @@ where
             target,
             course,
             rigging: Rigging::new(alloc),
+            room: Room::new(alloc),
             alloc,
         })?;
     }

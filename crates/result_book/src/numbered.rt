@@ -3,18 +3,21 @@ ghost use Rattle.std.specs.Prelude.{◌≡◌, ℕ, ◌<◌, List, [], length, I
 ghost use Rattle.target_trait.specs.Outcomes.{verdict_with};
 
 use crate::course::Course;
-use action_eval::{Rigging, Session};
+use action_eval::{Rigging, Room, Session};
 use plan_gen::Plan;
 use std::alloc::{AllocError, Global};
 use std::marker::Model;
+use std::mem;
 use target_trait::{Case, Target, Verdict, run_session, run_verdict};
 
-/// The verdict of the run of this number under what is rigged.
+/// The verdict of the run of this number under what is rigged, in a room that is left again for the next run. Want of memory may give it
+/// back to the system.
 fn rigged_verdict<T: Target>(
     alloc: Global,
     target: &mut T,
     course: &Course<'_, T>,
     rigging: &Rigging<'_>,
+    room: &mut Room,
     number: u32,
 ) -> Result<Verdict, AllocError>
     requires { rigging.now.names ≡ T.names }
@@ -22,14 +25,17 @@ fn rigged_verdict<T: Target>(
         course.now.seed course.now.max_hits number rigging.now.scenario) }
     ensures setup { target.new ≡ target.old }
 {
-    let mut session = Session::over(
+    let left = mem::replace(room, Room::new(alloc));
+    let mut session = Session::over_in(
         alloc,
+        left,
         rigging,
         course.seed,
         u64::from(number),
         course.max_hits,
     )?;
     let verdict = run_session(target, course.workload, &mut session)?;
+    *room = session.into_room();
     Ok(verdict)
 }
 
@@ -61,6 +67,7 @@ fn verdict_of<T: Target>(
     alloc: Global,
     target: &mut T,
     rigging: &mut Rigging<'static>,
+    room: &mut Room,
     course: &Course<'_, T>,
     plan: &Plan<'_>,
     number: u32,
@@ -71,7 +78,7 @@ fn verdict_of<T: Target>(
 {
     let is_loaded = plan.load(rigging, T::catalogue())?;
     if is_loaded {
-        rigged_verdict(alloc, target, course, rigging, number)
+        rigged_verdict(alloc, target, course, rigging, room, number)
     } else {
         written_verdict(alloc, target, course, plan, number)
     }
@@ -121,15 +128,17 @@ impl<'a, T: Target> Numbered<'a, T> {
         ensures setup { target.new ≡ target.old }
     {
         let mut rigging = Rigging::new(alloc);
-        Numbered::run_over(alloc, target, &mut rigging, course, number)
+        let mut room = Room::new(alloc);
+        Numbered::run_over(alloc, target, &mut rigging, &mut room, course, number)
     }
 
-    /// The same as `run`, over a rigging that serves run after run: it is loaded with the plan's rigged hits, and keeps the room that it has
-    /// taken. Whatever it holds before makes no difference.
+    /// The same as `run`, over a rigging and in a session's room that serve run after run: the rigging is loaded with the plan's rigged hits, and
+    /// both keep the memory that they have taken. Whatever they hold before makes no difference.
     pub fn run_over(
         alloc: Global,
         target: &mut T,
         rigging: &mut Rigging<'static>,
+        room: &mut Room,
         course: &'a Course<'a, T>,
         number: u32,
     ) -> Result<Self, AllocError>
@@ -142,7 +151,7 @@ impl<'a, T: Target> Numbered<'a, T> {
         ensures setup { target.new ≡ target.old }
     {
         let plan = &course.plans[number as usize];
-        let verdict = verdict_of(alloc, target, rigging, course, plan, number)?;
+        let verdict = verdict_of(alloc, target, rigging, room, course, plan, number)?;
         Ok(Numbered {
             course,
             number,
