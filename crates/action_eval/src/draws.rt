@@ -108,6 +108,7 @@ impl Draws {
 
     /// Takes the next word.
     #[tactic(auto, unfolding(crate::specs::Words::at_word, crate::specs::Words::word))]
+    #[inline(never)]
     pub fn take(&mut self) -> u32
         requires { self.old.taken + 1 < 2 ^ 64 }
         ensures value { result ≡ word self.old.seed self.old.stream self.old.taken }

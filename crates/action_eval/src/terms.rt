@@ -16,6 +16,7 @@ pub const FULL_SHARE: u32 = 1_000_000;
 
 /// The place of the term that acts, if one does, by what is left of the counts. The terms that draw take their words; nobody looks at
 /// the word of a term of share 0.
+#[inline(always)]
 pub fn try_terms(terms: &[Term], left: &[u32], draws: &mut Draws) -> Option<usize>
     requires rows { length left.now ≡ length terms.now }
     requires room { draws.old.taken + length terms.now < 2 ^ 64 }
