@@ -59,8 +59,8 @@ impl Ends {
         let coordinator = Marks::of(logs.coordinator(), first);
         let mut committed_by = 0;
         let mut aborted_by = 0;
-        for participant in 0..participants {
-            let ends = committed(&coordinator, &logs.participant(participant, first));
+        for log in logs.participants(participants) {
+            let ends = committed(&coordinator, &log.marks(first));
             committed_by |= ends;
             aborted_by |= !ends;
         }

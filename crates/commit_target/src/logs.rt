@@ -5,10 +5,8 @@ ghost use Rattle.commit_target.specs.declared.records.Party.TheVariants.{Partici
 ghost use Rattle.commit_target.specs.declared.records.Write.TheVariants as write;
 ghost use Rattle.commit_target.specs.Writes.{Event, Written, AllRestart, LogsStandFor, AddsEvent, log_at, on_coordinator, on_participant};
 ghost use Rattle.commit_target.specs.inside.Batches.{AddsAll, AddsRow};
-ghost use Rattle.commit_target.specs.inside.Marks.{AreMarks};
 
 use crate::marked::MarkedLog;
-use crate::marks::Marks;
 use crate::records::{Party, Record, Write};
 use sim_device::RecordLog;
 use std::alloc::{AllocError, Global};
@@ -213,15 +211,12 @@ impl Logs {
         self.coordinator.records()
     }
 
-    /// The marks of a participant's log, of the transactions from the first one on. A participant without a log has none.
-    #[inline(always)]
-    pub(crate) fn participant(&self, number: usize, first: usize) -> Marks
-        ensures { (count : ℕ) (es : List Event) → LogsStandFor count self.now es → number < count
-            → AreMarks result.sets (records (on_participant es number) Live) first }
+    /// The logs of the first participants: of so many, where they are there.
+    pub(crate) fn participants(&self, count: usize) -> &[MarkedLog]
+        ensures { (es : List Event) → LogsStandFor count self.now es
+            → (length result.now ≡ count) × ((n : ℕ) → n < count → LogStandsFor (log_at result.now n) (on_participant es n)) }
     {
-        match self.participants.get(number) {
-            Some(log) => log.marks(first),
-            None => Marks::none(),
-        }
+        let end = self.participants.len().min(count);
+        &self.participants[..end]
     }
 }

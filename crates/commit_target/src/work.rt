@@ -1,4 +1,4 @@
-ghost use Rattle.std.specs.Prelude.{◌≡◌, ◌+◌, ◌<◌, ◌≤◌, ℕ, [], length, slice_index_or, All};
+ghost use Rattle.std.specs.Prelude.{◌≡◌, ◌+◌, ◌-◌, ◌<◌, ◌≤◌, ℕ, [], length, slice_index_or, All};
 ghost use Rattle.commit_target.specs.declared.work.Vote.TheVariants.{No};
 ghost use Rattle.commit_target.specs.Work.{wish};
 ghost use Rattle.commit_target.specs.inside.Seen.{AllYes, WishYes};
@@ -21,7 +21,7 @@ pub struct Votes {
 }
 
 impl Model for Votes {
-    ghost use Rattle.std.specs.Prelude.{List};
+    ghost use Rattle.std.specs.Prelude.{List, ◌≤◌, length};
     ghost use Rattle.commit_target.specs.declared.work.Vote.{Vote};
     ghost use Rattle.commit_target.specs.inside.Seen.{AllYes};
 
@@ -29,7 +29,7 @@ impl Model for Votes {
 
     ghost view = { λ v. v.votes.items };
 
-    ghost invariant = { λ v. AllYes v.votes.items 0 v.willing };
+    ghost invariant = { λ v. (v.willing ≤ length v.votes.items) × AllYes v.votes.items 0 v.willing };
 }
 
 impl Votes {
@@ -50,7 +50,8 @@ impl Votes {
 
     /// How many in a row wish yes, from this participant on.
     fn willing(&self, first: usize) -> usize
-        ensures { AllYes self.now first result }
+        ensures there { result ≤ length self.now - first }
+        ensures yes { AllYes self.now first result }
     {
         if first < self.willing {
             self.willing - first
@@ -69,7 +70,8 @@ fn wish_at(votes: &[Vote], place: usize) -> Vote
 
 /// How many wishes in a row are yes, from this one on.
 fn yes_from(votes: &[Vote], first: usize) -> usize
-    ensures { AllYes votes.now first result }
+    ensures there { result ≤ length votes.now - first }
+    ensures yes { AllYes votes.now first result }
 {
     for place in first..votes.len() {
         match wish_at(votes, place) {
@@ -154,6 +156,6 @@ impl Transactions {
         let Some(votes) = self.transactions.get(transaction) else {
             return 0;
         };
-        votes.willing(first).min(self.participants - first)
+        votes.willing(first)
     }
 }
