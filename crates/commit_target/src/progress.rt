@@ -15,6 +15,8 @@ const MOST: usize = 8;
 #[derive(Drop)]
 pub struct Progress {
     begun: usize,
+    // The number of the transaction under way, which each record tells.
+    number: usize,
     // The participants whose yes arrived are mostly the first ones: so many of these, and only others are listed.
     front: usize,
     rest: Vec<usize>,
@@ -23,7 +25,7 @@ pub struct Progress {
 }
 
 impl Model for Progress {
-    ghost use Rattle.std.specs.Prelude.{◌++◌, ◌≤◌};
+    ghost use Rattle.std.specs.Prelude.{◌≡◌, ◌++◌, ◌≤◌, ◌-◌};
     ghost use Rattle.commit_target.specs.Steps.{Tally, Over};
     ghost use Rattle.commit_target.specs.inside.Batches.{first_ones};
 
@@ -37,7 +39,7 @@ impl Model for Progress {
       told = p.told.items;
     } };
 
-    ghost invariant = { λ p. p.front ≤ 8 };
+    ghost invariant = { λ p. (p.number ≡ p.begun - 1) × (p.front ≤ 8) };
 }
 
 impl Progress {
@@ -47,6 +49,7 @@ impl Progress {
     {
         Progress {
             begun: 0,
+            number: 0,
             front: 0,
             rest: Vec::new(alloc),
             acknowledged: true,
@@ -59,6 +62,7 @@ impl Progress {
         ensures { self.new ≡ before_all }
     {
         self.begun = 0;
+        self.number = 0;
         self.front = 0;
         self.rest.clear();
         self.acknowledged = true;
@@ -83,7 +87,7 @@ impl Progress {
     pub fn number(&self) -> usize
         ensures { result ≡ number self.now }
     {
-        self.begun.saturating_sub(1)
+        self.number
     }
 
     /// How many participants' yes arrived.
@@ -109,6 +113,7 @@ impl Progress {
         requires { self.old.begun < usize.MAX }
         ensures { self.new ≡ opened self.old }
     {
+        self.number = self.begun;
         self.begun += 1;
         self.front = 0;
         self.rest.clear();
