@@ -91,6 +91,7 @@ fn give_rounds(left: &mut Vec<u32>, heads: &[Head], points: &[u32], times: u32)
 
 /// Takes off the counts what so many rounds of hits of these points take that come to nothing; or takes nothing, where they don't all
 /// surely come to nothing.
+#[inline(always)]
 fn take_rounds(left: &mut Vec<u32>, heads: &[Head], points: &[u32], times: u32) -> bool
     requires known { All (λ p. p < length heads.now) points.now }
     requires within { All (λ p. CountsWithin (length left.old.items) (head_at heads.now p)) points.now }
@@ -107,6 +108,7 @@ fn take_rounds(left: &mut Vec<u32>, heads: &[Head], points: &[u32], times: u32) 
 }
 
 /// How many rounds of hits of these points come to nothing by each point's own count.
+#[inline(always)]
 fn rounds_left(left: &[u32], heads: &[Head], points: &[u32]) -> u32
     requires known { All (λ p. p < length heads.now) points.now }
     requires within { All (λ p. CountsWithin (length left.now) (head_at heads.now p)) points.now }

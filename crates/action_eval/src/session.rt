@@ -403,6 +403,7 @@ impl<'a> Session<'a> {
     /// gives how many these were. Each of these hits is answered `Go`; 0 says nothing of the next one, which is for `hit`.
     ///
     /// Want of memory leaves the session as it was.
+    #[inline(always)]
     pub fn pass_rounds(&mut self, points: &[u32], most: usize) -> Result<usize, AllocError>
         requires known { All (λ p. p < length self.old.given.catalogue) points.now }
         requires running { stopped self.old ≡ None }
