@@ -210,12 +210,6 @@ abbrev pub rounds : ℕ → List ℕ → List ℕ
 rounds zero ps = []
 rounds (suc n) ps = ps ++ rounds n ps
 
--- the same catalogue, seed and limit, which a session keeps from run to run
-pub record SameCourse (old new : Given) : Type 0 where
-  pub catalogue : new.catalogue ≡ old.catalogue
-  pub seed : new.seed ≡ old.seed
-  pub limit : new.limit ≡ old.limit
-
 -- the answer of the next hit of a run
 abbrev pub reply_to : Run → ℕ → Reply
 reply_to r p = if nat_lt (length r.hits) r.given.limit then reply_of (next r.given (history_of r) p).did else Halt

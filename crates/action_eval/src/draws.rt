@@ -81,16 +81,6 @@ impl Draws {
         }
     }
 
-    /// Begins anew, over the stream of this number.
-    pub fn restart(&mut self, stream: u64)
-        ensures { self.new ≡ record self.old { stream = stream; taken = 0 } }
-    {
-        self.stream = stream;
-        self.taken = 0;
-        self.at = 0;
-        self.generator = None;
-    }
-
     /// How many words were taken.
     pub fn taken(&self) -> u64
         ensures { result ≡ self.now.taken }

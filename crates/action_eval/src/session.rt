@@ -1,6 +1,6 @@
 //! A session: one run, hit by hit.
 ghost use Rattle.std.specs.Prelude.{◌≡◌, ◌+◌, ◌^◌, ◌<◌, ◌≤◌, [], All, replicate, length, IfOk, OnOk, OnErr, None, Some, false, ◌++◌, ◌∷◌};
-ghost use Rattle.action_eval.specs.Answers.{AllGo, hits_of, rounds, SameCourse, did, task_at, replies, GoesOn, reply_to, reply_of_answer, hit, stopped, notes_of_task, asked, history_of, notes_of, total_millis, words_of, start, given_of, texts, name_of};
+ghost use Rattle.action_eval.specs.Answers.{AllGo, hits_of, rounds, did, task_at, replies, GoesOn, reply_to, reply_of_answer, hit, stopped, notes_of_task, asked, history_of, notes_of, total_millis, words_of, start, given_of, texts, name_of};
 ghost use Rattle.action_eval.specs.inside.Session.{found_of, seen, left_counts, IsRest};
 ghost use Rattle.action_eval.specs.inside.Layout.{faults_of, IsLayout};
 
@@ -403,6 +403,7 @@ impl<'a> Session<'a> {
     /// gives how many these were. Each of these hits is answered `Go`; 0 says nothing of the next one, which is for `hit`.
     ///
     /// Want of memory leaves the session as it was.
+    // A caller mostly hits the same points again and again: within it, they are known where this is compiled.
     #[inline(always)]
     pub fn pass_rounds(&mut self, points: &[u32], most: usize) -> Result<usize, AllocError>
         requires known { All (λ p. p < length self.old.given.catalogue) points.now }
@@ -420,27 +421,6 @@ impl<'a> Session<'a> {
         let most = most.min(room) as u32;
         let count = pass_points(&self.heads, &mut self.left, &mut self.hits, points, most)?;
         Ok(count as usize)
-    }
-
-    /// Begins a new run of this scenario, under the stream of this number. The catalogue, the seed and the limit stay, and so does the room
-    /// that the session has taken.
-    ///
-    /// An error means that memory was refused. The run is then of no use, and another may be begun.
-    pub fn restart(&mut self, scenario: &'a Scenario, stream: u64) -> Result<(), AllocError>
-        ensures ok { OnOk result (self.new ≡ start (given_of scenario.now self.old.given.catalogue self.old.given.seed stream self.old.given.limit)) }
-        ensures course { SameCourse self.old.given self.new.given }
-    {
-        fill_counts(&mut self.left, scenario)?;
-        find_all(&mut self.found, &mut self.heads, scenario, self.catalogue);
-        self.faults = Faults::Written(scenario);
-        self.hits.clear();
-        self.draws.restart(stream);
-        self.notes.clear();
-        self.millis = 0;
-        self.stopped = None;
-        self.answerable = self.max_hits;
-        self.asked_after_stop = false;
-        Ok(())
     }
 
     /// The points that were asked, in order. A hit past the limit isn't asked.
@@ -504,6 +484,7 @@ impl<'a> Session<'a> {
     {
         self.stopped
     }
+
     /// Whether a point was hit after the run was stopped. No proved caller does that: it is for targets that aren't proved, whose run is then
     /// unresolved.
     pub fn was_asked_after_stop(&self) -> bool
