@@ -77,10 +77,26 @@ fn answer_some(alloc: Global, salt: u32, asked: &str, answers: &mut String) -> R
     Ok(())
 }
 
+/// The report is that of the plain recursion, where the two points are hit so often.
+fn is_the_plain_report(
+    rt: &impl Abort,
+    alloc: Global,
+    salt: u32,
+    hits: (u32, u32),
+    plans: &str,
+    report: &str,
+) -> Result<(), Fail> {
+    let (first, second) = hits;
+    let head = format!(in alloc; "census p {first}\ncensus q {second}\n")?;
+    let plain = plain_report(alloc, salt, &head, plans)?;
+    assert_eq!(rt; report, plain.as_str(), "at {salt}");
+    Ok(())
+}
+
 /// The campaign on this component ends with the report of the plain recursion, and before that the first line asked is missing.
 fn comes_to_the_plain_report(rt: &impl Abort, alloc: Global, salt: u32) -> Result<(), Fail> {
-    let (first, second) = (salt % 3, salt / 3 % 3);
-    let settings = settings(alloc, first, second)?;
+    let hits = (salt % 3, salt / 3 % 3);
+    let settings = settings(alloc, hits.0, hits.1)?;
     let Some(Choice::Outside(outside)) = &settings.choice else {
         return Err(Fail::from("another target"));
     };
@@ -89,14 +105,8 @@ fn comes_to_the_plain_report(rt: &impl Abort, alloc: Global, salt: u32) -> Resul
         let asked = asks(alloc, outside, &settings, answers.as_str())?;
         let report = told(alloc, outside, &settings, answers.as_str())?;
         let Some(line) = asked.as_str().lines().next() else {
-            let head = format!(in alloc; "census p {first}\ncensus q {second}\n")?;
             let plans = plans(alloc, outside, &settings)?;
-            assert_eq!(rt;
-                report.as_str(),
-                plain_report(alloc, salt, &head, &plans)?.as_str(),
-                "at {salt}"
-            );
-            return Ok(());
+            return is_the_plain_report(rt, alloc, salt, hits, &plans, report.as_str());
         };
         assert_eq!(rt;
             report.strip_prefix("not answered "),

@@ -122,6 +122,45 @@ fn reduced_lines(
     Ok(format!(in alloc; "reduced {kept}\ntests {tests}\n")?)
 }
 
+/// Writes the lines of a first failure.
+fn write_first(
+    alloc: Global,
+    salt: u32,
+    number: &str,
+    text: &str,
+    scenario: &Scenario,
+    word: &str,
+    firsts: &mut String,
+) -> Result<(), Fail> {
+    let name = word.trim_start_matches("fail ");
+    let reduced = reduced_lines(alloc, salt, scenario, word)?;
+    write!(firsts, "first {number} {name}\nscenario {text}\n{reduced}")?;
+    Ok(())
+}
+
+/// Writes what the report tells of a plan, where these words were seen before.
+fn write_plan(
+    alloc: Global,
+    salt: u32,
+    line: &str,
+    seen: &mut Vec<&'static str>,
+    verdicts: &mut String,
+    firsts: &mut String,
+) -> Result<(), Fail> {
+    let Some((numbered, text)) = line.rsplit_once(' ') else {
+        return Err(Fail::from("no plan"));
+    };
+    let scenario = asked_scenario(alloc, text)?;
+    let word = verdict_of(salt, tidied_text(alloc, &scenario)?.as_str());
+    let number = numbered.trim_start_matches("plan ");
+    writeln!(verdicts, "verdict {number} {word}")?;
+    if word.starts_with("fail ") && !seen.contains(&word) {
+        seen.push(word)?;
+        write_first(alloc, salt, number, text, &scenario, word, firsts)?;
+    }
+    Ok(())
+}
+
 /// The report of a campaign on the component, of a list of plans as it is written.
 pub fn plain_report(alloc: Global, salt: u32, head: &str, plans: &str) -> Result<String, Fail> {
     let mut verdicts = String::new(alloc);
@@ -129,19 +168,7 @@ pub fn plain_report(alloc: Global, salt: u32, head: &str, plans: &str) -> Result
     let mut seen = Vec::new(alloc);
     let mut count = 0u32;
     for line in plans.lines() {
-        let Some((numbered, text)) = line.rsplit_once(' ') else {
-            return Err(Fail::from("no plan"));
-        };
-        let scenario = asked_scenario(alloc, text)?;
-        let word = verdict_of(salt, tidied_text(alloc, &scenario)?.as_str());
-        let number = numbered.trim_start_matches("plan ");
-        writeln!(verdicts, "verdict {number} {word}")?;
-        if word.starts_with("fail ") && !seen.contains(&word) {
-            seen.push(word)?;
-            let name = word.trim_start_matches("fail ");
-            let reduced = reduced_lines(alloc, salt, &scenario, word)?;
-            write!(firsts, "first {number} {name}\nscenario {text}\n{reduced}")?;
-        }
+        write_plan(alloc, salt, line, &mut seen, &mut verdicts, &mut firsts)?;
         count = count.wrapping_add(1);
     }
     if firsts.is_empty() {
