@@ -144,23 +144,15 @@ fn is_refused(rt: &impl Abort, alloc: Global, answers: &str, line: &str) -> Resu
 
 #[test]
 fn faulty_answers_are_refused(rt: HostRuntime) -> Result<(), Fail> {
-    let alloc = rt.alloc();
-    is_refused(
-        &rt,
-        alloc,
-        "pass\tnone\nfail a\t\n",
-        "answers: line 2: contradicts line 1",
-    )?;
-    is_refused(
-        &rt,
-        alloc,
-        "pass\tnone\npass\tp=return",
-        "answers: line 2: not ended",
-    )?;
-    is_refused(
-        &rt,
-        alloc,
-        "fail c\tnone\n",
-        "answers: line 1: unknown code",
-    )
+    for (answers, line) in [
+        (
+            "pass\tnone\nfail a\t\n",
+            "answers: line 2: contradicts line 1",
+        ),
+        ("pass\tnone\npass\tp=return", "answers: line 2: not ended"),
+        ("fail c\tnone\n", "answers: line 1: unknown code"),
+    ] {
+        is_refused(&rt, rt.alloc(), answers, line)?;
+    }
+    Ok(())
 }

@@ -21,60 +21,68 @@ fn has_verdict(
     Ok(())
 }
 
+/// By the answers each scenario has this verdict, or none.
+fn have_verdicts(
+    rt: &impl Abort,
+    alloc: Global,
+    text: &str,
+    rows: &[(&str, Option<Verdict>)],
+) -> Result<(), Fail> {
+    for (of, want) in rows {
+        has_verdict(rt, alloc, text, of, *want)?;
+    }
+    Ok(())
+}
+
 #[test]
 fn nothing_is_known_by_no_answers(rt: HostRuntime) -> Result<(), Fail> {
-    let alloc = rt.alloc();
-    has_verdict(&rt, alloc, "", "", None)?;
-    has_verdict(&rt, alloc, "", "p=return", None)
+    let rows = [("", None), ("p=return", None)];
+    have_verdicts(&rt, rt.alloc(), "", &rows)
 }
 
 #[test]
 fn each_verdict_is_known(rt: HostRuntime) -> Result<(), Fail> {
-    let alloc = rt.alloc();
     let text =
         "pass\tnone\nunresolved\ta=pause\nfail torn\ta=return\nfail lost note\tb=return\nfail stale\tc=return\n";
-    has_verdict(&rt, alloc, text, "", Some(Verdict::Pass))?;
-    has_verdict(&rt, alloc, text, "a=pause", Some(Verdict::Unresolved))?;
-    has_verdict(&rt, alloc, text, "a=return", Some(Verdict::Fail(0)))?;
-    has_verdict(&rt, alloc, text, "b=return", Some(Verdict::Fail(1)))?;
-    has_verdict(&rt, alloc, text, "c=return", Some(Verdict::Fail(2)))?;
-    has_verdict(&rt, alloc, text, "d=return", None)
+    let rows = [
+        ("", Some(Verdict::Pass)),
+        ("a=pause", Some(Verdict::Unresolved)),
+        ("a=return", Some(Verdict::Fail(0))),
+        ("b=return", Some(Verdict::Fail(1))),
+        ("c=return", Some(Verdict::Fail(2))),
+        ("d=return", None),
+    ];
+    have_verdicts(&rt, rt.alloc(), text, &rows)
 }
 
 #[test]
 fn answers_are_of_tidied_scenarios(rt: HostRuntime) -> Result<(), Fail> {
-    let alloc = rt.alloc();
     let text = "pass\t a = 2*off -> 1*off->1*return ->off\npass\tb=0*return\n";
-    has_verdict(&rt, alloc, text, "a=3*off->1*return", Some(Verdict::Pass))?;
-    has_verdict(
-        &rt,
-        alloc,
-        text,
-        "a=1*off->2*off->1*return->5*off",
-        Some(Verdict::Pass),
-    )?;
-    has_verdict(&rt, alloc, text, "a=2*off->1*return", None)?;
-    has_verdict(&rt, alloc, text, "", Some(Verdict::Pass))
+    let rows = [
+        ("a=3*off->1*return", Some(Verdict::Pass)),
+        ("a=1*off->2*off->1*return->5*off", Some(Verdict::Pass)),
+        ("a=2*off->1*return", None),
+        ("", Some(Verdict::Pass)),
+    ];
+    have_verdicts(&rt, rt.alloc(), text, &rows)
 }
 
 #[test]
 fn counts_of_more_than_32_bits_are_not_joined(rt: HostRuntime) -> Result<(), Fail> {
-    let alloc = rt.alloc();
     let text = "pass\ta=4294967295*off->1*off->2*off->1*return\n";
-    has_verdict(
-        &rt,
-        alloc,
-        text,
-        "a=4294967295*off->3*off->1*return",
-        Some(Verdict::Pass),
-    )?;
-    has_verdict(&rt, alloc, text, "a=4294967294*off->4*off->1*return", None)
+    let rows = [
+        ("a=4294967295*off->3*off->1*return", Some(Verdict::Pass)),
+        ("a=4294967294*off->4*off->1*return", None),
+    ];
+    have_verdicts(&rt, rt.alloc(), text, &rows)
 }
 
 #[test]
 fn an_answer_may_stand_twice(rt: HostRuntime) -> Result<(), Fail> {
-    let alloc = rt.alloc();
     let text = "fail torn\ta=return\npass\tnone\nfail torn\ta=return\npass\t\n";
-    has_verdict(&rt, alloc, text, "a=return", Some(Verdict::Fail(0)))?;
-    has_verdict(&rt, alloc, text, "", Some(Verdict::Pass))
+    let rows = [
+        ("a=return", Some(Verdict::Fail(0))),
+        ("", Some(Verdict::Pass)),
+    ];
+    have_verdicts(&rt, rt.alloc(), text, &rows)
 }

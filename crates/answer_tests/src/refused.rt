@@ -19,6 +19,14 @@ fn is_refused(rt: &impl Abort, alloc: Global, text: &[u8], want: &str) -> Result
     Ok(())
 }
 
+/// Each text has this first fault.
+fn are_refused(rt: &impl Abort, alloc: Global, rows: &[(&[u8], &str)]) -> Result<(), Fail> {
+    for (text, want) in rows {
+        is_refused(rt, alloc, text, want)?;
+    }
+    Ok(())
+}
+
 #[test]
 fn no_answers_are_no_fault(rt: HostRuntime) -> Result<(), Fail> {
     is_refused(&rt, rt.alloc(), b"", "no fault")
@@ -26,170 +34,93 @@ fn no_answers_are_no_fault(rt: HostRuntime) -> Result<(), Fail> {
 
 #[test]
 fn a_line_has_an_end_and_a_tab(rt: HostRuntime) -> Result<(), Fail> {
-    let alloc = rt.alloc();
-    is_refused(&rt, alloc, b"pass\tnone", "answers: line 1: not ended")?;
-    is_refused(
-        &rt,
-        alloc,
-        b"pass\tnone\npass\ta=ret",
-        "answers: line 2: not ended",
-    )?;
-    is_refused(&rt, alloc, b"pass\tnone\npa", "answers: line 2: not ended")?;
-    is_refused(&rt, alloc, b"\n", "answers: line 1: no tab")?;
-    is_refused(
-        &rt,
-        alloc,
-        b"pass\tnone\n\npass\tnone\n",
-        "answers: line 2: no tab",
-    )?;
-    is_refused(&rt, alloc, b"pass none\n", "answers: line 1: no tab")
+    const ROWS: [(&[u8], &str); 6] = [
+        (b"pass\tnone", "answers: line 1: not ended"),
+        (b"pass\tnone\npass\ta=ret", "answers: line 2: not ended"),
+        (b"pass\tnone\npa", "answers: line 2: not ended"),
+        (b"\n", "answers: line 1: no tab"),
+        (b"pass\tnone\n\npass\tnone\n", "answers: line 2: no tab"),
+        (b"pass none\n", "answers: line 1: no tab"),
+    ];
+    are_refused(&rt, rt.alloc(), &ROWS)
 }
 
 #[test]
 fn bytes_are_text_without_control_bytes(rt: HostRuntime) -> Result<(), Fail> {
-    let alloc = rt.alloc();
-    is_refused(
-        &rt,
-        alloc,
-        b"pass\tnone\npass\t\xff=return\n",
-        "answers: line 2: not UTF-8",
-    )?;
-    is_refused(
-        &rt,
-        alloc,
-        b"\xc3\npass none\n",
-        "answers: line 1: not UTF-8",
-    )?;
-    is_refused(
-        &rt,
-        alloc,
-        b"pass\ta=return\r\n",
-        "answers: line 1: control byte",
-    )?;
-    is_refused(
-        &rt,
-        alloc,
-        b"pass\ta=return\t\n",
-        "answers: line 1: control byte",
-    )?;
-    is_refused(
-        &rt,
-        alloc,
-        b"pass\ta=return(\x00)\n",
-        "answers: line 1: control byte",
-    )?;
-    is_refused(
-        &rt,
-        alloc,
-        b"pass\ta=return(\x7f)\n",
-        "answers: line 1: control byte",
-    )?;
-    is_refused(&rt, alloc, b"pass\t\xc3\xa9=return\n", "no fault")
+    const ROWS: [(&[u8], &str); 7] = [
+        (
+            b"pass\tnone\npass\t\xff=return\n",
+            "answers: line 2: not UTF-8",
+        ),
+        (b"\xc3\npass none\n", "answers: line 1: not UTF-8"),
+        (b"pass\ta=return\r\n", "answers: line 1: control byte"),
+        (b"pass\ta=return\t\n", "answers: line 1: control byte"),
+        (b"pass\ta=return(\x00)\n", "answers: line 1: control byte"),
+        (b"pass\ta=return(\x7f)\n", "answers: line 1: control byte"),
+        (b"pass\t\xc3\xa9=return\n", "no fault"),
+    ];
+    are_refused(&rt, rt.alloc(), &ROWS)
 }
 
 #[test]
 fn a_verdict_is_one_of_three_and_a_code_one_of_the_codes(rt: HostRuntime) -> Result<(), Fail> {
-    let alloc = rt.alloc();
-    is_refused(
-        &rt,
-        alloc,
-        b"Pass\tnone\n",
-        "answers: line 1: unknown verdict",
-    )?;
-    is_refused(&rt, alloc, b"\tnone\n", "answers: line 1: unknown verdict")?;
-    is_refused(
-        &rt,
-        alloc,
-        b"fail\tnone\n",
-        "answers: line 1: unknown verdict",
-    )?;
-    is_refused(
-        &rt,
-        alloc,
-        b"pass \tnone\n",
-        "answers: line 1: unknown verdict",
-    )?;
-    is_refused(
-        &rt,
-        alloc,
-        b"fail \tnone\n",
-        "answers: line 1: unknown code",
-    )?;
-    is_refused(
-        &rt,
-        alloc,
-        b"fail torn \tnone\n",
-        "answers: line 1: unknown code",
-    )?;
-    is_refused(
-        &rt,
-        alloc,
-        b"fail lost\tnone\n",
-        "answers: line 1: unknown code",
-    )
+    const ROWS: [(&[u8], &str); 7] = [
+        (b"Pass\tnone\n", "answers: line 1: unknown verdict"),
+        (b"\tnone\n", "answers: line 1: unknown verdict"),
+        (b"fail\tnone\n", "answers: line 1: unknown verdict"),
+        (b"pass \tnone\n", "answers: line 1: unknown verdict"),
+        (b"fail \tnone\n", "answers: line 1: unknown code"),
+        (b"fail torn \tnone\n", "answers: line 1: unknown code"),
+        (b"fail lost\tnone\n", "answers: line 1: unknown code"),
+    ];
+    are_refused(&rt, rt.alloc(), &ROWS)
 }
 
 #[test]
 fn a_scenario_has_its_own_first_fault(rt: HostRuntime) -> Result<(), Fail> {
-    let alloc = rt.alloc();
-    is_refused(
-        &rt,
-        alloc,
-        b"pass\tnone\npass\ta=return;b=101\n",
-        "answers: line 2: UnknownTask entry 2 term 1",
-    )?;
-    is_refused(
-        &rt,
-        alloc,
-        b"pass\tNone\n",
-        "answers: line 1: NoAction entry 1 term 0",
-    )?;
-    is_refused(
-        &rt,
-        alloc,
-        b"pass\tnone;a=return\n",
-        "answers: line 1: NoAction entry 1 term 0",
-    )
+    const ROWS: [(&[u8], &str); 3] = [
+        (
+            b"pass\tnone\npass\ta=return;b=101\n",
+            "answers: line 2: UnknownTask entry 2 term 1",
+        ),
+        (b"pass\tNone\n", "answers: line 1: NoAction entry 1 term 0"),
+        (
+            b"pass\tnone;a=return\n",
+            "answers: line 1: NoAction entry 1 term 0",
+        ),
+    ];
+    are_refused(&rt, rt.alloc(), &ROWS)
 }
 
 #[test]
 fn two_verdicts_of_one_scenario_contradict(rt: HostRuntime) -> Result<(), Fail> {
-    let alloc = rt.alloc();
-    is_refused(
-        &rt,
-        alloc,
-        b"pass\ta=return\npass\tnone\nfail torn\ta=return\n",
-        "answers: line 3: contradicts line 1",
-    )?;
-    is_refused(
-        &rt,
-        alloc,
-        b"fail torn\tnone\nfail torn\tb=0*return\nfail stale\t\n",
-        "answers: line 3: contradicts line 1",
-    )?;
-    is_refused(
-        &rt,
-        alloc,
-        b"unresolved\ta=2*off->return\npass\ta=1*off->1*off->return->off\n",
-        "answers: line 2: contradicts line 1",
-    )
+    const ROWS: [(&[u8], &str); 3] = [
+        (
+            b"pass\ta=return\npass\tnone\nfail torn\ta=return\n",
+            "answers: line 3: contradicts line 1",
+        ),
+        (
+            b"fail torn\tnone\nfail torn\tb=0*return\nfail stale\t\n",
+            "answers: line 3: contradicts line 1",
+        ),
+        (
+            b"unresolved\ta=2*off->return\npass\ta=1*off->1*off->return->off\n",
+            "answers: line 2: contradicts line 1",
+        ),
+    ];
+    are_refused(&rt, rt.alloc(), &ROWS)
 }
 
 #[test]
 fn the_first_faulty_line_is_told(rt: HostRuntime) -> Result<(), Fail> {
-    let alloc = rt.alloc();
-    is_refused(
-        &rt,
-        alloc,
-        b"pass\tnone\nfail torn\tnone\nno tab\npass",
-        "answers: line 2: contradicts line 1",
-    )?;
-    is_refused(
-        &rt,
-        alloc,
-        b"perhaps\ta=\x01\n",
-        "answers: line 1: unknown verdict",
-    )
+    const ROWS: [(&[u8], &str); 2] = [
+        (
+            b"pass\tnone\nfail torn\tnone\nno tab\npass",
+            "answers: line 2: contradicts line 1",
+        ),
+        (b"perhaps\ta=\x01\n", "answers: line 1: unknown verdict"),
+    ];
+    are_refused(&rt, rt.alloc(), &ROWS)
 }
 
 #[test]
