@@ -1,5 +1,5 @@
 //! Storms: rigged hits drawn by random words.
-ghost use Rattle.std.specs.Prelude.{◌≡◌, ◌++◌, ◌∷◌, [], ◌%◌, ◌&&◌, ◌≤◌, ◌<◌, ◌^◌, nat_lt, length, if◌then◌else◌, IfOk, OnOk};
+ghost use Rattle.std.specs.Prelude.{◌≡◌, ◌++◌, ◌∷◌, [], ◌%◌, ◌&&◌, ◌≤◌, ◌<◌, ◌^◌, nat_lt, length, if◌then◌else◌, vec_capacity, IfOk, OnOk};
 ghost use Rattle.std.specs.List.{AllByRecursion};
 ghost use Rattle.action_eval.specs.Words.{seed_bytes, at_word};
 ghost use Rattle.plan_gen.specs.PlanList.{most_plans, storm_kind, storm};
@@ -51,33 +51,34 @@ fn storm_kind(word: u32) -> Kind
 /// Adds a site that is taken, while fewer than the most are.
 // Few sites are taken. The loop over the words stays small, as this is a call.
 #[inline(never)]
-fn add_taken(rigs: &mut Vec<Rig>, word: u32, site: Site) -> Result<(), AllocError>
-    ensures drawn { OnOk result (rigs.new.items
-        ≡ rigs.old.items ++ (if nat_lt (length rigs.old.items) most_rigs then rig site (storm_kind word) ∷ [] else [])) }
-    ensures few { OnOk result (length rigs.old.items ≤ most_rigs → length rigs.new.items ≤ most_rigs) }
-    ensures small { OnOk result (AllByRecursion (λ r. r.site.hit < 2 ^ 32) rigs.old.items → AllByRecursion (λ r. r.site.hit < 2 ^ 32) rigs.new.items) }
+fn add_taken(rigs: &mut Vec<Rig>, word: u32, site: Site)
+    requires { most_rigs ≤ vec_capacity rigs.old }
+    ensures drawn { rigs.new.items ≡ rigs.old.items ++ (if nat_lt (length rigs.old.items) most_rigs then rig site (storm_kind word) ∷ [] else []) }
+    ensures room { vec_capacity rigs.new ≡ vec_capacity rigs.old }
+    ensures few { length rigs.old.items ≤ most_rigs → length rigs.new.items ≤ most_rigs }
+    ensures small { AllByRecursion (λ r. r.site.hit < 2 ^ 32) rigs.old.items → AllByRecursion (λ r. r.site.hit < 2 ^ 32) rigs.new.items }
 {
     if rigs.len() < MOST_SITES {
-        rigs.push(Rig {
+        rigs.push_reserved(Rig {
             site,
             kind: storm_kind(word),
-        })?;
+        });
     }
-    Ok(())
 }
 
 /// Adds a site that its word takes, while fewer than the most are taken.
 #[inline(always)]
-fn draw(rigs: &mut Vec<Rig>, rate: u32, word: u32, site: &Site) -> Result<(), AllocError>
-    ensures drawn { OnOk result (rigs.new.items ≡ rigs.old.items
-        ++ (if nat_lt (word % 1000) rate && nat_lt (length rigs.old.items) most_rigs then rig site.now (storm_kind word) ∷ [] else [])) }
-    ensures few { OnOk result (length rigs.old.items ≤ most_rigs → length rigs.new.items ≤ most_rigs) }
-    ensures small { OnOk result (AllByRecursion (λ r. r.site.hit < 2 ^ 32) rigs.old.items → AllByRecursion (λ r. r.site.hit < 2 ^ 32) rigs.new.items) }
+fn draw(rigs: &mut Vec<Rig>, rate: u32, word: u32, site: &Site)
+    requires { most_rigs ≤ vec_capacity rigs.old }
+    ensures drawn { rigs.new.items ≡ rigs.old.items
+        ++ (if nat_lt (word % 1000) rate && nat_lt (length rigs.old.items) most_rigs then rig site.now (storm_kind word) ∷ [] else []) }
+    ensures room { vec_capacity rigs.new ≡ vec_capacity rigs.old }
+    ensures few { length rigs.old.items ≤ most_rigs → length rigs.new.items ≤ most_rigs }
+    ensures small { AllByRecursion (λ r. r.site.hit < 2 ^ 32) rigs.old.items → AllByRecursion (λ r. r.site.hit < 2 ^ 32) rigs.new.items }
 {
     if word % 1000 < rate {
-        return add_taken(rigs, word, *site);
+        add_taken(rigs, word, *site);
     }
-    Ok(())
 }
 
 /// Draws the rigged hits of a storm, in place of what stood there: each site takes a word, also after the most are taken.
@@ -96,8 +97,9 @@ fn draw_storm(
 {
     let mut rng = generator(seed, FIRST_STREAM + u64::from(number));
     rigs.clear();
+    rigs.reserve(MOST_SITES)?;
     for site in sites {
-        draw(rigs, rate, rng.next_word(), site)?;
+        draw(rigs, rate, rng.next_word(), site);
     }
     Ok(())
 }

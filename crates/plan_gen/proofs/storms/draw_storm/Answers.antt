@@ -10,13 +10,15 @@ pub loop-site-init : goal.loop-site-init
 unfolding at_word
 loop-site-init c =
     let g = c.generator-rng.result in
+    let none = c.in_ok-reserve.ensures.items ∙ c.clear.ensures.items in
     record {
       key = refl;
       stream = refl;
       place = ap (λ (g : ChaCha). g.word_pos) c.generator-rng.ensures;
-      small = subst (λ (l : List Rig). AllByRecursion (λ (r : Rig). r.site.hit < 2 ^ 32) l) (sym c.clear.ensures.items) tt;
-      few = omega (arith, ap (λ (l : List Rig). length l) c.clear.ensures.items);
-      built = c.clear.ensures.items;
+      room = search rules;
+      small = subst (λ (l : List Rig). AllByRecursion (λ (r : Rig). r.site.hit < 2 ^ 32) l) (sym none) tt;
+      few = omega (arith, ap (λ (l : List Rig). length l) none);
+      built = none;
     }
 
 pub loop-site-preserved : goal.loop-site-preserved
@@ -28,9 +30,10 @@ loop-site-preserved c =
       key = search rules;
       stream = search rules;
       place = search rules;
+      room = search rules;
       small = search rules;
       few = search rules;
-      built = storm_next (word_at 4 g.key g.stream) c.args.rate c.loop-site.site-index c.args.sites.now _ c.next_word.result _ _ c.loop-site-test.true word at.built c.in_ok-draw.ensures.drawn;
+      built = storm_next (word_at 4 g.key g.stream) c.args.rate c.loop-site.site-index c.args.sites.now _ c.next_word.result _ _ c.loop-site-test.true word at.built c.draw.ensures.drawn;
     }
 
 pub returns-clause-rigs : goal.returns-clause-rigs
