@@ -19,6 +19,7 @@ pub mod Heads
 pub mod CallerLemmas
 pub mod PassedHits
 pub mod RunLaws
+pub mod Runs
 pub mod LeftFaults
 pub mod Rigged
 pub mod LaidChains
