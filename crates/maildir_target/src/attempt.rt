@@ -84,17 +84,14 @@ fn create_by(delivery: &Delivery<'_>, device: &mut FileDevice) -> Result<(), All
     ensures { OnOk result ((es : List Effect) → StandsFor device.old es →
         StandsFor device.new (created_by delivery.now.variant (tmp_of_delivery delivery.now) es)) }
 {
-    match delivery.variant {
-        Variant::AppendTmp => {
-            if device.exists(delivery.tmp()) {
-                return Ok(());
-            }
-            create(delivery, device)
-        }
-        Variant::Sound => create(delivery, device),
-        Variant::LinkFirst => create(delivery, device),
-        Variant::IgnoreWrite => create(delivery, device),
+    let is_there = match delivery.variant {
+        Variant::AppendTmp => device.exists(delivery.tmp()),
+        Variant::Sound | Variant::LinkFirst | Variant::IgnoreWrite => false,
+    };
+    if is_there {
+        return Ok(());
     }
+    create(delivery, device)
 }
 
 /// Makes the file under `tmp/`.
@@ -119,6 +116,7 @@ fn create_file(
 }
 
 /// Syncs the file under `tmp/`.
+#[inline(always)]
 fn sync_file(
     delivery: &Delivery<'_>,
     mailbox: &mut Mailbox,
@@ -140,6 +138,7 @@ fn sync_file(
 }
 
 /// Links the file under `new/`, where that name is free.
+#[inline(always)]
 fn link_new(
     delivery: &Delivery<'_>,
     mailbox: &mut Mailbox,
@@ -185,6 +184,7 @@ fn remove(
 }
 
 /// Syncs the directory, and acknowledges the message. Where that fails it isn't acknowledged.
+#[inline(always)]
 fn acknowledge(
     delivery: &Delivery<'_>,
     mailbox: &mut Mailbox,

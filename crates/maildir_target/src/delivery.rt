@@ -55,15 +55,11 @@ impl Delivery<'_> {
         self.tmp
     }
 
-    /// The name under `new/`.
+    /// The name under `new/`, which is the one after that under `tmp/`.
     pub fn delivered(&self) -> u32
+        requires { IsNamed self.now }
         ensures { result ≡ new_of_delivery self.now }
     {
-        let name = Name {
-            folder: Folder::New,
-            message: self.message,
-            attempt: named_by(self.variant, self.attempt),
-        };
-        name.number()
+        self.tmp + 1
     }
 }

@@ -109,6 +109,7 @@ impl FileDevice {
     /// # Errors
     ///
     /// `Exists` where the name is there, and else only `Memory`.
+    #[inline(always)]
     pub fn create(&mut self, name: u32) -> Result<(), DeviceFault>
         ensures ok { OnOk result (AddsEffect self.old self.new (Create name)) }
         ensures err { OnErr result (self.new ≡ self.old) }

@@ -27,6 +27,7 @@ impl FileDevice {
     /// # Errors
     ///
     /// Only want of memory. The device is then as it was.
+    #[inline(always)]
     pub fn must_create(&mut self, name: u32) -> Result<(), AllocError>
         requires { is_some (entry_at self.old.names name).live ≡ false }
         ensures ok { OnOk result (AddsEffect self.old self.new (Create name)) }
