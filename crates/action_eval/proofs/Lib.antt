@@ -19,7 +19,6 @@ pub mod Heads
 pub mod CallerLemmas
 pub mod PassedHits
 pub mod RunLaws
-pub mod Runs
 pub mod LeftFaults
 pub mod Rigged
 pub mod LaidChains

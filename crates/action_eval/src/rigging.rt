@@ -3,7 +3,7 @@ ghost use Rattle.std.specs.Prelude.{◌≡◌, ◌-◌, ◌∷◌, ◌++◌, [],
 ghost use Rattle.action_eval.specs.Answers.{texts};
 ghost use Rattle.action_eval.specs.Catalogue.{IsCatalogue, HasDistinct};
 ghost use Rattle.action_eval.specs.Rigging.{term_of, offs, terms_at, done_after, chain_from, rigging, CanBeRigged, rigged_as};
-ghost use Rattle.action_eval.specs.inside.Laid.{joined, sizes_of, run_from, rest_of, laid, AreSizes};
+ghost use Rattle.action_eval.specs.inside.Laid.{joined, sizes_of, laid, AreSizes};
 ghost use Rattle.scenario_values.specs.Scenario.{IsScenario};
 ghost use Rattle.action_eval.specs.inside.Layout.{IsLayout};
 
@@ -79,25 +79,8 @@ pub fn push_chain(terms: &mut Vec<Term>, point: u32, rigs: &[Rig]) -> Result<(),
     Ok(())
 }
 
-/// Adds the chain of a point for the rigged hits of it that stand first, and gives those behind them.
-fn push_run<'a>(terms: &mut Vec<Term>, point: u32, rigs: &'a [Rig]) -> Result<&'a [Rig], AllocError>
-    ensures terms { OnOk result (terms.new.items ≡ terms.old.items ++ run_from point 0 rigs.now) }
-    ensures rest { IfOk result (λ rest. rest.now ≡ rest_of point rigs.now) }
-{
-    let mut done = 0;
-    let mut run = 0;
-    while run < rigs.len() && rigs[run].site.point == point {
-        push_rigged(terms, done, rigs[run].site.hit, rigs[run].kind)?;
-        done = rigs[run].site.hit;
-        run += 1;
-    }
-    Ok(&rigs[run..])
-}
-
-/// The terms of so many points and how many each has, in place of what stood there, for rigged hits in any order.
-#[cold]
-#[inline(never)]
-fn lay_unordered(
+/// The terms of so many points and how many each has, in place of what stood there.
+fn lay(
     terms: &mut Vec<Term>,
     sizes: &mut Vec<usize>,
     count: u32,
@@ -114,31 +97,6 @@ fn lay_unordered(
         sizes.push(terms.len() - before)?;
     }
     Ok(())
-}
-
-/// The terms of so many points and how many each has, in place of what stood there.
-// Rigged hits mostly come by ascending points: then one walk over them is enough, and none is left over after it.
-fn lay(
-    terms: &mut Vec<Term>,
-    sizes: &mut Vec<usize>,
-    count: u32,
-    rigs: &[Rig],
-) -> Result<(), AllocError>
-    ensures terms { OnOk result (terms.new.items ≡ joined 0 count rigs.now) }
-    ensures sizes { OnOk result (sizes.new.items ≡ sizes_of 0 count rigs.now) }
-{
-    terms.clear();
-    sizes.clear();
-    let mut rest = rigs;
-    for point in 0..count {
-        let before = terms.len();
-        rest = push_run(terms, point, rest)?;
-        sizes.push(terms.len() - before)?;
-    }
-    if rest.is_empty() {
-        return Ok(());
-    }
-    lay_unordered(terms, sizes, count, rigs)
 }
 
 /// Where the chains of points stand that have so many of the terms each, and their counts, in the room of these vectors.

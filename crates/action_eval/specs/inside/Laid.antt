@@ -1,9 +1,9 @@
 -- How a rigging keeps its scenario: the terms of all points one after another, and how many of them each point has.
-use Rattle.std.specs.Prelude.{ℕ, zero, suc, ◌+◌, ◌≤◌, List, [], ◌∷◌, ◌++◌, length, take, drop, ◌==◌, if◌then◌else◌, Option, Some, None}
+use Rattle.std.specs.Prelude.{ℕ, zero, suc, ◌+◌, ◌≤◌, List, [], ◌∷◌, ◌++◌, length, take, drop, Option, Some, None}
 use Rattle.scenario_values.specs.declared.term.Term.{Term}
 use Rattle.scenario_values.specs.Scenario.{Entries}
 use Rattle.action_eval.specs.declared.rig.Rig.{Rig}
-use Rattle.action_eval.specs.Rigging.{chain_from, rigged, entry}
+use Rattle.action_eval.specs.Rigging.{chain_from, entry}
 
 -- the entries of points of which each has so many of the terms
 abbrev pub laid : List (List ℕ) → List ℕ → List Term → Entries
@@ -26,15 +26,6 @@ joined p (suc count) rigs = chain_from p 0 rigs ++ joined (p + 1) count rigs
 abbrev pub sizes_of : ℕ → ℕ → List Rig → List ℕ
 sizes_of p zero rigs = []
 sizes_of p (suc count) rigs = length (chain_from p 0 rigs) ∷ sizes_of (p + 1) count rigs
-
--- the chain of point p for its rigged hits that stand first, after `done` hits of it, and the rigged hits behind them
-abbrev pub run_from : ℕ → ℕ → List Rig → List Term
-run_from p done [] = []
-run_from p done (r ∷ rs) = if r.site.point == p then rigged done r ++ run_from p r.site.hit rs else []
-
-abbrev pub rest_of : ℕ → List Rig → List Rig
-rest_of p [] = []
-rest_of p (r ∷ rs) = if r.site.point == p then rest_of p rs else r ∷ rs
 
 -- a chain and its start; of no term, none
 abbrev pub placed : List Term → ℕ → Option (List Term × ℕ)
