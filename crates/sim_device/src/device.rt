@@ -4,7 +4,7 @@ ghost use Rattle.sim_device.specs.Disk.{entry_at, held_at, StandsFor, AddsEffect
 ghost use Rattle.sim_device.specs.Refusals.{Refuses, RefusesOnly, RefusesLink};
 
 use crate::fault::DeviceFault;
-use crate::file::{File, append_at};
+use crate::file::File;
 use crate::names::Directory;
 use std::alloc::{AllocError, Global};
 use std::marker::Model;
@@ -34,6 +34,17 @@ impl Model for FileDevice {
     ghost view = { λ d. record { names = d.directory; files = take d.used d.files.items } };
 
     ghost invariant = { λ d. Keeps d.directory d.used (length d.files.items) };
+}
+
+/// Adds bytes to one of these files.
+fn append_at(files: &mut [File], file: usize, bytes: &[u8]) -> Result<(), AllocError>
+    requires { file < length files.old }
+    ensures ok { let old = held_at files.old file in
+        OnOk result (files.new ≡ slice_set files.old file (record { live = old.live ++ bytes.now; lasting = old.lasting })) }
+    ensures err { OnErr result (files.new ≡ files.old) }
+{
+    let file = &mut files[file];
+    file.append(bytes)
 }
 
 /// Makes what a file holds last.

@@ -1,5 +1,4 @@
-ghost use Rattle.std.specs.Prelude.{◌≡◌, ◌<◌, ◌++◌, [], length, OnOk, OnErr, slice_set};
-ghost use Rattle.sim_device.specs.Disk.{held_at};
+ghost use Rattle.std.specs.Prelude.{◌≡◌, ◌++◌, [], OnOk, OnErr};
 
 use std::alloc::{AllocError, Global};
 use std::marker::Model;
@@ -50,7 +49,7 @@ impl File {
     /// # Errors
     ///
     /// Only want of memory. The file is then as it was.
-    // A single byte is added within the caller's loop, and only more of them by a call.
+    // A single byte is added within the caller's loop.
     #[inline]
     pub fn append(&mut self, bytes: &[u8]) -> Result<(), AllocError>
         ensures ok { OnOk result (self.new ≡ record { live = self.old.live ++ bytes.now; lasting = self.old.lasting }) }
@@ -60,24 +59,6 @@ impl File {
             self.contents.push(*byte)?;
             return Ok(());
         }
-        self.append_many(bytes)
-    }
-
-    /// Adds any number of bytes at the end.
-    #[inline(never)]
-    fn append_many(&mut self, bytes: &[u8]) -> Result<(), AllocError>
-        ensures ok { OnOk result (self.new ≡ record { live = self.old.live ++ bytes.now; lasting = self.old.lasting }) }
-        ensures err { OnErr result (self.new ≡ self.old) }
-    {
-        self.extend(bytes)
-    }
-
-    /// The same within its caller.
-    #[inline(always)]
-    fn extend(&mut self, bytes: &[u8]) -> Result<(), AllocError>
-        ensures ok { OnOk result (self.new ≡ record { live = self.old.live ++ bytes.now; lasting = self.old.lasting }) }
-        ensures err { OnErr result (self.new ≡ self.old) }
-    {
         self.contents.extend_from_slice(bytes)
     }
 
@@ -101,20 +82,4 @@ impl File {
     {
         self.contents.as_slice()
     }
-}
-
-/// Adds bytes to one of these files.
-// A call of the device is a call already, so what it does stands within it.
-#[inline(always)]
-pub fn append_at(files: &mut [File], file: usize, bytes: &[u8]) -> Result<(), AllocError>
-    requires { file < length files.old }
-    ensures ok { let old = held_at files.old file in
-        OnOk result (files.new ≡ slice_set files.old file (record { live = old.live ++ bytes.now; lasting = old.lasting })) }
-    ensures err { OnErr result (files.new ≡ files.old) }
-{
-    let file = &mut files[file];
-    if let [_] = bytes {
-        return file.append(bytes);
-    }
-    file.extend(bytes)
 }
