@@ -146,31 +146,15 @@ impl<'a> Model for Session<'a> {
     ghost use Rattle.std.specs.Prelude.{◌≡◌, map};
     ghost use Rattle.action_eval.specs.Answers.{Run};
     ghost use Rattle.action_eval.specs.inside.Session.{IsOpen, Keeps, seen, head_of};
-    ghost use Rattle.action_eval.specs.inside.Layout.{faults_of};
+    ghost use Rattle.action_eval.specs.inside.Layout.{run_of};
 
     ghost Value = { Run };
 
-    ghost view = { λ s. record {
-      given = record {
-        scenario = faults_of s.faults;
-        catalogue = map (λ n. n.now) s.catalogue.now;
-        seed = s.draws.seed;
-        stream = s.draws.stream;
-        limit = s.max_hits;
-      };
-      hits = s.hits.items;
-    } };
+    ghost view = { λ s. run_of s.faults (map (λ n. n.now) s.catalogue.now) s.draws s.max_hits s.hits.items };
 
-    ghost invariant = { λ s. Keeps (record {
-      given = record {
-        scenario = faults_of s.faults;
-        catalogue = map (λ n. n.now) s.catalogue.now;
-        seed = s.draws.seed;
-        stream = s.draws.stream;
-        limit = s.max_hits;
-      };
-      hits = s.hits.items;
-    }) (map seen s.found.items) s.left.items s.draws.taken s.notes.items s.millis s.stopped
+    ghost invariant = { λ s.
+        Keeps (run_of s.faults (map (λ n. n.now) s.catalogue.now) s.draws s.max_hits s.hits.items)
+        (map seen s.found.items) s.left.items s.draws.taken s.notes.items s.millis s.stopped
         × (s.heads.items ≡ map head_of (map seen s.found.items))
         × IsOpen s.stopped s.max_hits s.answerable s.asked_after_stop };
 }

@@ -4,12 +4,21 @@ use Rattle.scenario_values.specs.Scenario.{Entries, IsScenario}
 use Rattle.action_eval.specs.declared.found.Layout.{Layout}
 use Rattle.action_eval.specs.declared.session.Faults.{Faults}
 use Rattle.action_eval.specs.declared.session.Faults.TheVariants.{Written, Rigged}
+use Rattle.action_eval.specs.Words.{Drawn}
+use Rattle.action_eval.specs.Answers.{Run}
 use Rattle.action_eval.specs.inside.Session.{seen, found_of, head_of, left_counts}
 
 -- the scenario that a session's hits are answered by
 abbrev pub faults_of : Faults → Entries
 faults_of (Written scenario) = scenario.now
 faults_of (Rigged rigging) = rigging.now.scenario
+
+-- the run that a session stands for, of what it holds
+abbrev pub run_of : Faults → List (List ℕ) → Drawn → ℕ → List ℕ → Run
+run_of faults names draws limit hits = record {
+  given = record { scenario = faults_of faults; catalogue = names; seed = draws.seed; stream = draws.stream; limit = limit };
+  hits = hits;
+}
 
 -- where the chains of points stand, what the next hit of each meets, and the counts of all terms
 pub record IsLayout (scenario : Entries) (names : List (List ℕ)) (layout : Layout) : Type 0 where
