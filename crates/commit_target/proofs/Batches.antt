@@ -1,10 +1,6 @@
 -- Writes of many participants, one after another.
 use Rattle.std.proofs.Common.{◌≡◌, ◌<◌, ◌≤◌, ℕ, suc, ◌+◌, ◌-◌, List, ◌∷◌, ap, sym, ◌∙◌, subst, arith}
-use Rattle.commit_target.specs.declared.records.Kind.TheVariants as kind
-use Rattle.commit_target.specs.declared.records.Record.{Record}
 use Rattle.commit_target.specs.declared.records.Write.{Write}
-use Rattle.commit_target.specs.declared.variant.Variant.{Variant}
-use Rattle.commit_target.specs.Steps.{Tally, entry, prepare_write}
 use Rattle.commit_target.specs.Writes.{Event, Written, AllLogs, AddsEvent, LogsStandFor}
 use Rattle.commit_target.specs.inside.Batches.{all_written, AddsAll, Adding, AddsUpTo}
 
@@ -30,10 +26,3 @@ all_added old l write i n j there k = λ count es stands.
     let so_far : Adding count l write j (i + n - j) (all_written write i n es) = k count es stands in
     let none : i + n - j ≡ 0 = omega arith in
     subst (λ (x : List Event). LogsStandFor count l x) (ap (λ (m : ℕ). all_written write j m so_far.events) (sym none) ∙ so_far.same) so_far.written
-
-abbrev pub prepares : Variant → Tally → ℕ → Write
-prepares v t = λ j. prepare_write v t j
-
--- how a variant writes its prepare records
-pub written_by : (v u : Variant) (t : Tally) (write : Record → ℕ → Write) (r : Record) → v ≡ u → r ≡ entry t kind.Prepare → write (entry t kind.Prepare) ≡ prepares u t → write r ≡ prepares v t
-written_by v u t write r is this same = ap write this ∙ same ∙ ap (λ (x : Variant). prepares x t) (sym is)

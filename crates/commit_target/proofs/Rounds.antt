@@ -14,9 +14,8 @@ use Rattle.commit_target.specs.declared.records.Write.TheVariants.{Force}
 use Rattle.commit_target.specs.Work.{Work, wish}
 use Rattle.commit_target.specs.Writes.{Event, Written, AllLogs}
 use Rattle.commit_target.specs.Steps.{SendCommit, SendAck, SendAbort, commit_to, end_unless, with_write, entry, Step, SendPrepare, ForcePrepare, SendVote, ForceCommit, Over, Tally, State, machine, number, at_step, with_yes, opened, begun, first_of, one_of, abort_to, aborted, prepare_to, vote_step, prepare_write}
-use Rattle.commit_target.specs.inside.Batches.{all_written, AddsAll, with_all_yes, abort_write}
+use Rattle.commit_target.specs.inside.Batches.{all_written, AddsAll, prepares, with_all_yes, abort_write}
 use Rattle.commit_target.specs.inside.Seen.{Due, at_commit, commit_points, Here, Stands, at_vote, at_abort, WishYes, vote_points}
-use Rattle.commit_target.proofs.Batches.{prepares}
 use Rattle.commit_target.proofs.Playing.{same_end, same_prepare, some_of}
 
 -- ---- where the steps lead doesn't depend on the step

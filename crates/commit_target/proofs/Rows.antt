@@ -2,13 +2,15 @@
 use Rattle.std.proofs.Common.{◌≡◌, ◌⊎◌, ◌<◌, ◌≤◌, ℕ, zero, suc, ◌+◌, Bool, cond, List, ◌∷◌, length, set, refl, ap, sym, ◌∙◌, subst, arith, inl, inr}
 use Rattle.std.proofs.lemmas.Bool.{eq-eqb, ne_eqb, cases_eq, cases_lt}
 use Rattle.std.proofs.lemmas.List.{get_or-set_same, get_or-set_other}
-use Rattle.sim_device.specs.LogEffects.{LogEffect, Append, Force, Log, LogStandsFor, AddsLogEffect}
+use Rattle.sim_device.specs.LogEffects.{LogEffect, Log, LogStandsFor, AddsLogEffect}
+use Rattle.sim_device.specs.LogEffects as effect
+use Rattle.commit_target.specs.declared.marked.Manner.{Manner}
+use Rattle.commit_target.specs.declared.marked.Manner.TheVariants.{Append, Force}
 use Rattle.commit_target.specs.declared.records.Record.{Record}
 use Rattle.commit_target.specs.declared.records.Party.TheVariants.{Participant}
 use Rattle.commit_target.specs.declared.records.Write.{Write}
-use Rattle.commit_target.specs.declared.records.Write.TheVariants as write
 use Rattle.commit_target.specs.Writes.{Event, Written, AllLogs, LogsStandFor, on_coordinator, on_participant, log_at}
-use Rattle.commit_target.specs.inside.Batches.{all_written, AddsAll, AddsRow}
+use Rattle.commit_target.specs.inside.Batches.{effect_of, write_of, all_written, AddsAll, AddsRow}
 
 -- each write has this effect on the log of the participant of its number, and on no other
 pub record IsRow (w : ℕ → Write) (effect : LogEffect Record) : Type 0 where
@@ -16,18 +18,16 @@ pub record IsRow (w : ℕ → Write) (effect : LogEffect Record) : Type 0 where
   pub own : (j : ℕ) (es : List Event) → on_participant (Written (w j) ∷ es) j ≡ effect ∷ on_participant es j
   pub others : (j n : ℕ) (es : List Event) → (n ≡ j → ⊥) → on_participant (Written (w j) ∷ es) n ≡ on_participant es n
 
-pub forces : (r : Record) → IsRow (λ i. write.Force (Participant i) r) (Force r)
-forces r = record {
+pub writes : (m : Manner) (r : Record) → IsRow (λ i. write_of m (Participant i) r) (effect_of m r)
+writes Append r = record {
   coordinator = λ j es. refl;
-  own = λ j es. ap (λ (b : Bool). cond b (Force r ∷ on_participant es j) (on_participant es j)) (eq-eqb j j refl);
-  others = λ j n es apart. ap (λ (b : Bool). cond b (Force r ∷ on_participant es n) (on_participant es n)) (ne_eqb n j apart);
+  own = λ j es. ap (λ (b : Bool). cond b (effect.Append r ∷ on_participant es j) (on_participant es j)) (eq-eqb j j refl);
+  others = λ j n es apart. ap (λ (b : Bool). cond b (effect.Append r ∷ on_participant es n) (on_participant es n)) (ne_eqb n j apart);
 }
-
-pub appends : (r : Record) → IsRow (λ i. write.Append (Participant i) r) (Append r)
-appends r = record {
+writes Force r = record {
   coordinator = λ j es. refl;
-  own = λ j es. ap (λ (b : Bool). cond b (Append r ∷ on_participant es j) (on_participant es j)) (eq-eqb j j refl);
-  others = λ j n es apart. ap (λ (b : Bool). cond b (Append r ∷ on_participant es n) (on_participant es n)) (ne_eqb n j apart);
+  own = λ j es. ap (λ (b : Bool). cond b (effect.Force r ∷ on_participant es j) (on_participant es j)) (eq-eqb j j refl);
+  others = λ j n es apart. ap (λ (b : Bool). cond b (effect.Force r ∷ on_participant es n) (on_participant es n)) (ne_eqb n j apart);
 }
 
 on_none : (w : ℕ → Write) (effect : LogEffect Record) → IsRow w effect → (i count : ℕ) (es : List Event) → on_coordinator (all_written w i count es) ≡ on_coordinator es

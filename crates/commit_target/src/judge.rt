@@ -56,7 +56,7 @@ impl Ends {
         ensures first { result.first ≡ first }
         ensures ends { (es : List Event) → LogsStandFor participants logs.now (AllRestart ∷ es) → EndsOf participants told.now es result }
     {
-        let coordinator = Marks::of(logs.coordinator(), first);
+        let coordinator = logs.coordinator().marks(first);
         let mut committed_by = 0;
         let mut aborted_by = 0;
         for log in logs.participants(participants) {

@@ -1,14 +1,11 @@
 ghost use Rattle.std.specs.Prelude.{◌≡◌, ◌<◌, ◌≤◌, ◌+◌, ℕ, List, [], OnOk, OnErr, length};
-ghost use Rattle.sim_device.specs.FileEffects.{Live};
-ghost use Rattle.sim_device.specs.LogEffects.{Append, Force, Restart, LogStandsFor, AddsLogEffect, records};
+ghost use Rattle.sim_device.specs.LogEffects.{Restart, LogStandsFor, AddsLogEffect};
 ghost use Rattle.commit_target.specs.declared.records.Party.TheVariants.{Participant};
-ghost use Rattle.commit_target.specs.declared.records.Write.TheVariants as write;
 ghost use Rattle.commit_target.specs.Writes.{Event, Written, AllRestart, LogsStandFor, AddsEvent, log_at, on_coordinator, on_participant};
-ghost use Rattle.commit_target.specs.inside.Batches.{AddsAll, AddsRow};
+ghost use Rattle.commit_target.specs.inside.Batches.{effect_of, write_of, AddsAll, AddsRow};
 
-use crate::marked::MarkedLog;
+use crate::marked::{Manner, MarkedLog};
 use crate::records::{Party, Record, Write};
-use sim_device::RecordLog;
 use std::alloc::{AllocError, Global};
 use std::marker::Model;
 
@@ -16,7 +13,7 @@ use std::marker::Model;
 #[derive(Drop)]
 pub struct Logs {
     alloc: Global,
-    coordinator: RecordLog<Record>,
+    coordinator: MarkedLog,
     participants: Vec<MarkedLog>,
 }
 
@@ -61,36 +58,20 @@ fn restart_each(logs: &mut [MarkedLog])
     }
 }
 
-/// Forces a record to each log, from one on, up to another.
+/// Adds a record to each log, from one on, up to another.
 #[inline(always)]
-fn force_row(
+fn add_row(
     logs: &mut [MarkedLog],
     first: usize,
     end: usize,
     entry: Record,
+    manner: Manner,
 ) -> Result<(), AllocError>
     requires { end ≤ length logs.old }
-    ensures { OnOk result (AddsRow logs.old logs.new (Force entry) first end) }
+    ensures { OnOk result (AddsRow logs.old logs.new (effect_of manner entry) first end) }
 {
     for number in first..end {
-        logs[number].force(entry)?;
-    }
-    Ok(())
-}
-
-/// Appends a record in the same way, which does not last yet.
-#[inline(always)]
-fn append_row(
-    logs: &mut [MarkedLog],
-    first: usize,
-    end: usize,
-    entry: Record,
-) -> Result<(), AllocError>
-    requires { end ≤ length logs.old }
-    ensures { OnOk result (AddsRow logs.old logs.new (Append entry) first end) }
-{
-    for number in first..end {
-        logs[number].append(entry)?;
+        logs[number].add(entry, manner)?;
     }
     Ok(())
 }
@@ -102,7 +83,7 @@ impl Logs {
     {
         Logs {
             alloc,
-            coordinator: RecordLog::new(alloc),
+            coordinator: MarkedLog::new(alloc),
             participants: Vec::new(alloc),
         }
     }
@@ -118,31 +99,16 @@ impl Logs {
         clear_first(self.alloc, &mut self.participants, participants)
     }
 
-    /// Adds a record to the log of a party, which does not last yet. A participant without a log writes nothing.
+    /// Adds a record to the log of a party. A participant without a log writes nothing.
     #[inline(always)]
-    fn append(&mut self, party: Party, entry: Record) -> Result<(), AllocError>
-        ensures ok { OnOk result (AddsEvent self.old self.new (Written (write.Append party entry))) }
+    fn add(&mut self, party: Party, entry: Record, manner: Manner) -> Result<(), AllocError>
+        ensures ok { OnOk result (AddsEvent self.old self.new (Written (write_of manner party entry))) }
         ensures err { OnErr result (self.new ≡ self.old) }
     {
         match party {
-            Party::Coordinator => self.coordinator.append(entry),
+            Party::Coordinator => self.coordinator.add(entry, manner),
             Party::Participant(number) if number < self.participants.len() => {
-                self.participants[number].append(entry)
-            }
-            Party::Participant(_) => Ok(()),
-        }
-    }
-
-    /// Adds a record to the log of a party, and all there lasts. A participant without a log writes nothing.
-    #[inline(always)]
-    fn force(&mut self, party: Party, entry: Record) -> Result<(), AllocError>
-        ensures ok { OnOk result (AddsEvent self.old self.new (Written (write.Force party entry))) }
-        ensures err { OnErr result (self.new ≡ self.old) }
-    {
-        match party {
-            Party::Coordinator => self.coordinator.force(entry),
-            Party::Participant(number) if number < self.participants.len() => {
-                self.participants[number].force(entry)
+                self.participants[number].add(entry, manner)
             }
             Party::Participant(_) => Ok(()),
         }
@@ -157,42 +123,27 @@ impl Logs {
         ensures err { OnErr result (self.new ≡ self.old) }
     {
         match write {
-            Write::Append(party, entry) => self.append(party, entry),
-            Write::Force(party, entry) => self.force(party, entry),
+            Write::Append(party, entry) => self.add(party, entry, Manner::Append),
+            Write::Force(party, entry) => self.add(party, entry, Manner::Force),
         }
     }
 
-    /// Forces a record to the log of each of so many participants in a row, from one on. A participant without a log writes nothing.
+    /// Adds a record to the log of each of so many participants in a row, from one on. A participant without a log writes nothing.
     ///
     /// An error means that memory was refused: some of them may have the record.
     #[inline(always)]
-    pub(crate) fn force_each(
+    pub(crate) fn add_each(
         &mut self,
         first: usize,
         count: usize,
         entry: Record,
+        manner: Manner,
     ) -> Result<(), AllocError>
         requires { first + count ≤ usize.MAX }
-        ensures { OnOk result (AddsAll self.old self.new (λ i. write.Force (Participant i) entry) first count) }
+        ensures { OnOk result (AddsAll self.old self.new (λ i. write_of manner (Participant i) entry) first count) }
     {
         let end = self.participants.len().min(first + count);
-        force_row(self.participants.as_mut_slice(), first, end, entry)?;
-        Ok(())
-    }
-
-    /// Appends a record in the same way, which does not last yet.
-    #[inline(always)]
-    pub(crate) fn append_each(
-        &mut self,
-        first: usize,
-        count: usize,
-        entry: Record,
-    ) -> Result<(), AllocError>
-        requires { first + count ≤ usize.MAX }
-        ensures { OnOk result (AddsAll self.old self.new (λ i. write.Append (Participant i) entry) first count) }
-    {
-        let end = self.participants.len().min(first + count);
-        append_row(self.participants.as_mut_slice(), first, end, entry)?;
+        add_row(self.participants.as_mut_slice(), first, end, entry, manner)?;
         Ok(())
     }
 
@@ -204,11 +155,11 @@ impl Logs {
         restart_each(self.participants.as_mut_slice());
     }
 
-    /// The records in the coordinator's log, the oldest first.
-    pub(crate) fn coordinator(&self) -> &[Record]
-        ensures { (count : ℕ) (es : List Event) → LogsStandFor count self.now es → result.now ≡ records (on_coordinator es) Live }
+    /// The coordinator's log.
+    pub(crate) fn coordinator(&self) -> &MarkedLog
+        ensures { (count : ℕ) (es : List Event) → LogsStandFor count self.now es → LogStandsFor result.now (on_coordinator es) }
     {
-        self.coordinator.records()
+        &self.coordinator
     }
 
     /// The logs of the first participants: of so many, where they are there.

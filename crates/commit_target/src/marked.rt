@@ -1,8 +1,9 @@
-//! A log of a participant, with the marks of its records. These are kept as records come: to walk each log after each run costs more.
+//! A log of a party, with the marks of its records. These are kept as records come: to walk each log after each run costs more.
 ghost use Rattle.std.specs.Prelude.{◌≡◌, List, [], OnOk, OnErr};
 ghost use Rattle.sim_device.specs.FileEffects.{Live};
-ghost use Rattle.sim_device.specs.LogEffects.{LogEffect, Append, Force, Restart, records, LogStandsFor, AddsLogEffect};
+ghost use Rattle.sim_device.specs.LogEffects.{LogEffect, Restart, records, LogStandsFor, AddsLogEffect};
 ghost use Rattle.commit_target.specs.declared.records.Record.{Record};
+ghost use Rattle.commit_target.specs.inside.Batches.{effect_of};
 ghost use Rattle.commit_target.specs.inside.Marks.{AreMarks};
 
 use crate::marks::Marks;
@@ -10,6 +11,15 @@ use crate::records::Record;
 use sim_device::RecordLog;
 use std::alloc::{AllocError, Global};
 use std::marker::Model;
+
+/// How a record is added to a log.
+#[derive(Clone, Copy)]
+pub enum Manner {
+    /// It does not last yet.
+    Append,
+    /// It lasts, with all before it.
+    Force,
+}
 
 /// A log of records, and what it says of the first transactions.
 #[derive(Drop)]
@@ -49,28 +59,18 @@ impl MarkedLog {
         self.marks = Marks::none();
     }
 
-    /// Adds a record, which does not last yet.
+    /// Adds a record.
     ///
     /// An error means that memory was refused. The log is as it was.
     #[inline(always)]
-    pub fn append(&mut self, entry: Record) -> Result<(), AllocError>
-        ensures ok { OnOk result (AddsLogEffect self.old self.new (Append entry)) }
+    pub fn add(&mut self, entry: Record, manner: Manner) -> Result<(), AllocError>
+        ensures ok { OnOk result (AddsLogEffect self.old self.new (effect_of manner entry)) }
         ensures err { OnErr result (self.new ≡ self.old) }
     {
-        self.log.append(entry)?;
-        self.marks.add(entry, 0);
-        Ok(())
-    }
-
-    /// Adds a record, and makes all records so far last.
-    ///
-    /// An error means that memory was refused. The log is as it was.
-    #[inline(always)]
-    pub fn force(&mut self, entry: Record) -> Result<(), AllocError>
-        ensures ok { OnOk result (AddsLogEffect self.old self.new (Force entry)) }
-        ensures err { OnErr result (self.new ≡ self.old) }
-    {
-        self.log.force(entry)?;
+        match manner {
+            Manner::Append => self.log.append(entry)?,
+            Manner::Force => self.log.force(entry)?,
+        }
         self.marks.add(entry, 0);
         Ok(())
     }

@@ -7,6 +7,7 @@ ghost use Rattle.commit_target.specs.inside.Seen.{Leads, Stands, Due, Ended};
 
 use crate::cut::{Cut, ask};
 use crate::logs::Logs;
+use crate::marked::Manner;
 use crate::points::Point;
 use crate::progress::Progress;
 use crate::records::{Kind, Party, Write};
@@ -213,7 +214,8 @@ fn pass_commits(
 {
     let left = workload.participants() - participant;
     let passed = session.pass_rounds(&ROUND, left)?;
-    logs.force_each(participant, passed, progress.entry(Kind::Commit))?;
+    let entry = progress.entry(Kind::Commit);
+    logs.add_each(participant, passed, entry, Manner::Force)?;
     Ok(passed)
 }
 

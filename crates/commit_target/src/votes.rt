@@ -1,13 +1,16 @@
 //! The first phase: each participant is asked to prepare, and votes.
 ghost use Rattle.std.specs.Prelude.{◌≡◌, ◌<◌, ◌≤◌, ◌+◌, OnOk};
+ghost use Rattle.commit_target.specs.declared.records.Kind.TheVariants.{Prepare};
+ghost use Rattle.commit_target.specs.declared.records.Party.TheVariants.{Participant};
 ghost use Rattle.commit_target.specs.Steps.{SendPrepare, ForcePrepare, SendVote, Over, at_step, one_of};
-ghost use Rattle.commit_target.specs.Steps.{prepare_to, vote_step, after_vote, decided, number, prepare_write};
+ghost use Rattle.commit_target.specs.Steps.{prepare_to, vote_step, after_vote, decided, number, entry, prepare_write};
 ghost use Rattle.commit_target.specs.Work.{wish};
-ghost use Rattle.commit_target.specs.inside.Batches.{AddsAll};
+ghost use Rattle.commit_target.specs.inside.Batches.{AddsAll, prepares, write_of};
 ghost use Rattle.commit_target.specs.inside.Seen.{Leads, Stands, Ended};
 
 use crate::cut::{Cut, ask};
 use crate::logs::Logs;
+use crate::marked::Manner;
 use crate::points::Point;
 use crate::progress::Progress;
 use crate::records::Kind;
@@ -91,6 +94,16 @@ fn vote(
     Ok(())
 }
 
+/// How a participant adds its prepare record.
+fn manner_of(variant: Variant) -> Manner
+    ensures { prepares variant ≡ λ t i. write_of result (Participant i) (entry t Prepare) }
+{
+    match variant {
+        Variant::LazyPrepare => Manner::Append,
+        Variant::Sound | Variant::EarlyEnd | Variant::TwoTries => Manner::Force,
+    }
+}
+
 /// So many participants in a row, from one on, write their prepare records.
 fn prepare_each(
     variant: Variant,
@@ -103,12 +116,7 @@ fn prepare_each(
     ensures { OnOk result (AddsAll logs.old logs.new (λ i. prepare_write variant progress.now i) first count) }
 {
     let entry = progress.entry(Kind::Prepare);
-    match variant {
-        Variant::LazyPrepare => logs.append_each(first, count, entry),
-        Variant::Sound => logs.force_each(first, count, entry),
-        Variant::EarlyEnd => logs.force_each(first, count, entry),
-        Variant::TwoTries => logs.force_each(first, count, entry),
-    }
+    logs.add_each(first, count, entry, manner_of(variant))
 }
 
 /// The votes of participants in a row, from this one on, that wish yes and where nothing comes between: how many they are.

@@ -1,13 +1,27 @@
 -- Many at once: writes of participants in a row, and their votes.
 use Rattle.std.specs.Prelude.{◌≡◌, ℕ, zero, suc, ◌+◌, ◌-◌, ◌<◌, ◌≤◌, List, [], ◌∷◌, ◌++◌, length, slice_index_or}
 use Rattle.sim_device.specs.LogEffects.{LogEffect, Log, AddsLogEffect}
+use Rattle.sim_device.specs.LogEffects as effect
+use Rattle.commit_target.specs.declared.marked.Manner.{Manner}
+use Rattle.commit_target.specs.declared.marked.Manner.TheVariants as manner
 use Rattle.commit_target.specs.declared.records.Record.{Record}
 use Rattle.commit_target.specs.declared.records.Kind.TheVariants as kind
+use Rattle.commit_target.specs.declared.records.Party.{Party}
 use Rattle.commit_target.specs.declared.records.Party.TheVariants.{Participant}
 use Rattle.commit_target.specs.declared.records.Write.{Write}
-use Rattle.commit_target.specs.declared.records.Write.TheVariants.{Append}
+use Rattle.commit_target.specs.declared.records.Write.TheVariants.{Append, Force}
+use Rattle.commit_target.specs.declared.variant.Variant.{Variant}
 use Rattle.commit_target.specs.Writes.{Event, Written, AllLogs, LogsStandFor, log_at}
-use Rattle.commit_target.specs.Steps.{Tally, with_yes, entry}
+use Rattle.commit_target.specs.Steps.{Tally, with_yes, entry, prepare_write}
+
+-- what adding a record in this manner does to a log, and the write of a party that adds it so
+abbrev pub effect_of : Manner → Record → LogEffect Record
+effect_of manner.Append r = effect.Append r
+effect_of manner.Force r = effect.Force r
+
+abbrev pub write_of : Manner → Party → Record → Write
+write_of manner.Append party r = Append party r
+write_of manner.Force party r = Force party r
 
 -- these writes, of so many numbers in a row, from one on
 abbrev pub all_written : (ℕ → Write) → ℕ → ℕ → List Event → List Event
@@ -30,6 +44,10 @@ AddsUpTo old new write i n j = (count : ℕ) (es : List Event) → LogsStandFor 
 -- what the participant at a place among those whose yes arrived writes at an abort
 abbrev pub abort_write : Tally → ℕ → Write
 abort_write t place = Append (Participant (slice_index_or t.yes place 0)) (entry t kind.Abort)
+
+-- what each participant writes that wishes yes
+abbrev pub prepares : Variant → Tally → ℕ → Write
+prepares v t = λ i. prepare_write v t i
 
 -- a yes of each of so many participants arrived, from one on
 abbrev pub with_all_yes : Tally → ℕ → ℕ → Tally

@@ -4,8 +4,8 @@ use Rattle.std.specs.Int.{bit_not, w64}
 use Rattle.std.proofs.lemmas.List.{get_or_default}
 use Rattle.commit_target.specs.declared.records.Record.{Record}
 use Rattle.commit_target.specs.Judgement.{is_committed, some_ends, known, own}
-use Rattle.commit_target.specs.inside.Marks.{among, AreMarks}
-use Rattle.commit_target.specs.Writes.{Event, AllRestart, LogsStandFor, log_at, on_participant}
+use Rattle.commit_target.specs.inside.Marks.{among}
+use Rattle.commit_target.specs.Writes.{Event, AllRestart, LogsStandFor, log_at, on_coordinator, on_participant}
 use Rattle.commit_target.proofs.Counting.{one_committed, one_aborted}
 use Rattle.commit_target.proofs.Sets.{among_or, among_not}
 use Rattle.commit_target.proofs.judge.Ends.from.Goals as goal
@@ -23,7 +23,7 @@ loop-log-preserved c =
     let ends : List Event → ℕ → ℕ → Bool = λ es k p. is_committed (known es) (own es p) (first + k) in
     let this : (es : List Event) → LogsStandFor c.args.participants c.args.logs.now (AllRestart ∷ es) → (k : ℕ) → k < 64 → among c.committed-ends.result k ≡ ends es k n = λ es h.
     c.committed-ends.ensures first (known es) (own es n)
-    (subst (λ (log : List Record). AreMarks c.of-coordinator.result.sets log first) (c.coordinator.ensures _ _ h) c.of-coordinator.ensures)
+    (c.marks-coordinator.ensures (on_coordinator (AllRestart ∷ es)) (c.coordinator.ensures _ _ h))
     (c.marks.ensures (on_participant (AllRestart ∷ es) n) (stands es h)) in
     record {
       committed = λ es h k below.

@@ -4,7 +4,7 @@ use Rattle.commit_target.specs.Writes.{Written, AddsEvent}
 use Rattle.commit_target.proofs.logs.Logs.write.Goals as goal
 
 pub returns-in-Append-clause-ok : goal.returns-in-Append-clause-ok
-returns-in-Append-clause-ok c = subst (λ (w : Write). OnOk c.append.result (AddsEvent c.args.self.now c.append.new.self (Written w))) (sym c.in-Append.is) c.append.ensures.ok
+returns-in-Append-clause-ok c = subst (λ (w : Write). OnOk c.add.result (AddsEvent c.args.self.now c.add.new.self (Written w))) (sym c.in-Append.is) c.add.ensures.ok
 
 pub returns-in-Force-clause-ok : goal.returns-in-Force-clause-ok
-returns-in-Force-clause-ok c = subst (λ (w : Write). OnOk c.force.result (AddsEvent c.args.self.now c.force.new.self (Written w))) (sym c.in-Force.is) c.force.ensures.ok
+returns-in-Force-clause-ok c = subst (λ (w : Write). OnOk c.add-in-Force.result (AddsEvent c.args.self.now c.add-in-Force.new.self (Written w))) (sym c.in-Force.is) c.add-in-Force.ensures.ok

@@ -1,0 +1,25 @@
+use Rattle.std.proofs.Common.{◌≡◌, ℕ, List, refl, sym, subst, arith}
+use Rattle.std.specs.Vec.{with_items}
+use Rattle.std.proofs.lemmas.List.{with_items_is}
+use Rattle.sim_device.specs.LogEffects.{LogEffect, Log}
+use Rattle.commit_target.specs.declared.records.Record.{Record}
+use Rattle.commit_target.specs.declared.records.Party.TheVariants.{Participant}
+use Rattle.commit_target.specs.declared.records.Write.{Write}
+use Rattle.commit_target.specs.Writes.{AllLogs}
+use Rattle.commit_target.specs.inside.Batches.{effect_of, write_of, AddsAll, AddsRow}
+use Rattle.commit_target.proofs.Rows.{row_added, writes}
+use Rattle.commit_target.proofs.logs.Logs.add_each.Goals as goal
+
+pub returns : goal.returns
+returns c =
+    let each : ℕ → Write = λ i. write_of c.args.manner (Participant i) c.args.entry in
+    let effect : LogEffect Record = effect_of c.args.manner c.args.entry in
+    let new : AllLogs = record { coordinator = c.self.inside.coordinator; participants = c.add_row.new.logs } in
+    let whole : (with_items c.self.inside.participants c.add_row.new.logs).items ≡ c.add_row.new.logs =
+    with_items_is c.self.inside.participants c.add_row.new.logs (omega (arith, c.in_ok-add_row.ensures.same)) in
+    let old : AllLogs = record { coordinator = c.self.inside.coordinator; participants = c.self.inside.participants.items } in
+    let row : AddsRow old.participants new.participants effect c.args.first c.min-end.result =
+    subst (λ (logs : List (Log Record)). AddsRow logs new.participants effect c.args.first c.min-end.result) c.as_mut_slice.ensures.value c.in_ok-add_row.ensures in
+    subst (λ (logs : AllLogs). AddsAll logs (record { coordinator = c.self.inside.coordinator; participants = (with_items c.self.inside.participants c.add_row.new.logs).items }) each c.args.first c.args.count) c.self.view_is
+    (subst (λ (logs : List (Log Record)). AddsAll old (record { coordinator = c.self.inside.coordinator; participants = logs }) each c.args.first c.args.count) (sym whole)
+    (row_added old new each effect (writes c.args.manner c.args.entry) c.args.first c.args.count c.min-end.result (omega arith) (λ n there before. omega arith) refl row))
