@@ -1,5 +1,5 @@
 -- How many plans there are.
-use Rattle.std.proofs.Common.{◌≡◌, ℕ, zero, suc, ◌+◌, ◌-◌, ◌*◌, ◌/◌, ◌<◌, ◌≤◌, Bool, true, false, cond, List, [], ◌∷◌, ◌++◌, map, length, length-append, refl, ap, sym, ◌∙◌, arith}
+use Rattle.std.proofs.Common.{◌≡◌, ℕ, zero, suc, ◌+◌, ◌-◌, ◌*◌, ◌/◌, ◌<◌, ◌≤◌, Bool, true, false, cond, List, [], ◌∷◌, ◌++◌, map, length, get_or, length-append, refl, ap, sym, ◌∙◌, arith}
 use Rattle.std.specs.List.{flat_map, range_with_len}
 use Rattle.std.proofs.lemmas.Grind.{flat_map-append}
 use Rattle.scenario_values.specs.Scenario.{Entries}
@@ -91,3 +91,9 @@ judged names counts asked sites wanted storms listed a b c d =
     ∙ ap (λ n. 1 + 3 * total_of counts + cond asked.pairs (2 * pairs_count (total_of counts)) 0 + n + listed) c
     ∙ ap (λ n. 1 + 3 * total_of counts + cond asked.pairs (2 * pairs_count (total_of counts)) 0 + asked.storms + n) d
     ∙ sym (plans_length names counts asked)
+
+-- a count is at most what all come to
+pub counted_within : (counts : List ℕ) (i d : ℕ) → i < length counts → get_or counts i d ≤ total_of counts
+counted_within [] i d lt = absurd (omega arith)
+counted_within (n ∷ ns) zero d lt = omega arith
+counted_within (n ∷ ns) (suc i) d lt = omega (arith, counted_within ns i d (omega arith))

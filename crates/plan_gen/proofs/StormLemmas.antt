@@ -63,13 +63,13 @@ storm_push word rate sites x =
     ∙ taken_push f most_rigs (filter (is_taken rate) (with_words word sites)) y (is_taken rate y)
 
 -- one site more
-pub storm_next : (word : ℕ → ℕ) (rate i : ℕ) (sites : List Site) (d : Site) (w : ℕ) (old new : List Rig) → i < length sites → w ≡ word i → old ≡ storm_by word rate (take i sites) → new ≡ old ++ at_next rate w old (get_or sites i d) → new ≡ storm_by word rate (take (i + 1) sites)
-storm_next word rate i sites d w old new within is built added =
+pub storm_next : (word : ℕ → ℕ) (rate i : ℕ) (sites : List Site) (x d : Site) (w : ℕ) (old new : List Rig) → i < length sites → x ≡ get_or sites i d → w ≡ word i → old ≡ storm_by word rate (take i sites) → new ≡ old ++ at_next rate w old x → new ≡ storm_by word rate (take (i + 1) sites)
+storm_next word rate i sites x d w old new within there is built added =
     let before = take i sites in
-    let x = get_or sites i d in
     let here : w ≡ word (0 + length before) = is ∙ ap word (let e : i ≡ 0 + length before = omega (arith, length-take-le i sites (omega (arith, within))) in e) in
+    let more : take (i + 1) sites ≡ before ++ x ∷ [] = take_more sites i d within ∙ ap (λ (s : Site). before ++ s ∷ []) (sym there) in
     added ∙ ap (λ k. old ++ at_next rate k old x) here ∙ ap (λ l. l ++ at_next rate (word (0 + length before)) l x) built
-    ∙ sym (storm_push word rate before x) ∙ ap (storm_by word rate) (sym (take_more sites i d within))
+    ∙ sym (storm_push word rate before x) ∙ ap (storm_by word rate) (sym more)
 
 pub storm_is : (seed rate number stream : ℕ) (sites : List Site) (rng : ChaCha) → rng ≡ at_word seed stream 0 → stream ≡ 4294967296 + number → storm_by (word_at 4 rng.key rng.stream) rate sites ≡ storm seed rate sites number
 unfolding storm at_word word

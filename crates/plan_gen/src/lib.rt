@@ -4,9 +4,12 @@
 mod census;
 mod copies;
 mod count;
+mod drawing;
 mod laws;
 mod list;
+mod loading;
 mod looped;
+mod packed;
 mod parts;
 mod plan;
 mod rigging;

@@ -1,5 +1,5 @@
 //! The list of plans.
-ghost use Rattle.std.specs.Prelude.{◌≡◌, ◌≤◌, ◌<◌, length, IfOk, OnOk, IsErrOf};
+ghost use Rattle.std.specs.Prelude.{◌≡◌, ◌≤◌, ◌<◌, ◌*◌, length, IfOk, OnOk, IsErrOf};
 ghost use Rattle.action_eval.specs.Answers.{texts};
 ghost use Rattle.action_eval.specs.Catalogue.{IsCatalogue};
 ghost use Rattle.plan_gen.specs.Counts.{total_of};
@@ -32,7 +32,7 @@ fn made_plans<'a>(
 ) -> Result<Vec<Plan<'a>>, AllocError>
     requires lawful { IsCatalogue (texts catalogue.now) }
     requires counts { length counts.now ≤ 64 }
-    requires sites { total_of counts.now ≤ most_plans }
+    requires sites { 3 * total_of counts.now ≤ most_plans }
     ensures { IfOk result (λ plans. plans.items ≡ plan_list (texts catalogue.now) counts.now settings.now) }
 {
     let sites = sites_of(alloc, counts)?;
@@ -49,7 +49,7 @@ fn made_plans<'a>(
         settings.seed,
         settings.rate,
         settings.storms,
-        sites.as_slice(),
+        sites,
     )?;
     add_listed(&mut plans, settings.listed)?;
     Ok(plans)

@@ -1,50 +1,41 @@
 //! The parts of the list of plans.
-ghost use Rattle.std.specs.Prelude.{◌≡◌, ◌++◌, ◌∷◌, ◌≤◌, [], length, flat_map, OnOk};
+ghost use Rattle.std.specs.Prelude.{◌≡◌, ◌++◌, ◌∷◌, ◌≤◌, [], length, flat_map, map, OnOk};
+ghost use Rattle.std.specs.Arc.{arc_value};
+ghost use Rattle.std.specs.List.{range_with_len};
 ghost use Rattle.action_eval.specs.Answers.{texts};
 ghost use Rattle.action_eval.specs.Catalogue.{IsCatalogue};
 ghost use Rattle.action_eval.specs.declared.rig.Kind.TheVariants.{OnceReturn};
-ghost use Rattle.action_eval.specs.Rigging.{rig, rigging, CanBeRigged};
-ghost use Rattle.plan_gen.specs.inside.PlanForm.{rigs_of};
+ghost use Rattle.action_eval.specs.Rigging.{rig, rigging};
+ghost use Rattle.plan_gen.specs.inside.PlanForm.{stormed, CanBeDrawn};
 ghost use Rattle.plan_gen.specs.PlanList.{most_plans, site_plans, pair_plans, pairs_of, storm_part};
 
-use crate::plan::{Plan, Rigs};
-use crate::storms::storm;
-use action_eval::{Kind, Rig, Site};
+use crate::drawing::{Drawing, names_of};
+use crate::packed::PackedSite;
+use crate::plan::Plan;
+use action_eval::Kind;
 use scenario_values::Scenario;
 use std::alloc::{AllocError, Global};
-
-/// Adds a plan of rigged hits.
-fn add_plan<'a>(
-    plans: &mut Vec<Plan<'a>>,
-    catalogue: &'a [&'a str],
-    rigs: Rigs,
-) -> Result<(), AllocError>
-    requires lawful { IsCatalogue (texts catalogue.now) }
-    requires small { CanBeRigged (rigs_of rigs) }
-    ensures { OnOk result (plans.new.items ≡ plans.old.items ++ rigging (texts catalogue.now) (rigs_of rigs) ∷ []) }
-{
-    plans.push(Plan::rigged(catalogue, rigs))?;
-    Ok(())
-}
+use std::sync::Arc;
 
 /// Adds the plan of one rigged hit.
 fn add_alone<'a>(
     plans: &mut Vec<Plan<'a>>,
     catalogue: &'a [&'a str],
-    site: Site,
+    site: PackedSite,
     kind: Kind,
 ) -> Result<(), AllocError>
     requires { IsCatalogue (texts catalogue.now) }
     ensures { OnOk result (plans.new.items ≡ plans.old.items ++ rigging (texts catalogue.now) (rig site kind ∷ []) ∷ []) }
 {
-    add_plan(plans, catalogue, Rigs::One(Rig { site, kind }))
+    plans.push(Plan::one(site, kind, catalogue))?;
+    Ok(())
 }
 
 /// Adds the plans of a site.
 fn add_site<'a>(
     plans: &mut Vec<Plan<'a>>,
     catalogue: &'a [&'a str],
-    site: Site,
+    site: PackedSite,
 ) -> Result<(), AllocError>
     requires { IsCatalogue (texts catalogue.now) }
     ensures { OnOk result (plans.new.items ≡ plans.old.items ++ site_plans (texts catalogue.now) site) }
@@ -58,7 +49,7 @@ fn add_site<'a>(
 pub fn add_sites<'a>(
     plans: &mut Vec<Plan<'a>>,
     catalogue: &'a [&'a str],
-    sites: &[Site],
+    sites: &[PackedSite],
 ) -> Result<(), AllocError>
     requires { IsCatalogue (texts catalogue.now) }
     ensures { OnOk result (plans.new.items ≡ plans.old.items ++ flat_map (site_plans (texts catalogue.now)) sites.now) }
@@ -73,27 +64,23 @@ pub fn add_sites<'a>(
 fn add_two<'a>(
     plans: &mut Vec<Plan<'a>>,
     catalogue: &'a [&'a str],
-    first: Site,
-    second: Site,
+    first: PackedSite,
+    second: PackedSite,
     kind: Kind,
 ) -> Result<(), AllocError>
     requires { IsCatalogue (texts catalogue.now) }
     ensures { OnOk result (plans.new.items ≡ plans.old.items ++ rigging (texts catalogue.now) (rig first OnceReturn ∷ rig second kind ∷ []) ∷ []) }
 {
-    let first = Rig {
-        site: first,
-        kind: Kind::OnceReturn,
-    };
-    let second = Rig { site: second, kind };
-    add_plan(plans, catalogue, Rigs::Two(first, second))
+    plans.push(Plan::two(first, second, kind, catalogue))?;
+    Ok(())
 }
 
 /// Adds the plans of two sites.
 fn add_pair<'a>(
     plans: &mut Vec<Plan<'a>>,
     catalogue: &'a [&'a str],
-    first: Site,
-    second: Site,
+    first: PackedSite,
+    second: PackedSite,
 ) -> Result<(), AllocError>
     requires { IsCatalogue (texts catalogue.now) }
     ensures { OnOk result (plans.new.items ≡ plans.old.items ++ pair_plans (texts catalogue.now) (first, second)) }
@@ -106,14 +93,14 @@ fn add_pair<'a>(
 fn add_pairs_of<'a>(
     plans: &mut Vec<Plan<'a>>,
     catalogue: &'a [&'a str],
-    first: Site,
-    rest: &[Site],
+    first: &PackedSite,
+    rest: &[PackedSite],
 ) -> Result<(), AllocError>
     requires { IsCatalogue (texts catalogue.now) }
-    ensures { OnOk result (plans.new.items ≡ plans.old.items ++ flat_map (λ b. pair_plans (texts catalogue.now) (first, b)) rest.now) }
+    ensures { OnOk result (plans.new.items ≡ plans.old.items ++ flat_map (λ b. pair_plans (texts catalogue.now) (first.now, b)) rest.now) }
 {
     for second in rest {
-        add_pair(plans, catalogue, first, *second)?;
+        add_pair(plans, catalogue, *first, *second)?;
     }
     Ok(())
 }
@@ -122,37 +109,56 @@ fn add_pairs_of<'a>(
 pub fn add_pairs<'a>(
     plans: &mut Vec<Plan<'a>>,
     catalogue: &'a [&'a str],
-    sites: &[Site],
+    sites: &[PackedSite],
 ) -> Result<(), AllocError>
     requires { IsCatalogue (texts catalogue.now) }
     ensures { OnOk result (plans.new.items ≡ plans.old.items ++ flat_map (pair_plans (texts catalogue.now)) (pairs_of sites.now)) }
 {
     for (i, first) in sites.iter().enumerate() {
-        add_pairs_of(plans, catalogue, *first, &sites[i + 1..])?;
+        add_pairs_of(plans, catalogue, first, &sites[i + 1..])?;
     }
     Ok(())
 }
 
-/// Adds the storms.
+/// Adds so many storms of a drawing.
+fn add_drawn<'a>(
+    plans: &mut Vec<Plan<'a>>,
+    drawing: &Arc<Drawing>,
+    storms: u32,
+) -> Result<(), AllocError>
+    requires { CanBeDrawn (arc_value drawing.now) }
+    ensures { OnOk result (plans.new.items ≡ plans.old.items ++ map (stormed (arc_value drawing.now)) (range_with_len 0 storms)) }
+{
+    for number in 0..storms {
+        plans.push(Plan::storm(number, Arc::try_clone(drawing)?))?;
+    }
+    Ok(())
+}
+
+/// Adds the storms, which share copies of the catalogue's names, and the sites.
 pub fn add_storms<'a>(
     alloc: Global,
     plans: &mut Vec<Plan<'a>>,
-    catalogue: &'a [&'a str],
+    catalogue: &[&str],
     seed: u64,
     rate: u32,
     storms: u32,
-    sites: &[Site],
+    sites: Vec<PackedSite>,
 ) -> Result<(), AllocError>
     requires lawful { IsCatalogue (texts catalogue.now) }
-    requires few { length sites.now ≤ most_plans }
-    ensures { OnOk result (plans.new.items ≡ plans.old.items ++ storm_part (texts catalogue.now) seed rate storms sites.now) }
+    requires few { length sites.items ≤ most_plans }
+    ensures { OnOk result (plans.new.items ≡ plans.old.items ++ storm_part (texts catalogue.now) seed rate storms sites.items) }
 {
-    let mut drawn = Vec::new(alloc);
-    for number in 0..storms {
-        let rigs = storm(alloc, &mut drawn, seed, rate, sites, number)?;
-        add_plan(plans, catalogue, Rigs::Many(rigs))?;
-    }
-    Ok(())
+    let names = names_of(alloc, catalogue)?;
+    let drawing = Drawing {
+        names,
+        sites,
+        seed,
+        rate,
+        alloc,
+    };
+    let drawing = Arc::new(alloc, drawing)?;
+    add_drawn(plans, &drawing, storms)
 }
 
 /// Adds the listed scenarios.

@@ -1,54 +1,63 @@
 //! Plans, and what is asked of their list.
-ghost use Rattle.std.specs.Prelude.{◌≡◌, [], IfOk, OnOk, true};
+ghost use Rattle.std.specs.Prelude.{◌≡◌, ◌∷◌, [], IfOk, true};
+ghost use Rattle.std.specs.Arc.{arc_value};
 ghost use Rattle.action_eval.specs.Answers.{texts};
 ghost use Rattle.action_eval.specs.Catalogue.{IsCatalogue};
-ghost use Rattle.plan_gen.specs.inside.PlanForm.{rigs_of};
-ghost use Rattle.action_eval.specs.Rigging.{rigging, rigged_as, CanBeRigged};
+ghost use Rattle.action_eval.specs.declared.rig.Kind.TheVariants.{OnceReturn};
+ghost use Rattle.action_eval.specs.Rigging.{rig, rigging, rigged_as};
+ghost use Rattle.plan_gen.specs.inside.PlanForm.{stormed, CanBeDrawn};
 
 use crate::copies::copy_of;
-use crate::rigging::scenario_of;
-use action_eval::{Rig, Rigging};
+use crate::drawing::Drawing;
+use crate::loading::load_over;
+use crate::packed::PackedSite;
+use crate::rigging::{empty_scenario, scenario_of};
+use action_eval::{Kind, Rig, Rigging};
 use scenario_values::Scenario;
 use std::alloc::{AllocError, Global};
 use std::marker::Model;
-
-/// The rigged hits of a plan, in catalogue order. Most plans have one or two: these take no memory of their own.
-#[derive(Debug, Drop)]
-pub enum Rigs {
-    One(Rig),
-    Two(Rig, Rig),
-    Many(Vec<Rig>),
-}
-
-impl Rigs {
-    /// Rigs these hits over the points of a catalogue. An error means that memory was refused.
-    fn load<'c>(&self, to: &mut Rigging<'c>, catalogue: &'c [&'c str]) -> Result<(), AllocError>
-        requires lawful { IsCatalogue (texts catalogue.now) }
-        requires small { CanBeRigged (rigs_of self.now) }
-        ensures { OnOk result (to.new ≡ rigged_as (texts catalogue.now) (rigging (texts catalogue.now) (rigs_of self.now))) }
-    {
-        match self {
-            Rigs::One(rig) => to.load(catalogue, &[*rig]),
-            Rigs::Two(first, second) => to.load(catalogue, &[*first, *second]),
-            Rigs::Many(rigs) => to.load(catalogue, rigs.as_slice()),
-        }
-    }
-}
+use std::mem::size_of;
+use std::sync::Arc;
 
 /// Where a plan's scenario comes from.
-#[derive(Debug, Drop)]
+#[derive(Drop)]
 pub enum Source<'a> {
-    /// Rigged hits of the points of a catalogue.
-    Rigged(&'a [&'a str], Rigs),
+    /// The points of a catalogue, of which no hit is rigged.
+    Empty(&'a [&'a str]),
+    /// One rigged hit of the points of a catalogue.
+    One(PackedSite, Kind, &'a [&'a str]),
+    /// Two of them, of which the first fails once, and this is done at the second.
+    Two(PackedSite, PackedSite, Kind, &'a [&'a str]),
+    /// The storm of this number.
+    Storm(u32, Arc<Drawing>),
     /// A scenario that the settings list.
     Listed(&'a Scenario),
 }
 
+const _: () = prove!(size_of::<Source<'static>>() == 24);
+
+/// A rigged hit.
+fn rig(site: PackedSite, kind: Kind) -> Rig
+    ensures { result ≡ rig site kind }
+{
+    Rig {
+        site: site.site(),
+        kind,
+    }
+}
+
+/// The rigged hits of a plan that has two.
+fn two_rigs(first: PackedSite, second: PackedSite, kind: Kind) -> [Rig; 2]
+    ensures { result ≡ rig first OnceReturn ∷ rig second kind ∷ [] }
+{
+    [rig(first, Kind::OnceReturn), rig(second, kind)]
+}
+
 /// A plan: a scenario that a component is run under. Contracts see it as its scenario.
 ///
-/// It keeps the hits at which something is done, and borrows the catalogue or the listed scenario. The scenario is made where the plan
-/// is run: so a list of 65536 plans takes little memory, and whoever runs a plan makes its scenario too.
-#[derive(Debug, Drop)]
+/// It keeps the hits at which something is done, or a storm's number, and borrows the catalogue or the listed scenario: 24 bytes. What is
+/// rigged is laid out, and a storm drawn, where the plan is run: so a list of 65536 plans takes little memory and time.
+#[derive(Drop)]
 pub struct Plan<'a> {
     source: Source<'a>,
 }
@@ -65,23 +74,49 @@ impl<'a> Model for Plan<'a> {
 }
 
 impl<'a> Plan<'a> {
-    /// The plan of rigged hits.
-    pub(crate) fn rigged(catalogue: &'a [&'a str], rigs: Rigs) -> Self
-        requires lawful { IsCatalogue (texts catalogue.now) }
-        requires small { CanBeRigged (rigs_of rigs) }
-        ensures { result ≡ rigging (texts catalogue.now) (rigs_of rigs) }
-    {
-        Plan {
-            source: Source::Rigged(catalogue, rigs),
-        }
-    }
-
     /// The plan without faults.
-    pub fn empty(alloc: Global, catalogue: &'a [&'a str]) -> Self
+    pub fn empty(_alloc: Global, catalogue: &'a [&'a str]) -> Self
         requires { IsCatalogue (texts catalogue.now) }
         ensures { result ≡ [] }
     {
-        Plan::rigged(catalogue, Rigs::Many(Vec::new(alloc)))
+        Plan {
+            source: Source::Empty(catalogue),
+        }
+    }
+
+    /// The plan of one rigged hit.
+    pub(crate) fn one(site: PackedSite, kind: Kind, catalogue: &'a [&'a str]) -> Self
+        requires { IsCatalogue (texts catalogue.now) }
+        ensures { result ≡ rigging (texts catalogue.now) (rig site kind ∷ []) }
+    {
+        Plan {
+            source: Source::One(site, kind, catalogue),
+        }
+    }
+
+    /// The plan of two rigged hits, where the first fails once and this is done at the second.
+    pub(crate) fn two(
+        first: PackedSite,
+        second: PackedSite,
+        kind: Kind,
+        catalogue: &'a [&'a str],
+    ) -> Self
+        requires { IsCatalogue (texts catalogue.now) }
+        ensures { result ≡ rigging (texts catalogue.now) (rig first OnceReturn ∷ rig second kind ∷ []) }
+    {
+        Plan {
+            source: Source::Two(first, second, kind, catalogue),
+        }
+    }
+
+    /// The plan of the storm of this number.
+    pub(crate) fn storm(number: u32, drawing: Arc<Drawing>) -> Self
+        requires { CanBeDrawn (arc_value drawing) }
+        ensures { result ≡ stormed (arc_value drawing) number }
+    {
+        Plan {
+            source: Source::Storm(number, drawing),
+        }
     }
 
     /// The plan of a listed scenario.
@@ -104,14 +139,17 @@ impl<'a> Plan<'a> {
     ) -> Result<bool, AllocError>
         ensures { IfOk result (λ is_loaded. is_loaded ≡ true → rigging.new ≡ rigged_as (texts catalogue.now) self.now) }
     {
-        let Source::Rigged(own, rigs) = &self.source else {
-            return Ok(false);
-        };
-        if !are_same(own, catalogue) {
-            return Ok(false);
+        match &self.source {
+            Source::Empty(own) => load_over(own, &[], rigging, catalogue),
+            Source::One(site, kind, own) => {
+                load_over(own, &[rig(*site, *kind)], rigging, catalogue)
+            }
+            Source::Two(first, second, kind, own) => {
+                load_over(own, &two_rigs(*first, *second, *kind), rigging, catalogue)
+            }
+            Source::Storm(number, drawing) => drawing.load(*number, rigging, catalogue),
+            Source::Listed(_) => Ok(false),
         }
-        rigs.load(rigging, catalogue)?;
-        Ok(true)
     }
 
     /// Makes the plan's scenario. An error means that memory was refused.
@@ -119,31 +157,17 @@ impl<'a> Plan<'a> {
         ensures { IfOk result (λ scenario. scenario ≡ self.now) }
     {
         match &self.source {
-            Source::Rigged(catalogue, Rigs::One(rig)) => scenario_of(alloc, catalogue, &[*rig]),
-            Source::Rigged(catalogue, Rigs::Two(first, second)) => {
-                scenario_of(alloc, catalogue, &[*first, *second])
+            Source::Empty(_) => Ok(empty_scenario(alloc)),
+            Source::One(site, kind, catalogue) => {
+                scenario_of(alloc, catalogue, &[rig(*site, *kind)])
             }
-            Source::Rigged(catalogue, Rigs::Many(rigs)) => {
-                scenario_of(alloc, catalogue, rigs.as_slice())
+            Source::Two(first, second, kind, catalogue) => {
+                scenario_of(alloc, catalogue, &two_rigs(*first, *second, *kind))
             }
+            Source::Storm(number, drawing) => drawing.scenario(alloc, *number),
             Source::Listed(scenario) => copy_of(alloc, scenario),
         }
     }
-}
-
-/// Whether two catalogues have the same names.
-fn are_same(own: &[&str], other: &[&str]) -> bool
-    ensures { result ≡ true → texts own.now ≡ texts other.now }
-{
-    if own.len() != other.len() {
-        return false;
-    }
-    for point in 0..own.len() {
-        if own[point] != other[point] {
-            return false;
-        }
-    }
-    true
 }
 
 /// What is asked of the list of plans.

@@ -1,8 +1,9 @@
 //! The sites of a census.
-ghost use Rattle.std.specs.Prelude.{◌≡◌, ◌++◌, ◌≤◌, length, IfOk, OnOk};
+ghost use Rattle.std.specs.Prelude.{◌≡◌, ◌++◌, ◌≤◌, ◌<◌, ◌^◌, length, IfOk, OnOk};
 ghost use Rattle.plan_gen.specs.Census.{sites_at, sites_of};
 ghost use Rattle.plan_gen.specs.Counts.{total_of};
 
+use crate::packed::PackedSite;
 use action_eval::Site;
 use std::alloc::{AllocError, Global};
 
@@ -19,21 +20,23 @@ pub fn total_of(counts: &[u32]) -> u64
 }
 
 /// Adds the sites of a point.
-fn add_sites(sites: &mut Vec<Site>, point: u32, count: u32) -> Result<(), AllocError>
+fn add_sites(sites: &mut Vec<PackedSite>, point: u32, count: u32) -> Result<(), AllocError>
+    requires { (point < 2 ^ 8) × (count < 2 ^ 16) }
     ensures { OnOk result (sites.new.items ≡ sites.old.items ++ sites_at point count) }
 {
     for done in 0..count {
-        sites.push(Site {
+        sites.push(PackedSite::new(Site {
             point,
             hit: done + 1,
-        })?;
+        }))?;
     }
     Ok(())
 }
 
 /// The sites, in catalogue order.
-pub fn sites_of(alloc: Global, counts: &[u32]) -> Result<Vec<Site>, AllocError>
-    requires { length counts.now ≤ 64 }
+pub fn sites_of(alloc: Global, counts: &[u32]) -> Result<Vec<PackedSite>, AllocError>
+    requires points { length counts.now ≤ 64 }
+    requires few { total_of counts.now < 2 ^ 16 }
     ensures { IfOk result (λ sites. sites.items ≡ sites_of counts.now) }
 {
     let mut sites = Vec::with_capacity(alloc, total_of(counts) as usize)?;

@@ -1,11 +1,12 @@
 //! Storms: rigged hits drawn by random words.
-ghost use Rattle.std.specs.Prelude.{◌≡◌, ◌++◌, ◌∷◌, [], ◌%◌, ◌&&◌, ◌≤◌, ◌<◌, ◌^◌, nat_lt, length, if◌then◌else◌, vec_capacity, IfOk, OnOk};
+ghost use Rattle.std.specs.Prelude.{◌≡◌, ◌++◌, ◌∷◌, [], ◌%◌, ◌&&◌, ◌≤◌, ◌<◌, ◌^◌, nat_lt, length, if◌then◌else◌, vec_capacity, IfOk};
 ghost use Rattle.std.specs.List.{AllByRecursion};
 ghost use Rattle.action_eval.specs.Words.{seed_bytes, at_word};
 ghost use Rattle.plan_gen.specs.PlanList.{most_plans, storm_kind, storm};
 ghost use Rattle.action_eval.specs.Rigging.{rig, most_rigs};
 
-use action_eval::{Kind, Rig, Site};
+use crate::packed::PackedSite;
+use action_eval::{Kind, Rig};
 use rand_chacha::ChaCha8Rng;
 use rand_core::SeedableRng;
 use rand_core::utils::NextWord;
@@ -51,7 +52,7 @@ fn storm_kind(word: u32) -> Kind
 /// Adds a site that is taken, while fewer than the most are.
 // Few sites are taken. The loop over the words stays small, as this is a call.
 #[inline(never)]
-fn add_taken(rigs: &mut Vec<Rig>, word: u32, site: Site)
+fn add_taken(rigs: &mut Vec<Rig>, word: u32, site: PackedSite)
     requires { most_rigs ≤ vec_capacity rigs.old }
     ensures drawn { rigs.new.items ≡ rigs.old.items ++ (if nat_lt (length rigs.old.items) most_rigs then rig site (storm_kind word) ∷ [] else []) }
     ensures room { vec_capacity rigs.new ≡ vec_capacity rigs.old }
@@ -60,7 +61,7 @@ fn add_taken(rigs: &mut Vec<Rig>, word: u32, site: Site)
 {
     if rigs.len() < MOST_SITES {
         rigs.push_reserved(Rig {
-            site,
+            site: site.site(),
             kind: storm_kind(word),
         });
     }
@@ -68,7 +69,7 @@ fn add_taken(rigs: &mut Vec<Rig>, word: u32, site: Site)
 
 /// Adds a site that its word takes, while fewer than the most are taken.
 #[inline(always)]
-fn draw(rigs: &mut Vec<Rig>, rate: u32, word: u32, site: &Site)
+fn draw(rigs: &mut Vec<Rig>, rate: u32, word: u32, site: &PackedSite)
     requires { most_rigs ≤ vec_capacity rigs.old }
     ensures drawn { rigs.new.items ≡ rigs.old.items
         ++ (if nat_lt (word % 1000) rate && nat_lt (length rigs.old.items) most_rigs then rig site.now (storm_kind word) ∷ [] else []) }
@@ -81,36 +82,13 @@ fn draw(rigs: &mut Vec<Rig>, rate: u32, word: u32, site: &Site)
     }
 }
 
-/// Draws the rigged hits of a storm, in place of what stood there: each site takes a word, also after the most are taken.
+/// The rigged hits of a storm: each site takes a word, also after the most are taken.
 #[tactic(auto, unfolding(crate::specs::PlanList::storm))]
-fn draw_storm(
-    rigs: &mut Vec<Rig>,
-    seed: u64,
-    rate: u32,
-    sites: &[Site],
-    number: u32,
-) -> Result<(), AllocError>
-    requires { length sites.now ≤ most_plans }
-    ensures rigs { OnOk result (rigs.new.items ≡ storm seed rate sites.now number) }
-    ensures few { OnOk result (length rigs.new.items ≤ most_rigs) }
-    ensures small { OnOk result (AllByRecursion (λ r. r.site.hit < 2 ^ 32) rigs.new.items) }
-{
-    let mut rng = generator(seed, FIRST_STREAM + u64::from(number));
-    rigs.clear();
-    rigs.reserve(MOST_SITES)?;
-    for site in sites {
-        draw(rigs, rate, rng.next_word(), site);
-    }
-    Ok(())
-}
-
-/// The rigged hits of a storm, drawn in a vector that serves storm after storm, so that each takes only the room that it needs.
 pub fn storm(
     alloc: Global,
-    drawn: &mut Vec<Rig>,
     seed: u64,
     rate: u32,
-    sites: &[Site],
+    sites: &[PackedSite],
     number: u32,
 ) -> Result<Vec<Rig>, AllocError>
     requires { length sites.now ≤ most_plans }
@@ -118,6 +96,10 @@ pub fn storm(
     ensures few { IfOk result (λ rigs. length rigs.items ≤ most_rigs) }
     ensures small { IfOk result (λ rigs. AllByRecursion (λ r. r.site.hit < 2 ^ 32) rigs.items) }
 {
-    draw_storm(drawn, seed, rate, sites, number)?;
-    Vec::from_slice(alloc, drawn.as_slice())
+    let mut rng = generator(seed, FIRST_STREAM + u64::from(number));
+    let mut rigs = Vec::with_capacity(alloc, MOST_SITES)?;
+    for site in sites {
+        draw(&mut rigs, rate, rng.next_word(), site);
+    }
+    Ok(rigs)
 }

@@ -4,7 +4,7 @@
 use crate::one_step::OneStep;
 use crate::scenarios::scenarios;
 use action_eval::Rigging;
-use plan_gen::Plan;
+use plan_gen::{Census, Plan, PlanSettings, plans};
 use std::alloc::Global;
 use std::process::Abort;
 use std::test::Fail;
@@ -17,10 +17,31 @@ fn is_rigged(alloc: Global, plan: &Plan<'_>) -> Result<bool, Fail> {
     Ok(is_rigged)
 }
 
+/// The plans of two hits of the only point: that without faults, six of one hit, two of both, and a storm that takes each hit.
+fn two_hit_plans(alloc: Global) -> Result<Vec<Plan<'static>>, Fail> {
+    let census = Census {
+        counts: Vec::from_slice(alloc, &[2])?,
+    };
+    let settings = PlanSettings {
+        pairs: true,
+        storms: 1,
+        rate: 1000,
+        listed: &[],
+        seed: 7,
+    };
+    match plans(alloc, &census, OneStep::catalogue(), &settings) {
+        Ok(plans) => Ok(plans),
+        Err(_) => Err(Fail::from("no plans")),
+    }
+}
+
 #[test]
-fn a_plan_of_hits_is_rigged(rt: HostRuntime) -> Result<(), Fail> {
-    let plan = Plan::empty(rt.alloc(), OneStep::catalogue());
-    assert!(rt; is_rigged(rt.alloc(), &plan)?);
+fn plans_of_hits_and_storms_are_rigged(rt: HostRuntime) -> Result<(), Fail> {
+    let plans = two_hit_plans(rt.alloc())?;
+    assert_eq!(rt; plans.len(), 10);
+    for plan in plans.iter() {
+        assert!(rt; is_rigged(rt.alloc(), plan)?);
+    }
     Ok(())
 }
 

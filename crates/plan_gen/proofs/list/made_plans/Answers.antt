@@ -5,5 +5,5 @@ use Rattle.plan_gen.proofs.list.made_plans.Goals as goal
 
 pub add_storms-requires-clause-few : goal.add_storms-requires-clause-few
 add_storms-requires-clause-few c =
-    let same = ap (λ (l : List Site). length l) (c.as_slice-2.ensures.value ∙ c.in_ok-sites.ensures) ∙ sites_length 0 c.args.counts.now in
+    let same = ap (λ (l : List Site). length l) c.in_ok-sites.ensures ∙ sites_length 0 c.args.counts.now in
     omega (arith, same, c.requires.sites)

@@ -2,7 +2,7 @@ use Rattle.std.proofs.Common.{◌≡◌, ◌≤◌, ◌<◌, ◌^◌, take, leng
 use Rattle.std.specs.List.{AllByRecursion}
 use Rattle.rand_chacha.specs.ChaCha.{word_at}
 use Rattle.plan_gen.specs.PlanList.{storm_by}
-use Rattle.plan_gen.proofs.storms.draw_storm.Given as goal
+use Rattle.plan_gen.proofs.storms.storm.Given as goal
 
 abbrev pub invariant-loop-site : goal.invariant-loop-site
 invariant-loop-site l = record {

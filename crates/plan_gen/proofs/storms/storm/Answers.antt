@@ -4,13 +4,13 @@ use Rattle.rand_chacha.specs.ChaCha.{ChaCha, word_at}
 use Rattle.action_eval.specs.Words.{at_word}
 use Rattle.action_eval.specs.declared.rig.Rig.{Rig}
 use Rattle.plan_gen.proofs.StormLemmas.{storm_next, storm_is, storm_whole}
-use Rattle.plan_gen.proofs.storms.draw_storm.Goals as goal
+use Rattle.plan_gen.proofs.storms.storm.Goals as goal
 
 pub loop-site-init : goal.loop-site-init
 unfolding at_word
 loop-site-init c =
     let g = c.generator-rng.result in
-    let none = c.in_ok-reserve.ensures.items ∙ c.clear.ensures.items in
+    let none = c.in_ok-rigs.ensures.items in
     record {
       key = refl;
       stream = refl;
@@ -33,7 +33,7 @@ loop-site-preserved c =
       room = search rules;
       small = search rules;
       few = search rules;
-      built = storm_next (word_at 4 g.key g.stream) c.args.rate c.loop-site.site-index c.args.sites.now _ c.next_word.result _ _ c.loop-site-test.true word at.built c.draw.ensures.drawn;
+      built = storm_next (word_at 4 g.key g.stream) c.args.rate c.loop-site.site-index c.args.sites.now c.site-item.result _ c.next_word.result _ _ c.loop-site-test.true c.site-item.is word at.built c.draw.ensures.drawn;
     }
 
 pub returns-clause-rigs : goal.returns-clause-rigs
