@@ -52,6 +52,18 @@ pub(crate) fn write_census<N: Names>(
     Ok(())
 }
 
+/// Ends the line of a plan's verdict. Most plans pass: theirs is one piece.
+fn end_numbered<N: Names>(out: &mut String, names: &N, verdict: Verdict) -> Result<(), AllocError>
+    ensures { OnOk result (string_bytes out.new ≡ string_bytes out.old ++ ended (codes " " ++ verdict_text (N.code_text names.now) verdict)) }
+{
+    if verdict == Verdict::Pass {
+        return out.push_str(" pass\n");
+    }
+    out.push_str(" ")?;
+    write_verdict(out, names, verdict)?;
+    out.push_str("\n")
+}
+
 fn write_numbered<N: Names>(
     out: &mut String,
     names: &N,
@@ -63,9 +75,7 @@ fn write_numbered<N: Names>(
     let mut digits = Buffer::new();
     out.push_str("verdict ")?;
     out.push_str(digits.format(number))?;
-    out.push_str(" ")?;
-    write_verdict(out, names, verdict)?;
-    out.push_str("\n")
+    end_numbered(out, names, verdict)
 }
 
 fn write_verdicts<N: Names>(
