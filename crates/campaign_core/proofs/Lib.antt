@@ -2,4 +2,5 @@ pub mod Minimal
 pub mod Firsts
 pub mod PlanNames
 pub mod Gathered
+pub mod PlanRows
 pub mod Sites

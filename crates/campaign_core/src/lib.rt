@@ -11,6 +11,7 @@ mod planned;
 mod probe;
 mod reducing;
 mod results;
+mod rows;
 mod runner;
 mod running;
 mod trying;

@@ -1,10 +1,12 @@
-//! Runs of a course's plans, as a job of workers.
-ghost use Rattle.std.specs.Prelude.{◌≡◌, ℕ, List, [], length, slice_index_or};
+//! Runs of a course's plans, row by row, as a job of workers.
+ghost use Rattle.std.specs.Prelude.{◌≡◌, ℕ, List, length};
 ghost use Rattle.target_trait.specs.Outcomes.{verdict_with};
+ghost use Rattle.campaign_core.specs.inside.Rows.{row_limit, row_of};
 
+use crate::rows::row_bounds;
 use action_eval::{Rigging, Room};
 use plan_gen::Plan;
-use result_book::{Course, Numbered};
+use result_book::{Course, Row};
 use std::alloc::{AllocError, Global};
 use std::collections::LinkedList;
 use target_trait::Target;
@@ -34,7 +36,7 @@ impl<'a, T: Target + Send> Job for Runner<'a, T>
 where
     T::Workload: Sync,
 {
-    type Answer = Numbered<'a, T>;
+    type Answer = Row<'a, T>;
 
     type Setup = Setup<T>;
 
@@ -46,21 +48,22 @@ where
       max_hits = runner.course.now.max_hits;
     } };
 
-    ghost limit = { λ setup. length setup.plans };
+    ghost limit = { λ setup. row_limit (length setup.plans) };
 
-    ghost answers = { λ setup n pair. pair ≡ record {
-      number = n;
-      verdict = verdict_with (T.asks setup.target setup.workload) T.names setup.seed setup.max_hits n (slice_index_or setup.plans n []);
-    } };
+    ghost answers = { λ setup n row. row ≡ row_of
+        (verdict_with (T.asks setup.target setup.workload) T.names setup.seed setup.max_hits) setup.plans n };
 
-    fn perform(&mut self, number: u32) -> Result<Numbered<'a, T>, AllocError> {
-        Numbered::run_over(
+    fn perform(&mut self, number: u32) -> Result<Row<'a, T>, AllocError> {
+        // A number is below the limit only where the plans are few, so their count is not cut.
+        let (first, end) = row_bounds(self.course.plans.len() as u32, number);
+        Row::run_over(
             self.alloc,
             &mut self.target,
             &mut self.rigging,
             &mut self.room,
             self.course,
-            number,
+            first,
+            end,
         )
     }
 }

@@ -4,6 +4,7 @@ ghost use Rattle.result_book.specs.Verdicts.{verdicts_from};
 ghost use Rattle.worker_pool.specs.Hands.{hand_job, EachOnce};
 ghost use Rattle.campaign_core.specs.inside.Says.{course_says};
 
+use crate::rows::{RowGate, row_count};
 use crate::runner::Runner;
 use action_eval::{Rigging, Room};
 use result_book::{Book, Course, put_all};
@@ -74,7 +75,7 @@ where
 }
 
 /// Runs each plan of a course once, with a thread for each worker and a twin of the target for each, and puts the verdicts into a book. It
-/// is the book of one thread. An error means that memory was refused.
+/// is the book of one thread. The book is made once all have run, when the workers' tickets are gone. An error means that memory was refused.
 pub fn run_plans<T: Target + Send, G: Gate, R: Threads + Wait + Sync>(
     rt: &R,
     alloc: Global,
@@ -92,10 +93,10 @@ where
         0 course.now.plans.now)) }
 {
     let jobs = runners(alloc, target, course, workers)?;
+    let plans = course.plans.len() as u32;
+    gate.expect(Phase::Plans, plans);
+    let rows = answers_of(rt, alloc, &RowGate { gate, plans }, jobs, row_count(plans))?;
     let mut book = Book::new(alloc, course)?;
-    let count = course.plans.len() as u32;
-    gate.expect(Phase::Plans, count);
-    let answers = answers_of(rt, alloc, gate, jobs, count)?;
-    put_all(&mut book, answers);
+    put_all(&mut book, rows);
     Ok(book)
 }

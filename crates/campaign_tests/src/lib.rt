@@ -21,6 +21,8 @@ mod late_sync;
 #[cfg(test)]
 mod maildir_judgements;
 #[cfg(test)]
+mod many_plans;
+#[cfg(test)]
 mod meet;
 #[cfg(test)]
 mod outside_runs;

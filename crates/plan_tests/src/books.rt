@@ -2,8 +2,9 @@
 
 use crate::one_step::OneStep;
 use crate::scenarios::{plans, scenarios};
+use action_eval::{Rigging, Room};
 use plan_gen::Plan;
-use result_book::{Book, Course, Numbered, PutFault, put_all};
+use result_book::{Book, Course, Numbered, PutFault, Row, put_all};
 use std::alloc::Global;
 use std::process::Abort;
 use std::test::Fail;
@@ -32,16 +33,38 @@ fn result<'a>(
     Ok(Numbered::run(alloc, &mut OneStep, course, number)?)
 }
 
-/// The results of these numbers, as one worker hands them back.
-fn results<'a>(
+/// The row of the plans from a number on, before `end`, which the course has to have.
+fn row<'a>(
     rt: &impl Abort,
     alloc: Global,
     course: &'a Course<'a, OneStep>,
-    numbers: &[u32],
-) -> Result<Vec<(u32, Numbered<'a, OneStep>)>, Fail> {
+    first: u32,
+    end: u32,
+) -> Result<Row<'a, OneStep>, Fail> {
+    assert!(rt; first <= end && end as usize <= course.plans.len());
+    let mut rigging = Rigging::new(alloc);
+    let mut room = Room::new(alloc);
+    Ok(Row::run_over(
+        alloc,
+        &mut OneStep,
+        &mut rigging,
+        &mut room,
+        course,
+        first,
+        end,
+    )?)
+}
+
+/// The rows of these plans, each from its first number on, before its end, as one worker hands them back.
+fn rows<'a>(
+    rt: &impl Abort,
+    alloc: Global,
+    course: &'a Course<'a, OneStep>,
+    stretches: &[(u32, u32)],
+) -> Result<Vec<(u32, Row<'a, OneStep>)>, Fail> {
     let mut list = Vec::new(alloc);
-    for number in numbers {
-        list.push((*number, result(rt, alloc, course, *number)?))?;
+    for (first, end) in stretches {
+        list.push((*first, row(rt, alloc, course, *first, *end)?))?;
     }
     Ok(list)
 }
@@ -109,7 +132,7 @@ fn the_first_failure_of_a_code_is_told_once(rt: HostRuntime) -> Result<(), Fail>
     tells(&rt, alloc, &book, &[(10, REFUSED)])
 }
 
-/// Puts the results of 0 to 2, from two workers.
+/// Puts the results of 0 to 2, from two workers. One of them has an empty row too, and one that overlaps what is put.
 fn put_others<'a>(
     rt: &impl Abort,
     alloc: Global,
@@ -117,8 +140,8 @@ fn put_others<'a>(
     book: &mut Book,
 ) -> Result<(), Fail> {
     let mut lists = Vec::new(alloc);
-    lists.push(results(rt, alloc, course, &[2, 1])?)?;
-    lists.push(results(rt, alloc, course, &[0])?)?;
+    lists.push(rows(rt, alloc, course, &[(1, 3), (2, 4), (4, 4)])?)?;
+    lists.push(rows(rt, alloc, course, &[(0, 1)])?)?;
     put_all(book, lists);
     Ok(())
 }
@@ -139,4 +162,20 @@ fn results_of_workers_are_put_by_their_numbers(rt: HostRuntime) -> Result<(), Fa
     let verdicts = [Verdict::Pass, fails, Verdict::Pass, fails];
     assert_eq!(rt; book.verdicts(alloc)?.as_slice(), verdicts.as_slice());
     tells(&rt, alloc, &book, &[(1, REFUSED)])
+}
+
+/// A row has what its plans come to; what is taken out of it comes from its end.
+#[test]
+fn a_row_gives_its_last_result_first(rt: HostRuntime) -> Result<(), Fail> {
+    let alloc = rt.alloc();
+    let scenarios = scenarios(alloc, 4, &[1, 3])?;
+    let plans = plans(alloc, &scenarios)?;
+    let course = course(&plans);
+    let mut row = row(&rt, alloc, &course, 1, 3)?;
+    for want in [(2, Verdict::Pass), (1, Verdict::Fail(REFUSED))] {
+        let last = row.pop().map(|pair| (pair.number(), pair.verdict()));
+        assert_eq!(rt; last, Some(want));
+    }
+    assert!(rt; row.pop().is_none());
+    Ok(())
 }

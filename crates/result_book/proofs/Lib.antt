@@ -1,3 +1,4 @@
 pub mod SlotLemmas
+pub mod RowLemmas
 pub mod FailureLemmas
 pub mod EachCodeLemmas

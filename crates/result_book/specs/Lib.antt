@@ -2,4 +2,5 @@ pub mod Verdicts
 pub mod FirstFailure
 pub mod FirstFailures
 pub mod Slots
+pub mod Rows
 pub mod Refused

@@ -1,7 +1,6 @@
 -- A book: for each number its verdict, where it was put.
-use Rattle.std.specs.Prelude.{◌≡◌, ℕ, zero, suc, ◌+◌, Vec, Bool, true, false, List, [], ◌∷◌, Option, Some, None, option_map, slice_index_or}
+use Rattle.std.specs.Prelude.{◌≡◌, ℕ, zero, suc, ◌+◌, Bool, true, false, List, [], ◌∷◌, Option, Some, None, option_map, slice_index_or}
 use Rattle.std.specs.List.{enumerate_from, filter_map}
-use Rattle.std.specs.Global.{Global}
 use Rattle.target_trait.specs.declared.judgement.Verdict.{Verdict}
 use Rattle.target_trait.specs.declared.judgement.Verdict.TheVariants as verdict
 use Rattle.result_book.specs.FirstFailure.{failing}
@@ -35,16 +34,6 @@ enter [] n v = []
 enter (None ∷ slots) zero v = Some v ∷ slots
 enter (Some w ∷ slots) zero v = Some w ∷ slots
 enter (s ∷ slots) (suc n) v = s ∷ enter slots n v
-
--- pairs, the last one first
-abbrev pub enter_all : List (Option Verdict) → List (ℕ × Pair) → List (Option Verdict)
-enter_all slots [] = slots
-enter_all slots (p ∷ ps) = enter (enter_all slots ps) p.1.number p.1.verdict
-
--- the pairs of several lists, the last list first
-abbrev pub enter_lists : List (Option Verdict) → List (Vec (ℕ × Pair) Global) → List (Option Verdict)
-enter_lists slots [] = slots
-enter_lists slots (l ∷ ls) = enter_all (enter_lists slots ls) l.items
 
 -- the verdicts that are there
 abbrev pub present : List (Option Verdict) → List Verdict

@@ -3,11 +3,13 @@ ghost use Rattle.std.specs.Prelude.{◌≡◌, ℕ, ◌+◌, ◌<◌, ◌≤◌,
 ghost use Rattle.std.specs.List.{list_all};
 ghost use Rattle.result_book.specs.Refused.{IsRefused};
 ghost use Rattle.result_book.specs.FirstFailures.{first_failures};
-ghost use Rattle.result_book.specs.Slots.{first_in, in_book, is_full, has, enter, enter_all, enter_lists, present};
+ghost use Rattle.result_book.specs.Slots.{first_in, in_book, is_full, has, enter, present};
+ghost use Rattle.result_book.specs.Rows.{enter_row, enter_rows, enter_lists};
 
 use crate::course::Course;
 use crate::failures::first_failures_of;
 use crate::numbered::Numbered;
+use crate::row::Row;
 use std::alloc::{AllocError, Global};
 use std::marker::Model;
 use target_trait::{Target, Verdict};
@@ -112,19 +114,29 @@ impl Book {
     }
 }
 
-/// Puts each pair of a list, from its end. One whose number has its verdict already, or has no place, changes nothing.
-fn put_list<'a, T: Target>(book: &mut Book, list: Vec<(u32, Numbered<'a, T>)>)
-    ensures { book.new ≡ enter_all book.old list.entry.items }
+/// Puts each result of a row, from its end. One whose number has its verdict already, or has no place, changes nothing.
+fn put_row<'a, T: Target>(book: &mut Book, row: Row<'a, T>)
+    ensures { book.new ≡ enter_row book.old row.entry.first row.entry.verdicts }
 {
-    let mut list = list;
-    while let Some((_, pair)) = list.pop() {
-        let _ = book.put(pair);
+    let mut row = row;
+    while let Some(result) = row.pop() {
+        let _ = book.put(result);
     }
 }
 
-/// Puts each pair of these lists, as workers hand them back, one list a worker. A pair whose number has its verdict already, or has no
-/// place, changes nothing.
-pub fn put_all<'a, T: Target>(book: &mut Book, lists: Vec<Vec<(u32, Numbered<'a, T>)>>)
+/// Puts each row of a list, from its end.
+fn put_list<'a, T: Target>(book: &mut Book, list: Vec<(u32, Row<'a, T>)>)
+    ensures { book.new ≡ enter_rows book.old list.entry.items }
+{
+    let mut list = list;
+    while let Some((_, row)) = list.pop() {
+        put_row(book, row);
+    }
+}
+
+/// Puts each row of these lists, as workers hand them back, one list a worker. An empty row changes nothing, and neither does a result
+/// whose number has its verdict already, or has no place.
+pub fn put_all<'a, T: Target>(book: &mut Book, lists: Vec<Vec<(u32, Row<'a, T>)>>)
     ensures { book.new ≡ enter_lists book.old lists.entry.items }
 {
     let mut lists = lists;

@@ -1,4 +1,4 @@
-//! Plans run as numbered results, the book in which each number has its result once, and the first failure.
+//! Plans run as numbered results, rows of them, the book in which each number has its result once, and the first failure.
 #![tactic(auto)]
 
 mod book;
@@ -6,6 +6,7 @@ mod course;
 mod failures;
 mod laws;
 mod numbered;
+mod row;
 
 pub use book::{Book, PutFault, put_all};
 pub use course::Course;
@@ -14,3 +15,4 @@ pub use laws::{
     books_tell_the_least_failures, first_failures_are_the_least, full_books_tell_their_verdicts,
 };
 pub use numbered::Numbered;
+pub use row::Row;

@@ -86,13 +86,13 @@ fn verdict_of<T: Target>(
 
 /// The number of a plan of a course, with its verdict.
 ///
-/// Only `run` and `run_over` make one, so the verdict is always that of the plan of this number, under the stream of this number, for some setup of
+/// Only `run`, `run_over` and `Row::pop` make one, so the verdict is always that of the plan of this number, under the stream of this number, for some setup of
 /// the target: the type keeps that. Whoever is handed one, on whatever thread it was made, needs no further promise.
 #[derive(Drop)]
 pub struct Numbered<'a, T: Target> {
-    course: &'a Course<'a, T>,
-    number: u32,
-    verdict: Verdict,
+    pub(crate) course: &'a Course<'a, T>,
+    pub(crate) number: u32,
+    pub(crate) verdict: Verdict,
 }
 
 impl<'a, T: Target> Model for Numbered<'a, T> {

@@ -1,0 +1,43 @@
+-- Rows of plans: each plan stands in one, and none reaches past the plans. What the row of a number says.
+use Rattle.std.proofs.Common.{ℕ, ◌+◌, ◌*◌, ◌/◌, ◌<◌, ◌≤◌, min, Bool, true, false, nat_le, cond, List, length, arith}
+use Rattle.std.specs.Int.{div_ceil}
+use Rattle.scenario_values.specs.Scenario.{Entries}
+use Rattle.target_trait.specs.declared.judgement.Verdict.{Verdict}
+use Rattle.result_book.specs.Rows.{AreSaid}
+use Rattle.result_book.proofs.RowLemmas.{row_length, row_said}
+use Rattle.campaign_core.specs.inside.Rows.{row_count, row_of, row_start}
+
+-- the number stands in a row, where rows have one size
+abbrev InRow : (plans size m : ℕ) → Type 0
+InRow plans size m = (row : ℕ) × ((row < div_ceil plans size) × (min (row * size) plans ≤ m) × (m < min ((row + 1) * size) plans))
+
+in_sized : (few : Bool) (plans m : ℕ) → m < plans → InRow plans (cond few 1 16) m
+in_sized true plans m lt = (m, (omega arith, omega arith, omega arith))
+in_sized false plans m lt = (m / 16, (omega arith, omega arith, omega arith))
+
+-- each plan stands in a row
+in_row : (plans m : ℕ) → m < plans → (row : ℕ) × ((row < row_count plans) × (row_start plans row ≤ m) × (m < row_start plans (row + 1)))
+in_row plans m lt = in_sized (nat_le plans 1024) plans m lt
+
+sized_within : (few : Bool) (plans row : ℕ) → min (row * cond few 1 16) plans ≤ min ((row + 1) * cond few 1 16) plans
+sized_within true plans row = omega arith
+sized_within false plans row = omega arith
+
+-- a row ends within the plans
+row_within : (plans row : ℕ) → (row_start plans row ≤ row_start plans (row + 1)) × (row_start plans (row + 1) ≤ plans)
+row_within plans row = (sized_within (nat_le plans 1024) plans row, omega arith)
+
+-- a row's verdicts are those of its plans
+pub rows_said : (say : ℕ → Entries → Verdict) (plans : List Entries) (row : ℕ) → AreSaid say plans (row_of say plans row).first (row_of say plans row).verdicts
+rows_said say plans row =
+    let within = row_within (length plans) row in
+    row_said say plans (row_start (length plans) row) (row_start (length plans) (row + 1)) within.0 within.1
+
+-- each plan's verdict is in a row
+pub row_reaches : (say : ℕ → Entries → Verdict) (plans : List Entries) (m : ℕ) → m < length plans
+    → (row : ℕ) × ((row < row_count (length plans)) × ((row_of say plans row).first ≤ m) × (m < (row_of say plans row).first + length (row_of say plans row).verdicts))
+row_reaches say plans m lt =
+    let found = in_row (length plans) m lt in
+    let within = row_within (length plans) found.0 in
+    let ends = row_length say plans (row_start (length plans) found.0) (row_start (length plans) (found.0 + 1)) within.0 within.1 in
+    (found.0, (found.1.0, found.1.1, omega (arith, ends, found.1.2)))

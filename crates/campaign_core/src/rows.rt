@@ -1,0 +1,57 @@
+//! Rows of plans: what one ticket of the pool stands for.
+ghost use Rattle.std.specs.Prelude.{◌≡◌, ◌+◌};
+ghost use Rattle.campaign_core.specs.inside.Rows.{row_count, row_size, row_start};
+
+use target_trait::{Gate, Phase};
+
+/// How many plans a row has. A row of many takes less memory than its plans one by one; where plans are few, one by one they keep all
+/// workers at work to the end.
+fn row_size(plans: u32) -> u32
+    ensures { result ≡ row_size plans }
+{
+    if plans <= 1024 { 1 } else { 16 }
+}
+
+/// How many rows so many plans make. The last one may be shorter than the others.
+pub fn row_count(plans: u32) -> u32
+    ensures { result ≡ row_count plans }
+{
+    plans.div_ceil(row_size(plans))
+}
+
+/// The number of the plan with which a row begins, and of that before which it ends. A row past the last one has no plan.
+pub fn row_bounds(plans: u32, row: u32) -> (u32, u32)
+    ensures first { result.0 ≡ row_start plans row }
+    ensures end { result.1 ≡ row_start plans (row + 1) }
+{
+    let size = row_size(plans);
+    let first = row.saturating_mul(size).min(plans);
+    (first, first.saturating_add(size).min(plans))
+}
+
+/// A gate for workers that take rows. With a row a worker arrives at the real gate with each of its plans, in their order, before it runs
+/// the first of them.
+#[derive(Drop)]
+pub struct RowGate<'a, G: Gate> {
+    pub gate: &'a G,
+    /// How many plans there are.
+    pub plans: u32,
+}
+
+impl<'a, G: Gate> Gate for RowGate<'a, G> {
+    fn arrive(&self, phase: Phase, number: u32) {
+        match phase {
+            Phase::Plans => {
+                let (first, end) = row_bounds(self.plans, number);
+                for plan in first..end {
+                    self.gate.arrive(Phase::Plans, plan);
+                }
+            }
+            Phase::Cards => self.gate.arrive(Phase::Cards, number),
+        }
+    }
+
+    fn expect(&self, phase: Phase, count: u32) {
+        self.gate.expect(phase, count);
+    }
+}

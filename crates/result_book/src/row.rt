@@ -1,0 +1,87 @@
+//! Verdicts of plans that stand one after another.
+ghost use Rattle.std.specs.Prelude.{◌≡◌, ◌≤◌, [], length, IfOk, MatchOption, slice_range};
+ghost use Rattle.target_trait.specs.Outcomes.{verdict_with};
+ghost use Rattle.result_book.specs.Rows.{IsLast};
+ghost use Rattle.result_book.specs.Verdicts.{verdicts_from};
+
+use crate::course::Course;
+use crate::numbered::Numbered;
+use action_eval::{Rigging, Room};
+use std::alloc::{AllocError, Global};
+use std::marker::Model;
+use target_trait::{Target, Verdict};
+
+/// The verdicts of plans of a course that stand one after another, from a number on.
+///
+/// Only `run_over` makes one, so each verdict is that of its plan, under the stream of its plan's number, for one setup of the target: the
+/// type keeps that. A row holds its course once, and 8 bytes a plan.
+#[derive(Drop)]
+pub struct Row<'a, T: Target> {
+    course: &'a Course<'a, T>,
+    first: u32,
+    verdicts: Vec<Verdict>,
+}
+
+impl<'a, T: Target> Model for Row<'a, T> {
+    ghost use Rattle.result_book.specs.Rows.{Stretch};
+
+    ghost Value = { Stretch };
+
+    ghost use Rattle.std.specs.Prelude.{◌+◌, ◌<◌, ◌^◌, length};
+    ghost use Rattle.target_trait.specs.Outcomes.{verdict_with};
+    ghost use Rattle.result_book.specs.Rows.{AreSaid};
+
+    ghost view = { λ r. record { first = r.first; verdicts = r.verdicts.items } };
+
+    ghost invariant = { λ r. (r.first + length r.verdicts.items < 2 ^ 32)
+        × ((setup : T) × AreSaid
+        (verdict_with (T.asks setup r.course.now.workload.now) T.names r.course.now.seed r.course.now.max_hits)
+        r.course.now.plans.now r.first r.verdicts.items) };
+}
+
+impl<'a, T: Target> Row<'a, T> {
+    /// Runs the plans from this number on, before `end`, in their order, over a rigging and in a session's room as `Numbered::run_over`
+    /// does. An error means that memory was refused. The target keeps its setup, after an error too.
+    pub fn run_over(
+        alloc: Global,
+        target: &mut T,
+        rigging: &mut Rigging<'static>,
+        room: &mut Room,
+        course: &'a Course<'a, T>,
+        first: u32,
+        end: u32,
+    ) -> Result<Self, AllocError>
+        requires within { (first ≤ end) × (end ≤ length course.now.plans.now) }
+        ensures ok { IfOk result (λ row. row ≡ record {
+          first = first;
+          verdicts = verdicts_from
+              (verdict_with (T.asks target.old course.now.workload.now) T.names course.now.seed course.now.max_hits)
+              first (slice_range course.now.plans.now first end);
+        }) }
+        ensures setup { target.new ≡ target.old }
+    {
+        let mut verdicts = Vec::with_capacity(alloc, (end - first) as usize)?;
+        for number in first..end {
+            let pair = Numbered::run_over(alloc, target, rigging, room, course, number)?;
+            verdicts.push(pair.verdict())?;
+        }
+        Ok(Row {
+            course,
+            first,
+            verdicts,
+        })
+    }
+
+    /// Takes the last plan's result out of the row. None where the row is empty, which leaves it so.
+    pub fn pop(&mut self) -> Option<Numbered<'a, T>>
+        ensures { MatchOption result ((self.old.verdicts ≡ []) × (self.new ≡ self.old)) (IsLast self.old self.new) }
+    {
+        let verdict = self.verdicts.pop()?;
+        let number = self.first + self.verdicts.len() as u32;
+        Some(Numbered {
+            course: self.course,
+            number,
+            verdict,
+        })
+    }
+}
