@@ -15,7 +15,7 @@ use std::alloc::{AllocError, Global};
 /// What all storms of a list share. Whoever runs a storm draws its rigged hits, by its number.
 ///
 /// It keeps copies of the catalogue's names and borrows nothing, so that a plan that shares it can be lent for a shorter time.
-#[derive(Drop)]
+#[derive(Debug, Drop)]
 pub struct Drawing {
     pub names: Vec<Text>,
     pub sites: Vec<PackedSite>,

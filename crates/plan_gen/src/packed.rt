@@ -1,11 +1,12 @@
 //! Sites, packed.
 ghost use Rattle.std.specs.Prelude.{◌≡◌, ◌<◌, ◌^◌};
+ghost use Rattle.action_eval.specs.Rigging.{rig};
 
-use action_eval::Site;
+use action_eval::{Kind, Rig, Site};
 use std::marker::Model;
 
 /// A site in three bytes, so that a plan of two has room for them beside its catalogue. Contracts see it as the site.
-#[derive(Clone, Copy)]
+#[derive(Clone, Copy, Debug)]
 pub struct PackedSite {
     point: u8,
     high: u8,
@@ -45,13 +46,16 @@ impl PackedSite {
         }
     }
 
-    /// The site.
-    pub fn site(self) -> Site
-        ensures { result ≡ self }
+    /// The site, with what is done at it.
+    pub fn rig(self, kind: Kind) -> Rig
+        ensures { result ≡ rig self kind }
     {
-        Site {
-            point: u32::from(self.point),
-            hit: u32::from(self.high) * 256 + u32::from(self.low),
+        Rig {
+            site: Site {
+                point: u32::from(self.point),
+                hit: u32::from(self.high) * 256 + u32::from(self.low),
+            },
+            kind,
         }
     }
 }

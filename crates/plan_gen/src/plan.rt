@@ -20,7 +20,7 @@ use std::mem::size_of;
 use std::sync::Arc;
 
 /// Where a plan's scenario comes from.
-#[derive(Drop)]
+#[derive(Debug, Drop)]
 pub enum Source<'a> {
     /// The points of a catalogue, of which no hit is rigged.
     Empty(&'a [&'a str]),
@@ -36,28 +36,18 @@ pub enum Source<'a> {
 
 const _: () = prove!(size_of::<Source<'static>>() == 24);
 
-/// A rigged hit.
-fn rig(site: PackedSite, kind: Kind) -> Rig
-    ensures { result ≡ rig site kind }
-{
-    Rig {
-        site: site.site(),
-        kind,
-    }
-}
-
 /// The rigged hits of a plan that has two.
 fn two_rigs(first: PackedSite, second: PackedSite, kind: Kind) -> [Rig; 2]
     ensures { result ≡ rig first OnceReturn ∷ rig second kind ∷ [] }
 {
-    [rig(first, Kind::OnceReturn), rig(second, kind)]
+    [first.rig(Kind::OnceReturn), second.rig(kind)]
 }
 
 /// A plan: a scenario that a component is run under. Contracts see it as its scenario.
 ///
 /// It keeps the hits at which something is done, or a storm's number, and borrows the catalogue or the listed scenario: 24 bytes. What is
 /// rigged is laid out, and a storm drawn, where the plan is run: so a list of 65536 plans takes little memory and time.
-#[derive(Drop)]
+#[derive(Debug, Drop)]
 pub struct Plan<'a> {
     source: Source<'a>,
 }
@@ -142,7 +132,7 @@ impl<'a> Plan<'a> {
         match &self.source {
             Source::Empty(own) => load_over(own, &[], rigging, catalogue),
             Source::One(site, kind, own) => {
-                load_over(own, &[rig(*site, *kind)], rigging, catalogue)
+                load_over(own, &[site.rig(*kind)], rigging, catalogue)
             }
             Source::Two(first, second, kind, own) => {
                 load_over(own, &two_rigs(*first, *second, *kind), rigging, catalogue)
@@ -159,7 +149,7 @@ impl<'a> Plan<'a> {
         match &self.source {
             Source::Empty(_) => Ok(empty_scenario(alloc)),
             Source::One(site, kind, catalogue) => {
-                scenario_of(alloc, catalogue, &[rig(*site, *kind)])
+                scenario_of(alloc, catalogue, &[site.rig(*kind)])
             }
             Source::Two(first, second, kind, catalogue) => {
                 scenario_of(alloc, catalogue, &two_rigs(*first, *second, *kind))

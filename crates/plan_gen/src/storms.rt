@@ -60,10 +60,7 @@ fn add_taken(rigs: &mut Vec<Rig>, word: u32, site: PackedSite)
     ensures small { AllByRecursion (λ r. r.site.hit < 2 ^ 32) rigs.old.items → AllByRecursion (λ r. r.site.hit < 2 ^ 32) rigs.new.items }
 {
     if rigs.len() < MOST_SITES {
-        rigs.push_reserved(Rig {
-            site: site.site(),
-            kind: storm_kind(word),
-        });
+        rigs.push_reserved(site.rig(storm_kind(word)));
     }
 }
 
