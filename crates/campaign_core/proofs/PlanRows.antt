@@ -11,21 +11,24 @@ use Rattle.campaign_core.specs.inside.Rows.{row_count, row_of, row_start}
 abbrev InRow : (plans size m : ℕ) → Type 0
 InRow plans size m = (row : ℕ) × ((row < div_ceil plans size) × (min (row * size) plans ≤ m) × (m < min ((row + 1) * size) plans))
 
-in_sized : (few : Bool) (plans m : ℕ) → m < plans → InRow plans (cond few 1 16) m
-in_sized true plans m lt = (m, (omega arith, omega arith, omega arith))
-in_sized false plans m lt = (m / 16, (omega arith, omega arith, omega arith))
+in_sized : (few some : Bool) (plans m : ℕ) → m < plans → InRow plans (cond few 1 (cond some 16 64)) m
+in_sized true some plans m lt = (m, (omega arith, omega arith, omega arith))
+in_sized false true plans m lt = (m / 16, (omega arith, omega arith, omega arith))
+in_sized false false plans m lt = (m / 64, (omega arith, omega arith, omega arith))
 
 -- each plan stands in a row
 in_row : (plans m : ℕ) → m < plans → (row : ℕ) × ((row < row_count plans) × (row_start plans row ≤ m) × (m < row_start plans (row + 1)))
-in_row plans m lt = in_sized (nat_le plans 1024) plans m lt
+in_row plans m lt = in_sized (nat_le plans 1024) (nat_le plans 16384) plans m lt
 
-sized_within : (few : Bool) (plans row : ℕ) → min (row * cond few 1 16) plans ≤ min ((row + 1) * cond few 1 16) plans
-sized_within true plans row = omega arith
-sized_within false plans row = omega arith
+sized_within : (few some : Bool) (plans row : ℕ)
+    → min (row * cond few 1 (cond some 16 64)) plans ≤ min ((row + 1) * cond few 1 (cond some 16 64)) plans
+sized_within true some plans row = omega arith
+sized_within false true plans row = omega arith
+sized_within false false plans row = omega arith
 
 -- a row ends within the plans
 row_within : (plans row : ℕ) → (row_start plans row ≤ row_start plans (row + 1)) × (row_start plans (row + 1) ≤ plans)
-row_within plans row = (sized_within (nat_le plans 1024) plans row, omega arith)
+row_within plans row = (sized_within (nat_le plans 1024) (nat_le plans 16384) plans row, omega arith)
 
 -- a row's verdicts are those of its plans
 pub rows_said : (say : ℕ → Entries → Verdict) (plans : List Entries) (row : ℕ) → AreSaid say plans (row_of say plans row).first (row_of say plans row).verdicts

@@ -4,12 +4,18 @@ ghost use Rattle.campaign_core.specs.inside.Rows.{row_count, row_size, row_start
 
 use target_trait::{Gate, Phase};
 
-/// How many plans a row has. A row of many takes less memory than its plans one by one; where plans are few, one by one they keep all
-/// workers at work to the end.
+/// How many plans a row has. A row of many takes less memory than its plans one by one, and less of the time after all have run; where
+/// plans are few, one by one they keep all workers at work to the end.
 fn row_size(plans: u32) -> u32
     ensures { result ≡ row_size plans }
 {
-    if plans <= 1024 { 1 } else { 16 }
+    if plans <= 1024 {
+        1
+    } else if plans <= 16384 {
+        16
+    } else {
+        64
+    }
 }
 
 /// How many rows so many plans make. The last one may be shorter than the others.

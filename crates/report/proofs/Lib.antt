@@ -1,3 +1,4 @@
 mod WritingLemmas
 pub mod Written
 pub mod ToldLines
+mod Starts

@@ -1,3 +1,4 @@
 pub mod Reports
 pub mod ReportText
 pub mod BriefText
+pub mod inside

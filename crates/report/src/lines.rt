@@ -1,7 +1,8 @@
 //! The lines of a report.
-ghost use Rattle.std.specs.Prelude.{◌≡◌, ◌++◌, ◌∷◌, [], length, string_bytes, codes, IfOk, OnOk};
+ghost use Rattle.std.specs.Prelude.{◌≡◌, ◌+◌, ◌/◌, ◌<◌, ◌++◌, ◌∷◌, [], length, string_bytes, codes, IfOk, OnOk};
 ghost use Rattle.std.specs.Fmt.{decimal};
 ghost use Rattle.report.specs.ReportText.{verdict_text, scenario_text, census_line, census_lines, count_line, verdict_line, verdict_lines};
+ghost use Rattle.report.specs.inside.Starts.{start_of};
 ghost use Rattle.report.specs.ReportText.{finding_lines, findings_lines, report_lines, ended, text_of};
 
 use crate::facts::{Finding, Report};
@@ -52,19 +53,40 @@ pub(crate) fn write_census<N: Names>(
     Ok(())
 }
 
-/// Ends the line of a plan's verdict. Most plans pass: theirs is one piece.
-fn end_numbered<N: Names>(out: &mut String, names: &N, verdict: Verdict) -> Result<(), AllocError>
-    ensures { OnOk result (string_bytes out.new ≡ string_bytes out.old ++ ended (codes " " ++ verdict_text (N.code_text names.now) verdict)) }
+/// What the lines of ten plans begin with: all before the last digit of their numbers.
+fn begin_ten(start: &mut String, ten: usize) -> Result<(), AllocError>
+    ensures { OnOk result (string_bytes start.new ≡ start_of ten) }
 {
-    if verdict == Verdict::Pass {
-        return out.push_str(" pass\n");
+    start.clear();
+    start.push_str("verdict ")?;
+    if ten == 0 {
+        return Ok(());
     }
-    out.push_str(" ")?;
-    write_verdict(out, names, verdict)?;
-    out.push_str("\n")
+    let mut digits = Buffer::new();
+    start.push_str(digits.format(ten))
 }
 
-fn write_numbered<N: Names>(
+/// What the line of a plan that passes ends with, from the last digit of its number on.
+fn passed_end(digit: usize) -> &'static str
+    requires { digit < 10 }
+    ensures { result.now ≡ (48 + digit) ∷ codes " pass\n" }
+{
+    match digit {
+        0 => "0 pass\n",
+        1 => "1 pass\n",
+        2 => "2 pass\n",
+        3 => "3 pass\n",
+        4 => "4 pass\n",
+        5 => "5 pass\n",
+        6 => "6 pass\n",
+        7 => "7 pass\n",
+        8 => "8 pass\n",
+        _ => "9 pass\n",
+    }
+}
+
+/// The line of a plan that doesn't pass.
+fn write_open<N: Names>(
     out: &mut String,
     names: &N,
     number: usize,
@@ -75,18 +97,51 @@ fn write_numbered<N: Names>(
     let mut digits = Buffer::new();
     out.push_str("verdict ")?;
     out.push_str(digits.format(number))?;
-    end_numbered(out, names, verdict)
+    out.push_str(" ")?;
+    write_verdict(out, names, verdict)?;
+    out.push_str("\n")
+}
+
+/// The line of a plan that passes, one of the ten whose lines begin so. Most plans pass: theirs is two pieces.
+fn write_passed(out: &mut String, start: &str, number: usize) -> Result<(), AllocError>
+    requires { start.now ≡ start_of (number / 10) }
+    ensures { OnOk result (string_bytes out.new ≡ string_bytes out.old ++ ended (codes "verdict " ++ decimal number ++ codes " pass")) }
+{
+    out.push_str(start)?;
+    out.push_str(passed_end(number % 10))
+}
+
+/// The line of a plan, one of the ten whose lines begin so if they pass.
+fn write_numbered<N: Names>(
+    out: &mut String,
+    names: &N,
+    start: &str,
+    number: usize,
+    verdict: Verdict,
+) -> Result<(), AllocError>
+    requires { start.now ≡ start_of (number / 10) }
+    ensures { OnOk result (string_bytes out.new ≡ string_bytes out.old ++ ended (verdict_line (N.code_text names.now) number verdict)) }
+{
+    if verdict == Verdict::Pass {
+        return write_passed(out, start, number);
+    }
+    write_open(out, names, number, verdict)
 }
 
 fn write_verdicts<N: Names>(
+    alloc: Global,
     out: &mut String,
     names: &N,
     verdicts: &[Verdict],
 ) -> Result<(), AllocError>
     ensures { OnOk result (string_bytes out.new ≡ string_bytes out.old ++ text_of (verdict_lines (N.code_text names.now) 0 verdicts.now)) }
 {
+    let mut start = String::new(alloc);
     for (number, verdict) in verdicts.iter().enumerate() {
-        write_numbered(out, names, number, *verdict)?;
+        if number % 10 == 0 {
+            begin_ten(&mut start, number / 10)?;
+        }
+        write_numbered(out, names, start.as_str(), number, *verdict)?;
     }
     Ok(())
 }
@@ -162,7 +217,7 @@ pub fn text<N: Names>(alloc: Global, names: &N, report: &Report<'_>) -> Result<V
     write_head(&mut out, names, report.label, report.seed, report.clean)?;
     write_census(&mut out, names, report.census)?;
     write_count(&mut out, report.verdicts.len())?;
-    write_verdicts(&mut out, names, report.verdicts)?;
+    write_verdicts(alloc, &mut out, names, report.verdicts)?;
     write_findings(alloc, &mut out, names, &report.findings)?;
     Ok(out.into_bytes())
 }

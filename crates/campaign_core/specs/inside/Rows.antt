@@ -8,7 +8,7 @@ use Rattle.result_book.specs.Rows.{Stretch}
 
 -- how many plans a row has, but for the last one; few plans are shared one by one, so that each worker has some to the end
 abbrev pub row_size : ℕ → ℕ
-row_size plans = if nat_le plans 1024 then 1 else 16
+row_size plans = if nat_le plans 1024 then 1 else if nat_le plans 16384 then 16 else 64
 
 -- how many rows so many plans make
 abbrev pub row_count : ℕ → ℕ
