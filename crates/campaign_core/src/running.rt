@@ -128,8 +128,9 @@ where
 /// report is that of one thread, whichever thread runs what, and in whatever order they end. Each reduced scenario fails with the code of
 /// its own plan, under the same seed and limit and its own plan's number as the stream number, and no single fault can be left out of it.
 ///
-/// A worker arrives at the gate with each plan's number before it runs the plan. Of more than 1024 plans it takes 16 at a time, and arrives
-/// with all of them, in their order, before it runs the first. The numbers of the cards start from 0 in each reduction.
+/// A worker arrives at the gate with each plan's number before it runs the plan. Of more than 1024 plans it takes 16 at a time, of more than
+/// 16384 plans 64, and arrives with all of them, in their order, before it runs the first. The numbers of the cards start from 0 in each
+/// reduction.
 ///
 /// Nothing is written before the whole text stands. The answer is `TooManyPlans` only where the list has more than 65536 plans, and then,
 /// and where memory was refused, the sink is as it was and hasn't failed; `Write` tells how many bytes of the text, fewer than all, went
