@@ -102,7 +102,9 @@ fn write_open<N: Names>(
     out.push_str("\n")
 }
 
-/// The line of a plan that passes, one of the ten whose lines begin so. Most plans pass: theirs is two pieces.
+/// The line of a plan that passes, one of the ten whose lines begin so. Most plans pass: theirs is two pieces. As a function of its own it
+/// would take a fifth more.
+#[inline(always)]
 fn write_passed(out: &mut String, start: &str, number: usize) -> Result<(), AllocError>
     requires { start.now ≡ start_of (number / 10) }
     ensures { OnOk result (string_bytes out.new ≡ string_bytes out.old ++ ended (codes "verdict " ++ decimal number ++ codes " pass")) }
