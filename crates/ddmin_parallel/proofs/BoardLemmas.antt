@@ -103,20 +103,20 @@ tells_end faults test state r t is =
 
 -- ---- what is backed
 
-said : (test : List ℕ → Bool) (s : List ℕ) (fails : Bool) (told : List (Vec ℕ Global × Bool)) → AreAnswers test told → list_any (says s fails) told ≡ true
+said : (test : List ℕ → Bool) (s : List ℕ) (fails : Bool) (told : List (List ℕ × Bool)) → AreAnswers test told → list_any (says s fails) told ≡ true
     → fails ≡ test s
 said test s fails [] own is = cc
-said test s fails (t ∷ told) own is = at (same_set s t.0.items) refl t.1 refl fails refl is (said test s fails told own.1)
+said test s fails (t ∷ told) own is = at (same_set s t.0) refl t.1 refl fails refl is (said test s fails told own.1)
   where
-    at : (b : Bool) → same_set s t.0.items ≡ b → (d : Bool) → t.1 ≡ d → (f : Bool) → fails ≡ f
+    at : (b : Bool) → same_set s t.0 ≡ b → (d : Bool) → t.1 ≡ d → (f : Bool) → fails ≡ f
         → ((b && cond f d (not d)) || list_any (says s fails) told) ≡ true → (list_any (says s fails) told ≡ true → fails ≡ test s) → fails ≡ test s
     at false e d x f y is rest = rest is
-    at true e true x true y is rest = y ∙ sym x ∙ own.0 ∙ ap test (sym (same_exact s t.0.items e))
+    at true e true x true y is rest = y ∙ sym x ∙ own.0 ∙ ap test (sym (same_exact s t.0 e))
     at true e true x false y is rest = rest is
     at true e false x true y is rest = rest is
-    at true e false x false y is rest = y ∙ sym x ∙ own.0 ∙ ap test (sym (same_exact s t.0.items e))
+    at true e false x false y is rest = y ∙ sym x ∙ own.0 ∙ ap test (sym (same_exact s t.0 e))
 
-told_own : (test : List ℕ → Bool) (s : List ℕ) (fails : Bool) (pairs : List (Vec (Vec ℕ Global × Bool) Global)) → AllAnswers test pairs
+told_own : (test : List ℕ → Bool) (s : List ℕ) (fails : Bool) (pairs : List (Vec (List ℕ × Bool) Global)) → AllAnswers test pairs
     → is_told s fails pairs ≡ true → fails ≡ test s
 told_own test s fails [] own is = cc
 told_own test s fails (told ∷ pairs) own is = at (list_any (says s fails) told.items) refl is (told_own test s fails pairs own.1)
@@ -130,7 +130,7 @@ both : (a b : Bool) → (a && b) ≡ true → (a ≡ true) × (b ≡ true)
 both true b is = (refl, is)
 both false b is = (is, absurd (let never : false ≡ true = is in cc))
 
-pub backed_own : (test : List ℕ → Bool) (pairs : List (Vec (Vec ℕ Global × Bool) Global)) → AllAnswers test pairs → (events : List core.Event)
+pub backed_own : (test : List ℕ → Bool) (pairs : List (Vec (List ℕ × Bool) Global)) → AllAnswers test pairs → (events : List core.Event)
     → list_all (is_event_backed pairs) events ≡ true → AreOwn test events
 backed_own test pairs own [] is = tt
 backed_own test pairs own (core.Take s ∷ events) is = (tt, backed_own test pairs own events is)
@@ -149,7 +149,7 @@ own_tells test faults events own = record {
 same_count : (m n : ℕ) → eqb m n ≡ true → m ≡ n
 same_count m n is = grind (arith, nat_tests)
 
-pub backed_tells : (test : List ℕ → Bool) (log : Log) (faults : ℕ) (pairs : List (Vec (Vec ℕ Global × Bool) Global)) → AllAnswers test pairs
+pub backed_tells : (test : List ℕ → Bool) (log : Log) (faults : ℕ) (pairs : List (Vec (List ℕ × Bool) Global)) → AllAnswers test pairs
     → is_backed log faults pairs ≡ true → Tells faults test (apply (state_of log) core.Recall)
 backed_tells test log faults pairs own is =
     let h = both (eqb log.faults faults) (list_all (is_event_backed pairs) log.events) is in
@@ -158,7 +158,7 @@ backed_tells test log faults pairs own is =
 
 -- ---- what the hands told
 
-pub parted_own : {P : Type 0} (answers : P → List ℕ → Bool) (test : List ℕ → Bool) (all : List (P × Vec (Vec ℕ Global × Bool) Global))
+pub parted_own : {P : Type 0} (answers : P → List ℕ → Bool) (test : List ℕ → Bool) (all : List (P × Vec (List ℕ × Bool) Global))
     → AllByRecursion (λ r. (answers r.0 ≡ test) × AreAnswers test r.1.items) all
     → AllByRecursion (λ p. answers p ≡ test) (map (λ r. r.0) all) × AllAnswers test (map (λ r. r.1) all)
 parted_own answers test [] h = (tt, tt)

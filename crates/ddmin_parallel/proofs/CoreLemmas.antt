@@ -11,7 +11,7 @@ use Rattle.ddmin_parallel.specs.Ddmin.{Decision, Fails, NoneFails, counted, Redu
 use Rattle.ddmin_parallel.specs.CoreEvents.{Known, Answers, State, same_set, without, Position, Empty, Round, End, furthest, step, decided, after_decision}
 use Rattle.ddmin_parallel.specs.CoreEvents.{start, option_then, after_empty, position, next, or_else, first_open, is_out, round_at, hoping, next_round}
 use Rattle.ddmin_parallel.specs.inside.CoreStates.{AreOpen, IsSettled, IsLawful, IsSmall}
-use Rattle.ddmin_parallel.proofs.KnownLemmas.{exact_sets, is_equal}
+use Rattle.ddmin_parallel.proofs.SetLemmas.{exact_sets, is_equal}
 use Rattle.ddmin_parallel.proofs.Walk.{furthest_more, furthest_lawful, furthest_small, furthest_stop, furthest_stuck, start_lawful, start_small}
 use Rattle.std.specs.Prelude.{is_some, Result, Ok, Err, IfOk, OnErr}
 use Rattle.ddmin_parallel.specs.inside.Candidates.{candidate}

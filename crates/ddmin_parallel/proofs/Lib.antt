@@ -5,6 +5,8 @@ pub mod Kept
 pub mod KnownSteps
 pub mod Counted
 pub mod Walk
+pub mod RunLemmas
+pub mod SetLemmas
 pub mod KnownLemmas
 pub mod Places
 pub mod Scans

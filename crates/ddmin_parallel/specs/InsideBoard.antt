@@ -7,9 +7,9 @@ use Rattle.ddmin_parallel.specs.declared.board.Event.TheVariants.{Take, Put, Giv
 use Rattle.ddmin_parallel.specs.declared.board.Board.TheInside.{Inside}
 
 abbrev pub event_of : Event → core.Event
-event_of (Take s) = core.Take s.items
-event_of (Put s fails) = core.Put s.items fails
-event_of (GiveBack s) = core.GiveBack s.items
+event_of (Take s) = core.Take s
+event_of (Put s fails) = core.Put s fails
+event_of (GiveBack s) = core.GiveBack s
 event_of Recall = core.Recall
 
 abbrev pub log_of : Inside → Log

@@ -54,28 +54,28 @@ abbrev pub AreOwn : (List ℕ → Bool) → List Event → Type 0
 AreOwn test events = AllByRecursion (IsOwn test) events
 
 -- a pair says this of the set
-abbrev pub says : List ℕ → Bool → Vec ℕ Global × Bool → Bool
-says s fails t = same_set s t.0.items && (if fails then t.1 else not t.1)
+abbrev pub says : List ℕ → Bool → List ℕ × Bool → Bool
+says s fails t = same_set s t.0 && (if fails then t.1 else not t.1)
 
-abbrev pub is_told : List ℕ → Bool → List (Vec (Vec ℕ Global × Bool) Global) → Bool
+abbrev pub is_told : List ℕ → Bool → List (Vec (List ℕ × Bool) Global) → Bool
 is_told s fails pairs = list_any (λ told. list_any (says s fails) told.items) pairs
 
 -- the event is no answer that was put, or it is one of the pairs
-abbrev pub is_event_backed : List (Vec (Vec ℕ Global × Bool) Global) → Event → Bool
+abbrev pub is_event_backed : List (Vec (List ℕ × Bool) Global) → Event → Bool
 is_event_backed pairs (Take s) = true
 is_event_backed pairs (Put s fails) = is_told s fails pairs
 is_event_backed pairs (GiveBack s) = true
 is_event_backed pairs Recall = true
 
-abbrev pub is_backed : Log → ℕ → List (Vec (Vec ℕ Global × Bool) Global) → Bool
+abbrev pub is_backed : Log → ℕ → List (Vec (List ℕ × Bool) Global) → Bool
 is_backed log faults pairs = (log.faults == faults) && list_all (is_event_backed pairs) log.events
 
 -- each pair is a set with what the test says of it
-abbrev pub AreAnswers : (List ℕ → Bool) → List (Vec ℕ Global × Bool) → Type 0
-AreAnswers test told = AllByRecursion (λ t. t.1 ≡ test t.0.items) told
+abbrev pub AreAnswers : (List ℕ → Bool) → List (List ℕ × Bool) → Type 0
+AreAnswers test told = AllByRecursion (λ t. t.1 ≡ test t.0) told
 
 -- every pair of every hand is the test's own
-abbrev pub AllAnswers : (List ℕ → Bool) → List (Vec (Vec ℕ Global × Bool) Global) → Type 0
+abbrev pub AllAnswers : (List ℕ → Bool) → List (Vec (List ℕ × Bool) Global) → Type 0
 AllAnswers test pairs = AllByRecursion (λ told. AreAnswers test told.items) pairs
 
 -- what a state and the test that it is told of have in common

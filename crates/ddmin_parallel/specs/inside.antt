@@ -1,8 +1,10 @@
 -- What the code keeps. No clause that a caller sees names any of it.
 pub mod Candidates
+pub mod Runs
 pub mod CoreStates
 pub mod Entries
 pub mod Stages
 pub mod Cursors
 pub mod Searches
 pub mod Inside
+pub mod Packed

@@ -8,9 +8,9 @@ ghost use Rattle.ddmin_parallel.specs.Logs.{is_backed, is_event_backed, is_told,
 ghost use Rattle.ddmin_parallel.specs.CoreEvents.{next, same_set};
 ghost use Rattle.ddmin_parallel.specs.InsideBoard.{event_of};
 
+use crate::fault_set::FaultSet;
 use crate::reducer_core::{Card, CardFault, Core};
 use crate::reduction::Reduction;
-use crate::sets::is_same;
 use std::alloc::{AllocError, Global};
 use std::marker::Model;
 
@@ -18,11 +18,11 @@ use std::marker::Model;
 #[derive(Drop)]
 pub enum Event {
     /// A set was handed out.
-    Take(Vec<u32>),
+    Take(FaultSet),
     /// A set was answered: whether it fails.
-    Put(Vec<u32>, bool),
+    Put(FaultSet, bool),
     /// A set is out no more, unanswered.
-    GiveBack(Vec<u32>),
+    GiveBack(FaultSet),
     /// No set is out any more.
     Recall,
 }
@@ -48,26 +48,26 @@ impl Model for Board {
     ghost invariant = { IsBoard };
 }
 
-pub fn is_said(set: &[u32], fails: bool, other: &[u32], said: bool) -> bool
+pub fn is_said(set: &FaultSet, fails: bool, other: &FaultSet, said: bool) -> bool
     ensures { result ≡ (same_set set.now other.now && (if fails then said else not said)) }
 {
-    let same = is_same(set, other);
+    let same = set.is(other);
     let agreed = if fails { said } else { !said };
     same && agreed
 }
 
-fn is_told_by(set: &[u32], fails: bool, told: &[(Vec<u32>, bool)]) -> bool
+fn is_told_by(set: &FaultSet, fails: bool, told: &[(FaultSet, bool)]) -> bool
     ensures { result ≡ list_any (says set.now fails) told.now }
 {
     for pair in told {
-        if is_said(set, fails, pair.0.as_slice(), pair.1) {
+        if is_said(set, fails, &pair.0, pair.1) {
             return true;
         }
     }
     false
 }
 
-fn is_told_of(set: &[u32], fails: bool, pairs: &[Vec<(Vec<u32>, bool)>]) -> bool
+fn is_told_of(set: &FaultSet, fails: bool, pairs: &[Vec<(FaultSet, bool)>]) -> bool
     ensures { result ≡ is_told set.now fails pairs.now }
 {
     for told in pairs {
@@ -78,16 +78,16 @@ fn is_told_of(set: &[u32], fails: bool, pairs: &[Vec<(Vec<u32>, bool)>]) -> bool
     false
 }
 
-fn is_one_backed(event: &Event, pairs: &[Vec<(Vec<u32>, bool)>]) -> bool
+fn is_one_backed(event: &Event, pairs: &[Vec<(FaultSet, bool)>]) -> bool
     ensures { result ≡ is_event_backed pairs.now (event_of event.now) }
 {
     match event {
-        Event::Put(set, fails) => is_told_of(set.as_slice(), *fails, pairs),
+        Event::Put(set, fails) => is_told_of(set, *fails, pairs),
         Event::Take(_) | Event::GiveBack(_) | Event::Recall => true,
     }
 }
 
-fn are_backed(events: &[Event], pairs: &[Vec<(Vec<u32>, bool)>]) -> bool
+fn are_backed(events: &[Event], pairs: &[Vec<(FaultSet, bool)>]) -> bool
     ensures { result ≡ list_all (is_event_backed pairs.now) (map event_of events.now) }
 {
     for event in events {
@@ -160,10 +160,10 @@ impl Board {
         ensures err { OnErr result (self.new ≡ self.old) }
         ensures fault { IfErr result (IsPutFault (state_of self.old) card) }
     {
-        if !self.core.has_out(card.set()) {
+        if !self.core.has_out(card.packed()) {
             return Err(CardFault::Stranger(card));
         }
-        let copy = match Vec::from_slice(alloc, card.set()) {
+        let copy = match card.packed().copied(alloc) {
             Ok(copy) => copy,
             Err(_) => return Err(CardFault::Memory(card)),
         };
@@ -180,8 +180,8 @@ impl Board {
     pub fn give_back(&mut self, card: Card)
         ensures { self.new ≡ log_after_give_back self.old card }
     {
-        let set = card.into_set();
-        if self.core.end_card(set.as_slice()) {
+        let set = card.into_packed();
+        if self.core.end_card(&set) {
             note(&mut self.events, Event::GiveBack(set));
         }
     }
@@ -205,7 +205,7 @@ impl Board {
 
     /// Whether the board was started with that number of faults, and each answer that was put is one of the
     /// pairs of a set and whether it fails.
-    pub fn backed(&self, faults: u32, pairs: &[Vec<(Vec<u32>, bool)>]) -> bool
+    pub fn backed(&self, faults: u32, pairs: &[Vec<(FaultSet, bool)>]) -> bool
         ensures { result ≡ is_backed self.now faults pairs.now }
     {
         self.core.faults() == faults && are_backed(self.events.as_slice(), pairs)

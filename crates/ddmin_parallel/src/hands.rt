@@ -4,6 +4,7 @@ ghost use Rattle.ddmin_parallel.specs.Logs.{AreAnswers, AllAnswers};
 
 use crate::board::Board;
 use crate::by_core::{finish, reduce_by_core};
+use crate::fault_set::FaultSet;
 use crate::merge::is_backed_by;
 use crate::probe::Probe;
 use crate::reducer_core::{Card, CardFault};
@@ -15,7 +16,7 @@ use std::thread::Threads;
 use target_trait::{Gate, Phase};
 
 /// What one hand answered: sets of faults, and whether each fails.
-type Answered = Vec<(Vec<u32>, bool)>;
+type Answered = Vec<(FaultSet, bool)>;
 
 /// The board, how often it moved, and how many cards were handed out.
 #[derive(Drop)]
@@ -115,11 +116,11 @@ fn asked<P: Probe, G: Gate>(
     probe: &mut P,
     card: &Card,
     number: u32,
-) -> Result<(Vec<u32>, bool), AllocError>
+) -> Result<(FaultSet, bool), AllocError>
     ensures setup { P.answers probe.new ≡ P.answers probe.old }
-    ensures told { IfOk result (λ t. t.1 ≡ P.answers probe.old t.0.items) }
+    ensures told { IfOk result (λ t. t.1 ≡ P.answers probe.old t.0) }
 {
-    let set = Vec::from_slice(alloc, card.set())?;
+    let set = card.packed().copied(alloc)?;
     gate.arrive(Phase::Cards, number);
     let fails = probe.test(card.set())?;
     Ok((set, fails))

@@ -1,14 +1,16 @@
 ghost use Rattle.std.specs.Prelude.{◌≡◌, ℕ, List, Bool, OnOk, OnErr, IfErr, Option};
 ghost use Rattle.std.specs.FinMap as map;
 
-use std::alloc::Global;
+use crate::fault_set::{FaultSet, Run};
+use std::alloc::{AllocError, Global};
 use std::collections::BTreeMap;
 use std::marker::Model;
 
 /// What is known of each set of faults.
 #[derive(Drop)]
 pub struct Known {
-    answers: BTreeMap<Vec<u32>, bool>,
+    /// By the sets' runs.
+    answers: BTreeMap<Vec<Run>, bool>,
 }
 
 impl Model for Known {
@@ -22,9 +24,11 @@ impl Model for Known {
 
     ghost coded = { map.code (coded_list coded_ℕ) coded_bool };
 
-    ghost use Rattle.ddmin_parallel.specs.inside.Entries.{plain};
+    ghost use Rattle.ddmin_parallel.specs.inside.Entries.{plain, AreKeysPacked};
 
     ghost view = { λ k. map.from_entries (plain k.answers.entries) };
+
+    ghost invariant = { λ k. AreKeysPacked k.answers.entries };
 }
 
 impl Known {
@@ -36,21 +40,20 @@ impl Known {
         }
     }
 
-    pub fn get(&self, set: &[u32]) -> Option<bool>
+    pub fn get(&self, set: &FaultSet) -> Option<bool>
         ensures { result ≡ map.get self.now set.now }
     {
-        self.answers.get(set).copied()
+        self.answers.get(set.runs()).copied()
     }
 
-    /// Adds an answer, or hands the set back where memory ran out.
-    pub fn insert(&mut self, set: Vec<u32>, fails: bool) -> Result<(), Vec<u32>>
-        ensures ok { OnOk result (self.new ≡ map.insert self.old set.items fails) }
+    /// Adds an answer. An `Err` means that memory was refused, and changes nothing.
+    pub fn insert(&mut self, set: FaultSet, fails: bool) -> Result<(), AllocError>
+        ensures ok { OnOk result (self.new ≡ map.insert self.old set fails) }
         ensures err { OnErr result (self.new ≡ self.old) }
-        ensures back { IfErr result (λ s. s ≡ set) }
     {
-        match self.answers.insert(set, fails) {
+        match self.answers.insert(set.into_runs(), fails) {
             Ok(_) => Ok(()),
-            Err(refused) => Err(refused.value.0),
+            Err(_) => Err(AllocError),
         }
     }
 }

@@ -4,23 +4,24 @@ ghost use Rattle.ddmin_parallel.specs.Logs.{is_backed, is_event_backed, is_told,
 ghost use Rattle.ddmin_parallel.specs.InsideBoard.{event_of};
 
 use crate::board::{Board, Event, is_said};
+use crate::fault_set::FaultSet;
 use std::alloc::Global;
 
 /// Whether the pair at this place says this of the set.
-fn is_said_at(set: &[u32], fails: bool, told: &[(Vec<u32>, bool)], place: usize) -> bool
+fn is_said_at(set: &FaultSet, fails: bool, told: &[(FaultSet, bool)], place: usize) -> bool
     ensures { IsTrue result → IsTrue (list_any (says set.now fails) told.now) }
 {
     match told.get(place) {
-        Some(pair) => is_said(set, fails, pair.0.as_slice(), pair.1),
+        Some(pair) => is_said(set, fails, &pair.0, pair.1),
         None => false,
     }
 }
 
 /// Goes past the pair that says this of the set, where it is the next one of some hand. False where it is that of none.
 fn goes_past(
-    set: &[u32],
+    set: &FaultSet,
     fails: bool,
-    pairs: &[Vec<(Vec<u32>, bool)>],
+    pairs: &[Vec<(FaultSet, bool)>],
     places: &mut [usize],
 ) -> bool
     ensures { IsTrue result → IsTrue (is_told set.now fails pairs.now) }
@@ -34,16 +35,16 @@ fn goes_past(
     false
 }
 
-fn is_next(event: &Event, pairs: &[Vec<(Vec<u32>, bool)>], places: &mut [usize]) -> bool
+fn is_next(event: &Event, pairs: &[Vec<(FaultSet, bool)>], places: &mut [usize]) -> bool
     ensures { IsTrue result → IsTrue (is_event_backed pairs.now (event_of event.now)) }
 {
     match event {
-        Event::Put(set, fails) => goes_past(set.as_slice(), *fails, pairs, places),
+        Event::Put(set, fails) => goes_past(set, *fails, pairs, places),
         Event::Take(_) | Event::GiveBack(_) | Event::Recall => true,
     }
 }
 
-fn are_in_turn(events: &[Event], pairs: &[Vec<(Vec<u32>, bool)>], places: &mut [usize]) -> bool
+fn are_in_turn(events: &[Event], pairs: &[Vec<(FaultSet, bool)>], places: &mut [usize]) -> bool
     ensures { IsTrue result → IsTrue (list_all (is_event_backed pairs.now) (map event_of events.now)) }
 {
     for event in events {
@@ -56,7 +57,7 @@ fn are_in_turn(events: &[Event], pairs: &[Vec<(Vec<u32>, bool)>], places: &mut [
 
 /// Whether the answers that were put are a merge of the pairs, each hand's in their order. Then each of them is one of the pairs.
 /// False also where memory ran out.
-fn is_merged(alloc: Global, board: &Board, faults: u32, pairs: &[Vec<(Vec<u32>, bool)>]) -> bool
+fn is_merged(alloc: Global, board: &Board, faults: u32, pairs: &[Vec<(FaultSet, bool)>]) -> bool
     ensures { IsTrue result → IsTrue (is_backed board.now faults pairs.now) }
 {
     let Ok(mut places) = vec![in alloc; 0usize; pairs.len()] else {
@@ -71,7 +72,7 @@ pub fn is_backed_by(
     alloc: Global,
     board: &Board,
     faults: u32,
-    pairs: &[Vec<(Vec<u32>, bool)>],
+    pairs: &[Vec<(FaultSet, bool)>],
 ) -> bool
     ensures { result ≡ is_backed board.now faults pairs.now }
 {

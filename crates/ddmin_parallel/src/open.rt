@@ -4,10 +4,12 @@ ghost use Rattle.ddmin_parallel.specs.CoreEvents.{Round, option_then, first_open
 ghost use Rattle.ddmin_parallel.specs.inside.CoreStates.{IsLawful, IsSmall};
 ghost use Rattle.ddmin_parallel.specs.inside.Stages.{position_of};
 ghost use Rattle.ddmin_parallel.specs.inside.Cursors.{IsShutBelow, IsScan, IsFurther, Leads, onward, is_among};
-ghost use Rattle.ddmin_parallel.specs.inside.Searches.{sets_of, HasReached, IsStuck, Opens};
+ghost use Rattle.ddmin_parallel.specs.inside.Searches.{HasReached, IsStuck, Opens};
 
 use crate::attempts::{Attempt, attempt_at, candidate_count};
+use crate::fault_set::FaultSet;
 use crate::known::Known;
+use crate::reducer_core::Card;
 use crate::sets::place_of;
 use crate::stage::{Cursor, Stage, following};
 use std::alloc::{AllocError, Global};
@@ -16,7 +18,7 @@ use std::alloc::{AllocError, Global};
 #[derive(Drop)]
 pub(crate) enum Scan {
     /// At an open candidate, and the place after it.
-    Open(Vec<u32>, usize),
+    Open(Card, usize),
     /// At a candidate that is known to fail.
     Fails(Attempt, usize),
     /// At the end.
@@ -27,7 +29,7 @@ pub(crate) enum Scan {
 fn scanned_round(
     alloc: Global,
     known: &Known,
-    out: &[Vec<u32>],
+    out: &[FaultSet],
     kept: &[u32],
     parts: usize,
     from: usize,
@@ -35,21 +37,22 @@ fn scanned_round(
     requires two { 2 ≤ parts }
     requires few { parts ≤ length kept.now }
     requires small { length kept.now < 2 ^ 31 }
-    requires shut { IsShutBelow (known_map.get known.now) (is_among (sets_of out.now)) (Round kept.now parts 0) from }
-    ensures { (tests : ℕ) → IfOk result (IsScan (known_map.get known.now) (is_among (sets_of out.now)) (Round kept.now parts tests)) }
+    requires shut { IsShutBelow (known_map.get known.now) (is_among out.now) (Round kept.now parts 0) from }
+    ensures { (tests : ℕ) → IfOk result (IsScan (known_map.get known.now) (is_among out.now) (Round kept.now parts tests)) }
 {
     let count = candidate_count(parts);
     for place in from..count {
         let attempt = attempt_at(alloc, kept, parts, place)?;
-        match known.get(attempt.set.as_slice()) {
+        let packed = FaultSet::pack(alloc, attempt.set.as_slice())?;
+        match known.get(&packed) {
             Some(bad) => {
                 if bad {
                     return Ok(Scan::Fails(attempt, place));
                 }
             }
             None => {
-                if place_of(attempt.set.as_slice(), out).is_none() {
-                    return Ok(Scan::Open(attempt.set, place + 1));
+                if place_of(&packed, out).is_none() {
+                    return Ok(Scan::Open(Card::of(attempt.set, packed), place + 1));
                 }
             }
         }
@@ -61,23 +64,23 @@ fn scanned_round(
 fn scanned(
     alloc: Global,
     known: &Known,
-    out: &[Vec<u32>],
+    out: &[FaultSet],
     stage: &Stage,
     from: usize,
 ) -> Result<Scan, AllocError>
     requires lawful { IsLawful (position_of stage.now) }
     requires small { IsSmall (position_of stage.now) }
-    requires shut { IsShutBelow (known_map.get known.now) (is_among (sets_of out.now)) (position_of stage.now) from }
-    ensures { IfOk result (IsScan (known_map.get known.now) (is_among (sets_of out.now)) (position_of stage.now)) }
+    requires shut { IsShutBelow (known_map.get known.now) (is_among out.now) (position_of stage.now) from }
+    ensures { IfOk result (IsScan (known_map.get known.now) (is_among out.now) (position_of stage.now)) }
 {
     match stage {
         Stage::Empty(_) => {
-            let set = Vec::new(alloc);
-            match known.get(set.as_slice()) {
+            let set = FaultSet::empty(alloc);
+            match known.get(&set) {
                 Some(_) => Ok(Scan::Shut(0)),
                 None => {
-                    if place_of(set.as_slice(), out).is_none() {
-                        Ok(Scan::Open(set, 1))
+                    if place_of(&set, out).is_none() {
+                        Ok(Scan::Open(Card::of(Vec::new(alloc), set), 1))
                     } else {
                         Ok(Scan::Shut(0))
                     }
@@ -95,22 +98,22 @@ fn scanned(
 fn further_set(
     alloc: Global,
     known: &Known,
-    out: &[Vec<u32>],
+    out: &[FaultSet],
     stage: &Stage,
     failing: Option<Attempt>,
     from: usize,
-) -> Result<(Option<Vec<u32>>, usize), AllocError>
+) -> Result<(Option<Card>, usize), AllocError>
     requires lawful { IsLawful (position_of stage.now) }
     requires small { IsSmall (position_of stage.now) }
     requires stuck { IsStuck known.now stage.now }
     requires leads { Leads (known_map.get known.now) (position_of stage.now) failing }
-    requires shut { IsShutBelow (known_map.get known.now) (is_among (sets_of out.now)) (onward (known_map.get known.now) (position_of stage.now)) from }
+    requires shut { IsShutBelow (known_map.get known.now) (is_among out.now) (onward (known_map.get known.now) (position_of stage.now)) from }
     ensures { IfOk result
-        (λ r. IsFurther (known_map.get known.now) (sets_of out.now) (position_of stage.now) (option_then (λ s. s.items) r.0) r.1) }
+        (λ r. IsFurther (known_map.get known.now) out.now (position_of stage.now) r.0 r.1) }
 {
     let next = following(alloc, stage, failing)?;
     match scanned(alloc, known, out, &next, from)? {
-        Scan::Open(set, place) => Ok((Some(set), place)),
+        Scan::Open(card, place) => Ok((Some(card), place)),
         Scan::Fails(_, place) => Ok((None, place)),
         Scan::Shut(place) => Ok((None, place)),
     }
@@ -120,16 +123,16 @@ fn further_set(
 fn open_beyond(
     alloc: Global,
     known: &Known,
-    out: &[Vec<u32>],
+    out: &[FaultSet],
     stage: &Stage,
     failing: Option<Attempt>,
     cursor: Cursor,
     ahead: bool,
-) -> Result<(Option<Vec<u32>>, Cursor), AllocError>
+) -> Result<(Option<Card>, Cursor), AllocError>
     requires lawful { IsLawful (position_of stage.now) }
     requires small { IsSmall (position_of stage.now) }
     requires stuck { IsStuck known.now stage.now }
-    requires none { first_open (known_map.get known.now) (is_among (sets_of out.now)) (round_at (position_of stage.now)) ≡ None }
+    requires none { first_open (known_map.get known.now) (is_among out.now) (round_at (position_of stage.now)) ≡ None }
     requires leads { Leads (known_map.get known.now) (position_of stage.now) failing }
     requires reached { HasReached known.now out.now stage.now cursor }
     ensures { IfOk result (Opens known.now out.now stage.now ahead) }
@@ -137,19 +140,19 @@ fn open_beyond(
     if !ahead {
         return Ok((None, cursor));
     }
-    let (set, ahead) = further_set(alloc, known, out, stage, failing, cursor.ahead)?;
-    Ok((set, Cursor { ahead, ..cursor }))
+    let (card, ahead) = further_set(alloc, known, out, stage, failing, cursor.ahead)?;
+    Ok((card, Cursor { ahead, ..cursor }))
 }
 
 /// The card that comes next, if there is one, and the cursor for the one after it.
 pub(crate) fn open_set(
     alloc: Global,
     known: &Known,
-    out: &[Vec<u32>],
+    out: &[FaultSet],
     stage: &Stage,
     cursor: Cursor,
     ahead: bool,
-) -> Result<(Option<Vec<u32>>, Cursor), AllocError>
+) -> Result<(Option<Card>, Cursor), AllocError>
     requires lawful { IsLawful (position_of stage.now) }
     requires small { IsSmall (position_of stage.now) }
     requires stuck { IsStuck known.now stage.now }
@@ -157,7 +160,7 @@ pub(crate) fn open_set(
     ensures { IfOk result (Opens known.now out.now stage.now ahead) }
 {
     match scanned(alloc, known, out, stage, cursor.closed)? {
-        Scan::Open(set, closed) => Ok((Some(set), Cursor { closed, ..cursor })),
+        Scan::Open(card, closed) => Ok((Some(card), Cursor { closed, ..cursor })),
         Scan::Fails(attempt, closed) => {
             open_beyond(
                 alloc,

@@ -5,8 +5,9 @@ ghost use Rattle.ddmin_parallel.specs.inside.CoreStates.{IsLawful, IsSmall, IsSe
 ghost use Rattle.ddmin_parallel.specs.Cards.{IsPutFault, IsFault, IsFinished};
 ghost use Rattle.ddmin_parallel.specs.inside.Stages.{position_of};
 ghost use Rattle.ddmin_parallel.specs.inside.Cursors.{is_among, next_at, out_after, moved, stage_after};
-ghost use Rattle.ddmin_parallel.specs.inside.Searches.{sets_of, HasReached, IsStuck};
+ghost use Rattle.ddmin_parallel.specs.inside.Searches.{HasReached, IsStuck};
 
+use crate::fault_set::FaultSet;
 use crate::known::Known;
 use crate::open::open_set;
 use crate::reduction::Reduction;
@@ -19,6 +20,8 @@ use std::marker::Model;
 #[derive(Drop)]
 pub struct Card {
     set: Vec<u32>,
+    /// The same set, packed: it goes to a board's events.
+    packed: FaultSet,
 }
 
 impl Model for Card {
@@ -27,9 +30,21 @@ impl Model for Card {
     ghost Value = { List ℕ };
 
     ghost view = { λ c. c.set.items };
+
+    ghost use Rattle.ddmin_parallel.specs.inside.Packed.{IsPackedCard};
+
+    ghost invariant = { IsPackedCard };
 }
 
 impl Card {
+    /// The card of a set and the same packed.
+    pub(crate) fn of(set: Vec<u32>, packed: FaultSet) -> Card
+        requires { packed ≡ set.items }
+        ensures { result ≡ set.items }
+    {
+        Card { set, packed }
+    }
+
     /// The set, ascending.
     pub fn set(&self) -> &[u32]
         ensures { result.now ≡ self.now }
@@ -37,10 +52,17 @@ impl Card {
         self.set.as_slice()
     }
 
-    pub(crate) fn into_set(self) -> Vec<u32>
-        ensures { result.items ≡ self }
+    /// The set, packed.
+    pub(crate) fn packed(&self) -> &FaultSet
+        ensures { result.now ≡ self.now }
     {
-        self.set
+        &self.packed
+    }
+
+    pub(crate) fn into_packed(self) -> FaultSet
+        ensures { result ≡ self }
+    {
+        self.packed
     }
 }
 
@@ -59,7 +81,7 @@ pub enum CardFault {
 pub struct Core {
     faults: u32,
     known: Known,
-    out: Vec<Vec<u32>>,
+    out: Vec<FaultSet>,
     stage: Stage,
     cursor: Cursor,
 }
@@ -101,22 +123,19 @@ fn go_on(stage: &mut Stage, next: Option<Stage>)
 }
 
 /// Adds an answer to what is known. An `Err` changes nothing.
-fn learn(alloc: Global, known: &mut Known, set: &[u32], fails: bool) -> Result<(), AllocError>
+fn learn(alloc: Global, known: &mut Known, set: &FaultSet, fails: bool) -> Result<(), AllocError>
     ensures ok { OnOk result (known.new ≡ known_map.insert known.old set.now fails) }
     ensures err { OnErr result (known.new ≡ known.old) }
 {
-    let copy = Vec::from_slice(alloc, set)?;
-    match known.insert(copy, fails) {
-        Ok(()) => Ok(()),
-        Err(_) => Err(AllocError),
-    }
+    let copy = set.copied(alloc)?;
+    known.insert(copy, fails)
 }
 
 /// Puts an answer among what is known, and moves the stage on. An `Err` changes nothing.
 fn settle(
     alloc: Global,
     known: &mut Known,
-    out: &mut Vec<Vec<u32>>,
+    out: &mut Vec<FaultSet>,
     stage: &mut Stage,
     cursor: &mut Cursor,
     card: Card,
@@ -124,34 +143,27 @@ fn settle(
 ) -> Result<(), CardFault>
     requires lawful { IsLawful (position_of stage.old) }
     requires small { IsSmall (position_of stage.old) }
-    requires open_sets { AreOpen known.old (sets_of out.old.items) }
+    requires open_sets { AreOpen known.old out.old.items }
     requires reached { HasReached known.old out.old.items stage.old cursor.old }
-    ensures ok { OnOk result (IsSettled known.old (sets_of out.old.items) (position_of stage.old) card fails
-        known.new (sets_of out.new.items) (position_of stage.new)) }
-    ensures err { OnErr result ((known.new ≡ known.old) × (sets_of out.new.items ≡ sets_of out.old.items)
+    ensures ok { OnOk result (IsSettled known.old out.old.items (position_of stage.old) card fails
+        known.new out.new.items (position_of stage.new)) }
+    ensures err { OnErr result ((known.new ≡ known.old) × (out.new.items ≡ out.old.items)
         × (position_of stage.new ≡ position_of stage.old)) }
-    ensures fault { IfErr result (IsFault (sets_of out.old.items) card) }
+    ensures fault { IfErr result (IsFault out.old.items card) }
     ensures reached { HasReached known.new out.new.items stage.new cursor.new }
 {
-    if place_of(card.set.as_slice(), out.as_slice()).is_none() {
+    if place_of(&card.packed, out.as_slice()).is_none() {
         return Err(CardFault::Stranger(card));
     }
-    let (next, place) = match advanced(
-        alloc,
-        known,
-        card.set.as_slice(),
-        fails,
-        stage,
-        cursor.place,
-    ) {
+    let (next, place) = match advanced(alloc, known, &card.packed, fails, stage, cursor.place) {
         Ok(advance) => advance,
         Err(_) => return Err(CardFault::Memory(card)),
     };
-    match learn(alloc, known, card.set.as_slice(), fails) {
+    match learn(alloc, known, &card.packed, fails) {
         Ok(()) => {}
         Err(_) => return Err(CardFault::Memory(card)),
     }
-    take_from(card.set.as_slice(), out);
+    take_from(&card.packed, out);
     let is_anew = fails | next.is_some();
     *cursor = moved_cursor(*cursor, place, is_anew);
     go_on(stage, next);
@@ -159,13 +171,13 @@ fn settle(
 }
 
 /// Adds a copy of a set to those that are out, and gives another. An `Err` changes none of them.
-fn add_out(alloc: Global, out: &mut Vec<Vec<u32>>, set: &[u32]) -> Result<Vec<u32>, AllocError>
-    ensures copy { IfOk result (λ other. other.items ≡ set.now) }
-    ensures out { OnOk result (sets_of out.new.items ≡ sets_of out.old.items ++ set.now ∷ []) }
+fn add_out(alloc: Global, out: &mut Vec<FaultSet>, set: &FaultSet) -> Result<FaultSet, AllocError>
+    ensures copy { IfOk result (λ other. other ≡ set.now) }
+    ensures out { OnOk result (out.new.items ≡ out.old.items ++ set.now ∷ []) }
     ensures err { OnErr result (out.new.items ≡ out.old.items) }
 {
-    let other = Vec::from_slice(alloc, set)?;
-    let copy = Vec::from_slice(alloc, set)?;
+    let other = set.copied(alloc)?;
+    let copy = set.copied(alloc)?;
     out.reserve(1)?;
     out.push_reserved(copy);
     Ok(other)
@@ -175,33 +187,33 @@ fn add_out(alloc: Global, out: &mut Vec<Vec<u32>>, set: &[u32]) -> Result<Vec<u3
 fn hand_out(
     alloc: Global,
     known: &Known,
-    out: &mut Vec<Vec<u32>>,
+    out: &mut Vec<FaultSet>,
     stage: &Stage,
     cursor: &mut Cursor,
     ahead: bool,
-) -> Result<Option<(Card, Vec<u32>)>, AllocError>
+) -> Result<Option<(Card, FaultSet)>, AllocError>
     requires lawful { IsLawful (position_of stage.now) }
     requires small { IsSmall (position_of stage.now) }
     requires stuck { IsStuck known.now stage.now }
     requires reached { HasReached known.now out.old.items stage.now cursor.old }
     ensures card { IfOk result (λ o. option_then (λ r. r.0) o
-        ≡ next_at (known_map.get known.now) (is_among (sets_of out.old.items)) (position_of stage.now) ahead) }
-    ensures copy { IfOk result (λ o. IfSome o (λ r. r.1.items ≡ r.0)) }
-    ensures out { IfOk result (λ o. sets_of out.new.items ≡ out_after (sets_of out.old.items) (option_then (λ r. r.0) o)) }
-    ensures err { OnErr result (sets_of out.new.items ≡ sets_of out.old.items) }
+        ≡ next_at (known_map.get known.now) (is_among out.old.items) (position_of stage.now) ahead) }
+    ensures copy { IfOk result (λ o. IfSome o (λ r. r.1 ≡ r.0)) }
+    ensures out { IfOk result (λ o. out.new.items ≡ out_after out.old.items (option_then (λ r. r.0) o)) }
+    ensures err { OnErr result (out.new.items ≡ out.old.items) }
     ensures reached { HasReached known.now out.new.items stage.now cursor.new }
 {
     let (found, next) = open_set(alloc, known, out.as_slice(), stage, *cursor, ahead)?;
-    let set = match found {
+    let card = match found {
         None => {
             *cursor = next;
             return Ok(None);
         }
-        Some(set) => set,
+        Some(card) => card,
     };
-    let other = add_out(alloc, out, set.as_slice())?;
+    let other = add_out(alloc, out, &card.packed)?;
     *cursor = next;
-    Ok(Some((Card { set }, other)))
+    Ok(Some((card, other)))
 }
 
 impl Core {
@@ -246,9 +258,9 @@ impl Core {
         &mut self,
         alloc: Global,
         ahead: bool,
-    ) -> Result<Option<(Card, Vec<u32>)>, AllocError>
+    ) -> Result<Option<(Card, FaultSet)>, AllocError>
         ensures card { IfOk result (λ o. option_then (λ r. r.0) o ≡ next self.old ahead) }
-        ensures copy { IfOk result (λ o. IfSome o (λ r. r.1.items ≡ r.0)) }
+        ensures copy { IfOk result (λ o. IfSome o (λ r. r.1 ≡ r.0)) }
         ensures event { IfOk result (λ o. self.new ≡ after_take self.old (option_then (λ r. r.0) o)) }
         ensures err { OnErr result (self.new ≡ self.old) }
     {
@@ -296,7 +308,7 @@ impl Core {
     }
 
     /// Whether a set is out.
-    pub(crate) fn has_out(&self, set: &[u32]) -> bool
+    pub(crate) fn has_out(&self, set: &FaultSet) -> bool
         ensures { result ≡ is_out self.now set.now }
     {
         place_of(set, self.out.as_slice()).is_some()
@@ -315,11 +327,11 @@ impl Core {
     pub fn give_back(&mut self, card: Card)
         ensures { self.new ≡ apply self.old (GiveBack card) }
     {
-        self.end_card(card.set.as_slice());
+        self.end_card(&card.packed);
     }
 
     /// A set is out no more. Whether it was.
-    pub(crate) fn end_card(&mut self, set: &[u32]) -> bool
+    pub(crate) fn end_card(&mut self, set: &FaultSet) -> bool
         ensures was { result ≡ is_out self.old set.now }
         ensures event { self.new ≡ apply self.old (GiveBack set.now) }
     {

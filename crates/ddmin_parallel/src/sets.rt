@@ -3,23 +3,16 @@ ghost use Rattle.std.specs.List.{list_any};
 ghost use Rattle.std.specs.FinMap as known_map;
 ghost use Rattle.ddmin_parallel.specs.CoreEvents.{same_set, without};
 ghost use Rattle.ddmin_parallel.specs.inside.CoreStates.{IsPlaceOf};
-ghost use Rattle.ddmin_parallel.specs.inside.Searches.{sets_of};
 
+use crate::fault_set::FaultSet;
 use crate::known::Known;
 
-/// Whether two sets are one.
-pub fn is_same(one: &[u32], other: &[u32]) -> bool
-    ensures { result ≡ same_set one.now other.now }
-{
-    one == other
-}
-
 /// The place of a set among those that are out.
-pub fn place_of(set: &[u32], out: &[Vec<u32>]) -> Option<usize>
-    ensures { IsPlaceOf set.now (sets_of out.now) result }
+pub fn place_of(set: &FaultSet, out: &[FaultSet]) -> Option<usize>
+    ensures { IsPlaceOf set.now out.now result }
 {
     for (place, other) in out.iter().enumerate() {
-        if is_same(set, other.as_slice()) {
+        if set.is(other) {
             return Some(place);
         }
     }
@@ -27,9 +20,9 @@ pub fn place_of(set: &[u32], out: &[Vec<u32>]) -> Option<usize>
 }
 
 /// Takes a set from those that are out, and says whether it was.
-pub fn take_from(set: &[u32], out: &mut Vec<Vec<u32>>) -> bool
-    ensures was { result ≡ list_any (same_set set.now) (sets_of out.old.items) }
-    ensures rest { sets_of out.new.items ≡ without set.now (sets_of out.old.items) }
+pub fn take_from(set: &FaultSet, out: &mut Vec<FaultSet>) -> bool
+    ensures was { result ≡ list_any (same_set set.now) out.old.items }
+    ensures rest { out.new.items ≡ without set.now out.old.items }
 {
     match place_of(set, out.as_slice()) {
         Some(place) => {
@@ -41,10 +34,10 @@ pub fn take_from(set: &[u32], out: &mut Vec<Vec<u32>>) -> bool
 }
 
 /// What is known of a set, once `set` is known too.
-pub fn answer_with(known: &Known, set: &[u32], fails: bool, asked: &[u32]) -> Option<bool>
+pub fn answer_with(known: &Known, set: &FaultSet, fails: bool, asked: &FaultSet) -> Option<bool>
     ensures { result ≡ known_map.get (known_map.insert known.now set.now fails) asked.now }
 {
-    if is_same(asked, set) {
+    if asked.is(set) {
         Some(fails)
     } else {
         known.get(asked)

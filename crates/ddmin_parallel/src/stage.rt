@@ -8,6 +8,7 @@ ghost use Rattle.ddmin_parallel.specs.inside.Stages.{position_of};
 ghost use Rattle.ddmin_parallel.specs.inside.Cursors.{IsCounted, IsLook, IsStep, IsAdvanced, follow};
 
 use crate::attempts::{Attempt, all_faults, attempt_at, candidate_count};
+use crate::fault_set::FaultSet;
 use crate::known::Known;
 use crate::reduction::Reduction;
 use crate::sets::answer_with;
@@ -68,7 +69,7 @@ enum Step {
 fn looked_at(
     alloc: Global,
     known: &Known,
-    set: &[u32],
+    set: &FaultSet,
     fails: bool,
     kept: &[u32],
     parts: usize,
@@ -84,7 +85,8 @@ fn looked_at(
     let mut looked = tests.saturating_add(place as u64);
     for place in place..candidate_count(parts) {
         let attempt = attempt_at(alloc, kept, parts, place)?;
-        let Some(bad) = answer_with(known, set, fails, attempt.set.as_slice()) else {
+        let asked = FaultSet::pack(alloc, attempt.set.as_slice())?;
+        let Some(bad) = answer_with(known, set, fails, &asked) else {
             return Ok(Look::Stuck(place));
         };
         looked = looked.saturating_add(1);
@@ -110,7 +112,7 @@ pub(crate) fn round_or_end(kept: Vec<u32>, parts: usize, tests: u64) -> Stage
 fn stepped(
     alloc: Global,
     known: &Known,
-    set: &[u32],
+    set: &FaultSet,
     fails: bool,
     stage: &Stage,
     place: usize,
@@ -121,7 +123,7 @@ fn stepped(
     ensures { IfOk result (IsStep (known_map.get (known_map.insert known.now set.now fails)) (position_of stage.now)) }
 {
     match stage {
-        Stage::Empty(faults) => match answer_with(known, set, fails, &[]) {
+        Stage::Empty(faults) => match answer_with(known, set, fails, &FaultSet::empty(alloc)) {
             None => Ok(Step::Stays(0)),
             Some(bad) => Ok(Step::Moves(after_empty_set(alloc, *faults, bad)?)),
         },
@@ -184,7 +186,7 @@ fn after_round(
 pub(crate) fn advanced(
     alloc: Global,
     known: &Known,
-    set: &[u32],
+    set: &FaultSet,
     fails: bool,
     stage: &Stage,
     place: usize,

@@ -74,7 +74,7 @@ with_set out s t = out t || same_set t s
 
 -- what a search for an open candidate found
 abbrev pub IsScan : Answers → (List ℕ → Bool) → Position → Scan → Type 0
-IsScan known out p (scans.Open s place) = (first_open known out (round_at p) ≡ Some s.items) × IsShutBelow known (with_set out s.items) p place
+IsScan known out p (scans.Open s place) = (first_open known out (round_at p) ≡ Some s) × IsShutBelow known (with_set out s) p place
 IsScan known out p (scans.Fails s place) = (first_open known out (round_at p) ≡ None) × IsShutBelow known out p place × Leads known p (Some s)
 IsScan known out p (scans.Shut place) = (first_open known out (round_at p) ≡ None) × IsShutBelow known out p place × Leads known p None
 

@@ -2,15 +2,15 @@ use Rattle.std.specs.Prelude.{◌≡◌, ◌≤◌}
 use Rattle.ddmin_parallel.specs.CoreEvents.{State, position}
 use Rattle.ddmin_parallel.specs.inside.CoreStates.{AreOpen}
 use Rattle.ddmin_parallel.specs.inside.Stages.{position_of}
-use Rattle.ddmin_parallel.specs.inside.Searches.{sets_of, HasReached}
+use Rattle.ddmin_parallel.specs.inside.Searches.{HasReached}
 use Rattle.ddmin_parallel.specs.declared.reducer_core.Core.TheInside.{Inside}
 
 abbrev pub state_of : Inside → State
-state_of c = record { faults = c.faults; known = c.known; out = sets_of c.out.items }
+state_of c = record { faults = c.faults; known = c.known; out = c.out.items }
 
 -- the stage is where the known answers lead, no set that is out is known, and the cursor is no further than they say
 pub record IsCore (c : Inside) : Type 0 where
   pub few : c.faults ≤ 4096
   pub stands : position_of c.stage ≡ position (state_of c)
-  pub open_sets : AreOpen c.known (sets_of c.out.items)
+  pub open_sets : AreOpen c.known c.out.items
   pub reached : HasReached c.known c.out.items c.stage c.cursor

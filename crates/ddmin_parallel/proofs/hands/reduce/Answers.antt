@@ -10,8 +10,8 @@ use Rattle.ddmin_parallel.proofs.BoardLemmas.{parted_own, last_of}
 use Rattle.ddmin_parallel.proofs.hands.reduce.Goals as goal
 
 -- all hands answer as one test does, and so do their pairs
-told_apart : {P : Type 0} (answers : P → List ℕ → Bool) (test : List ℕ → Bool) (all : List (P × Vec (Vec ℕ Global × Bool) Global)) (probes rest : List P)
-    (pairs : List (Vec (Vec ℕ Global × Bool) Global)) (popped : Option P) (probe : P)
+told_apart : {P : Type 0} (answers : P → List ℕ → Bool) (test : List ℕ → Bool) (all : List (P × Vec (List ℕ × Bool) Global)) (probes rest : List P)
+    (pairs : List (Vec (List ℕ × Bool) Global)) (popped : Option P) (probe : P)
     → All (λ r. (answers r.0 ≡ test) × AreAnswers test r.1.items) all → probes ≡ map (λ r. r.0) all → pairs ≡ map (λ r. r.1) all
     → probes ≡ rest ++ option_to_list popped → popped ≡ Some probe → (answers probe ≡ test) × AllAnswers test pairs
 told_apart {P = P} answers test all probes rest pairs popped probe own one two cut is =

@@ -5,7 +5,6 @@ use Rattle.ddmin_parallel.specs.CoreEvents.{Answers, Position, step}
 use Rattle.ddmin_parallel.specs.inside.CoreStates.{IsLawful, IsSmall}
 use Rattle.ddmin_parallel.specs.inside.Stages.{position_of}
 use Rattle.ddmin_parallel.specs.inside.Cursors.{Leads, follow, is_among}
-use Rattle.ddmin_parallel.specs.inside.Searches.{sets_of}
 use Rattle.ddmin_parallel.proofs.Scans.{IsFollowed, followed}
 use Rattle.ddmin_parallel.proofs.open.further_set.Goals as goal
 
@@ -15,10 +14,10 @@ on known out p q o lawful small stuck leads is = subst (IsFollowed known out p) 
 
 pub scanned-requires-clause-lawful : goal.scanned-requires-clause-lawful
 scanned-requires-clause-lawful c =
-    (on (get c.args.known.now) (is_among (sets_of c.args.out.now)) (position_of c.args.stage.now)
+    (on (get c.args.known.now) (is_among c.args.out.now) (position_of c.args.stage.now)
     (position_of c.in_ok-next.next) c.args.failing c.requires.lawful c.requires.small c.requires.stuck c.requires.leads c.in_ok-next.ensures).lawful
 
 pub scanned-requires-clause-small : goal.scanned-requires-clause-small
 scanned-requires-clause-small c =
-    (on (get c.args.known.now) (is_among (sets_of c.args.out.now)) (position_of c.args.stage.now)
+    (on (get c.args.known.now) (is_among c.args.out.now) (position_of c.args.stage.now)
     (position_of c.in_ok-next.next) c.args.failing c.requires.lawful c.requires.small c.requires.stuck c.requires.leads c.in_ok-next.ensures).small

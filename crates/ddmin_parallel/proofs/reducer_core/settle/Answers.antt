@@ -1,7 +1,6 @@
 use Rattle.std.proofs.Common.{◌≡◌, ℕ, Bool, true, ◌||◌, List, sym, ◌∙◌, ap, subst, Option}
 use Rattle.std.specs.FinMap.{get, insert}
-use Rattle.std.specs.Prelude.{Vec, is_some}
-use Rattle.std.specs.Global.{Global}
+use Rattle.std.specs.Prelude.{is_some}
 use Rattle.std.specs.List.{list_any}
 use Rattle.ddmin_parallel.specs.CoreEvents.{Known, same_set, without}
 use Rattle.ddmin_parallel.specs.inside.CoreStates.{IsPlaceOf, AreOpen}
@@ -9,37 +8,30 @@ use Rattle.ddmin_parallel.specs.inside.Stages.{position_of}
 use Rattle.ddmin_parallel.specs.inside.Cursors.{is_among, IsReached, IsAdvanced, moved, stage_after}
 use Rattle.ddmin_parallel.specs.declared.stage.Cursor.{Cursor}
 use Rattle.ddmin_parallel.specs.declared.stage.Stage.{Stage}
-use Rattle.ddmin_parallel.specs.inside.Searches.{sets_of}
 use Rattle.ddmin_parallel.proofs.Places.{placed}
 use Rattle.ddmin_parallel.proofs.CoreLemmas.{counted_put, settled_reached}
 use Rattle.ddmin_parallel.proofs.reducer_core.settle.Goals as goal
 
-was_out : (s t : List ℕ) (xs ys : List (Vec ℕ Global)) (o : Option ℕ) → IsPlaceOf s (sets_of xs) o → is_some o ≡ true → s ≡ t → xs ≡ ys
-    → list_any (same_set t) (sets_of ys) ≡ true
-was_out s t xs ys o h is same list = ap (λ u. list_any (same_set u) (sets_of ys)) (sym same) ∙ ap (λ zs. list_any (same_set s) (sets_of zs)) (sym list)
-    ∙ placed s (sets_of xs) o h is
+was_out : (s : List ℕ) (xs ys : List (List ℕ)) (o : Option ℕ) → IsPlaceOf s xs o → is_some o ≡ true → xs ≡ ys → list_any (same_set s) ys ≡ true
+was_out s xs ys o h is list = ap (list_any (same_set s)) (sym list) ∙ placed s xs o h is
 
 pub advanced-requires-clause-counted : goal.advanced-requires-clause-counted
 advanced-requires-clause-counted c =
-    counted_put c.args.known.now (sets_of c.args.out.now.items) (position_of c.args.stage.now) c.as_slice-3.result.now c.args.fails c.args.cursor.now
+    counted_put c.args.known.now c.args.out.now.items (position_of c.args.stage.now) c.card.inside.packed c.args.fails c.args.cursor.now
     c.requires.open_sets
-    (was_out c.as_slice.result.now c.as_slice-3.result.now c.as_slice-2.result.now c.args.out.now.items c.place_of.result c.place_of.ensures
-    c.if-is_none.ensures
-    (c.as_slice.ensures.value ∙ sym c.as_slice-3.ensures.value) c.as_slice-2.ensures.value)
+    (was_out c.card.inside.packed c.as_slice.result.now c.args.out.now.items c.place_of.result c.place_of.ensures c.if-is_none.ensures c.as_slice.ensures.value)
     c.requires.reached
 
 -- the cursor after the answer, where each value is known by an equation
-reached_then : (known known' : Known) (out out' : List (List ℕ)) (stage stage' : Stage) (s t : List ℕ) (b anew : Bool) (cursor cursor' : Cursor)
+reached_then : (known known' : Known) (out out' : List (List ℕ)) (stage stage' : Stage) (s : List ℕ) (b anew : Bool) (cursor cursor' : Cursor)
     (o : Option Stage) (place : ℕ)
     → AreOpen known out → list_any (same_set s) out ≡ true → IsReached (get known) (is_among out) (position_of stage) cursor
-    → IsAdvanced (get (insert known t b)) (position_of stage) o place
-    → t ≡ s → known' ≡ insert known s b → out' ≡ without s out → position_of stage' ≡ position_of (stage_after stage o) → anew ≡ (b || is_some o)
+    → IsAdvanced (get (insert known s b)) (position_of stage) o place
+    → known' ≡ insert known s b → out' ≡ without s out → position_of stage' ≡ position_of (stage_after stage o) → anew ≡ (b || is_some o)
     → cursor' ≡ moved cursor place anew
     → IsReached (get known') (is_among out') (position_of stage') cursor'
-reached_then known known' out out' stage stage' s t b anew cursor cursor' o place open_sets was reached advance same known_is out_is stage_is anew_is
-    cursor_is =
-    let there = settled_reached known out stage s b cursor o place open_sets was reached
-    (subst (λ u. IsAdvanced (get (insert known u b)) (position_of stage) o place) same advance) in
+reached_then known known' out out' stage stage' s b anew cursor cursor' o place open_sets was reached advance known_is out_is stage_is anew_is cursor_is =
+    let there = settled_reached known out stage s b cursor o place open_sets was reached advance in
     subst (λ k. IsReached (get k) (is_among out') (position_of stage') cursor') (sym known_is)
     (subst (λ u. IsReached (get (insert known s b)) (is_among u) (position_of stage') cursor') (sym out_is)
     (subst (λ p. IsReached (get (insert known s b)) (is_among (without s out)) p cursor') (sym stage_is)
@@ -48,13 +40,9 @@ reached_then known known' out out' stage stage' s t b anew cursor cursor' o plac
 
 pub returns-clause-reached : goal.returns-clause-reached
 returns-clause-reached c =
-    let s = c.card.inside.set.items in
-    reached_then c.args.known.now c.learn.new.known (sets_of c.args.out.now.items)
-    (sets_of c.take_from.new.out.items) c.args.stage.now c.go_on.new.stage s c.as_slice-3.result.now c.args.fails (c.args.fails || c.is_some.result)
+    let s = c.card.inside.packed in
+    reached_then c.args.known.now c.learn.new.known c.args.out.now.items
+    c.take_from.new.out.items c.args.stage.now c.go_on.new.stage s c.args.fails (c.args.fails || c.is_some.result)
     c.args.cursor.now c.moved_cursor.result c.in-Ok.advance.0 c.in-Ok.advance.1 c.requires.open_sets
-    (was_out c.as_slice.result.now s c.as_slice-2.result.now c.args.out.now.items c.place_of.result c.place_of.ensures c.if-is_none.ensures
-    c.as_slice.ensures.value c.as_slice-2.ensures.value)
-    c.requires.reached c.in-Ok.ensures c.as_slice-3.ensures.value
-    (c.in-Ok-learn.ensures.ok ∙ ap (λ u. insert c.args.known.now u c.args.fails) c.as_slice-4.ensures.value)
-    (c.take_from.ensures.rest ∙ ap (λ u. without u (sets_of c.args.out.now.items)) c.as_slice-5.ensures.value)
-    c.go_on.ensures (ap (λ b. c.args.fails || b) c.is_some.ensures) c.moved_cursor.ensures
+    (was_out s c.as_slice.result.now c.args.out.now.items c.place_of.result c.place_of.ensures c.if-is_none.ensures c.as_slice.ensures.value)
+    c.requires.reached c.in-Ok.ensures c.in-Ok-learn.ensures.ok c.take_from.ensures.rest c.go_on.ensures (ap (λ b. c.args.fails || b) c.is_some.ensures) c.moved_cursor.ensures

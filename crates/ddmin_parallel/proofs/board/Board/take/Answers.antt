@@ -6,7 +6,7 @@ use Rattle.ddmin_parallel.proofs.board.Board.take.Goals as goal
 
 pub invariant_of-self-in-Some-2 : goal.invariant_of-self-in-Some-2
 invariant_of-self-in-Some-2 c =
-    let copied = subst (λ o. IfSome o (λ r. r.1.items ≡ r.0)) c.in-Some-2.is c.in_ok-take_two.ensures.copy in
+    let copied = subst (λ o. IfSome o (λ r. r.1 ≡ r.0)) c.in-Some-2.is c.in_ok-take_two.ensures.copy in
     let event = c.in_ok-take_two.ensures.event ∙ ap (λ o. core.after_take c.self.inside.core (core.option_then (λ r. r.0) o)) c.in-Some-2.is in
     let more = out_taken c.self.inside.core c.take_two.new.self c.in-Some-2.card event in
     record {

@@ -4,7 +4,6 @@ use Rattle.ddmin_parallel.specs.CoreEvents.{position}
 use Rattle.ddmin_parallel.specs.inside.CoreStates.{AreOpen}
 use Rattle.ddmin_parallel.specs.inside.Stages.{position_of}
 use Rattle.ddmin_parallel.specs.inside.Cursors.{IsReached, is_among}
-use Rattle.ddmin_parallel.specs.inside.Searches.{sets_of}
 use Rattle.ddmin_parallel.proofs.CoreLemmas.{open_without}
 use Rattle.ddmin_parallel.proofs.Scans.{reset}
 use Rattle.ddmin_parallel.proofs.reducer_core.Core.end_card.Goals as goal
@@ -17,9 +16,9 @@ invariant_of-self c =
       few = i.few;
       stands = i.stands;
       open_sets = subst (AreOpen c.self.inside.known) (sym c.take_from-was_out.ensures.rest)
-          (open_without c.self.inside.known c.args.set.now (sets_of c.self.inside.out.items) i.open_sets);
-      reached = subst (IsReached (get c.self.inside.known) (is_among (sets_of c.take_from-was_out.new.out.items)) (position_of c.self.inside.stage))
+          (open_without c.self.inside.known c.args.set.now c.self.inside.out.items i.open_sets);
+      reached = subst (IsReached (get c.self.inside.known) (is_among c.take_from-was_out.new.out.items) (position_of c.self.inside.stage))
           (sym c.at-self-inside.ensures)
-          (reset (get c.self.inside.known) (is_among (sets_of c.take_from-was_out.new.out.items))
+          (reset (get c.self.inside.known) (is_among c.take_from-was_out.new.out.items)
           (position_of c.self.inside.stage) c.self.inside.cursor.place i.reached.counted);
     }

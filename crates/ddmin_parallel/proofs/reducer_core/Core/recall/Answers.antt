@@ -4,7 +4,6 @@ use Rattle.ddmin_parallel.specs.CoreEvents.{position}
 use Rattle.ddmin_parallel.specs.inside.CoreStates.{AreOpen}
 use Rattle.ddmin_parallel.specs.inside.Stages.{position_of}
 use Rattle.ddmin_parallel.specs.inside.Cursors.{IsReached, is_among}
-use Rattle.ddmin_parallel.specs.inside.Searches.{sets_of}
 use Rattle.ddmin_parallel.proofs.Scans.{reset}
 use Rattle.ddmin_parallel.proofs.reducer_core.Core.recall.Goals as goal
 
@@ -15,9 +14,9 @@ invariant_of-self c =
     record {
       few = i.few;
       stands = i.stands;
-      open_sets = subst (λ out. AreOpen c.self.inside.known (sets_of out)) (sym c.clear.ensures.items) tt;
-      reached = subst (IsReached (get c.self.inside.known) (is_among (sets_of c.clear.new.self.items)) (position_of c.self.inside.stage))
+      open_sets = subst (λ out. AreOpen c.self.inside.known out) (sym c.clear.ensures.items) tt;
+      reached = subst (IsReached (get c.self.inside.known) (is_among c.clear.new.self.items) (position_of c.self.inside.stage))
           (sym c.at-self-inside.ensures)
-          (reset (get c.self.inside.known) (is_among (sets_of c.clear.new.self.items))
+          (reset (get c.self.inside.known) (is_among c.clear.new.self.items)
           (position_of c.self.inside.stage) c.self.inside.cursor.place i.reached.counted);
     }

@@ -2,7 +2,6 @@ use Rattle.std.proofs.Common.{refl, sym, ◌∙◌, ap, subst, ◌≡◌, ℕ, z
 use Rattle.ddmin_parallel.specs.Ddmin.{kept_after}
 use Rattle.ddmin_parallel.specs.CoreEvents.{position, Empty, End, start}
 use Rattle.ddmin_parallel.specs.inside.Stages.{position_of}
-use Rattle.ddmin_parallel.specs.inside.Searches.{sets_of}
 use Rattle.ddmin_parallel.proofs.CoreLemmas.{IsGood, good_start}
 use Rattle.std.specs.FinMap.{get}
 use Rattle.ddmin_parallel.specs.inside.Cursors.{IsReached, is_among}
@@ -24,12 +23,12 @@ invariant_of-result c =
     ] in
     let good = good_start c.args.faults (position_of c.if-faults-eq0.stage) c.requires is in
     let known = subst (λ k. IsGood c.args.faults k [] (position_of c.if-faults-eq0.stage)) (sym c.new-2.ensures) good in
-    let out = subst (λ o. IsGood c.args.faults c.new-2.result (sets_of o) (position_of c.if-faults-eq0.stage)) (sym c.new-3.ensures.items) known in
+    let out = subst (λ o. IsGood c.args.faults c.new-2.result o (position_of c.if-faults-eq0.stage)) (sym c.new-3.ensures.items) known in
     record {
       few = out.few;
       stands = out.stands;
       open_sets = out.open_sets;
-      reached = subst (IsReached (get c.new-2.result) (is_among (sets_of c.new-3.result.items)) (position_of c.if-faults-eq0.stage)) (sym c.at.ensures)
-          (reset (get c.new-2.result) (is_among (sets_of c.new-3.result.items)) (position_of c.if-faults-eq0.stage) 0
+      reached = subst (IsReached (get c.new-2.result) (is_among c.new-3.result.items) (position_of c.if-faults-eq0.stage)) (sym c.at.ensures)
+          (reset (get c.new-2.result) (is_among c.new-3.result.items) (position_of c.if-faults-eq0.stage) 0
           (counted_none (get c.new-2.result) (position_of c.if-faults-eq0.stage)));
     }

@@ -5,7 +5,6 @@ use Rattle.std.specs.FinMap.{get}
 use Rattle.std.proofs.lemmas.Result.{IfOk-weaker}
 use Rattle.ddmin_parallel.specs.inside.Inside.{state_of}
 use Rattle.ddmin_parallel.specs.inside.Cursors.{is_among, next_at}
-use Rattle.ddmin_parallel.specs.inside.Searches.{sets_of}
 use Rattle.ddmin_parallel.proofs.CoreLemmas.{good_lawful, good_small, good_stuck, next_is, handed_open}
 use Rattle.ddmin_parallel.proofs.reducer_core.Core.take_two.Goals as goal
 
@@ -13,21 +12,21 @@ pub hand_out-requires-clause-lawful : goal.hand_out-requires-clause-lawful
 unfolding position
 hand_out-requires-clause-lawful c =
     let i = c.self.invariant in
-    good_lawful c.self.inside.faults c.self.inside.known (sets_of c.self.inside.out.items) (position_of c.self.inside.stage)
+    good_lawful c.self.inside.faults c.self.inside.known c.self.inside.out.items (position_of c.self.inside.stage)
     (record { few = i.few; stands = i.stands; open_sets = i.open_sets })
 
 pub hand_out-requires-clause-small : goal.hand_out-requires-clause-small
 unfolding position
 hand_out-requires-clause-small c =
     let i = c.self.invariant in
-    good_small c.self.inside.faults c.self.inside.known (sets_of c.self.inside.out.items) (position_of c.self.inside.stage)
+    good_small c.self.inside.faults c.self.inside.known c.self.inside.out.items (position_of c.self.inside.stage)
     (record { few = i.few; stands = i.stands; open_sets = i.open_sets })
 
 pub hand_out-requires-clause-stuck : goal.hand_out-requires-clause-stuck
 unfolding position
 hand_out-requires-clause-stuck c =
     let i = c.self.invariant in
-    good_stuck c.self.inside.faults c.self.inside.known (sets_of c.self.inside.out.items) (position_of c.self.inside.stage)
+    good_stuck c.self.inside.faults c.self.inside.known c.self.inside.out.items (position_of c.self.inside.stage)
     (record { few = i.few; stands = i.stands; open_sets = i.open_sets })
 
 pub invariant_of-self : goal.invariant_of-self
@@ -37,7 +36,7 @@ invariant_of-self c =
     record {
       few = i.few;
       stands = i.stands;
-      open_sets = handed_open (option_then (λ r. r.0)) c.hand_out.result c.self.inside.known (sets_of c.self.inside.out.items) (sets_of c.hand_out.new.out.items)
+      open_sets = handed_open (option_then (λ r. r.0)) c.hand_out.result c.self.inside.known c.self.inside.out.items c.hand_out.new.out.items
           (position_of c.self.inside.stage) c.args.ahead
           i.open_sets c.hand_out.ensures.card c.hand_out.ensures.out c.hand_out.ensures.err;
       reached = c.hand_out.ensures.reached;

@@ -1,0 +1,134 @@
+ghost use Rattle.std.specs.Prelude.{◌≡◌, ℕ, ◌+◌, ◌++◌, ◌∷◌, [], List, Option, IfOk, OnOk, if◌then◌else◌, ◌==◌, Some, None, ◌≤◌};
+ghost use Rattle.ddmin_parallel.specs.CoreEvents.{same_set};
+ghost use Rattle.ddmin_parallel.specs.inside.Runs.{runs_of, faults_of};
+
+use std::alloc::{AllocError, Global};
+use std::marker::Model;
+
+/// The first and the last fault of a stretch without a gap.
+pub(crate) type Run = (u32, u32);
+
+/// A set of faults, kept as its runs: most of a large reduction's sets are parts of all faults and their complements, which are
+/// few runs, however many faults they have.
+#[derive(Drop)]
+pub struct FaultSet {
+    runs: Vec<Run>,
+}
+
+impl Model for FaultSet {
+    ghost use Rattle.std.specs.Prelude.{ℕ, List};
+
+    ghost Value = { List ℕ };
+
+    ghost use Rattle.ddmin_parallel.specs.inside.Runs.{faults_of};
+    ghost use Rattle.ddmin_parallel.specs.inside.Packed.{IsPacked};
+
+    ghost view = { λ s. faults_of s.runs.items };
+
+    ghost invariant = { IsPacked };
+}
+
+/// The run with this fault at its end, where that leaves no gap.
+fn lengthened(run: Run, fault: u32) -> Option<Run>
+    ensures { result ≡ (if run.1 + 1 == fault then Some (run.0, fault) else None) }
+{
+    if fault > 0 && fault - 1 == run.1 {
+        Some((run.0, fault))
+    } else {
+        None
+    }
+}
+
+/// The runs of a fault and those that follow it.
+fn runs_from(alloc: Global, first: u32, rest: &[u32]) -> Result<Vec<Run>, AllocError>
+    ensures { IfOk result (λ runs. runs.items ≡ runs_of (first ∷ rest.now)) }
+{
+    let mut runs = Vec::new(alloc);
+    let mut run = (first, first);
+    for fault in rest {
+        match lengthened(run, *fault) {
+            Some(longer) => run = longer,
+            None => {
+                runs.push(run)?;
+                run = (*fault, *fault);
+            }
+        }
+    }
+    runs.push(run)?;
+    Ok(runs)
+}
+
+/// Adds the faults of a run to a list.
+fn add_run(faults: &mut Vec<u32>, run: Run) -> Result<(), AllocError>
+    requires { run.0 ≤ run.1 }
+    ensures { OnOk result (faults.new.items ≡ faults.old.items ++ faults_of (run ∷ [])) }
+{
+    let (first, last) = run;
+    for fault in first..last {
+        faults.push(fault)?;
+    }
+    faults.push(last)?;
+    Ok(())
+}
+
+impl FaultSet {
+    /// The empty set. Takes no memory.
+    pub fn empty(alloc: Global) -> FaultSet
+        ensures { result ≡ [] }
+    {
+        FaultSet {
+            runs: Vec::new(alloc),
+        }
+    }
+
+    /// The set of these faults. An error means that memory was refused.
+    pub fn pack(alloc: Global, faults: &[u32]) -> Result<FaultSet, AllocError>
+        ensures { IfOk result (λ set. set ≡ faults.now) }
+    {
+        match faults.split_first() {
+            Some((first, rest)) => {
+                let runs = runs_from(alloc, *first, rest)?;
+                Ok(FaultSet { runs })
+            }
+            None => Ok(FaultSet::empty(alloc)),
+        }
+    }
+
+    /// The faults of the set, in its order. An error means that memory was refused.
+    pub fn faults(&self, alloc: Global) -> Result<Vec<u32>, AllocError>
+        ensures { IfOk result (λ faults. faults.items ≡ self.now) }
+    {
+        let mut faults = Vec::new(alloc);
+        for run in self.runs.as_slice() {
+            add_run(&mut faults, *run)?;
+        }
+        Ok(faults)
+    }
+
+    /// The same set once more. An error means that memory was refused.
+    pub fn copied(&self, alloc: Global) -> Result<FaultSet, AllocError>
+        ensures { IfOk result (λ copy. copy ≡ self.now) }
+    {
+        let runs = Vec::from_slice(alloc, self.runs.as_slice())?;
+        Ok(FaultSet { runs })
+    }
+
+    /// Whether two sets are one.
+    pub fn is(&self, other: &FaultSet) -> bool
+        ensures { result ≡ same_set self.now other.now }
+    {
+        self.runs == other.runs
+    }
+
+    pub(crate) fn runs(&self) -> &[Run]
+        ensures { result.now ≡ runs_of self.now }
+    {
+        self.runs.as_slice()
+    }
+
+    pub(crate) fn into_runs(self) -> Vec<Run>
+        ensures { result.items ≡ runs_of self }
+    {
+        self.runs
+    }
+}
