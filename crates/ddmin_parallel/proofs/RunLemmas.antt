@@ -4,7 +4,7 @@ use Rattle.std.proofs.lemmas.List.{take_more}
 use Rattle.std.specs.Bool.{nat_eq}
 use Rattle.std.specs.List.{range_with_len}
 use Rattle.std.proofs.lemmas.Bool.Decides.{nat_tests}
-use Rattle.ddmin_parallel.specs.inside.Runs.{faults_of, with_fault, with_faults, runs_of}
+use Rattle.ddmin_parallel.specs.Runs.{faults_of, with_fault, with_faults, runs_of}
 use Rattle.ddmin_parallel.proofs.Steps.{range_push}
 
 -- no run ends before it begins

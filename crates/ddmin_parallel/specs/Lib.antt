@@ -5,5 +5,6 @@ pub mod Sublists
 pub mod CoreEvents
 pub mod Cards
 pub mod Logs
+pub mod Runs
 pub mod InsideBoard
 pub mod inside

@@ -1,6 +1,5 @@
 -- What the code keeps. No clause that a caller sees names any of it.
 pub mod Candidates
-pub mod Runs
 pub mod CoreStates
 pub mod Entries
 pub mod Stages

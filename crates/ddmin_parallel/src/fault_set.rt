@@ -1,12 +1,12 @@
 ghost use Rattle.std.specs.Prelude.{◌≡◌, ℕ, ◌+◌, ◌++◌, ◌∷◌, [], List, Option, IfOk, OnOk, if◌then◌else◌, ◌==◌, Some, None, ◌≤◌};
 ghost use Rattle.ddmin_parallel.specs.CoreEvents.{same_set};
-ghost use Rattle.ddmin_parallel.specs.inside.Runs.{runs_of, faults_of};
+ghost use Rattle.ddmin_parallel.specs.Runs.{runs_of, faults_of};
 
 use std::alloc::{AllocError, Global};
 use std::marker::Model;
 
 /// The first and the last fault of a stretch without a gap.
-pub(crate) type Run = (u32, u32);
+pub type Run = (u32, u32);
 
 /// A set of faults, kept as its runs: most of a large reduction's sets are parts of all faults and their complements, which are
 /// few runs, however many faults they have.
@@ -20,7 +20,7 @@ impl Model for FaultSet {
 
     ghost Value = { List ℕ };
 
-    ghost use Rattle.ddmin_parallel.specs.inside.Runs.{faults_of};
+    ghost use Rattle.ddmin_parallel.specs.Runs.{faults_of};
     ghost use Rattle.ddmin_parallel.specs.inside.Packed.{IsPacked};
 
     ghost view = { λ s. faults_of s.runs.items };
@@ -73,7 +73,7 @@ fn add_run(faults: &mut Vec<u32>, run: Run) -> Result<(), AllocError>
 
 impl FaultSet {
     /// The empty set. Takes no memory.
-    pub fn empty(alloc: Global) -> FaultSet
+    pub(crate) fn empty(alloc: Global) -> FaultSet
         ensures { result ≡ [] }
     {
         FaultSet {
@@ -106,7 +106,7 @@ impl FaultSet {
     }
 
     /// The same set once more. An error means that memory was refused.
-    pub fn copied(&self, alloc: Global) -> Result<FaultSet, AllocError>
+    pub(crate) fn copied(&self, alloc: Global) -> Result<FaultSet, AllocError>
         ensures { IfOk result (λ copy. copy ≡ self.now) }
     {
         let runs = Vec::from_slice(alloc, self.runs.as_slice())?;
@@ -120,7 +120,8 @@ impl FaultSet {
         self.runs == other.runs
     }
 
-    pub(crate) fn runs(&self) -> &[Run]
+    /// The runs of the set, in its order: the first and the last fault of each stretch without a gap.
+    pub fn runs(&self) -> &[Run]
         ensures { result.now ≡ runs_of self.now }
     {
         self.runs.as_slice()

@@ -1,7 +1,7 @@
 //! Cards of a reduction of eight faults, of which two are needed.
 
 use crate::check::{Fault, demand};
-use ddmin_parallel::{Board, Card, CardFault, Core, Event, Reduction};
+use ddmin_parallel::{Board, Card, CardFault, Core, Event, FaultSet, Reduction};
 use std::alloc::{AllocError, Global};
 
 /// The faults 2 and 6, as bits.
@@ -43,13 +43,24 @@ impl Cards for Core {
     }
 }
 
+/// The same of a packed set. Takes no memory.
+fn packed_bits(set: &FaultSet) -> u32 {
+    let mut bits = 0;
+    for (first, last) in set.runs() {
+        for fault in *first..=*last {
+            bits |= 1u32.wrapping_shl(fault);
+        }
+    }
+    bits
+}
+
 /// A number for an event.
 fn mark_of(event: &Event) -> u64 {
     match event {
-        Event::Take(set) => u64::from(bits_of(set)) * 4,
-        Event::Put(set, false) => u64::from(bits_of(set)) * 4 + 1,
-        Event::Put(set, true) => u64::from(bits_of(set)) * 4 + 2,
-        Event::GiveBack(set) => u64::from(bits_of(set)) * 4 + 3,
+        Event::Take(set) => u64::from(packed_bits(set)) * 4,
+        Event::Put(set, false) => u64::from(packed_bits(set)) * 4 + 1,
+        Event::Put(set, true) => u64::from(packed_bits(set)) * 4 + 2,
+        Event::GiveBack(set) => u64::from(packed_bits(set)) * 4 + 3,
         Event::Recall => u64::MAX,
     }
 }

@@ -1,7 +1,7 @@
 ghost use Rattle.std.specs.Prelude.{◌≤◌};
 
 use crate::plain_rows::{is_found, needs_both};
-use ddmin_parallel::{Board, Card, CardFault, Core, Event, Probe};
+use ddmin_parallel::{Board, Card, CardFault, Core, Event, FaultSet, Probe};
 use std::alloc::{AllocError, Global};
 use std::process::Abort;
 
@@ -255,7 +255,7 @@ fn board_of_events(rt: &impl Abort, alloc: Global) -> Result<Board, AllocError> 
 
 /// Whether these are the events of that board.
 fn are_its_events(events: &[Event]) -> bool {
-    let half = [0, 1, 2, 3].as_slice();
+    let half = [(0, 3)].as_slice();
     match events {
         [
             Event::Take(empty),
@@ -265,12 +265,12 @@ fn are_its_events(events: &[Event]) -> bool {
             Event::Take(again),
             Event::Recall,
         ] => {
-            empty.is_empty()
-                && first.as_slice() == half
-                && back.as_slice() == half
-                && put.is_empty()
+            empty.runs().is_empty()
+                && first.runs() == half
+                && back.runs() == half
+                && put.runs().is_empty()
                 && !*fails
-                && again.as_slice() == half
+                && again.runs() == half
         }
         _ => false,
     }
@@ -280,9 +280,9 @@ fn are_its_events(events: &[Event]) -> bool {
 fn told_of_the_empty_set(
     alloc: Global,
     fails: bool,
-) -> Result<Vec<Vec<(Vec<u32>, bool)>>, AllocError> {
+) -> Result<Vec<Vec<(FaultSet, bool)>>, AllocError> {
     let mut told = Vec::new(alloc);
-    told.push((Vec::new(alloc), fails))?;
+    told.push((FaultSet::pack(alloc, &[])?, fails))?;
     let mut pairs = Vec::new(alloc);
     pairs.push(told)?;
     Ok(pairs)
@@ -301,6 +301,27 @@ fn a_board_and_what_backs_it(rt: HostRuntime) -> Result<(), AllocError> {
     assert!(&rt; !board.backed(8, &[]));
     for (faults, fails, backed) in [(8, false, true), (7, false, false), (8, true, false)] {
         assert_eq!(&rt; is_backed(rt.alloc(), &board, faults, fails)?, backed);
+    }
+    Ok(())
+}
+
+#[test]
+fn sets_are_kept_as_runs(rt: HostRuntime) -> Result<(), AllocError> {
+    let rows: [(&[u32], &[(u32, u32)]); 4] = [
+        (&[], &[]),
+        (&[0, 1, 2, 5, 7, 8], &[(0, 2), (5, 5), (7, 8)]),
+        (&[3, 2, 2, 3], &[(3, 3), (2, 2), (2, 3)]),
+        (
+            &[u32::MAX - 1, u32::MAX, 0],
+            &[(u32::MAX - 1, u32::MAX), (0, 0)],
+        ),
+    ];
+    for (faults, runs) in rows {
+        let set = FaultSet::pack(rt.alloc(), faults)?;
+        assert_eq!(&rt; set.runs(), runs);
+        assert_eq!(&rt; set.faults(rt.alloc())?.as_slice(), faults);
+        assert!(&rt; set.is(&FaultSet::pack(rt.alloc(), faults)?));
+        assert!(&rt; !set.is(&FaultSet::pack(rt.alloc(), &[0, 2])?));
     }
     Ok(())
 }

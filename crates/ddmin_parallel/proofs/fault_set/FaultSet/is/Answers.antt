@@ -1,6 +1,6 @@
 use Rattle.std.proofs.Common.{◌∙◌, ap}
 use Rattle.std.specs.Ordering.{is_eq}
-use Rattle.ddmin_parallel.specs.inside.Runs.{faults_of}
+use Rattle.ddmin_parallel.specs.Runs.{faults_of}
 use Rattle.ddmin_parallel.proofs.SetLemmas.{runs_equal, set_cmp}
 use Rattle.ddmin_parallel.proofs.fault_set.FaultSet.is.Goals as goal
 
