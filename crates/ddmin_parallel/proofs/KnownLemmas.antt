@@ -9,7 +9,8 @@ use Rattle.std.specs.FinMap.{find, get, insert, from_entries, get-from_entries, 
 use Rattle.std.specs.BTreeMap.{insert_entry, is_at}
 use Rattle.std.specs.Map.{lookup}
 use Rattle.ddmin_parallel.specs.inside.Entries.{plain, AreKeysPacked}
-use Rattle.ddmin_parallel.specs.Runs.{faults_of, runs_of}
+use Rattle.ddmin_parallel.specs.Runs.{faults_of}
+use Rattle.ddmin_parallel.specs.inside.Packing.{runs_of}
 use Rattle.ddmin_parallel.proofs.RunLemmas.{same_runs, is_packed, has_faults}
 use Rattle.ddmin_parallel.proofs.SetLemmas.{set_cmp, runs_cmp, exact_sets, exact_runs, is_equal, runs_tie-Decides, runs_tie}
 

@@ -4,16 +4,15 @@ use Rattle.std.proofs.lemmas.List.{take_more}
 use Rattle.std.specs.Bool.{nat_eq}
 use Rattle.std.specs.List.{range_with_len}
 use Rattle.std.proofs.lemmas.Bool.Decides.{nat_tests}
-use Rattle.ddmin_parallel.specs.Runs.{faults_of, with_fault, with_faults, runs_of}
+use Rattle.ddmin_parallel.specs.Runs.{faults_of, IsApart, AreApart}
+use Rattle.ddmin_parallel.specs.inside.Packing.{with_fault, with_faults, runs_of}
 use Rattle.ddmin_parallel.proofs.Steps.{range_push}
-
--- no run ends before it begins
-abbrev pub AreOrdered : List (ℕ × ℕ) → Type 0
-AreOrdered [] = Unit {0}
-AreOrdered (run ∷ runs) = (run.0 ≤ run.1) × AreOrdered runs
 
 same_number : (a b : ℕ) → nat_eq a b ≡ true → a ≡ b
 same_number a b is = grind (arith, nat_tests)
+
+other_number : (a b : ℕ) → nat_eq a b ≡ false → a ≡ b → ⊥
+other_number a b is same = grind (arith, nat_tests)
 
 one_fault : (x : ℕ) → range_with_len x (x + 1 - x) ≡ x ∷ []
 one_fault x = let one : x + 1 - x ≡ 1 = omega arith in ap (range_with_len x) one
@@ -43,47 +42,56 @@ run_end xs ys first last x le same is =
     run_step xs ys first last le (is ∙ ap (λ n. xs ++ range_with_len first (n - first)) same)
     ∙ ap (λ zs. xs ++ zs) (sym (append-nil (range_with_len first (last + 1 - first))))
 
-faults_more : (rs : List (ℕ × ℕ)) (x : ℕ) → AreOrdered rs → faults_of (with_fault rs x) ≡ faults_of rs ++ x ∷ []
-faults_more [] x ordered = append-nil _ ∙ one_fault x
-faults_more (run ∷ []) x ordered = at (nat_eq (run.1 + 1) x) refl
+faults_more : (rs : List (ℕ × ℕ)) (x : ℕ) → AreApart rs → faults_of (with_fault rs x) ≡ faults_of rs ++ x ∷ []
+faults_more [] x apart = append-nil _ ∙ one_fault x
+faults_more (run ∷ []) x apart = at (nat_eq (run.1 + 1) x) refl
   where
     here : List ℕ
     here = range_with_len run.0 (run.1 + 1 - run.0)
 
     at : (b : Bool) → nat_eq (run.1 + 1) x ≡ b → faults_of (cond b ((run.0, x) ∷ []) (run ∷ (x, x) ∷ [])) ≡ faults_of (run ∷ []) ++ x ∷ []
     at true is =
-        append-nil _ ∙ longer_run run.0 run.1 x ordered.0 (same_number _ _ is) ∙ ap (λ xs. xs ++ x ∷ []) (sym (append-nil here))
+        append-nil _ ∙ longer_run run.0 run.1 x apart.0 (same_number _ _ is) ∙ ap (λ xs. xs ++ x ∷ []) (sym (append-nil here))
     at false is =
         ap (λ xs. here ++ xs) (append-nil (range_with_len x (x + 1 - x)) ∙ one_fault x) ∙ ap (λ xs. xs ++ x ∷ []) (sym (append-nil here))
-faults_more (run ∷ next ∷ rs) x ordered =
-    ap (λ xs. range_with_len run.0 (run.1 + 1 - run.0) ++ xs) (faults_more (next ∷ rs) x ordered.1)
+faults_more (run ∷ next ∷ rs) x apart =
+    ap (λ xs. range_with_len run.0 (run.1 + 1 - run.0) ++ xs) (faults_more (next ∷ rs) x apart.1.1)
     ∙ sym (append_assoc (range_with_len run.0 (run.1 + 1 - run.0)) (faults_of (next ∷ rs)) (x ∷ []))
 
-ordered_more : (rs : List (ℕ × ℕ)) (x : ℕ) → AreOrdered rs → AreOrdered (with_fault rs x)
-ordered_more [] x ordered = (omega arith, tt)
-ordered_more (run ∷ []) x ordered = at (nat_eq (run.1 + 1) x) refl
+still_apart : (run next : ℕ × ℕ) (rs : List (ℕ × ℕ)) (x : ℕ) → IsApart run (next ∷ rs) → IsApart run (with_fault (next ∷ rs) x)
+still_apart run next [] x apart = at (nat_eq (next.1 + 1) x)
   where
-    at : (b : Bool) → nat_eq (run.1 + 1) x ≡ b → AreOrdered (cond b ((run.0, x) ∷ []) (run ∷ (x, x) ∷ []))
-    at true is = let le = ordered.0 in let next = same_number _ _ is in (omega arith, tt)
-    at false is = (ordered.0, (omega arith, tt))
-ordered_more (run ∷ next ∷ rs) x ordered = (ordered.0, ordered_more (next ∷ rs) x ordered.1)
+    at : (b : Bool) → IsApart run (cond b ((next.0, x) ∷ []) (next ∷ (x, x) ∷ []))
+    at true = apart
+    at false = apart
+still_apart run next (r ∷ rs) x apart = apart
 
-ordered_all : (rs : List (ℕ × ℕ)) (xs : List ℕ) → AreOrdered rs → AreOrdered (with_faults rs xs)
-ordered_all rs [] ordered = ordered
-ordered_all rs (x ∷ xs) ordered = ordered_all (with_fault rs x) xs (ordered_more rs x ordered)
+apart_more : (rs : List (ℕ × ℕ)) (x : ℕ) → AreApart rs → AreApart (with_fault rs x)
+apart_more [] x apart = (omega arith, (tt, tt))
+apart_more (run ∷ []) x apart = at (nat_eq (run.1 + 1) x) refl
+  where
+    at : (b : Bool) → nat_eq (run.1 + 1) x ≡ b → AreApart (cond b ((run.0, x) ∷ []) (run ∷ (x, x) ∷ []))
+    at true is = let le = apart.0 in let next = same_number _ _ is in (omega arith, (tt, tt))
+    at false is = (apart.0, (other_number _ _ is, (omega arith, (tt, tt))))
+apart_more (run ∷ next ∷ rs) x apart = (apart.0, (still_apart run next rs x apart.1.0, apart_more (next ∷ rs) x apart.1.1))
 
-faults_all : (rs : List (ℕ × ℕ)) (xs : List ℕ) → AreOrdered rs → faults_of (with_faults rs xs) ≡ faults_of rs ++ xs
-faults_all rs [] ordered = sym (append-nil _)
-faults_all rs (x ∷ xs) ordered =
-    faults_all (with_fault rs x) xs (ordered_more rs x ordered) ∙ ap (λ ys. ys ++ xs) (faults_more rs x ordered)
+apart_all : (rs : List (ℕ × ℕ)) (xs : List ℕ) → AreApart rs → AreApart (with_faults rs xs)
+apart_all rs [] apart = apart
+apart_all rs (x ∷ xs) apart = apart_all (with_fault rs x) xs (apart_more rs x apart)
+
+faults_all : (rs : List (ℕ × ℕ)) (xs : List ℕ) → AreApart rs → faults_of (with_faults rs xs) ≡ faults_of rs ++ xs
+faults_all rs [] apart = sym (append-nil _)
+faults_all rs (x ∷ xs) apart =
+    faults_all (with_fault rs x) xs (apart_more rs x apart) ∙ ap (λ ys. ys ++ xs) (faults_more rs x apart)
     ∙ append_assoc (faults_of rs) (x ∷ []) xs
 
 -- a set's runs have its faults
 pub faults_of_runs : (s : List ℕ) → faults_of (runs_of s) ≡ s
 faults_of_runs s = faults_all [] s tt
 
-ordered_runs : (s : List ℕ) → AreOrdered (runs_of s)
-ordered_runs s = ordered_all [] s tt
+-- and none of them could be joined to the next
+pub apart_runs : (s : List ℕ) → AreApart (runs_of s)
+apart_runs s = apart_all [] s tt
 
 with_append : (rs : List (ℕ × ℕ)) (xs ys : List ℕ) → with_faults rs (xs ++ ys) ≡ with_faults (with_faults rs xs) ys
 with_append rs [] ys = refl
@@ -156,13 +164,13 @@ taken_apart start rs run xs i lt is next =
     taken_more start (rs ++ run ∷ []) xs i lt is ∙ apart_step rs run (get_or xs i 0) next
 
 -- each run is ordered
-ordered_at : (rs : List (ℕ × ℕ)) (i : ℕ) (d : ℕ × ℕ) → AreOrdered rs → i < length rs → (get_or rs i d).0 ≤ (get_or rs i d).1
-ordered_at [] i d ordered lt = absurd (omega arith)
-ordered_at (r ∷ rs) zero d ordered lt = ordered.0
-ordered_at (r ∷ rs) (suc i) d ordered lt = ordered_at rs i d ordered.1 (omega arith)
+ordered_at : (rs : List (ℕ × ℕ)) (i : ℕ) (d : ℕ × ℕ) → AreApart rs → i < length rs → (get_or rs i d).0 ≤ (get_or rs i d).1
+ordered_at [] i d apart lt = absurd (omega arith)
+ordered_at (r ∷ rs) zero d apart lt = apart.0
+ordered_at (r ∷ rs) (suc i) d apart lt = ordered_at rs i d apart.1.1 (omega arith)
 
 pub packed_ordered : (rs : List (ℕ × ℕ)) (i : ℕ) (d : ℕ × ℕ) → runs_of (faults_of rs) ≡ rs → i < length rs → (get_or rs i d).0 ≤ (get_or rs i d).1
-packed_ordered rs i d packed lt = ordered_at rs i d (subst AreOrdered packed (ordered_runs (faults_of rs))) lt
+packed_ordered rs i d packed lt = ordered_at rs i d (subst AreApart packed (apart_runs (faults_of rs))) lt
 
 -- the faults of one run more
 pub runs_step : (rs : List (ℕ × ℕ)) (i : ℕ) (d : ℕ × ℕ) → i < length rs → faults_of (take (i + 1) rs) ≡ faults_of (take i rs) ++ faults_of (get_or rs i d ∷ [])

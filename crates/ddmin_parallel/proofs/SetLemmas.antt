@@ -9,7 +9,8 @@ use Rattle.std.specs.FinMap.{IsAntisymmetric, slice_cmp-IsAntisymmetric, nat_cmp
 use Rattle.std.proofs.lemmas.Bool.Decides.{same_from_decides, Decides-like, Decides-and, Decides-eqb}
 use Rattle.std.proofs.lemmas.Cmp.{nat_list_cmp_total, nat_cmp_total, lists_total, then_total, on_total, tied_itself}
 use Rattle.std.proofs.lemmas.Slice.Eq.{slice_eq-Decides}
-use Rattle.ddmin_parallel.specs.Runs.{faults_of, runs_of}
+use Rattle.ddmin_parallel.specs.Runs.{faults_of}
+use Rattle.ddmin_parallel.specs.inside.Packing.{runs_of}
 use Rattle.ddmin_parallel.proofs.RunLemmas.{same_runs, faults_of_runs}
 
 abbrev pub set_cmp : List ℕ → List ℕ → Ordering

@@ -1,5 +1,5 @@
 -- A set of faults as its runs, each the first and the last fault of a stretch without a gap
-use Rattle.std.specs.Prelude.{ℕ, ◌+◌, ◌-◌, List, [], ◌∷◌, ◌++◌, if◌then◌else◌, ◌==◌}
+use Rattle.std.specs.Prelude.{◌≡◌, ℕ, ◌+◌, ◌-◌, ◌≤◌, List, [], ◌∷◌, ◌++◌}
 use Rattle.std.specs.List.{range_with_len}
 
 -- the faults of these runs
@@ -7,16 +7,12 @@ abbrev pub faults_of : List (ℕ × ℕ) → List ℕ
 faults_of [] = []
 faults_of (run ∷ runs) = range_with_len run.0 (run.1 + 1 - run.0) ++ faults_of runs
 
--- the runs with one fault more at the end, which makes the last run longer if it follows it
-abbrev pub with_fault : List (ℕ × ℕ) → ℕ → List (ℕ × ℕ)
-with_fault [] x = (x, x) ∷ []
-with_fault (run ∷ []) x = if run.1 + 1 == x then (run.0, x) ∷ [] else run ∷ (x, x) ∷ []
-with_fault (run ∷ next ∷ runs) x = run ∷ with_fault (next ∷ runs) x
+-- the next run, if there is one, does not go on where this one ends
+abbrev pub IsApart : ℕ × ℕ → List (ℕ × ℕ) → Type 0
+IsApart run [] = Unit {0}
+IsApart run (next ∷ runs) = run.1 + 1 ≡ next.0 → ⊥
 
-abbrev pub with_faults : List (ℕ × ℕ) → List ℕ → List (ℕ × ℕ)
-with_faults runs [] = runs
-with_faults runs (x ∷ xs) = with_faults (with_fault runs x) xs
-
--- the runs of these faults
-abbrev pub runs_of : List ℕ → List (ℕ × ℕ)
-runs_of faults = with_faults [] faults
+-- each run has a fault, and none could be joined to the next
+abbrev pub AreApart : List (ℕ × ℕ) → Type 0
+AreApart [] = Unit {0}
+AreApart (run ∷ runs) = (run.0 ≤ run.1) × (IsApart run runs × AreApart runs)

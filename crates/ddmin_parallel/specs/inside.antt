@@ -7,3 +7,4 @@ pub mod Cursors
 pub mod Searches
 pub mod Inside
 pub mod Packed
+pub mod Packing

@@ -1,6 +1,7 @@
 ghost use Rattle.std.specs.Prelude.{◌≡◌, ℕ, ◌+◌, ◌++◌, ◌∷◌, [], List, Option, IfOk, OnOk, if◌then◌else◌, ◌==◌, Some, None, ◌≤◌};
 ghost use Rattle.ddmin_parallel.specs.CoreEvents.{same_set};
-ghost use Rattle.ddmin_parallel.specs.Runs.{runs_of, faults_of};
+ghost use Rattle.ddmin_parallel.specs.Runs.{faults_of, AreApart};
+ghost use Rattle.ddmin_parallel.specs.inside.Packing.{runs_of};
 
 use std::alloc::{AllocError, Global};
 use std::marker::Model;
@@ -120,14 +121,22 @@ impl FaultSet {
         self.runs == other.runs
     }
 
-    /// The runs of the set, in its order: the first and the last fault of each stretch without a gap.
+    /// The runs of the set, in its order: the first and the last fault of each stretch without a gap. None could be joined to the next.
     pub fn runs(&self) -> &[Run]
+        ensures faults { faults_of result.now ≡ self.now }
+        ensures apart { AreApart result.now }
+    {
+        self.key()
+    }
+
+    /// What the set is known by: two sets are one exactly where their runs are.
+    pub(crate) fn key(&self) -> &[Run]
         ensures { result.now ≡ runs_of self.now }
     {
         self.runs.as_slice()
     }
 
-    pub(crate) fn into_runs(self) -> Vec<Run>
+    pub(crate) fn into_key(self) -> Vec<Run>
         ensures { result.items ≡ runs_of self }
     {
         self.runs

@@ -43,7 +43,7 @@ impl Known {
     pub fn get(&self, set: &FaultSet) -> Option<bool>
         ensures { result ≡ map.get self.now set.now }
     {
-        self.answers.get(set.runs()).copied()
+        self.answers.get(set.key()).copied()
     }
 
     /// Adds an answer. An `Err` means that memory was refused, and changes nothing.
@@ -51,7 +51,7 @@ impl Known {
         ensures ok { OnOk result (self.new ≡ map.insert self.old set fails) }
         ensures err { OnErr result (self.new ≡ self.old) }
     {
-        match self.answers.insert(set.into_runs(), fails) {
+        match self.answers.insert(set.into_key(), fails) {
             Ok(_) => Ok(()),
             Err(_) => Err(AllocError),
         }

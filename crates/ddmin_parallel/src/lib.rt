@@ -39,7 +39,7 @@ mod stage;
 
 pub use board::{Board, Event};
 pub use by_core::reduce_by_core;
-pub use fault_set::FaultSet;
+pub use fault_set::{FaultSet, Run};
 pub use hands::reduce;
 pub use laws::{
     ahead_rows, cards_are_open, ddmin2_is_its_rule, events_decide, failing_empty_set_keeps_nothing,

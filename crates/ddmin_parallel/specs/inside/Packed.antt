@@ -1,5 +1,6 @@
 use Rattle.std.specs.Prelude.{◌≡◌}
-use Rattle.ddmin_parallel.specs.Runs.{faults_of, runs_of}
+use Rattle.ddmin_parallel.specs.Runs.{faults_of}
+use Rattle.ddmin_parallel.specs.inside.Packing.{runs_of}
 use Rattle.ddmin_parallel.specs.declared.fault_set.FaultSet.TheInside.{Inside}
 use Rattle.ddmin_parallel.specs.declared.reducer_core.Card.TheInside as card
 

@@ -1,5 +1,5 @@
 use Rattle.std.proofs.Common.{◌≡◌, [], ◌∷◌, ◌++◌, take}
-use Rattle.ddmin_parallel.specs.Runs.{with_faults}
+use Rattle.ddmin_parallel.specs.inside.Packing.{with_faults}
 use Rattle.ddmin_parallel.proofs.fault_set.runs_from.Given as goal
 
 -- the faults so far are added

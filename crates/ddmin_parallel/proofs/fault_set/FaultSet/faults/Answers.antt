@@ -1,6 +1,7 @@
 use Rattle.std.proofs.Common.{◌≡◌, sym, ◌∙◌, ap, subst}
 use Rattle.std.proofs.Common.{◌++◌, ◌∷◌, [], get_or}
-use Rattle.ddmin_parallel.specs.Runs.{faults_of, runs_of}
+use Rattle.ddmin_parallel.specs.Runs.{faults_of}
+use Rattle.ddmin_parallel.specs.inside.Packing.{runs_of}
 use Rattle.ddmin_parallel.proofs.RunLemmas.{packed_ordered, runs_step}
 use Rattle.ddmin_parallel.proofs.fault_set.FaultSet.faults.Goals as goal
 

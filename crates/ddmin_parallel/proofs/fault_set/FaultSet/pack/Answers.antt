@@ -1,5 +1,5 @@
 use Rattle.std.proofs.Common.{◌≡◌, sym, ◌∙◌, ap}
-use Rattle.ddmin_parallel.specs.Runs.{runs_of}
+use Rattle.ddmin_parallel.specs.inside.Packing.{runs_of}
 use Rattle.ddmin_parallel.proofs.RunLemmas.{is_packed, has_faults}
 use Rattle.ddmin_parallel.proofs.fault_set.FaultSet.pack.Goals as goal
 

@@ -11,6 +11,6 @@ use Rattle.ddmin_parallel.proofs.known.Known.get.Goals as goal
 pub returns : goal.returns
 returns c =
     c.copied.ensures ∙ c.get.ensures.value
-    ∙ ap (λ rs. lookup (is_at (λ (v : Vec (ℕ × ℕ) Global). runs_cmp rs v.items)) c.self.inside.answers.entries) c.runs.ensures
+    ∙ ap (λ rs. lookup (is_at (λ (v : Vec (ℕ × ℕ) Global). runs_cmp rs v.items)) c.self.inside.answers.entries) c.key.ensures
     ∙ sym (get_plain c.self.inside.answers.entries c.args.set.now c.self.invariant)
     ∙ ap (λ m. map.get m c.args.set.now) c.self.view_is

@@ -9,7 +9,7 @@ use Rattle.ddmin_parallel.proofs.known.Known.insert.Goals.{in-Ok, in-Err}
 pub invariant_of-self : goal.invariant_of-self
 invariant_of-self c = elim c.match-insert.branch [
   | in-Ok w ↦ subst AreKeysPacked (sym w.in-Ok.ensures.entries)
-      (insert_packed c.self.inside.answers.entries c.into_runs.result c.args.fails c.args.set c.self.invariant c.into_runs.ensures)
+      (insert_packed c.self.inside.answers.entries c.into_key.result c.args.fails c.args.set c.self.invariant c.into_key.ensures)
   | in-Err w ↦ subst AreKeysPacked (sym w.in-Err.ensures.err) c.self.invariant
 ]
 
@@ -17,7 +17,7 @@ pub returns-clause-ok : goal.returns-clause-ok
 returns-clause-ok c = elim c.match-insert.branch [
   | in-Ok w ↦ rw w.result-is (
       ap (λ es. map.from_entries {R = set_cmp} (plain es)) w.in-Ok.ensures.entries
-      ∙ insert_plain c.self.inside.answers.entries c.into_runs.result c.args.fails c.args.set c.self.invariant c.into_runs.ensures
+      ∙ insert_plain c.self.inside.answers.entries c.into_key.result c.args.fails c.args.set c.self.invariant c.into_key.ensures
       ∙ ap (λ m. map.insert m c.args.set c.args.fails) c.self.view_is)
   | in-Err w ↦ rw w.result-is tt
 ]
