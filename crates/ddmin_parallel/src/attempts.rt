@@ -3,6 +3,7 @@ ghost use Rattle.std.specs.List.{range_with_len};
 ghost use Rattle.ddmin_parallel.specs.Rounds.{part, complement, Candidate};
 ghost use Rattle.ddmin_parallel.specs.inside.Candidates.{candidate, candidates};
 
+use crate::fault_set::FaultSet;
 use std::alloc::{AllocError, Global};
 use std::marker::Model;
 
@@ -17,6 +18,15 @@ impl Model for Attempt {
     ghost Value = { Candidate };
 
     ghost view = { λ t. record { set = t.set.items; parts = t.parts } };
+}
+
+impl Attempt {
+    /// The set, kept as its runs.
+    pub(crate) fn packed(&self, alloc: Global) -> Result<FaultSet, AllocError>
+        ensures { IfOk result (λ packed. packed ≡ self.now.set) }
+    {
+        FaultSet::pack(alloc, self.set.as_slice())
+    }
 }
 
 /// The members of part `place`, in order.

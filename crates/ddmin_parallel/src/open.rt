@@ -43,7 +43,7 @@ fn scanned_round(
     let count = candidate_count(parts);
     for place in from..count {
         let attempt = attempt_at(alloc, kept, parts, place)?;
-        let packed = FaultSet::pack(alloc, attempt.set.as_slice())?;
+        let packed = attempt.packed(alloc)?;
         match known.get(&packed) {
             Some(bad) => {
                 if bad {

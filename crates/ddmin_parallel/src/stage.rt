@@ -85,7 +85,7 @@ fn looked_at(
     let mut looked = tests.saturating_add(place as u64);
     for place in place..candidate_count(parts) {
         let attempt = attempt_at(alloc, kept, parts, place)?;
-        let asked = FaultSet::pack(alloc, attempt.set.as_slice())?;
+        let asked = attempt.packed(alloc)?;
         let Some(bad) = answer_with(known, set, fails, &asked) else {
             return Ok(Look::Stuck(place));
         };

@@ -10,7 +10,7 @@ use Rattle.ddmin_parallel.proofs.open.scanned_round.Goals as goal
 pub returns-then-bad : goal.returns-then-bad
 returns-then-bad c = λ tests.
     let known = get c.args.known.now in
-    let is = c.in_ok-packed.ensures ∙ c.as_slice.ensures.value ∙ ap (λ s. s.set) (c.attempt.view_is ∙ c.in_ok-attempt.ensures) in
+    let is = c.in_ok-packed.ensures ∙ ap (λ s. s.set) c.in_ok-attempt.ensures in
     found_failing known (is_among c.args.out.now) c.args.kept.now c.args.parts c.loop-place.place tests c.in_ok-attempt.attempt c.loop-place.invariant
     (omega arith) c.in_ok-attempt.ensures
     (sym (ap known is) ∙ sym c.in-Some.ensures ∙ ap (λ b. Some b) c.if-bad.true)
@@ -23,7 +23,7 @@ pub returns-then-is_none : goal.returns-then-is_none
 returns-then-is_none c = λ tests.
     let known = get c.args.known.now in
     let out = is_among c.args.out.now in
-    let is = c.in_ok-packed.ensures ∙ c.as_slice.ensures.value ∙ ap (λ s. s.set) (c.attempt.view_is ∙ c.in_ok-attempt.ensures) in
+    let is = c.in_ok-packed.ensures ∙ ap (λ s. s.set) c.in_ok-attempt.ensures in
     let card = c.of.ensures ∙ ap (λ s. s.set) (c.attempt.view_is ∙ c.in_ok-attempt.ensures) in
     found_open known out c.args.kept.now c.args.parts c.loop-place.place tests _ c.loop-place.invariant (omega arith) card
     (sym (ap known is) ∙ sym c.in-None.ensures)

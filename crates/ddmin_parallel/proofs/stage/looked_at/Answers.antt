@@ -27,7 +27,7 @@ loop-place-preserved c =
     let k = c.loop-place.place in
     let i = c.loop-place.invariant in
     let set : c.in_ok-asked.asked ≡ (candidate kept n k).set =
-    c.in_ok-asked.ensures ∙ c.as_slice.ensures.value ∙ ap (λ s. s.set) (c.attempt.view_is ∙ c.in_ok-attempt.ensures) in
+    c.in_ok-asked.ensures ∙ ap (λ s. s.set) c.in_ok-attempt.ensures in
     let no : known (candidate kept n k).set ≡ Some false =
     sym (ap known set) ∙ sym c.in-Some.ensures ∙ ap (λ b. Some b) c.if-bad.false in
     record {
