@@ -86,7 +86,7 @@ fn passed_end(digit: usize) -> &'static str
 }
 
 /// The line of a plan that doesn't pass.
-fn write_open<N: Names>(
+fn write_not_passed<N: Names>(
     out: &mut String,
     names: &N,
     number: usize,
@@ -127,7 +127,7 @@ fn write_numbered<N: Names>(
     if verdict == Verdict::Pass {
         return write_passed(out, start, number);
     }
-    write_open(out, names, number, verdict)
+    write_not_passed(out, names, number, verdict)
 }
 
 fn write_verdicts<N: Names>(
