@@ -6,5 +6,6 @@ pub mod Stages
 pub mod Cursors
 pub mod Searches
 pub mod Inside
+pub mod Told
 pub mod Packed
 pub mod Packing

@@ -1,6 +1,8 @@
 ghost use Rattle.std.specs.Prelude.{◌≡◌, ℕ, ◌<◌, ◌≤◌, List, [], ◌∷◌, ◌++◌, All, IfOk, OnOk, vec_len, length, Bool, map};
 ghost use Rattle.ddmin_parallel.specs.Ddmin.{ddmin};
 ghost use Rattle.ddmin_parallel.specs.Logs.{AreAnswers, AllAnswers};
+ghost use Rattle.ddmin_parallel.specs.inside.Told.{AreBack};
+ghost use denote.Param.Send.{IsSync, IsSend};
 
 use crate::board::Board;
 use crate::by_core::{finish, reduce_by_core};
@@ -178,19 +180,55 @@ fn work<R: Wait, P: Probe, G: Gate>(
     (probe, told)
 }
 
-/// What each hand answered, and the hands.
+/// What each hand answered, and the hands: each works in a thread of its own, where one can be made, while the caller's thread waits.
+/// `std::thread::map_vec` has the caller's thread work too, which Linux may leave on one processor with the first other for milliseconds.
+#[cycle(apart)]
+fn told_apart<R: Threads + Wait + Sync, P: Probe, G: Gate>(
+    rt: &R,
+    alloc: Global,
+    gate: &G,
+    shared: &Shared,
+    mut hands: Vec<P>,
+) -> Result<Vec<(P, Answered)>, AllocError>
+    ensures { IfOk result (λ all. AreBack P.answers hands.items all.items) }
+{
+    let Some(probe) = hands.pop() else {
+        return Ok(Vec::new(alloc));
+    };
+    let (told, others) = thread::join(
+        rt,
+        move || -> (P, Answered)
+            requires { IsSync R.row × IsSync G.row × IsSend P.row }
+            ensures { (P.answers result.0 ≡ P.answers probe) × AreAnswers (P.answers probe) result.1.items }
+        { work(rt, alloc, gate, shared, probe) },
+        move || -> Result<Vec<(P, Answered)>, AllocError>
+            requires { IsSync R.row × IsSync G.row × IsSend P.row }
+            ensures { IfOk result (λ all. AreBack P.answers hands.items all.items) }
+        { told_apart(rt, alloc, gate, shared, hands) },
+    );
+    let mut all = others?;
+    all.push(told)?;
+    Ok(all)
+}
+
+/// What each hand answered, and the hands. A single one works in the caller's thread.
 fn all_told<R: Threads + Wait + Sync, P: Probe, G: Gate>(
     rt: &R,
     alloc: Global,
     gate: &G,
     shared: &Shared,
-    hands: Vec<P>,
+    mut hands: Vec<P>,
 ) -> Result<Vec<(P, Answered)>, AllocError>
-    ensures length { IfOk result (λ all. length all.items ≡ length hands.items) }
-    ensures told { (test : List ℕ → Bool) → All (λ p. P.answers p ≡ test) hands.items
-        → IfOk result (λ all. All (λ r. (P.answers r.0 ≡ test) × AreAnswers test r.1.items) all.items) }
+    ensures { IfOk result (λ all. AreBack P.answers hands.items all.items) }
 {
-    thread::map_vec(rt, hands, &|probe| work(rt, alloc, gate, shared, probe))
+    if hands.len() > 1 {
+        return told_apart(rt, alloc, gate, shared, hands);
+    }
+    let mut all = Vec::new(alloc);
+    if let Some(probe) = hands.pop() {
+        all.push(work(rt, alloc, gate, shared, probe))?;
+    }
+    Ok(all)
 }
 
 /// What is under the lock, once the threads are joined.

@@ -35,7 +35,7 @@ gathered-requires-clause-own g c κs within =
     let one = same_setup answers c.args.hands.items probe c.requires.some c.requires.one_setup in
     let apart = told_apart answers (answers (get_or c.args.hands.items 0 probe)) c.in_ok-all.all.items c.in_ok-probes.probes.items c.pop.new.self.items
     c.in_ok-probes.pairs.items c.pop.result probe
-    (c.in_ok-all.ensures.told (answers (get_or c.args.hands.items 0 probe)) one) c.in_ok-probes.ensures.0 c.in_ok-probes.ensures.1 c.pop.ensures.items
+    (c.in_ok-all.ensures.1 (answers (get_or c.args.hands.items 0 probe)) one) c.in_ok-probes.ensures.0 c.in_ok-probes.ensures.1 c.pop.ensures.items
     c.unwrap-probe.ensures in
     subst (AllAnswers (answers probe)) (sym c.as_slice.ensures.value) (subst (λ t. AllAnswers t c.in_ok-probes.pairs.items) (sym apart.0) apart.1)
 
@@ -46,7 +46,7 @@ returns g c =
     let one = same_setup answers c.args.hands.items probe c.requires.some c.requires.one_setup in
     let apart = told_apart answers (answers (get_or c.args.hands.items 0 probe)) c.in_ok-all.all.items c.in_ok-probes.probes.items c.pop.new.self.items
     c.in_ok-probes.pairs.items c.pop.result probe
-    (c.in_ok-all.ensures.told (answers (get_or c.args.hands.items 0 probe)) one) c.in_ok-probes.ensures.0 c.in_ok-probes.ensures.1 c.pop.ensures.items
+    (c.in_ok-all.ensures.1 (answers (get_or c.args.hands.items 0 probe)) one) c.in_ok-probes.ensures.0 c.in_ok-probes.ensures.1 c.pop.ensures.items
     c.unwrap-probe.ensures in
     IfOk-weaker c.gathered.result (λ r. r ≡ ddmin (answers probe) c.args.faults) (λ r. All (λ p. r ≡ ddmin (answers p) c.args.faults) c.args.hands.items)
     (λ r is. each_hand answers c.args.hands.items probe c.args.faults r one apart.0 is) c.gathered.ensures
