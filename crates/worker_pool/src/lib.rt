@@ -1,6 +1,7 @@
 //! Tickets on stealing workers: each number below a count is performed once, by any number of hands.
 #![tactic(auto)]
 
+mod apart;
 mod desk;
 mod finish;
 mod hand;

@@ -3,39 +3,38 @@ ghost use Rattle.std.specs.Prelude.{◌≡◌, ℕ, ◌<◌, Some, All, IsSome, 
 ghost use Rattle.worker_pool.specs.declared.desk.Desk.{Desk};
 ghost use Rattle.worker_pool.specs.inside.Desks.{IsReady};
 ghost use Rattle.worker_pool.specs.inside.Ring.{IsRing};
-ghost use Rattle.worker_pool.specs.inside.Stations.{EachDesk, EachWorked, IsReadyAt, SameWork, WorkedAt};
+ghost use Rattle.worker_pool.specs.inside.Stations.{AreReadyAt, EachDesk, EachWorked, EachWorkedAt, IsReadyAt, SameWork, WorkedAt};
 ghost use Rattle.worker_pool.specs.inside.Rooms.{HasPlaces};
 
+use crate::apart::for_each_apart;
 use crate::desk::Desk;
 use crate::job::Job;
 use crate::station::Station;
 use crate::work::work;
 use std::sync::Wait;
-use std::thread;
 use std::thread::Threads;
 use target_trait::Gate;
 
-/// Each station works in a thread of its own, where one can be made.
+/// Each station works in a thread of its own, where one can be made: a single one in the caller's.
+#[tactic(auto, unfolding(crate::specs::inside::Apart::ChangesAll))]
 pub fn run_hands<J: Job, G: Gate, R: Threads + Wait + Sync>(
     rt: &R,
     gate: &G,
     stations: &mut [Station<J>],
 )
-    requires some { 0 < length stations.old }
-    requires ready { All (λ s. IsReadyAt (J.limit (J.setup s.hand.job)) s.desk) stations.old }
-    ensures { (k : ℕ) (s : _) → k < length stations.old
-        → WorkedAt J.setup J.limit J.answers (slice_index_or stations.old k s) (slice_index_or stations.new k s)
-        (slice_index_or stations.old k s).desk (slice_index_or stations.new k s).desk }
+    requires { AreReadyAt J.setup J.limit stations.old }
+    ensures { EachWorkedAt J.setup J.limit J.answers stations.old stations.new }
 {
-    let threads = stations.len();
-    thread::for_each_mut(
+    if let [station] = stations {
+        return work(rt, gate, station);
+    }
+    for_each_apart(
         rt,
-        stations,
-        threads,
-        &|_, station: &mut Station<J>|
+        &|station: &mut Station<J>|
             requires { IsReadyAt (J.limit (J.setup station.old.hand.job)) station.old.desk }
             ensures { WorkedAt J.setup J.limit J.answers station.old station.new station.old.desk station.new.desk }
         { work(rt, gate, station) },
+        stations,
     );
 }
 
@@ -45,11 +44,8 @@ pub fn run_vec<J: Job, G: Gate, R: Threads + Wait + Sync>(
     gate: &G,
     stations: &mut Vec<Station<J>>,
 )
-    requires some { 0 < vec_len stations.old }
-    requires ready { All (λ s. IsReadyAt (J.limit (J.setup s.hand.job)) s.desk) stations.old.items }
-    ensures worked { (k : ℕ) (s : _) → k < vec_len stations.old
-        → WorkedAt J.setup J.limit J.answers (slice_index_or stations.old.items k s) (slice_index_or stations.new.items k s)
-        (slice_index_or stations.old.items k s).desk (slice_index_or stations.new.items k s).desk }
+    requires { AreReadyAt J.setup J.limit stations.old.items }
+    ensures worked { EachWorkedAt J.setup J.limit J.answers stations.old.items stations.new.items }
     ensures len { vec_len stations.new ≡ vec_len stations.old }
 {
     run_hands(rt, gate, stations.as_mut_slice());
@@ -110,7 +106,6 @@ pub fn round<J: Job, G: Gate, R: Threads + Wait + Sync>(
     desks: Vec<Desk>,
     spare: Vec<Desk>,
 ) -> Vec<Desk>
-    requires some { 0 < vec_len stations.old }
     requires len { vec_len desks ≡ vec_len stations.old }
     requires spare { HasPlaces (vec_len stations.old) spare }
     requires ready { EachDesk IsReady J.setup J.limit (vec_len stations.old) stations.old.items desks.items }

@@ -68,6 +68,15 @@ WorkedAt setup limit answers old new None e = e ≡ None
 WorkedAt setup limit answers old new (Some d) None = ⊥
 WorkedAt setup limit answers old new (Some d) (Some e) = Worked setup limit answers old new d e
 
+-- each station is ready at its desk, if it has one
+abbrev pub AreReadyAt : {J A S T : Type 0} → (J → T) → (T → ℕ) → List (Station J A S) → Type 0
+AreReadyAt setup limit stations = All (λ s. IsReadyAt (limit (setup s.hand.job)) s.desk) stations
+
+-- each station has worked at its desk, if it had one
+abbrev pub EachWorkedAt : {J A S T : Type 0} → (J → T) → (T → ℕ) → (T → ℕ → A → Type 0) → List (Station J A S) → List (Station J A S) → Type 0
+EachWorkedAt setup limit answers old new = (k : ℕ) (s : _) → k < length old
+    → WorkedAt setup limit answers (slice_index_or old k s) (slice_index_or new k s) (slice_index_or old k s).desk (slice_index_or new k s).desk
+
 -- what the caller's thread finds at a desk after the joins
 pub record IsLeft (count : ℕ) (d : Desk) : Type 0 where
   pub taken_in : TakenIn d
