@@ -97,3 +97,37 @@ plans with one scenario some fail and some pass.
   $ tail -n 8 whole | cut -d ' ' -f 3 | sort -u
   fail
   pass
+
+Rows of plans
+-------------
+
+Workers take plans one at a time; of more than 1,024 sixteen, and of more than 16,384 sixty-four. Whatever they take, each line is that of its
+plan: the numbers stand in their order, and the first lines, the last two and each 97th are what `try` says of their plans. A transaction of one
+participant has 7 sites, and of two 13, and n sites and their pairs make (n + 1) * (n + 1) plans: 29 * 29 and 183 storms are 1,024, and
+118 * 118 and 2,460 are 16,384.
+
+  $ rows() {
+  >     { printf 'target = "commit"\nvariant = "lazy_prepare"\nseed = 7\nworkers = 3\npairs = true\nstorms = %d\nrate = 20\n' $3
+  >       printf '[commit]\nparticipants = %d\ntransactions = [' $1
+  >       for transaction in $(seq $2); do
+  >           printf '["yes"%s], ' "$([ $1 = 1 ] || printf ', "yes"')"
+  >       done
+  >       echo ']'; } > rows.toml
+  >     paklour run rows.toml | grep '^verdict ' > whole
+  >     plans=$(wc -l < whole)
+  >     awk '$2 != NR - 1' whole
+  >     awk "\$2 < 3 || \$2 % 97 == 0 || \$2 > $plans - 3" whole > sampled
+  >     for number in $(cut -d ' ' -f 2 sampled); do
+  >         paklour try --plan $number rows.toml | sed -n "s/^verdict /verdict $number /p"
+  >     done | diff - sampled && echo $plans $(cut -d ' ' -f 3- sampled | sort -u)
+  > }
+  $ rows 1 4 183
+  1024 fail lost pass
+  $ rows 1 4 184
+  1025 fail lost pass
+  $ rows 2 9 2460
+  16384 fail lost fail split pass
+  $ rows 2 9 2461
+  16385 fail lost fail split pass
+  $ rows 2 10 0
+  17161 fail lost fail split pass
