@@ -50,8 +50,8 @@ where
     ensures { IfOk result (AreResults (course_says T.Target target.now course.now) course.now.plans.now) }
 {
     let book = run_plans(rt, alloc, gate, target, course, workers)?;
-    let verdicts = book.verdicts(alloc)?;
-    let firsts = book.first_failures(alloc)?;
     full_books_tell_their_verdicts();
+    let firsts = book.first_failures(alloc)?;
+    let verdicts = book.into_verdicts();
     Ok(Results { verdicts, firsts })
 }

@@ -161,7 +161,9 @@ fn results_of_workers_are_put_by_their_numbers(rt: HostRuntime) -> Result<(), Fa
     let fails = Verdict::Fail(REFUSED);
     let verdicts = [Verdict::Pass, fails, Verdict::Pass, fails];
     assert_eq!(rt; book.verdicts(alloc)?.as_slice(), verdicts.as_slice());
-    tells(&rt, alloc, &book, &[(1, REFUSED)])
+    tells(&rt, alloc, &book, &[(1, REFUSED)])?;
+    assert_eq!(rt; book.into_verdicts().as_slice(), verdicts.as_slice());
+    Ok(())
 }
 
 /// A row has what its plans come to; what is taken out of it comes from its end.

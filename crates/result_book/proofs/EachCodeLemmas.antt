@@ -10,6 +10,7 @@ use Rattle.result_book.specs.FirstFailure.{first_from, FailsAt, IsFirstFailure}
 use Rattle.result_book.specs.FirstFailures.{failures, is_earlier, first_failures, AreFirstFailures}
 use Rattle.result_book.specs.Slots.{first_in, with_number, in_book, FailsIn}
 use Rattle.result_book.specs.Verdicts.{numbered}
+use Rattle.result_book.specs.inside.Places.{with_first}
 use Rattle.result_book.proofs.SlotLemmas.{first_full}
 use Rattle.result_book.proofs.FailureLemmas.{least_slot}
 
@@ -276,29 +277,15 @@ head_in slots = filter_head (failures_from 0 slots) (ascends_from 0 slots) ∙ h
 next_place : (n : ℕ) (slots : List (Option Verdict)) (d : Option Verdict) → n < length slots → failures_from n (drop n slots) ≡ failures_from n (get_or slots n d ∷ drop (n + 1) slots)
 next_place n slots d lt = ap (failures_from n) (drop-cons slots n d lt ∙ ap (λ k. get_or slots n d ∷ drop k slots) (sym (add-one n)))
 
-sound_place : (n : ℕ) (slot : Option Verdict) (rest : List (Option Verdict)) → slot_fails slot ≡ false → failures_from n (slot ∷ rest) ≡ failures_from (n + 1) rest
-sound_place n None rest sound = refl
-sound_place n (Some verdict.Pass) rest sound = refl
-sound_place n (Some (verdict.Fail code)) rest sound = absurd (false≢true (sym sound))
-sound_place n (Some verdict.Unresolved) rest sound = refl
-
-pub no_failure : (found whole : List (ℕ × ℕ)) (n : ℕ) (slots : List (Option Verdict)) (d : Option Verdict) → n < length slots → slot_fails (get_or slots n d) ≡ false
-    → collected found (failures_from n (drop n slots)) ≡ whole → collected found (failures_from (n + 1) (drop (n + 1) slots)) ≡ whole
-no_failure found whole n slots d lt sound so_far = ap (collected found) (sym (next_place n slots d lt ∙ sound_place n (get_or slots n d) (drop (n + 1) slots) sound)) ∙ so_far
-
-failed_place : (found whole : List (ℕ × ℕ)) (n : ℕ) (slots : List (Option Verdict)) (d : Option Verdict) (code : ℕ) → n < length slots → get_or slots n d ≡ Some (verdict.Fail code)
-    → collected found (failures_from n (drop n slots)) ≡ whole → collected (cond (has_code code found) found (found ++ (n, code) ∷ [])) (failures_from (n + 1) (drop (n + 1) slots)) ≡ whole
-failed_place found whole n slots d code lt is so_far = sym (ap (λ s. collected found (failures_from n (s ∷ drop (n + 1) slots))) is) ∙ ap (collected found) (sym (next_place n slots d lt)) ∙ so_far
-
-pub old_failure : (found whole : List (ℕ × ℕ)) (n : ℕ) (slots : List (Option Verdict)) (d : Option Verdict) (code : ℕ) → n < length slots → get_or slots n d ≡ Some (verdict.Fail code) → has_code code found ≡ true
-    → collected found (failures_from n (drop n slots)) ≡ whole → collected found (failures_from (n + 1) (drop (n + 1) slots)) ≡ whole
-old_failure found whole n slots d code lt is had so_far =
-    ap (λ b. collected (cond b found (found ++ (n, code) ∷ [])) (failures_from (n + 1) (drop (n + 1) slots))) (sym had) ∙ failed_place found whole n slots d code lt is so_far
-
-pub new_failure : (found whole : List (ℕ × ℕ)) (n : ℕ) (slots : List (Option Verdict)) (d : Option Verdict) (code : ℕ) → n < length slots → get_or slots n d ≡ Some (verdict.Fail code) → has_code code found ≡ false
-    → collected found (failures_from n (drop n slots)) ≡ whole → collected (found ++ (n, code) ∷ []) (failures_from (n + 1) (drop (n + 1) slots)) ≡ whole
-new_failure found whole n slots d code lt is new so_far =
-    ap (λ b. collected (cond b found (found ++ (n, code) ∷ [])) (failures_from (n + 1) (drop (n + 1) slots))) (sym new) ∙ failed_place found whole n slots d code lt is so_far
+pub next_first : (found whole : List (ℕ × ℕ)) (n : ℕ) (slots : List (Option Verdict)) (d : Option Verdict) → n < length slots
+    → collected found (failures_from n (drop n slots)) ≡ whole → collected (with_first found n (get_or slots n d)) (failures_from (n + 1) (drop (n + 1) slots)) ≡ whole
+next_first found whole n slots d lt so_far = step found n (get_or slots n d) (drop (n + 1) slots) ∙ ap (collected found) (sym (next_place n slots d lt)) ∙ so_far
+  where
+    step : (found : List (ℕ × ℕ)) (n : ℕ) (slot : Option Verdict) (rest : List (Option Verdict)) → collected (with_first found n slot) (failures_from (n + 1) rest) ≡ collected found (failures_from n (slot ∷ rest))
+    step found n None rest = refl
+    step found n (Some verdict.Pass) rest = refl
+    step found n (Some (verdict.Fail code)) rest = refl
+    step found n (Some verdict.Unresolved) rest = refl
 
 pub at_end : (found whole : List (ℕ × ℕ)) (n : ℕ) (slots : List (Option Verdict)) → length slots ≤ n → collected found (failures_from n (drop n slots)) ≡ whole → found ≡ whole
 at_end found whole n slots far so_far = sym (ap (λ s. collected found (failures_from n s)) (drop_all n slots far)) ∙ so_far

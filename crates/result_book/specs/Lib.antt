@@ -4,3 +4,4 @@ pub mod FirstFailures
 pub mod Slots
 pub mod Rows
 pub mod Refused
+pub mod inside

@@ -1,5 +1,5 @@
 //! Which plans of a course have their verdict.
-ghost use Rattle.std.specs.Prelude.{◌≡◌, ℕ, ◌+◌, ◌<◌, ◌≤◌, List, [], length, Option, None, Some, false, IfOk, IfErr, OnOk, OnErr, replicate, slice_set};
+ghost use Rattle.std.specs.Prelude.{◌≡◌, ℕ, ◌+◌, ◌<◌, ◌≤◌, List, [], length, Option, None, Some, true, false, IfOk, IfErr, OnOk, OnErr, replicate, slice_set, slice_index_or};
 ghost use Rattle.std.specs.List.{list_all};
 ghost use Rattle.result_book.specs.Refused.{IsRefused};
 ghost use Rattle.result_book.specs.FirstFailures.{first_failures};
@@ -7,7 +7,7 @@ ghost use Rattle.result_book.specs.Slots.{first_in, in_book, is_full, has, enter
 ghost use Rattle.result_book.specs.Rows.{enter_row, enter_rows, enter_lists};
 
 use crate::course::Course;
-use crate::failures::first_failures_of;
+use crate::failures::add_first;
 use crate::numbered::Numbered;
 use crate::row::Row;
 use std::alloc::{AllocError, Global};
@@ -16,20 +16,25 @@ use target_trait::{Target, Verdict};
 
 /// A place for the verdict of each plan of a course, in the order of the plans' numbers, whatever order they are put in. Contracts see
 /// it as the list of the places. It has at most 65536 places, this project's limit of plans.
+///
+/// The verdicts stand one after another, apart from which of them were put, so that a whole book is the list of its verdicts.
 #[derive(Drop)]
 pub struct Book {
-    slots: Vec<Option<Verdict>>,
+    /// In a place in which none was put, any verdict.
+    verdicts: Vec<Verdict>,
+    is_put: Vec<bool>,
 }
 
 impl Model for Book {
-    ghost use Rattle.std.specs.Prelude.{List, Option, length, ◌≤◌};
+    ghost use Rattle.std.specs.Prelude.{◌≡◌, List, Option, length, ◌≤◌};
     ghost use Rattle.target_trait.specs.declared.judgement.Verdict.{Verdict};
+    ghost use Rattle.result_book.specs.inside.Places.{places};
 
     ghost Value = { List (Option Verdict) };
 
-    ghost view = { λ b. b.slots.items };
+    ghost view = { λ b. places b.is_put.items b.verdicts.items };
 
-    ghost invariant = { λ b. length b.slots.items ≤ 65536 };
+    ghost invariant = { λ b. (length b.is_put.items ≤ 65536) × (length b.verdicts.items ≡ length b.is_put.items) };
 }
 
 /// Why a result was not put. Either hands the result back.
@@ -47,11 +52,13 @@ impl Book {
         requires { length course.now.plans.now ≤ 65536 }
         ensures { IfOk result (λ book. book ≡ replicate (length course.now.plans.now) None) }
     {
-        let mut slots = Vec::with_capacity(alloc, course.plans.len())?;
+        let mut verdicts = Vec::with_capacity(alloc, course.plans.len())?;
+        let mut is_put = Vec::with_capacity(alloc, course.plans.len())?;
         for _ in 0..course.plans.len() {
-            slots.push(None)?;
+            verdicts.push(Verdict::Unresolved)?;
+            is_put.push(false)?;
         }
-        Ok(Book { slots })
+        Ok(Book { verdicts, is_put })
     }
 
     /// Puts a result in its place. No memory is taken, and after a fault the book is as it was.
@@ -63,22 +70,43 @@ impl Book {
         ensures entered { self.new ≡ enter self.old pair.entry.number pair.entry.verdict }
     {
         let number = pair.number() as usize;
-        if number >= self.slots.len() {
+        if number >= self.is_put.len() {
             return Err(PutFault::Stranger(pair));
         }
-        if self.slots[number].is_some() {
+        if self.is_put[number] {
             return Err(PutFault::Twice(pair));
         }
-        self.slots[number] = Some(pair.verdict());
+        self.verdicts[number] = pair.verdict();
+        self.is_put[number] = true;
         Ok(())
+    }
+
+    /// How many places there are.
+    #[tactic(auto, using(crate::proofs::PlaceLemmas::length_seen))]
+    fn len(&self) -> usize
+        ensures many { result ≡ length self.now }
+        ensures few { result ≤ 65536 }
+    {
+        self.is_put.len()
+    }
+
+    /// The verdict of this number, where it was put.
+    fn at(&self, number: usize) -> Option<Verdict>
+        requires { number < length self.now }
+        ensures { result ≡ slice_index_or self.now number None }
+    {
+        if !self.is_put[number] {
+            return None;
+        }
+        Some(self.verdicts[number])
     }
 
     /// The least number with a failure among those in the book, and its code.
     pub fn first_failure(&self) -> Option<(u32, u32)>
         ensures { result ≡ first_in 0 self.now }
     {
-        for number in 0..self.slots.len() {
-            if let Some(Verdict::Fail(code)) = self.slots[number] {
+        for number in 0..self.len() {
+            if let Some(Verdict::Fail(code)) = self.at(number) {
                 return Some((number as u32, code));
             }
         }
@@ -90,27 +118,40 @@ impl Book {
     pub fn first_failures(&self, alloc: Global) -> Result<Vec<(u32, u32)>, AllocError>
         ensures { IfOk result (λ firsts. firsts.items ≡ first_failures (in_book self.now)) }
     {
-        first_failures_of(alloc, &self.slots)
+        let mut firsts = Vec::new(alloc);
+        for number in 0..self.len() {
+            add_first(&mut firsts, number as u32, self.at(number))?;
+        }
+        Ok(firsts)
     }
 
     /// The verdicts that are there, in the order of their numbers. An error means that memory was refused.
     pub fn verdicts(&self, alloc: Global) -> Result<Vec<Verdict>, AllocError>
         ensures { IfOk result (λ all. all.items ≡ present self.now) }
     {
-        let mut all = Vec::with_capacity(alloc, self.slots.len())?;
-        for slot in self.slots.iter() {
-            if let Some(verdict) = *slot {
+        let mut all = Vec::with_capacity(alloc, self.len())?;
+        for number in 0..self.len() {
+            if let Some(verdict) = self.at(number) {
                 all.push(verdict)?;
             }
         }
         Ok(all)
     }
 
+    /// The verdict of each plan, of a book in which each has its own. No memory is taken: it is the book's own list.
+    pub fn into_verdicts(self) -> Vec<Verdict>
+        requires { list_all is_full self ≡ true }
+        ensures { result.items ≡ present self }
+    {
+        let Book { verdicts, .. } = self;
+        verdicts
+    }
+
     /// Whether each plan has its verdict.
     pub fn whole(&self) -> bool
         ensures { result ≡ list_all is_full self.now }
     {
-        self.slots.iter().all(|slot| slot.is_some())
+        !self.is_put.contains(&false)
     }
 }
 

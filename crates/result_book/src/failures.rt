@@ -1,8 +1,9 @@
 //! The first failure of each code.
-ghost use Rattle.std.specs.Prelude.{◌≡◌, ◌≤◌, ◌^◌, ◌==◌, length, IfOk};
+ghost use Rattle.std.specs.Prelude.{◌≡◌, ◌≤◌, ◌^◌, ◌==◌, length, IfOk, OnOk};
 ghost use Rattle.std.specs.List.{list_any};
 ghost use Rattle.result_book.specs.FirstFailures.{first_failures};
 ghost use Rattle.result_book.specs.Slots.{in_book};
+ghost use Rattle.result_book.specs.inside.Places.{with_first};
 
 use std::alloc::{AllocError, Global};
 use target_trait::Verdict;
@@ -12,6 +13,24 @@ fn has_code(failures: &[(u32, u32)], code: u32) -> bool
     ensures { result ≡ list_any (λ f. f.1 == code) failures.now }
 {
     failures.iter().any(|failure| failure.1 == code)
+}
+
+/// Adds a place's failure, by its number and code, where it is one of a code that isn't there. An error means that memory was refused.
+pub(crate) fn add_first(
+    firsts: &mut Vec<(u32, u32)>,
+    number: u32,
+    slot: Option<Verdict>,
+) -> Result<(), AllocError>
+    ensures { OnOk result (firsts.new.items ≡ with_first firsts.old.items number slot) }
+{
+    let Some(Verdict::Fail(code)) = slot else {
+        return Ok(());
+    };
+    if has_code(firsts, code) {
+        return Ok(());
+    }
+    firsts.push((number, code))?;
+    Ok(())
 }
 
 /// Of a list of verdicts that may have gaps, in the order of their numbers from 0: for each code that a failure has, the least number with
@@ -26,12 +45,7 @@ pub fn first_failures_of(
 {
     let mut firsts = Vec::new(alloc);
     for (number, slot) in slots.iter().enumerate() {
-        let Some(Verdict::Fail(code)) = *slot else {
-            continue;
-        };
-        if !has_code(&firsts, code) {
-            firsts.push((number as u32, code))?;
-        }
+        add_first(&mut firsts, number as u32, *slot)?;
     }
     Ok(firsts)
 }
