@@ -1,7 +1,7 @@
-ghost use Rattle.std.specs.Prelude.{◌≡◌, ℕ, ◌+◌, ◌*◌, ◌^◌, ◌<◌, ◌≤◌, List, length, IfOk, max};
+ghost use Rattle.std.specs.Prelude.{◌≡◌, ℕ, ◌+◌, ◌*◌, ◌^◌, ◌<◌, List, IfOk, max};
 ghost use Rattle.std.specs.List.{range_with_len};
 ghost use Rattle.ddmin_parallel.specs.Rounds.{part, complement, Candidate};
-ghost use Rattle.ddmin_parallel.specs.inside.Candidates.{candidate, candidates};
+ghost use Rattle.ddmin_parallel.specs.inside.Candidates.{candidate, candidates, CanBeCut};
 
 use crate::fault_set::FaultSet;
 use std::alloc::{AllocError, Global};
@@ -32,9 +32,8 @@ impl Attempt {
 /// The members of part `place`, in order.
 #[tactic(auto, unfolding(crate::specs::Rounds::part))]
 fn part_of(alloc: Global, kept: &[u32], parts: usize, place: usize) -> Result<Vec<u32>, AllocError>
-    requires few { parts ≤ length kept.now }
+    requires cut { CanBeCut kept.now parts }
     requires place { place < parts }
-    requires small { length kept.now < 2 ^ 31 }
     ensures { IfOk result (λ set. set.items ≡ part kept.now parts place) }
 {
     let from = place * kept.len() / parts;
@@ -50,9 +49,8 @@ fn complement_of(
     parts: usize,
     place: usize,
 ) -> Result<Vec<u32>, AllocError>
-    requires few { parts ≤ length kept.now }
+    requires cut { CanBeCut kept.now parts }
     requires place { place < parts }
-    requires small { length kept.now < 2 ^ 31 }
     ensures { IfOk result (λ set. set.items ≡ complement kept.now parts place) }
 {
     let from = place * kept.len() / parts;
@@ -78,10 +76,8 @@ pub(crate) fn attempt_at(
     parts: usize,
     place: usize,
 ) -> Result<Attempt, AllocError>
-    requires two { 2 ≤ parts }
-    requires few { parts ≤ length kept.now }
+    requires cut { CanBeCut kept.now parts }
     requires place { place < candidates parts }
-    requires small { length kept.now < 2 ^ 31 }
     ensures { IfOk result (λ t. t ≡ candidate kept.now parts place) }
 {
     if place < parts {

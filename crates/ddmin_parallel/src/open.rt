@@ -1,6 +1,7 @@
-ghost use Rattle.std.specs.Prelude.{◌≡◌, ℕ, ◌^◌, ◌<◌, ◌≤◌, length, IfOk, None};
+ghost use Rattle.std.specs.Prelude.{◌≡◌, ℕ, IfOk, None};
 ghost use Rattle.std.specs.FinMap as known_map;
 ghost use Rattle.ddmin_parallel.specs.CoreEvents.{Round, option_then, first_open, round_at};
+ghost use Rattle.ddmin_parallel.specs.inside.Candidates.{CanBeCut};
 ghost use Rattle.ddmin_parallel.specs.inside.CoreStates.{IsLawful, IsSmall};
 ghost use Rattle.ddmin_parallel.specs.inside.Stages.{position_of};
 ghost use Rattle.ddmin_parallel.specs.inside.Cursors.{IsShutBelow, IsScan, IsFurther, Leads, onward, is_among};
@@ -34,9 +35,7 @@ fn scanned_round(
     parts: usize,
     from: usize,
 ) -> Result<Scan, AllocError>
-    requires two { 2 ≤ parts }
-    requires few { parts ≤ length kept.now }
-    requires small { length kept.now < 2 ^ 31 }
+    requires cut { CanBeCut kept.now parts }
     requires shut { IsShutBelow (known_map.get known.now) (is_among out.now) (Round kept.now parts 0) from }
     ensures { (tests : ℕ) → IfOk result (IsScan (known_map.get known.now) (is_among out.now) (Round kept.now parts tests)) }
 {

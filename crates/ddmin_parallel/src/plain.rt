@@ -1,7 +1,7 @@
-ghost use Rattle.std.specs.Prelude.{◌≡◌, ℕ, ◌+◌, ◌*◌, ◌^◌, ◌<◌, ◌≤◌, List, length, IfOk, Bool, true};
+ghost use Rattle.std.specs.Prelude.{◌≡◌, ℕ, ◌+◌, ◌*◌, ◌≤◌, List, IfOk, Bool, true};
 ghost use Rattle.std.specs.List.{range_with_len};
 ghost use Rattle.ddmin_parallel.specs.Rounds.{round};
-ghost use Rattle.ddmin_parallel.specs.inside.Candidates.{found};
+ghost use Rattle.ddmin_parallel.specs.inside.Candidates.{found, CanBeCut};
 ghost use Rattle.ddmin_parallel.specs.Ddmin.{decide, ddmin};
 ghost use Rattle.ddmin_parallel.specs.OneMinimal.{IsOneMinimal};
 
@@ -18,9 +18,7 @@ fn first_failing<P: Probe>(
     parts: usize,
     tests: u64,
 ) -> Result<(Option<Attempt>, u64), AllocError>
-    requires two { 2 ≤ parts }
-    requires few { parts ≤ length kept.now }
-    requires small { length kept.now < 2 ^ 31 }
+    requires cut { CanBeCut kept.now parts }
     ensures decided { IfOk result (λ r. found r.0 r.1 ≡ decide (P.answers probe.old) (round kept.now parts) tests) }
     ensures setup { P.answers probe.new ≡ P.answers probe.old }
 {

@@ -1,7 +1,7 @@
-ghost use Rattle.std.specs.Prelude.{◌≡◌, ℕ, ◌+◌, ◌*◌, ◌^◌, ◌<◌, ◌≤◌, List, length, IfOk, Option, Bool};
+ghost use Rattle.std.specs.Prelude.{◌≡◌, ℕ, ◌+◌, ◌*◌, ◌^◌, ◌<◌, List, length, IfOk, Option, Bool};
 ghost use Rattle.std.specs.FinMap as known_map;
 ghost use Rattle.ddmin_parallel.specs.Rounds.{Candidate};
-ghost use Rattle.ddmin_parallel.specs.inside.Candidates.{found as decision_of};
+ghost use Rattle.ddmin_parallel.specs.inside.Candidates.{found as decision_of, CanBeCut};
 ghost use Rattle.ddmin_parallel.specs.CoreEvents.{Position, Round, after_decision, after_empty, at_round};
 ghost use Rattle.ddmin_parallel.specs.inside.CoreStates.{IsLawful, IsSmall};
 ghost use Rattle.ddmin_parallel.specs.inside.Stages.{position_of};
@@ -76,9 +76,7 @@ fn looked_at(
     tests: u64,
     place: usize,
 ) -> Result<Look, AllocError>
-    requires two { 2 ≤ parts }
-    requires few { parts ≤ length kept.now }
-    requires small { length kept.now < 2 ^ 31 }
+    requires cut { CanBeCut kept.now parts }
     requires counted { IsCounted (known_map.get (known_map.insert known.now set.now fails)) (Round kept.now parts tests) place }
     ensures { IfOk result (IsLook (known_map.get (known_map.insert known.now set.now fails)) kept.now parts tests) }
 {

@@ -1,8 +1,12 @@
 -- a round by the numbers of its candidates, as the code counts them
 
-use Rattle.std.specs.Prelude.{ℕ, ◌-◌, ◌*◌, List, if◌then◌else◌, nat_lt, max, Option, None, Some}
+use Rattle.std.specs.Prelude.{ℕ, ◌-◌, ◌*◌, ◌^◌, ◌<◌, ◌≤◌, List, length, if◌then◌else◌, nat_lt, max, Option, None, Some}
 use Rattle.ddmin_parallel.specs.Rounds.{part, complement, Candidate}
 use Rattle.ddmin_parallel.specs.Ddmin.{Decision, Fails, NoneFails}
+
+-- a list that can be cut into so many parts: at least two, no more than its members, and so few members that no place wraps
+abbrev pub CanBeCut : List ℕ → ℕ → Type 0
+CanBeCut c n = (2 ≤ n) × (n ≤ length c) × (length c < 2 ^ 31)
 
 -- candidate k of the round of (c, n)
 unfoldable pub candidate : List ℕ → ℕ → ℕ → Candidate
