@@ -26,6 +26,7 @@ mod board;
 mod by_core;
 mod fault_set;
 mod hands;
+mod heard;
 mod known;
 mod laws;
 mod merge;

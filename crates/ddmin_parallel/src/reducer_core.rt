@@ -8,6 +8,7 @@ ghost use Rattle.ddmin_parallel.specs.inside.Cursors.{is_among, next_at, out_aft
 ghost use Rattle.ddmin_parallel.specs.inside.Searches.{HasReached, IsStuck};
 
 use crate::fault_set::FaultSet;
+use crate::heard::Heard;
 use crate::known::Known;
 use crate::open::open_set;
 use crate::reduction::Reduction;
@@ -155,7 +156,8 @@ fn settle(
     if place_of(&card.packed, out.as_slice()).is_none() {
         return Err(CardFault::Stranger(card));
     }
-    let (next, place) = match advanced(alloc, known, &card.packed, fails, stage, cursor.place) {
+    let heard = Heard::of(known, &card.packed, fails);
+    let (next, place) = match advanced(alloc, &heard, stage, cursor.place) {
         Ok(advance) => advance,
         Err(_) => return Err(CardFault::Memory(card)),
     };

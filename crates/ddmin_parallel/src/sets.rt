@@ -1,11 +1,9 @@
 ghost use Rattle.std.specs.Prelude.{◌≡◌, ℕ, List, Bool, map, filter, not, Option};
 ghost use Rattle.std.specs.List.{list_any};
-ghost use Rattle.std.specs.FinMap as known_map;
 ghost use Rattle.ddmin_parallel.specs.CoreEvents.{same_set, without};
 ghost use Rattle.ddmin_parallel.specs.inside.CoreStates.{IsPlaceOf};
 
 use crate::fault_set::FaultSet;
-use crate::known::Known;
 
 /// The place of a set among those that are out.
 pub fn place_of(set: &FaultSet, out: &[FaultSet]) -> Option<usize>
@@ -30,16 +28,5 @@ pub fn take_from(set: &FaultSet, out: &mut Vec<FaultSet>) -> bool
             true
         }
         None => false,
-    }
-}
-
-/// What is known of a set, once `set` is known too.
-pub fn answer_with(known: &Known, set: &FaultSet, fails: bool, asked: &FaultSet) -> Option<bool>
-    ensures { result ≡ known_map.get (known_map.insert known.now set.now fails) asked.now }
-{
-    if asked.is(set) {
-        Some(fails)
-    } else {
-        known.get(asked)
     }
 }

@@ -9,9 +9,8 @@ ghost use Rattle.ddmin_parallel.specs.inside.Cursors.{IsCounted, IsLook, IsStep,
 
 use crate::attempts::{Attempt, all_faults, attempt_at, candidate_count};
 use crate::fault_set::FaultSet;
-use crate::known::Known;
+use crate::heard::Heard;
 use crate::reduction::Reduction;
-use crate::sets::answer_with;
 use std::alloc::{AllocError, Global};
 
 /// Where a reduction stands.
@@ -68,23 +67,21 @@ enum Step {
 /// What the known answers decide of a round that has come to a place, if they do.
 fn looked_at(
     alloc: Global,
-    known: &Known,
-    set: &FaultSet,
-    fails: bool,
+    heard: &Heard,
     kept: &[u32],
     parts: usize,
     tests: u64,
     place: usize,
 ) -> Result<Look, AllocError>
     requires cut { CanBeCut kept.now parts }
-    requires counted { IsCounted (known_map.get (known_map.insert known.now set.now fails)) (Round kept.now parts tests) place }
-    ensures { IfOk result (IsLook (known_map.get (known_map.insert known.now set.now fails)) kept.now parts tests) }
+    requires counted { IsCounted (known_map.get heard.now) (Round kept.now parts tests) place }
+    ensures { IfOk result (IsLook (known_map.get heard.now) kept.now parts tests) }
 {
     let mut looked = tests.saturating_add(place as u64);
     for place in place..candidate_count(parts) {
         let attempt = attempt_at(alloc, kept, parts, place)?;
         let asked = attempt.packed(alloc)?;
-        let Some(bad) = answer_with(known, set, fails, &asked) else {
+        let Some(bad) = heard.get(&asked) else {
             return Ok(Look::Stuck(place));
         };
         looked = looked.saturating_add(1);
@@ -107,27 +104,20 @@ pub(crate) fn round_or_end(kept: Vec<u32>, parts: usize, tests: u64) -> Stage
 }
 
 /// The stage after this one, where the known answers decide it.
-fn stepped(
-    alloc: Global,
-    known: &Known,
-    set: &FaultSet,
-    fails: bool,
-    stage: &Stage,
-    place: usize,
-) -> Result<Step, AllocError>
+fn stepped(alloc: Global, heard: &Heard, stage: &Stage, place: usize) -> Result<Step, AllocError>
     requires lawful { IsLawful (position_of stage.now) }
     requires small { IsSmall (position_of stage.now) }
-    requires counted { IsCounted (known_map.get (known_map.insert known.now set.now fails)) (position_of stage.now) place }
-    ensures { IfOk result (IsStep (known_map.get (known_map.insert known.now set.now fails)) (position_of stage.now)) }
+    requires counted { IsCounted (known_map.get heard.now) (position_of stage.now) place }
+    ensures { IfOk result (IsStep (known_map.get heard.now) (position_of stage.now)) }
 {
     match stage {
-        Stage::Empty(faults) => match answer_with(known, set, fails, &FaultSet::empty(alloc)) {
+        Stage::Empty(faults) => match heard.get(&FaultSet::empty(alloc)) {
             None => Ok(Step::Stays(0)),
             Some(bad) => Ok(Step::Moves(after_empty_set(alloc, *faults, bad)?)),
         },
         Stage::Round(kept, parts, tests) => {
             let kept = kept.as_slice();
-            match looked_at(alloc, known, set, fails, kept, *parts, *tests, place)? {
+            match looked_at(alloc, heard, kept, *parts, *tests, place)? {
                 Look::Stuck(place) => Ok(Step::Stays(place)),
                 Look::Decided(found, looked) => {
                     Ok(Step::Moves(after_round(alloc, kept, *parts, found, looked)?))
@@ -179,27 +169,24 @@ fn after_round(
     }
 }
 
-/// The furthest stage that the known answers lead to, once `set` is known too, and how far its round has
-/// come. No stage where it stays.
+/// The furthest stage that the known answers and the one that was heard lead to, and how far its round has come. No stage where it stays.
 pub(crate) fn advanced(
     alloc: Global,
-    known: &Known,
-    set: &FaultSet,
-    fails: bool,
+    heard: &Heard,
     stage: &Stage,
     place: usize,
 ) -> Result<(Option<Stage>, usize), AllocError>
     requires lawful { IsLawful (position_of stage.now) }
     requires small { IsSmall (position_of stage.now) }
-    requires counted { IsCounted (known_map.get (known_map.insert known.now set.now fails)) (position_of stage.now) place }
-    ensures { IfOk result (λ r. IsAdvanced (known_map.get (known_map.insert known.now set.now fails)) (position_of stage.now) r.0 r.1) }
+    requires counted { IsCounted (known_map.get heard.now) (position_of stage.now) place }
+    ensures { IfOk result (λ r. IsAdvanced (known_map.get heard.now) (position_of stage.now) r.0 r.1) }
 {
-    let mut current = match stepped(alloc, known, set, fails, stage, place)? {
+    let mut current = match stepped(alloc, heard, stage, place)? {
         Step::Stays(place) => return Ok((None, place)),
         Step::Moves(next) => next,
     };
     loop {
-        match stepped(alloc, known, set, fails, &current, 0)? {
+        match stepped(alloc, heard, &current, 0)? {
             Step::Moves(next) => current = next,
             Step::Stays(place) => return Ok((Some(current), place)),
         }

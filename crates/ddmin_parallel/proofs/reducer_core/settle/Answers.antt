@@ -17,10 +17,10 @@ was_out s xs ys o h is list = ap (list_any (same_set s)) (sym list) ∙ placed s
 
 pub advanced-requires-clause-counted : goal.advanced-requires-clause-counted
 advanced-requires-clause-counted c =
-    counted_put c.args.known.now c.args.out.now.items (position_of c.args.stage.now) c.card.inside.packed c.args.fails c.args.cursor.now
+    rw c.of-heard.ensures (counted_put c.args.known.now c.args.out.now.items (position_of c.args.stage.now) c.card.inside.packed c.args.fails c.args.cursor.now
     c.requires.open_sets
     (was_out c.card.inside.packed c.as_slice.result.now c.args.out.now.items c.place_of.result c.place_of.ensures c.if-is_none.ensures c.as_slice.ensures.value)
-    c.requires.reached
+    c.requires.reached)
 
 -- the cursor after the answer, where each value is known by an equation
 reached_then : (known known' : Known) (out out' : List (List ℕ)) (stage stage' : Stage) (s : List ℕ) (b anew : Bool) (cursor cursor' : Cursor)
@@ -45,4 +45,5 @@ returns-clause-reached c =
     c.take_from.new.out.items c.args.stage.now c.go_on.new.stage s c.args.fails (c.args.fails || c.is_some.result)
     c.args.cursor.now c.moved_cursor.result c.in-Ok.advance.0 c.in-Ok.advance.1 c.requires.open_sets
     (was_out s c.as_slice.result.now c.args.out.now.items c.place_of.result c.place_of.ensures c.if-is_none.ensures c.as_slice.ensures.value)
-    c.requires.reached c.in-Ok.ensures c.in-Ok-learn.ensures.ok c.take_from.ensures.rest c.go_on.ensures (ap (λ b. c.args.fails || b) c.is_some.ensures) c.moved_cursor.ensures
+    c.requires.reached (subst (λ k. IsAdvanced (get k) (position_of c.args.stage.now) c.in-Ok.advance.0 c.in-Ok.advance.1) c.of-heard.ensures c.in-Ok.ensures)
+    c.in-Ok-learn.ensures.ok c.take_from.ensures.rest c.go_on.ensures (ap (λ b. c.args.fails || b) c.is_some.ensures) c.moved_cursor.ensures

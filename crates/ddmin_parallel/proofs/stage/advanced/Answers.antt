@@ -1,5 +1,5 @@
 use Rattle.std.proofs.Common.{◌≡◌, ℕ, sym, ◌∙◌, subst}
-use Rattle.std.specs.FinMap.{get, insert}
+use Rattle.std.specs.FinMap.{get}
 use Rattle.ddmin_parallel.specs.CoreEvents.{Position, Answers, furthest}
 use Rattle.ddmin_parallel.specs.inside.CoreStates.{IsLawful, IsSmall}
 use Rattle.ddmin_parallel.specs.inside.Stages.{position_of}
@@ -19,26 +19,26 @@ stays known p o place e is = let h = subst (IsStep known p) is e in (furthest_st
 
 pub returns-in-Stays : goal.returns-in-Stays
 returns-in-Stays c =
-    stays (get (insert c.args.known.now c.args.set.now c.args.fails)) (position_of c.args.stage.now) c.in_ok-place.field-0 c.in-Stays.place
+    stays (get c.args.heard.now) (position_of c.args.stage.now) c.in_ok-place.field-0 c.in-Stays.place
     c.in_ok-place.ensures c.in-Stays.is
 
 pub loop-current-init : goal.loop-current-init
 loop-current-init c =
-    let known = get (insert c.args.known.now c.args.set.now c.args.fails) in
+    let known = get c.args.heard.now in
     let on = made known (position_of c.args.stage.now) c.in_ok-place.field-0 c.in-Moves.next c.requires.lawful c.requires.small c.in_ok-place.ensures
     c.in-Moves.is in
     record { lawful = on.lawful; small = on.small; same = on.same }
 
 pub loop-current-smaller : goal.loop-current-smaller
 loop-current-smaller c =
-    let known = get (insert c.args.known.now c.args.set.now c.args.fails) in
+    let known = get c.args.heard.now in
     let i = c.loop-current.invariant in
     let on = made known (position_of c.loop-current.current) c.in_ok-next.field-0 c.in-Moves-2.next i.lawful i.small c.in_ok-next.ensures c.in-Moves-2.is in
     on.nearer
 
 pub loop-current-preserved : goal.loop-current-preserved
 loop-current-preserved c =
-    let known = get (insert c.args.known.now c.args.set.now c.args.fails) in
+    let known = get c.args.heard.now in
     let i = c.loop-current.invariant in
     let on = made known (position_of c.loop-current.current) c.in_ok-next.field-0 c.in-Moves-2.next i.lawful i.small c.in_ok-next.ensures c.in-Moves-2.is in
     record { lawful = on.lawful; small = on.small; same = on.same ∙ i.same }
@@ -46,6 +46,6 @@ loop-current-preserved c =
 pub returns-in-Stays-2 : goal.returns-in-Stays-2
 returns-in-Stays-2 c =
     let i = c.loop-current.invariant in
-    let end = stays (get (insert c.args.known.now c.args.set.now c.args.fails))
+    let end = stays (get c.args.heard.now)
     (position_of c.loop-current.current) c.in_ok-next.field-0 c.in-Stays-2.place c.in_ok-next.ensures c.in-Stays-2.is in
     (sym end.0 ∙ i.same, end.1)

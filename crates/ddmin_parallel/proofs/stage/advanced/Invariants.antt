@@ -1,5 +1,5 @@
 use Rattle.std.proofs.Common.{◌≡◌}
-use Rattle.std.specs.FinMap.{get, insert}
+use Rattle.std.specs.FinMap.{get}
 use Rattle.ddmin_parallel.specs.CoreEvents.{furthest, position_rank}
 use Rattle.ddmin_parallel.specs.inside.CoreStates.{IsLawful, IsSmall}
 use Rattle.ddmin_parallel.specs.inside.Stages.{position_of}
@@ -7,7 +7,7 @@ use Rattle.ddmin_parallel.proofs.stage.advanced.Given as goal
 
 abbrev pub invariant-loop-current : goal.invariant-loop-current
 invariant-loop-current l =
-    let known = get (insert l.known l.set l.fails) in
+    let known = get l.heard in
     record {
       lawful : IsLawful (position_of l.current);
       small : IsSmall (position_of l.current);

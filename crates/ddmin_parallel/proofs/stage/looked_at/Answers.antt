@@ -1,5 +1,5 @@
 use Rattle.std.proofs.Common.{◌≡◌, ◌+◌, false, sym, ◌∙◌, ap, arith, Some}
-use Rattle.std.specs.FinMap.{get, insert}
+use Rattle.std.specs.FinMap.{get}
 use Rattle.ddmin_parallel.specs.inside.Candidates.{candidate}
 use Rattle.ddmin_parallel.specs.CoreEvents.{decided}
 use Rattle.ddmin_parallel.proofs.Steps.{from}
@@ -9,7 +9,7 @@ use Rattle.ddmin_parallel.proofs.stage.looked_at.Goals as goal
 
 pub loop-place-init : goal.loop-place-init
 loop-place-init c =
-    let known = get (insert c.args.known.now c.args.set.now c.args.fails) in
+    let known = get c.args.heard.now in
     let n = c.args.parts in
     let k = c.args.place in
     record {
@@ -21,7 +21,7 @@ loop-place-init c =
 
 pub loop-place-preserved : goal.loop-place-preserved
 loop-place-preserved c =
-    let known = get (insert c.args.known.now c.args.set.now c.args.fails) in
+    let known = get c.args.heard.now in
     let kept = c.args.kept.now in
     let n = c.args.parts in
     let k = c.loop-place.place in

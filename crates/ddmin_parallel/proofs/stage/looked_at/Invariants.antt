@@ -1,5 +1,5 @@
 use Rattle.std.proofs.Common.{◌≡◌}
-use Rattle.std.specs.FinMap.{get, insert}
+use Rattle.std.specs.FinMap.{get}
 use Rattle.ddmin_parallel.specs.Rounds.{round}
 use Rattle.ddmin_parallel.specs.inside.Candidates.{candidates}
 use Rattle.ddmin_parallel.specs.CoreEvents.{decided, Round}
@@ -9,7 +9,7 @@ use Rattle.ddmin_parallel.proofs.stage.looked_at.Given as goal
 
 abbrev pub invariant-loop-place : goal.invariant-loop-place
 invariant-loop-place l =
-    let known = get (insert l.known l.set l.fails) in
+    let known = get l.heard in
     record {
       all : l.place-end ≡ candidates l.parts;
       counted : IsCounted known (Round l.kept l.parts l.tests) l.place;

@@ -1,0 +1,47 @@
+ghost use Rattle.std.specs.Prelude.{◌≡◌};
+ghost use Rattle.std.specs.FinMap as known_map;
+
+use crate::fault_set::FaultSet;
+use crate::known::Known;
+use std::marker::Model;
+
+/// What is known, with one answer more that was heard but isn't kept yet.
+#[derive(Drop)]
+pub(crate) struct Heard<'a> {
+    known: &'a Known,
+    set: &'a FaultSet,
+    fails: bool,
+}
+
+impl<'a> Model for Heard<'a> {
+    ghost use Rattle.std.specs.Prelude.{Bool};
+    ghost use Rattle.std.specs.FinMap as map;
+    ghost use Rattle.std.specs.Ordering.{nat_cmp};
+    ghost use Rattle.std.specs.Cmp.Lexicographic.{slice_cmp};
+    ghost use Rattle.std.specs.Coded.{coded_ℕ, coded_list, coded_bool};
+
+    ghost Value = { map.FinMap (slice_cmp nat_cmp) Bool };
+
+    ghost coded = { map.code (coded_list coded_ℕ) coded_bool };
+
+    ghost view = { λ h. map.insert h.known.now h.set.now h.fails };
+}
+
+impl<'a> Heard<'a> {
+    pub(crate) fn of(known: &'a Known, set: &'a FaultSet, fails: bool) -> Self
+        ensures { result ≡ known_map.insert known.now set.now fails }
+    {
+        Heard { known, set, fails }
+    }
+
+    /// What is known of a set, with the answer that was heard.
+    pub(crate) fn get(&self, asked: &FaultSet) -> Option<bool>
+        ensures { result ≡ known_map.get self.now asked.now }
+    {
+        if asked.is(self.set) {
+            Some(self.fails)
+        } else {
+            self.known.get(asked)
+        }
+    }
+}
