@@ -7,6 +7,6 @@ use Rattle.ddmin_parallel.specs.Logs.{AreAnswers}
 abbrev pub AreTold : {P : Type 0} → (P → List ℕ → Bool) → (List ℕ → Bool) → List (P × Vec (List ℕ × Bool) Global) → Type 0
 AreTold answers test all = All (λ r. (answers r.0 ≡ test) × AreAnswers test r.1.items) all
 
--- .. as many as set out, whose test it was
+-- as many hands come back as set out; if all set out with one test, each comes back with it and with answers of it
 abbrev pub AreBack : {P : Type 0} → (P → List ℕ → Bool) → List P → List (P × Vec (List ℕ × Bool) Global) → Type 0
 AreBack answers hands all = (length all ≡ length hands) × ((test : List ℕ → Bool) → All (λ p. answers p ≡ test) hands → AreTold answers test all)
