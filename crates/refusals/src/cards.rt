@@ -13,6 +13,17 @@ fn bits_of(set: &[u32]) -> u32 {
         .fold(0, |bits, fault| bits | 1u32.wrapping_shl(*fault))
 }
 
+/// The same of a packed set. Takes no memory.
+fn packed_bits(set: &FaultSet) -> u32 {
+    let mut bits = 0;
+    for (first, last) in set.runs() {
+        for fault in *first..=*last {
+            bits |= 1u32.wrapping_shl(fault);
+        }
+    }
+    bits
+}
+
 /// What hands out cards and takes their answers.
 trait Cards {
     fn take(&mut self, alloc: Global) -> Result<Option<Card>, AllocError>;
@@ -41,17 +52,6 @@ impl Cards for Core {
     fn mark(&self) -> u64 {
         0
     }
-}
-
-/// The same of a packed set. Takes no memory.
-fn packed_bits(set: &FaultSet) -> u32 {
-    let mut bits = 0;
-    for (first, last) in set.runs() {
-        for fault in *first..=*last {
-            bits |= 1u32.wrapping_shl(fault);
-        }
-    }
-    bits
 }
 
 /// A number for an event.
