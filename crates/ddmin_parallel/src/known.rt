@@ -14,13 +14,11 @@ pub struct Known {
 }
 
 impl Model for Known {
-    ghost use Rattle.std.specs.Prelude.{Bool};
     ghost use Rattle.std.specs.FinMap as map;
-    ghost use Rattle.std.specs.Ordering.{nat_cmp};
-    ghost use Rattle.std.specs.Cmp.Lexicographic.{slice_cmp};
     ghost use Rattle.std.specs.Coded.{coded_ℕ, coded_list, coded_bool};
+    ghost use Rattle.ddmin_parallel.specs.CoreEvents as core_events;
 
-    ghost Value = { map.FinMap (slice_cmp nat_cmp) Bool };
+    ghost Value = { core_events.Known };
 
     ghost coded = { map.code (coded_list coded_ℕ) coded_bool };
 
