@@ -78,8 +78,7 @@ where
         IsFault c (brief_report_text c) (W.told sink.old) (W.told sink.new) (W.has_failed sink.new)) }
 {
     let (census, plans) = planned(alloc, target, workload, settings)?;
-    let plans = plans.as_slice();
-    let course = course_of(workload, plans, settings);
+    let course = course_of(workload, &plans, settings);
     let workers = settings.workers as usize;
     let counts = census.counts.as_slice();
     let (text, ending) = brief_over(rt, alloc, gate, target, &course, counts, workers)?;

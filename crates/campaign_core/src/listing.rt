@@ -9,7 +9,7 @@ ghost use Rattle.campaign_core.specs.CommandTexts.{plan_line, plan_lines, plans_
 use crate::ending::CampaignFault;
 use crate::planned::planned;
 use campaign_settings::Settings;
-use plan_gen::Plan;
+use plan_gen::PlanList;
 use report::{write_report, write_scenario};
 use scenario_values::Scenario;
 use std::alloc::{AllocError, Global};
@@ -30,12 +30,17 @@ fn write_plan(
 }
 
 /// The text of a list of plans, a line for each: its number and its scenario. An error means that memory was refused.
-pub fn plans_text(alloc: Global, plans: &[Plan<'_>]) -> Result<String, AllocError>
+pub fn plans_text(alloc: Global, plans: &PlanList<'_>) -> Result<String, AllocError>
     ensures { IfOk result (λ text. string_bytes text ≡ text_of (plan_lines 0 plans.now)) }
 {
     let mut text = String::new(alloc);
-    for (number, plan) in plans.iter().enumerate() {
-        write_plan(alloc, &mut text, number, &plan.scenario(alloc)?)?;
+    for number in 0..plans.len() {
+        write_plan(
+            alloc,
+            &mut text,
+            number,
+            &plans.plan(number).scenario(alloc)?,
+        )?;
     }
     Ok(text)
 }
@@ -56,10 +61,11 @@ pub fn plan_scenario<T: Target>(
     ensures fault { IfErr result (IsUnlisted (campaign_on T.Target target.now workload.now settings.now)) }
 {
     let (_, plans) = planned(alloc, target, workload, settings)?;
-    match plans.get(number as usize) {
-        Some(plan) => Ok(Some(plan.scenario(alloc)?)),
-        None => Ok(None),
+    let number = number as usize;
+    if number >= plans.len() {
+        return Ok(None);
     }
+    Ok(Some(plans.plan(number).scenario(alloc)?))
 }
 
 /// Writes the list of plans of a campaign, a line for each: its number and its scenario. One run without faults counts how often each
@@ -83,7 +89,7 @@ pub fn plan_list<T: Target, W: Sink>(
         IsFault c (plans_text c) (W.told sink.old) (W.told sink.new) (W.has_failed sink.new)) }
 {
     let (_, plans) = planned(alloc, target, workload, settings)?;
-    let text = plans_text(alloc, plans.as_slice())?;
+    let text = plans_text(alloc, &plans)?;
     write_report(text.as_bytes(), sink)?;
     Ok(())
 }

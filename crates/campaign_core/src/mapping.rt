@@ -40,8 +40,7 @@ where
         IsFault c (campaign_map_text c) (W.told sink.old) (W.told sink.new) (W.has_failed sink.new)) }
 {
     let (census, plans) = planned(alloc, target, workload, settings)?;
-    let plans = plans.as_slice();
-    let course = course_of(workload, plans, settings);
+    let course = course_of(workload, &plans, settings);
     let workers = settings.workers as usize;
     let results = run_course(rt, alloc, gate, target, &course, workers)?;
     let counts = census.counts.as_slice();
@@ -51,7 +50,7 @@ where
         label: target.label(),
         census: counts,
         pairs: settings.pairs,
-        plans,
+        plans: &plans,
         verdicts,
         firsts,
     };

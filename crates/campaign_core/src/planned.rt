@@ -4,7 +4,7 @@ ghost use Rattle.plan_gen.specs.PlanList.{most_plans};
 ghost use Rattle.campaign_core.specs.Headline.{asked_of, campaign_on, census, plans};
 
 use campaign_settings::Settings;
-use plan_gen::{Census, Plan, PlanFault, PlanSettings, by_census, plans};
+use plan_gen::{Census, PlanFault, PlanList, PlanSettings, by_census, plans};
 use result_book::Course;
 use std::alloc::Global;
 use target_trait::Target;
@@ -28,13 +28,13 @@ pub fn planned<'a, T: Target>(
     target: &T,
     workload: &T::Workload,
     settings: &'a Settings,
-) -> Result<(Census, Vec<Plan<'a>>), PlanFault>
+) -> Result<(Census, PlanList<'a>), PlanFault>
     ensures census { IfOk result (λ r. r.0.counts.items ≡ census (campaign_on T.Target target.now workload.now settings.now)) }
     ensures counts { IfOk result (λ r. length r.0.counts.items ≡ length T.names) }
     ensures points { IfOk result (λ r. length r.0.counts.items ≤ 64) }
-    ensures plans { IfOk result (λ r. r.1.items ≡ plans (campaign_on T.Target target.now workload.now settings.now)) }
+    ensures plans { IfOk result (λ r. r.1 ≡ plans (campaign_on T.Target target.now workload.now settings.now)) }
     ensures few { OnOk result (length (plans (campaign_on T.Target target.now workload.now settings.now)) ≤ most_plans) }
-    ensures some { IfOk result (λ r. 0 < length r.1.items) }
+    ensures some { IfOk result (λ r. 0 < length r.1) }
     ensures many { IsErrOf result PlanFault.TooManyPlans → most_plans < length (plans (campaign_on T.Target target.now workload.now settings.now)) }
 {
     let Ok(mut twin) = target.twin() else {
@@ -52,7 +52,7 @@ pub fn planned<'a, T: Target>(
 /// A campaign's plans, with what all their runs share.
 pub fn course_of<'a, T: Target>(
     workload: &'a T::Workload,
-    plans: &'a [Plan<'a>],
+    plans: &'a PlanList<'a>,
     settings: &Settings,
 ) -> Course<'a, T>
     ensures { result ≡ record {

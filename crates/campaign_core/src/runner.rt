@@ -5,8 +5,8 @@ ghost use Rattle.campaign_core.specs.inside.Rows.{row_limit, row_of};
 
 use crate::rows::row_bounds;
 use action_eval::{Rigging, Room};
-use plan_gen::Plan;
 use result_book::{Course, Row};
+use scenario_values::Scenario;
 use std::alloc::{AllocError, Global};
 use std::collections::LinkedList;
 use target_trait::Target;
@@ -16,7 +16,7 @@ use worker_pool::Job;
 pub struct Setup<T: Target> {
     pub target: T,
     pub workload: T::Workload,
-    pub plans: LinkedList<Plan<'static>>,
+    pub plans: LinkedList<Scenario>,
     pub seed: u64,
     pub max_hits: u32,
 }

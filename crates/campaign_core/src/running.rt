@@ -40,8 +40,7 @@ where
     ensures minimal { IfOk result (λ found. ReducesToMinimal (course_says T.Target target.now course.now) found) }
 {
     let (number, code) = first;
-    let plan = &course.plans[number as usize];
-    let scenario = plan.scenario(alloc)?;
+    let scenario = course.plans.plan(number as usize).scenario(alloc)?;
     let faults = fault_count(alloc, &scenario)?;
     let failure = Failure {
         workload: course.workload,
@@ -156,7 +155,7 @@ where
         IsFault c (report_text c) (W.told sink.old) (W.told sink.new) (W.has_failed sink.new)) }
 {
     let (census, plans) = planned(alloc, target, workload, settings)?;
-    let course = course_of(workload, plans.as_slice(), settings);
+    let course = course_of(workload, &plans, settings);
     let workers = settings.workers as usize;
     let results = run_course(rt, alloc, gate, target, &course, workers)?;
     let counts = census.counts.as_slice();

@@ -203,7 +203,7 @@ fn write_scenario_escaped(
 {
     let mut told = String::new(alloc);
     if number < facts.plans.len() {
-        write_scenario(alloc, &mut told, &facts.plans[number].scenario(alloc)?)?;
+        write_scenario(alloc, &mut told, &facts.plans.plan(number).scenario(alloc)?)?;
     } else {
         told.push_str("none")?;
     }

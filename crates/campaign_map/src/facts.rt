@@ -1,6 +1,6 @@
 //! What a map shows.
 
-use plan_gen::Plan;
+use plan_gen::PlanList;
 use std::marker::Model;
 use target_trait::Verdict;
 
@@ -14,7 +14,7 @@ pub struct MapFacts<'a> {
     /// Whether each two sites make two plans.
     pub pairs: bool,
     /// The plans, in the order of their numbers, from 0.
-    pub plans: &'a [Plan<'a>],
+    pub plans: &'a PlanList<'a>,
     /// The verdict of each plan.
     pub verdicts: &'a [Verdict],
     /// For each code with which a plan fails, the least number of one that does, and the code.

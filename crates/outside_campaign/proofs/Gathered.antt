@@ -69,15 +69,6 @@ not_empty [] [] some e = absurd (omega arith)
 not_empty [] (y ∷ ys) some e = cc
 not_empty (x ∷ xs) ys some e = cc
 
-get_same : (xs : List Entries) (n : ℕ) (d e : Entries) → n < length xs → get_or xs n d ≡ get_or xs n e
-get_same [] n d e h = absurd (omega arith)
-get_same (x ∷ xs) zero d e h = refl
-get_same (x ∷ xs) (suc n) d e h = get_same xs n d e (omega arith)
-
--- a plan read at its number
-pub plan_is : (plans : List Entries) (n : ℕ) (s p : Entries) → n < length plans → s ≡ p → p ≡ get_or plans n p → s ≡ plan_at plans n
-plan_is plans n s p less same is = same ∙ is ∙ get_same plans n p [] less
-
 cards_more : (known : KnownVerdicts) (plans : List Entries) (failures : List (ℕ × ℕ)) (i : ℕ) (d : ℕ × ℕ) (s : Entries) → i < length failures → s ≡ plan_at plans (get_or failures i d).0
     → open_cards known plans (take (i + 1) failures) ≡ open_cards known plans (take i failures) ++ open_candidates known (get_or failures i d).1 s
 cards_more known plans failures i d s less plan =

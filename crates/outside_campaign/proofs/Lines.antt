@@ -37,10 +37,10 @@ open_more known (p ∷ ps) qs = by_test (is_none (known (tidied p))) (open_more 
     by_test true e = ap (λ (r : List Entries). tidied p ∷ r) e
     by_test false e = e
 
-pub plan_added : (known : KnownVerdicts) (first before after : List (List ℕ)) (plans : List Entries) (i : ℕ) (p : Entries) → i < length plans → p ≡ get_or plans i p
+pub plan_added : (known : KnownVerdicts) (first before after : List (List ℕ)) (plans : List Entries) (i : ℕ) (p : Entries) → i < length plans → p ≡ get_or plans i []
     → before ≡ put_all first (open_plans known (take i plans)) → after ≡ put_all before (open_plans known (p ∷ [])) → after ≡ put_all first (open_plans known (take (i + 1) plans))
 plan_added known first before after plans i p less is so_far this =
-    let more : take (i + 1) plans ≡ take i plans ++ p ∷ [] = take_more plans i p less ∙ ap (λ (x : Entries). take i plans ++ x ∷ []) (sym is) in
+    let more : take (i + 1) plans ≡ take i plans ++ p ∷ [] = take_more plans i [] less ∙ ap (λ (x : Entries). take i plans ++ x ∷ []) (sym is) in
     this ∙ ap (λ (x : List (List ℕ)). put_all x (open_plans known (p ∷ []))) so_far
     ∙ sym (put_more first (open_plans known (take i plans)) (open_plans known (p ∷ [])))
     ∙ ap (put_all first) (sym (open_more known (take i plans) (p ∷ [])))
@@ -81,20 +81,20 @@ pub record LookedUp (known : KnownVerdicts) (plans : List Entries) (i : ℕ) (ve
   pub are : verdicts ≡ plan_verdicts known (take i plans)
   pub lawful : AllByRecursion (λ s. IsScenario s) (take i plans)
 
-pub looked_up : (known : KnownVerdicts) (plans : List Entries) (i : ℕ) (p s : Entries) (v : Option Verdict) (before after : List (Option Verdict)) → i < length plans → p ≡ get_or plans i p → s ≡ p → IsScenario s → v ≡ known (tidied s)
+get_same : (xs : List Entries) (n : ℕ) (d e : Entries) → n < length xs → get_or xs n d ≡ get_or xs n e
+get_same [] n d e h = absurd (omega arith)
+get_same (x ∷ xs) zero d e h = refl
+get_same (x ∷ xs) (suc n) d e h = get_same xs n d e (omega arith)
+
+pub looked_up : (known : KnownVerdicts) (plans : List Entries) (i : ℕ) (p s : Entries) (v : Option Verdict) (before after : List (Option Verdict)) → i < length plans → p ≡ get_or plans i [] → s ≡ p → IsScenario s → v ≡ known (tidied s)
     → after ≡ before ++ v ∷ [] → LookedUp known plans i before → LookedUp known plans (i + 1) after
 looked_up known plans i p s v before after less is plan ok told pushed r =
-    let mine : s ≡ get_or plans i s = plan ∙ is ∙ get_same plans i p s less in
+    let mine : s ≡ get_or plans i s = plan ∙ is ∙ get_same plans i [] s less in
     record {
       are = pushed ∙ ap (λ (x : List (Option Verdict)). x ++ v ∷ []) r.are ∙ ap (λ (x : Option Verdict). plan_verdicts known (take i plans) ++ x ∷ []) told ∙ sym (verdicts_push known (take i plans) s)
           ∙ ap (λ (x : Entries). plan_verdicts known (take i plans ++ x ∷ [])) mine ∙ ap (plan_verdicts known) (sym (take_more plans i s less));
       lawful = lawful_more plans i s less mine ok r.lawful;
     }
-  where
-    get_same : (xs : List Entries) (n : ℕ) (d e : Entries) → n < length xs → get_or xs n d ≡ get_or xs n e
-    get_same [] n d e h = absurd (omega arith)
-    get_same (x ∷ xs) zero d e h = refl
-    get_same (x ∷ xs) (suc n) d e h = get_same xs n d e (omega arith)
 
 pub looked_up_all : (known : KnownVerdicts) (plans : List Entries) (i : ℕ) (verdicts : List (Option Verdict)) → length plans ≤ i → LookedUp known plans i verdicts
     → (verdicts ≡ plan_verdicts known plans) × AllByRecursion (λ s. IsScenario s) plans
@@ -150,7 +150,7 @@ first_unanswered known (q ∷ plans) (v ∷ all) (suc i) d p less e none is =
     (later.0, ap (λ (o : Option Verdict). cond (is_none o) (tidied q ∷ open_plans known plans) (open_plans known plans)) here ∙ later.1)
 
 pub open_at : (known : KnownVerdicts) (plans : List Entries) (verdicts : List (Option Verdict)) (all : List Verdict) (i : ℕ) (d : Option Verdict) (p s t : Entries) → i < length verdicts → length verdicts ≡ length plans → verdicts ≡ plan_verdicts known plans
-    → map (λ v. Some v) all ≡ take i verdicts → get_or verdicts i d ≡ None → p ≡ get_or plans i p → s ≡ p → t ≡ tidied s → (more : List Entries) × (open_plans known plans ≡ t ∷ more)
+    → map (λ v. Some v) all ≡ take i verdicts → get_or verdicts i d ≡ None → p ≡ get_or plans i [] → s ≡ p → t ≡ tidied s → (more : List Entries) × (open_plans known plans ≡ t ∷ more)
 open_at known plans verdicts all i d p s t less many is e none at same tidy =
-    let first = first_unanswered known plans all i d p (omega arith) (e ∙ ap (take i) is) (ap (λ (vs : List (Option Verdict)). get_or vs i d) (sym is) ∙ none) at in
+    let first = first_unanswered known plans all i d p (omega arith) (e ∙ ap (take i) is) (ap (λ (vs : List (Option Verdict)). get_or vs i d) (sym is) ∙ none) (at ∙ get_same plans i [] p (omega arith)) in
     (first.0, first.1 ∙ ap (λ (x : Entries). x ∷ first.0) (sym (tidy ∙ ap tidied same)))

@@ -11,7 +11,7 @@ use crate::findings::{Findings, findings_known};
 use crate::verdicts::plan_verdicts;
 use answer_text::Known;
 use indexmap::IndexSet;
-use plan_gen::Plan;
+use plan_gen::{Plan, PlanList};
 use report::write_scenario;
 use result_book::first_failures_of;
 use scenario_values::{Scenario, Text, tidy};
@@ -63,12 +63,12 @@ fn add_plans(
     alloc: Global,
     lines: &mut IndexSet<Text>,
     known: &Known,
-    plans: &[Plan<'_>],
+    plans: &PlanList<'_>,
 ) -> Result<(), AllocError>
     ensures { OnOk result (lines.new.keys ≡ fold (insert_key bytes_eq) lines.old.keys (map scenario_text (open_plans (verdict_in known.now) plans.now))) }
 {
-    for plan in plans {
-        add_plan(alloc, lines, known, plan)?;
+    for number in 0..plans.len() {
+        add_plan(alloc, lines, known, &plans.plan(number))?;
     }
     Ok(())
 }
@@ -78,7 +78,7 @@ fn asked(
     alloc: Global,
     known: &Known,
     cards: &[Scenario],
-    plans: &[Plan<'_>],
+    plans: &PlanList<'_>,
 ) -> Result<IndexSet<Text>, AllocError>
     ensures { IfOk result (λ lines. lines.keys ≡ lines_for (cards.now ++ open_plans (verdict_in known.now) plans.now)) }
 {
@@ -95,7 +95,7 @@ fn asked(
 pub fn asks(
     alloc: Global,
     known: &Known,
-    plans: &[Plan<'_>],
+    plans: &PlanList<'_>,
     failures: &[(u32, u32)],
 ) -> Result<IndexSet<Text>, AllocError>
     requires { All (λ f. f.0 < length plans.now) failures.now }
@@ -121,7 +121,7 @@ fn joined(alloc: Global, lines: &IndexSet<Text>) -> Result<String, AllocError>
 
 /// The lines that ask for what is still to be tried of these plans, where the reductions are those of the first failures known. An error
 /// means that memory was refused.
-pub fn asks_text(alloc: Global, known: &Known, plans: &[Plan<'_>]) -> Result<String, AllocError>
+pub fn asks_text(alloc: Global, known: &Known, plans: &PlanList<'_>) -> Result<String, AllocError>
     requires { length plans.now ≤ 65536 }
     ensures { IfOk result (λ text. string_bytes text ≡ text_of (lines_for (untried (verdict_in known.now) plans.now))) }
 {

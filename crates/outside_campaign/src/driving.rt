@@ -40,7 +40,7 @@ pub fn write_asks<W: Sink>(
     let known = read(alloc, outside.codes.as_slice(), answers)?;
     let points = borrowed(alloc, outside.points.as_slice())?;
     let plans = planned(alloc, points.as_slice(), outside, settings)?;
-    let text = asks_text(alloc, &known, plans.as_slice())?;
+    let text = asks_text(alloc, &known, &plans)?;
     write_report(text.as_bytes(), sink)?;
     Ok(())
 }

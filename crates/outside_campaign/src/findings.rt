@@ -5,7 +5,7 @@ ghost use Rattle.outside_campaign.specs.inside.Told.{IsLook, IsGathered, AreFind
 
 use crate::reduction::{Reached, reduce_known};
 use answer_text::Known;
-use plan_gen::Plan;
+use plan_gen::PlanList;
 use report::Finding;
 use scenario_values::{Scenario, keep, tidy};
 use std::alloc::{AllocError, Global};
@@ -82,7 +82,7 @@ fn gather(
 pub fn findings_known(
     alloc: Global,
     known: &Known,
-    plans: &[Plan<'_>],
+    plans: &PlanList<'_>,
     failures: &[(u32, u32)],
 ) -> Result<Findings, AllocError>
     requires { All (λ f. f.0 < length plans.now) failures.now }
@@ -92,7 +92,7 @@ pub fn findings_known(
     let mut cards = Vec::new(alloc);
     for i in 0..failures.len() {
         let (number, code) = failures[i];
-        let scenario = plans[number as usize].scenario(alloc)?;
+        let scenario = plans.plan(number as usize).scenario(alloc)?;
         let look = look_at(alloc, known, scenario, number, code)?;
         gather(&mut findings, &mut cards, look)?;
     }

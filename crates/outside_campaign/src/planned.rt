@@ -7,7 +7,7 @@ ghost use Rattle.outside_campaign.specs.Campaigns.{plans, plans_text, IsCut, IsU
 
 use campaign_core::{CampaignFault, asked_of, plans_text};
 use campaign_settings::{Outside, Settings};
-use plan_gen::{Census, Plan, PlanFault, plans};
+use plan_gen::{Census, PlanFault, PlanList, plans};
 use report::write_report;
 use scenario_values::Text;
 use std::alloc::{AllocError, Global};
@@ -30,11 +30,11 @@ pub fn planned<'a>(
     points: &'a [&'a str],
     outside: &Outside,
     settings: &'a Settings,
-) -> Result<Vec<Plan<'a>>, PlanFault>
+) -> Result<PlanList<'a>, PlanFault>
     requires { texts points.now ≡ outside.now.points }
-    ensures plans { IfOk result (λ r. r.items ≡ plans outside.now settings.now) }
+    ensures plans { IfOk result (λ r. r ≡ plans outside.now settings.now) }
     ensures few { OnOk result (length (plans outside.now settings.now) ≤ most_plans) }
-    ensures some { IfOk result (λ r. 0 < length r.items) }
+    ensures some { IfOk result (λ r. 0 < length r) }
     ensures many { IsErrOf result PlanFault.TooManyPlans → most_plans < length (plans outside.now settings.now) }
 {
     let Ok(counts) = Vec::from_slice(alloc, outside.hits.as_slice()) else {
@@ -64,7 +64,7 @@ pub fn list_plans<W: Sink>(
 {
     let points = borrowed(alloc, outside.points.as_slice())?;
     let plans = planned(alloc, points.as_slice(), outside, settings)?;
-    let text = plans_text(alloc, plans.as_slice())?;
+    let text = plans_text(alloc, &plans)?;
     write_report(text.as_bytes(), sink)?;
     Ok(())
 }

@@ -38,8 +38,7 @@ fn told(
     let known = read(alloc, outside.codes.as_slice(), answers)?;
     let points = borrowed(alloc, outside.points.as_slice())?;
     let plans = planned(alloc, points.as_slice(), outside, settings)?;
-    let plans = plans.as_slice();
-    match results_known(alloc, &known, plans)? {
+    match results_known(alloc, &known, &plans)? {
         Results::NotAnswered(scenario) => Err(OutsideFault::NotAnswered(scenario)),
         Results::Told(verdicts, findings) => {
             let first = first_number(&findings);
@@ -51,7 +50,7 @@ fn told(
                 settings.seed,
                 verdicts,
                 findings,
-                plans,
+                &plans,
             )?;
             Ok((text, first))
         }

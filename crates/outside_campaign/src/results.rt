@@ -9,7 +9,7 @@ ghost use Rattle.outside_campaign.specs.inside.Results.{IsFirst, AreWithVerdicts
 use crate::findings::{Findings, findings_known};
 use crate::verdicts::{Verdicts, plan_verdicts, verdicts_known};
 use answer_text::Known;
-use plan_gen::Plan;
+use plan_gen::PlanList;
 use report::Finding;
 use result_book::first_failures_of;
 use scenario_values::Scenario;
@@ -39,7 +39,7 @@ fn first_card(cards: Vec<Scenario>) -> Result<Results, AllocError>
 /// What is told where no candidate is open.
 fn with_verdicts(
     alloc: Global,
-    plans: &[Plan<'_>],
+    plans: &PlanList<'_>,
     verdicts: &[Option<Verdict>],
     findings: Vec<Finding>,
 ) -> Result<Results, AllocError>
@@ -58,7 +58,7 @@ fn with_verdicts(
 pub fn results_known(
     alloc: Global,
     known: &Known,
-    plans: &[Plan<'_>],
+    plans: &PlanList<'_>,
 ) -> Result<Results, AllocError>
     requires { length plans.now ≤ 65536 }
     ensures { IfOk result (AreResults (verdict_in known.now) plans.now) }

@@ -3,7 +3,7 @@ ghost use Rattle.std.specs.Prelude.{◌≡◌, ◌<◌, length, IfOk, option_map
 ghost use Rattle.outside_campaign.specs.inside.Results.{text_in};
 
 use campaign_settings::Outside;
-use plan_gen::Plan;
+use plan_gen::PlanList;
 use report::{Finding, Names, Report, brief_text, text};
 use std::alloc::{AllocError, Global};
 use target_trait::Verdict;
@@ -53,7 +53,7 @@ pub fn told_text(
     seed: u64,
     verdicts: &[Verdict],
     findings: Vec<Finding>,
-    plans: &[Plan<'_>],
+    plans: &PlanList<'_>,
 ) -> Result<Vec<u8>, AllocError>
     requires some { 0 < length verdicts.now }
     requires each { length verdicts.now ≡ length plans.now }

@@ -7,7 +7,7 @@ ghost use Rattle.outside_campaign.specs.Asked.{plan_verdicts};
 ghost use Rattle.outside_campaign.specs.inside.Verdicts.{AreVerdicts};
 
 use answer_text::Known;
-use plan_gen::Plan;
+use plan_gen::PlanList;
 use scenario_values::{Scenario, tidy};
 use std::alloc::{AllocError, Global};
 use target_trait::Verdict;
@@ -25,14 +25,14 @@ pub enum Verdicts {
 pub fn plan_verdicts(
     alloc: Global,
     known: &Known,
-    plans: &[Plan<'_>],
+    plans: &PlanList<'_>,
 ) -> Result<Vec<Option<Verdict>>, AllocError>
     ensures verdicts { IfOk result (λ verdicts. verdicts.items ≡ plan_verdicts (verdict_in known.now) plans.now) }
     ensures lawful { OnOk result (AllByRecursion (λ s. IsScenario s) plans.now) }
 {
     let mut verdicts = Vec::with_capacity(alloc, plans.len())?;
-    for plan in plans {
-        let scenario = plan.scenario(alloc)?;
+    for number in 0..plans.len() {
+        let scenario = plans.plan(number).scenario(alloc)?;
         let _ = scenario.entries();
         let verdict = known.verdict_of(alloc, &scenario)?;
         verdicts.push(verdict)?;
@@ -44,7 +44,7 @@ pub fn plan_verdicts(
 /// isn't answered. An error means that memory was refused.
 pub fn verdicts_known(
     alloc: Global,
-    plans: &[Plan<'_>],
+    plans: &PlanList<'_>,
     verdicts: &[Option<Verdict>],
 ) -> Result<Verdicts, AllocError>
     requires many { length verdicts.now ≡ length plans.now }
@@ -54,7 +54,7 @@ pub fn verdicts_known(
     let mut all = Vec::with_capacity(alloc, plans.len())?;
     for i in 0..verdicts.len() {
         let Some(verdict) = verdicts[i] else {
-            let scenario = plans[i].scenario(alloc)?;
+            let scenario = plans.plan(i).scenario(alloc)?;
             return Ok(Verdicts::NotAnswered(tidy(alloc, &scenario)?));
         };
         all.push(verdict)?;

@@ -76,12 +76,12 @@ unfolding plan_list
 plans_length names counts asked = over_length names asked (sites_of counts) ∙ ap (λ n. plan_count n asked) (sites_length 0 counts)
 
 -- the pairs of one site more
-pub pairs_next : (names : List (List ℕ)) (old new : List Entries) (a : Site) (sites rest part : List Site) (whole : List Entries) → sites ≡ a ∷ rest → part ≡ rest → new ≡ old ++ flat_map (λ b. pair_plans names (a, b)) part → old ++ flat_map (pair_plans names) (pairs_of sites) ≡ whole → new ++ flat_map (pair_plans names) (pairs_of rest) ≡ whole
-pairs_next names old new a sites rest part whole split same added h =
-    goes_on old new (flat_map (λ b. pair_plans names (a, b)) rest) (flat_map (pair_plans names) (pairs_of rest)) whole
-    (ap (λ l. old ++ (l ++ flat_map (pair_plans names) (pairs_of rest))) (sym (flat_map_of_map (pair_plans names) (λ b. (a, b)) rest))
-    ∙ ap (λ l. old ++ l) (sym (flat_map-append (pair_plans names) (map (λ b. (a, b)) rest) (pairs_of rest)))
-    ∙ ap (λ l. old ++ flat_map (pair_plans names) (pairs_of l)) (sym split) ∙ h) (added ∙ ap (λ l. old ++ flat_map (λ b. pair_plans names (a, b)) l) same)
+pub pairs_next : {B : Type 0} (of : Site × Site → List B) (old new : List B) (a : Site) (sites rest part : List Site) (whole : List B) → sites ≡ a ∷ rest → part ≡ rest → new ≡ old ++ flat_map (λ b. of (a, b)) part → old ++ flat_map of (pairs_of sites) ≡ whole → new ++ flat_map of (pairs_of rest) ≡ whole
+pairs_next of old new a sites rest part whole split same added h =
+    goes_on old new (flat_map (λ b. of (a, b)) rest) (flat_map of (pairs_of rest)) whole
+    (ap (λ l. old ++ (l ++ flat_map of (pairs_of rest))) (sym (flat_map_of_map of (λ b. (a, b)) rest))
+    ∙ ap (λ l. old ++ l) (sym (flat_map-append of (map (λ b. (a, b)) rest) (pairs_of rest)))
+    ∙ ap (λ l. old ++ flat_map of (pairs_of l)) (sym split) ∙ h) (added ∙ ap (λ l. old ++ flat_map (λ b. of (a, b)) l) same)
 
 -- what is counted is how many plans there are
 pub judged : (names : List (List ℕ)) (counts : List ℕ) (asked : Asked) (sites : ℕ) (wanted : Bool) (storms listed : ℕ) → sites ≡ total_of counts → wanted ≡ asked.pairs → storms ≡ asked.storms → listed ≡ length asked.listed → 1 + 3 * sites + cond wanted (2 * pairs_count sites) 0 + storms + listed ≡ length (plan_list names counts asked)

@@ -8,3 +8,4 @@ pub mod CleanRuns
 pub mod RiggedChains
 pub mod RiggedRuns
 pub mod PlanOrder
+pub mod Kept

@@ -50,11 +50,3 @@ same_from own other i d e h many test rest =
     let same : (get_or own i d).now ≡ (get_or other i e).now = (bytes_eq-Decides (get_or own i d).now (get_or other i e).now).0 (isnt_not _ test) in
     ap texts (next_of own i d h) ∙ ap (λ n. n ∷ texts (drop (i + 1) own)) same
     ∙ ap (λ l. (get_or other i e).now ∷ l) rest ∙ sym (ap texts (next_of other i e (omega (arith, h, many))))
-
--- the same where one catalogue's names are kept as they are
-pub names_from : (own : List (List ℕ)) (other : List (Bor (List ℕ))) (i : ℕ) (n d : List ℕ) (e : Bor (List ℕ)) → i < length own → length own ≡ length other → n ≡ get_or own i d → false ≡ not (bytes_eq n (get_or other i e).now) → drop (i + 1) own ≡ texts (drop (i + 1) other)
-    → drop i own ≡ texts (drop i other)
-names_from own other i n d e h many is test rest =
-    let same : n ≡ (get_or other i e).now = (bytes_eq-Decides n (get_or other i e).now).0 (isnt_not _ test) in
-    next_of own i d h ∙ ap (λ m. m ∷ drop (i + 1) own) (sym is ∙ same)
-    ∙ ap (λ l. (get_or other i e).now ∷ l) rest ∙ sym (ap texts (next_of other i e (omega (arith, h, many))))

@@ -3,4 +3,5 @@ pub mod PlanList
 pub mod Counts
 pub mod LoopRuns
 pub mod RiggedAnswers
+pub mod Rigs
 pub mod inside

@@ -1,95 +1,143 @@
-//! Storms' rigged hits, drawn where a storm is run.
-ghost use Rattle.std.specs.Prelude.{◌≡◌, true, IfOk};
+//! What the plans of a list are drawn from, and what is kept of each.
+ghost use Rattle.std.specs.Prelude.{◌≡◌, ◌≤◌, ◌∷◌, [], true, length, IfOk, OnOk};
 ghost use Rattle.action_eval.specs.Answers.{texts};
-ghost use Rattle.action_eval.specs.Rigging.{rigged_as};
-ghost use Rattle.plan_gen.specs.PlanList.{storm};
-ghost use Rattle.plan_gen.specs.inside.PlanForm.{stormed, CanBeDrawn};
+ghost use Rattle.action_eval.specs.Catalogue.{IsCatalogue};
+ghost use Rattle.action_eval.specs.declared.rig.Kind.TheVariants.{OnceReturn};
+ghost use Rattle.action_eval.specs.Rigging.{rig, rigged_as};
+ghost use Rattle.plan_gen.specs.PlanList.{most_plans};
+ghost use Rattle.plan_gen.specs.inside.Drawn.{drawn};
 
 use crate::packed::PackedSite;
-use crate::rigging::scenario_of;
+use crate::rigging::{empty_scenario, scenario_of};
 use crate::storms::storm;
-use action_eval::Rigging;
-use scenario_values::{Scenario, Text};
+use action_eval::{Kind, Rig, Rigging};
+use scenario_values::Scenario;
 use std::alloc::{AllocError, Global};
+use std::marker::Model;
+use std::mem::size_of;
 
-/// What all storms of a list share. Whoever runs a storm draws its rigged hits, by its number.
-///
-/// It keeps copies of the catalogue's names and borrows nothing, so that a plan that shares it can be lent for a shorter time.
-#[derive(Debug, Drop)]
-pub struct Drawing {
-    pub names: Vec<Text>,
-    pub sites: Vec<PackedSite>,
-    pub seed: u64,
-    pub rate: u32,
-    pub alloc: Global,
+/// What a list keeps of a plan that isn't a listed scenario.
+#[derive(Clone, Copy, Debug)]
+pub enum Source {
+    /// No hit is rigged.
+    Empty,
+    /// One rigged hit.
+    One(PackedSite, Kind),
+    /// Two of them, of which the first fails once, and this is done at the second.
+    Two(PackedSite, PackedSite, Kind),
+    /// The storm of this number.
+    Storm(u32),
 }
 
-/// Copies of the names. An error means that memory was refused.
-pub fn names_of(alloc: Global, catalogue: &[&str]) -> Result<Vec<Text>, AllocError>
-    ensures { IfOk result (λ names. names.items ≡ texts catalogue.now) }
+const _: () = prove!(size_of::<Source>() == 8);
+
+/// The rigged hits of a plan that has two.
+fn two_rigs(first: PackedSite, second: PackedSite, kind: Kind) -> [Rig; 2]
+    ensures { result ≡ rig first OnceReturn ∷ rig second kind ∷ [] }
 {
-    let mut names = Vec::with_capacity(alloc, catalogue.len())?;
-    for name in catalogue {
-        names.push(Text::copy_of(alloc, name)?)?;
-    }
-    Ok(names)
+    [first.rig(Kind::OnceReturn), second.rig(kind)]
 }
 
-/// The names, borrowed. An error means that memory was refused.
-fn borrowed(alloc: Global, names: &[Text]) -> Result<Vec<&str>, AllocError>
-    ensures { IfOk result (λ all. texts all.items ≡ names.now) }
+/// Whether two catalogues have the same names.
+fn are_same(own: &[&str], other: &[&str]) -> bool
+    ensures { result ≡ true → texts own.now ≡ texts other.now }
 {
-    let mut all = Vec::with_capacity(alloc, names.len())?;
-    for name in names {
-        all.push(name.as_str())?;
-    }
-    Ok(all)
-}
-
-/// Whether a catalogue has these names.
-fn has_names(own: &[Text], catalogue: &[&str]) -> bool
-    ensures { result ≡ true → own.now ≡ texts catalogue.now }
-{
-    if own.len() != catalogue.len() {
+    if own.len() != other.len() {
         return false;
     }
     for point in 0..own.len() {
-        if own[point].as_str() != catalogue[point] {
+        if own[point] != other[point] {
             return false;
         }
     }
     true
 }
 
-impl Drawing {
-    /// Rigs the hits of the storm of this number over a catalogue of the same names, and tells whether it has them. An error means that
-    /// memory was refused.
-    pub fn load<'c>(
-        &self,
-        number: u32,
-        rigging: &mut Rigging<'c>,
-        catalogue: &'c [&'c str],
-    ) -> Result<bool, AllocError>
-        requires { CanBeDrawn self.now }
-        ensures { IfOk result (λ is_loaded. is_loaded ≡ true → rigging.new ≡ rigged_as (texts catalogue.now) (stormed self.now number)) }
+/// What all plans of a list share: the points, their sites, and the seed and rate of storms. Whoever runs a storm draws its rigged hits, by
+/// its number.
+#[derive(Debug, Drop)]
+pub struct Drawing<'a> {
+    catalogue: &'a [&'a str],
+    sites: Vec<PackedSite>,
+    seed: u64,
+    rate: u32,
+}
+
+impl<'a> Model for Drawing<'a> {
+    ghost use Rattle.std.specs.Prelude.{◌≤◌, length};
+    ghost use Rattle.action_eval.specs.Answers.{texts};
+    ghost use Rattle.action_eval.specs.Catalogue.{IsCatalogue};
+    ghost use Rattle.plan_gen.specs.PlanList.{most_plans, storm};
+    ghost use Rattle.plan_gen.specs.inside.Drawn.{Shared};
+
+    ghost Value = { Shared };
+
+    ghost view = { λ d. record { names = texts d.catalogue.now; sites = d.sites.items; seed = d.seed; rate = d.rate } };
+
+    ghost invariant = { λ d. IsCatalogue (texts d.catalogue.now) × (length d.sites.items ≤ most_plans) };
+}
+
+impl<'a> Drawing<'a> {
+    pub fn new(catalogue: &'a [&'a str], sites: Vec<PackedSite>, seed: u64, rate: u32) -> Self
+        requires lawful { IsCatalogue (texts catalogue.now) }
+        requires few { length sites.items ≤ most_plans }
+        ensures { result ≡ record { names = texts catalogue.now; sites = sites.items; seed = seed; rate = rate } }
     {
-        if !has_names(self.names.as_slice(), catalogue) {
-            return Ok(false);
+        Drawing {
+            catalogue,
+            sites,
+            seed,
+            rate,
         }
-        let sites = self.sites.as_slice();
-        let rigs = storm(self.alloc, self.seed, self.rate, sites, number)?;
-        rigging.load(catalogue, rigs.as_slice())?;
-        Ok(true)
     }
 
-    /// Makes the scenario of the storm of this number. An error means that memory was refused.
-    pub fn scenario(&self, alloc: Global, number: u32) -> Result<Scenario, AllocError>
-        requires { CanBeDrawn self.now }
-        ensures { IfOk result (λ scenario. scenario ≡ stormed self.now number) }
+    /// Whether a catalogue has the names of the points.
+    pub fn is_over(&self, catalogue: &[&str]) -> bool
+        ensures { result ≡ true → self.now.names ≡ texts catalogue.now }
     {
-        let names = borrowed(alloc, self.names.as_slice())?;
-        let sites = self.sites.as_slice();
-        let rigs = storm(alloc, self.seed, self.rate, sites, number)?;
-        scenario_of(alloc, names.as_slice(), rigs.as_slice())
+        are_same(self.catalogue, catalogue)
+    }
+
+    /// Rigs the hits of a plan over a catalogue of the same names. An error means that memory was refused.
+    pub fn load<'c>(
+        &self,
+        alloc: Global,
+        source: Source,
+        rigging: &mut Rigging<'c>,
+        catalogue: &'c [&'c str],
+    ) -> Result<(), AllocError>
+        requires { self.now.names ≡ texts catalogue.now }
+        ensures { OnOk result (rigging.new ≡ rigged_as (texts catalogue.now) (drawn self.now source)) }
+    {
+        match source {
+            Source::Empty => rigging.load(catalogue, &[]),
+            Source::One(site, kind) => rigging.load(catalogue, &[site.rig(kind)]),
+            Source::Two(first, second, kind) => {
+                rigging.load(catalogue, &two_rigs(first, second, kind))
+            }
+            Source::Storm(number) => {
+                let sites = self.sites.as_slice();
+                let rigs = storm(alloc, self.seed, self.rate, sites, number)?;
+                rigging.load(catalogue, rigs.as_slice())
+            }
+        }
+    }
+
+    /// Makes the scenario of a plan. An error means that memory was refused.
+    pub fn scenario(&self, alloc: Global, source: Source) -> Result<Scenario, AllocError>
+        ensures { IfOk result (λ scenario. scenario ≡ drawn self.now source) }
+    {
+        match source {
+            Source::Empty => Ok(empty_scenario(alloc)),
+            Source::One(site, kind) => scenario_of(alloc, self.catalogue, &[site.rig(kind)]),
+            Source::Two(first, second, kind) => {
+                scenario_of(alloc, self.catalogue, &two_rigs(first, second, kind))
+            }
+            Source::Storm(number) => {
+                let sites = self.sites.as_slice();
+                let rigs = storm(alloc, self.seed, self.rate, sites, number)?;
+                scenario_of(alloc, self.catalogue, rigs.as_slice())
+            }
+        }
     }
 }

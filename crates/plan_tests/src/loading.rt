@@ -2,23 +2,24 @@
 //! hits is rigged is for speed, and only a test sees it.
 
 use crate::one_step::OneStep;
-use crate::scenarios::scenarios;
+use crate::scenarios::{plans as with_scenarios, scenarios};
 use action_eval::Rigging;
-use plan_gen::{Census, Plan, PlanSettings, plans};
+use plan_gen::{Census, PlanList, PlanSettings, plans};
 use std::alloc::Global;
 use std::process::Abort;
 use std::test::Fail;
 use target_trait::Target;
 
-/// Whether a plan is rigged over the points of the target with one step.
-fn is_rigged(alloc: Global, plan: &Plan<'_>) -> Result<bool, Fail> {
+/// Whether the plan of this number is rigged over the points of the target with one step.
+fn is_rigged(alloc: Global, plans: &PlanList<'_>, number: usize) -> Result<bool, Fail> {
     let mut rigging = Rigging::new(alloc);
-    let is_rigged = plan.load(&mut rigging, OneStep::catalogue())?;
+    let rigger = plans.rigger(OneStep::catalogue());
+    let is_rigged = rigger.load(alloc, number, &mut rigging)?;
     Ok(is_rigged)
 }
 
 /// The plans of two hits of the only point: that without faults, six of one hit, two of both, and a storm that takes each hit.
-fn two_hit_plans(alloc: Global) -> Result<Vec<Plan<'static>>, Fail> {
+fn two_hit_plans(alloc: Global) -> Result<PlanList<'static>, Fail> {
     let census = Census {
         counts: Vec::from_slice(alloc, &[2])?,
     };
@@ -39,17 +40,17 @@ fn two_hit_plans(alloc: Global) -> Result<Vec<Plan<'static>>, Fail> {
 fn plans_of_hits_and_storms_are_rigged(rt: HostRuntime) -> Result<(), Fail> {
     let plans = two_hit_plans(rt.alloc())?;
     assert_eq!(rt; plans.len(), 10);
-    for plan in plans.iter() {
-        assert!(rt; is_rigged(rt.alloc(), plan)?);
+    for number in 0..plans.len() {
+        assert!(rt; is_rigged(rt.alloc(), &plans, number)?);
     }
     Ok(())
 }
 
 #[test]
 fn a_listed_plan_is_run_by_its_scenario(rt: HostRuntime) -> Result<(), Fail> {
-    let listed = scenarios(rt.alloc(), 1, &[0])?;
-    for scenario in listed.iter() {
-        assert!(rt; !is_rigged(rt.alloc(), &Plan::listed(scenario))?);
-    }
+    let scenarios = scenarios(rt.alloc(), 1, &[0])?;
+    let plans = with_scenarios(rt.alloc(), &scenarios)?;
+    assert!(rt; is_rigged(rt.alloc(), &plans, 0)?);
+    assert!(rt; !is_rigged(rt.alloc(), &plans, 1)?);
     Ok(())
 }

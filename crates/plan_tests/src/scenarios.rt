@@ -1,9 +1,12 @@
 //! Scenarios of tests, and the plans of them.
 ghost use Rattle.std.specs.Prelude.{◌≡◌, [], ◌∷◌, codes, None};
 
-use plan_gen::Plan;
+use crate::one_step::OneStep;
+use plan_gen::{Census, PlanList, PlanSettings};
 use scenario_values::{Scenario, Task, Term, build};
 use std::alloc::{AllocError, Global};
+use std::test::Fail;
+use target_trait::Target;
 
 /// The scenario without entries.
 #[tactic(auto, unfolding(scenario_values::specs::Printed::printed))]
@@ -35,11 +38,20 @@ pub fn scenarios(alloc: Global, count: u32, refused: &[u32]) -> Result<Vec<Scena
     Ok(all)
 }
 
-/// A plan of each scenario.
-pub fn plans<'a>(alloc: Global, scenarios: &'a [Scenario]) -> Result<Vec<Plan<'a>>, AllocError> {
-    let mut plans = Vec::new(alloc);
-    for scenario in scenarios {
-        plans.push(Plan::listed(scenario))?;
+/// The plan without faults, and then one of each scenario.
+pub fn plans<'a>(alloc: Global, scenarios: &'a [Scenario]) -> Result<PlanList<'a>, Fail> {
+    let census = Census {
+        counts: Vec::from_slice(alloc, &[0])?,
+    };
+    let settings = PlanSettings {
+        pairs: false,
+        storms: 0,
+        rate: 0,
+        listed: scenarios,
+        seed: 7,
+    };
+    match plan_gen::plans(alloc, &census, OneStep::catalogue(), &settings) {
+        Ok(plans) => Ok(plans),
+        Err(_) => Err(Fail::from("no plans")),
     }
-    Ok(plans)
 }

@@ -7,7 +7,7 @@ use crate::facts::{Finding, Report};
 use crate::lines::{write_census, write_count, write_findings, write_head, write_scenario};
 use crate::names::Names;
 use crate::verdicts::write_verdict;
-use plan_gen::Plan;
+use plan_gen::{Plan, PlanList};
 use std::alloc::{AllocError, Global};
 use std::fmt::Write;
 use target_trait::Verdict;
@@ -130,13 +130,13 @@ fn write_all_told<N: Names>(
     out: &mut String,
     names: &N,
     verdicts: &[Verdict],
-    plans: &[Plan<'_>],
+    plans: &PlanList<'_>,
 ) -> Result<(), AllocError>
     requires { length verdicts.now ≡ length plans.now }
     ensures { OnOk result (string_bytes out.new ≡ string_bytes out.old ++ text_of (told_lines (N.code_text names.now) 0 verdicts.now plans.now)) }
 {
     for (number, verdict) in verdicts.iter().enumerate() {
-        write_told_of(alloc, out, names, number, *verdict, &plans[number])?;
+        write_told_of(alloc, out, names, number, *verdict, &plans.plan(number))?;
     }
     Ok(())
 }
@@ -150,7 +150,7 @@ pub fn brief_text<N: Names>(
     alloc: Global,
     names: &N,
     report: &Report<'_>,
-    plans: &[Plan<'_>],
+    plans: &PlanList<'_>,
 ) -> Result<Vec<u8>, AllocError>
     requires counts { length report.now.census ≡ length (N.points names.now) }
     requires verdicts { length report.now.verdicts ≡ length plans.now }

@@ -4,7 +4,7 @@ ghost use Rattle.target_trait.specs.Outcomes.{verdict_with};
 
 use crate::course::Course;
 use action_eval::{Rigging, Room, Session};
-use plan_gen::Plan;
+use plan_gen::{Plan, Rigger};
 use std::alloc::{AllocError, Global};
 use std::marker::Model;
 use std::mem;
@@ -62,25 +62,29 @@ fn written_verdict<T: Target>(
     Ok(verdict)
 }
 
-/// The verdict of the run of this number under a plan.
-fn verdict_of<T: Target>(
+/// The verdict of the plan of this number, where what rigs the course's plans over the target's points is made.
+pub(crate) fn verdict_of<T: Target>(
     alloc: Global,
     target: &mut T,
+    rigger: &Rigger<'_, 'static>,
     rigging: &mut Rigging<'static>,
     room: &mut Room,
     course: &Course<'_, T>,
-    plan: &Plan<'_>,
     number: u32,
 ) -> Result<Verdict, AllocError>
+    requires within { number < length course.now.plans.now }
+    requires plans { rigger.now.plans ≡ course.now.plans.now }
+    requires names { rigger.now.names ≡ T.names }
     ensures ok { IfOk result (λ verdict. verdict ≡ verdict_with (T.asks target.old course.now.workload.now) T.names
-        course.now.seed course.now.max_hits number plan.now) }
+        course.now.seed course.now.max_hits number (slice_index_or course.now.plans.now number [])) }
     ensures setup { target.new ≡ target.old }
 {
-    let is_loaded = plan.load(rigging, T::catalogue())?;
+    let is_loaded = rigger.load(alloc, number as usize, rigging)?;
     if is_loaded {
         rigged_verdict(alloc, target, course, rigging, room, number)
     } else {
-        written_verdict(alloc, target, course, plan, number)
+        let plan = course.plans.plan(number as usize);
+        written_verdict(alloc, target, course, &plan, number)
     }
 }
 
@@ -150,8 +154,8 @@ impl<'a, T: Target> Numbered<'a, T> {
         }) }
         ensures setup { target.new ≡ target.old }
     {
-        let plan = &course.plans[number as usize];
-        let verdict = verdict_of(alloc, target, rigging, room, course, plan, number)?;
+        let rigger = course.plans.rigger(T::catalogue());
+        let verdict = verdict_of(alloc, target, &rigger, rigging, room, course, number)?;
         Ok(Numbered {
             course,
             number,

@@ -5,7 +5,7 @@ ghost use Rattle.result_book.specs.Rows.{IsLast};
 ghost use Rattle.result_book.specs.Verdicts.{verdicts_from};
 
 use crate::course::Course;
-use crate::numbered::Numbered;
+use crate::numbered::{Numbered, verdict_of};
 use action_eval::{Rigging, Room};
 use std::alloc::{AllocError, Global};
 use std::marker::Model;
@@ -60,10 +60,11 @@ impl<'a, T: Target> Row<'a, T> {
         }) }
         ensures setup { target.new ≡ target.old }
     {
+        let rigger = course.plans.rigger(T::catalogue());
         let mut verdicts = Vec::with_capacity(alloc, (end - first) as usize)?;
         for number in first..end {
-            let pair = Numbered::run_over(alloc, target, rigging, room, course, number)?;
-            verdicts.push(pair.verdict())?;
+            let verdict = verdict_of(alloc, target, &rigger, rigging, room, course, number)?;
+            verdicts.push(verdict)?;
         }
         Ok(Row {
             course,

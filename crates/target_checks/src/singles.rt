@@ -4,7 +4,7 @@ ghost use Rattle.plan_gen.specs.PlanList.{most_plans};
 ghost use Rattle.target_checks.specs.Singles.{first_failing, passes, single_faults};
 
 use crate::outcomes::SEED;
-use plan_gen::{Plan, PlanFault, PlanSettings, by_census, plans};
+use plan_gen::{PlanFault, PlanList, PlanSettings, by_census, plans};
 use scenario_values::Scenario;
 use std::alloc::{AllocError, Global};
 use target_trait::{Case, Target, Verdict, run_verdict};
@@ -37,13 +37,13 @@ fn first_of<T: Target>(
     alloc: Global,
     target: &mut T,
     workload: &T::Workload,
-    plans: &[Plan<'_>],
+    plans: &PlanList<'_>,
 ) -> Result<Option<Scenario>, AllocError>
     ensures ok { IfOk result (λ found. found ≡ first_failing (T.asks target.old workload.now) T.names plans.now) }
     ensures setup { target.new ≡ target.old }
 {
-    for plan in plans {
-        let scenario = plan.scenario(alloc)?;
+    for number in 0..plans.len() {
+        let scenario = plans.plan(number).scenario(alloc)?;
         if !passes(alloc, target, workload, &scenario)? {
             return Ok(Some(scenario));
         }

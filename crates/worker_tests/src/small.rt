@@ -3,7 +3,7 @@ ghost use Rattle.std.specs.Prelude.{◌^◌, ⊤};
 
 use crate::adding::{Setup, have_performed};
 use file_replace::{Replace, Replacements, Variant};
-use plan_gen::{Plan, PlanSettings, by_census, plans};
+use plan_gen::{PlanList, PlanSettings, by_census, plans};
 use result_book::{Course, Numbered};
 use std::alloc::{AllocError, Global};
 use std::process::Abort;
@@ -46,7 +46,7 @@ impl<'a> Job for Runner<'a> {
 }
 
 /// The plans of the workload, without pairs and storms.
-fn plans_of(alloc: Global, work: &Replacements) -> Result<Vec<Plan<'static>>, Fail> {
+fn plans_of(alloc: Global, work: &Replacements) -> Result<PlanList<'static>, Fail> {
     let mut target = Replace::new(alloc, Variant::Sound);
     let census = by_census(alloc, &mut target, work, 7, 1000)?;
     let settings = PlanSettings {
@@ -59,7 +59,7 @@ fn plans_of(alloc: Global, work: &Replacements) -> Result<Vec<Plan<'static>>, Fa
     Ok(plans(alloc, &census, Replace::catalogue(), &settings)?)
 }
 
-fn course_of<'a>(workload: &'a Replacements, plans: &'a [Plan<'a>]) -> Course<'a, Replace> {
+fn course_of<'a>(workload: &'a Replacements, plans: &'a PlanList<'a>) -> Course<'a, Replace> {
     Course {
         workload,
         plans,

@@ -15,7 +15,7 @@ returns-in_err-write_report-clause-fault g c =
     let told = c.in_ok-text.ensures.text ∙ ap (λ course. text_of (brief_lines k.points k.codes (report_of
     (course_says g.T.Target c.args.target.now course) k.label course.seed counts course.plans.now) course.plans.now)) c.course_of-course.ensures in
     let text : c.as_slice.result.now ≡ brief_report_text k =
-    c.as_slice.ensures.value ∙ brief_is k c.in_ok-text.text.items counts c.as_slice-plans.result.now told
-    (c.as_slice-counts.ensures.value ∙ c.in_ok-census.ensures.census) (c.as_slice-plans.ensures.value ∙ c.in_ok-census.ensures.plans) in
+    c.as_slice.ensures.value ∙ brief_is k c.in_ok-text.text.items counts c.in_ok-census.plans told
+    (c.as_slice-counts.ensures.value ∙ c.in_ok-census.ensures.census) c.in_ok-census.ensures.plans in
     subst (λ (t : List ℕ). IfErr c.from_residual-in_err-write_report.result
     (IsFault k t (g.W.Sink.told c.args.sink.now) (g.W.Sink.told c.write_report.new.sink) (g.W.Sink.has_failed c.write_report.new.sink))) text (search rules)

@@ -10,5 +10,5 @@ returns-clause-first g c =
     let settings = c.args.settings.now in
     let say : ℕ → Entries → Verdict = verdict_with (g.T.Target.asks c.args.target.now c.args.workload.now) g.T.Target.names settings.seed settings.max_hits in
     let results = rw c.course_of-course.ensures at c.in_ok-results.ensures in
-    first_is say c.as_slice.result.now _ c.in_ok-results.results.firsts.items c.ending.result.first c.ending.ensures results.1
-    (c.as_slice.ensures.value ∙ c.in_ok-census.ensures.plans)
+    first_is say c.in_ok-census.plans _ c.in_ok-results.results.firsts.items c.ending.result.first c.ending.ensures results.1
+    c.in_ok-census.ensures.plans

@@ -1,5 +1,4 @@
 use Rattle.std.proofs.Common.{◌≡◌, ℕ, [], get_or, ap, sym, subst, ◌∙◌}
-use Rattle.std.proofs.lemmas.List.{get_or_read}
 use Rattle.scenario_values.specs.Scenario.{Entries}
 use Rattle.target_trait.specs.declared.judgement.Verdict.{Verdict}
 use Rattle.target_trait.specs.Outcomes.{verdict_with}
@@ -14,9 +13,7 @@ reduced_scenario-requires-clause-fails g c κs within =
     let say : ℕ → Entries → Verdict = verdict_with (g.T.Target.asks c.args.target.now course.workload.now) g.T.Target.names course.seed course.max_hits in
     let number = c.args.first.0 in
     let code = c.args.first.1 in
-    let plan = c.index-course-number in
-    let read : c.in_ok-scenario.scenario ≡ get_or course.plans.now number [] =
-    c.in_ok-scenario.ensures ∙ sym plan.is ∙ get_or_read course.plans.now number plan.result c.requires.fails.0 plan.is [] in
+    let read : c.in_ok-scenario.scenario ≡ get_or course.plans.now number [] = c.in_ok-scenario.ensures ∙ c.plan.ensures in
     ap (λ k. fails_with code (say k c.in_ok-scenario.scenario)) c.from.ensures ∙ ap (λ s. fails_with code (say number s)) read
     ∙ failure_fails say course.plans.now c.args.first c.requires.fails
 
@@ -25,9 +22,7 @@ returns-clause-found g c =
     let course = c.args.course.now in
     let say : ℕ → Entries → Verdict = verdict_with (g.T.Target.asks c.args.target.now course.workload.now) g.T.Target.names course.seed course.max_hits in
     let number = c.args.first.0 in
-    let plan = c.index-course-number in
-    let read : c.in_ok-scenario.scenario ≡ get_or course.plans.now number [] =
-    c.in_ok-scenario.ensures ∙ sym plan.is ∙ get_or_read course.plans.now number plan.result c.requires.fails.0 plan.is [] in
+    let read : c.in_ok-scenario.scenario ≡ get_or course.plans.now number [] = c.in_ok-scenario.ensures ∙ c.plan.ensures in
     found_is say course.plans.now number c.args.first.1 c.in_ok-reduced.tests c.from.result c.in_ok-scenario.scenario c.in_ok-reduced.reduced
     read c.from.ensures c.in_ok-reduced.ensures.scenario c.in_ok-reduced.ensures.tests
 

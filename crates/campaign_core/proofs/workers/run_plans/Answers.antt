@@ -4,7 +4,7 @@ use Rattle.target_trait.specs.declared.judgement.Verdict.{Verdict}
 use Rattle.target_trait.specs.Outcomes.{verdict_with}
 use Rattle.result_book.specs.Rows.{enter_lists}
 use Rattle.result_book.proofs.RowLemmas.{book_is}
-use Rattle.campaign_core.specs.inside.Rows.{row_of}
+use Rattle.campaign_core.specs.inside.Rows.{row_count, row_of}
 use Rattle.campaign_core.proofs.Gathered.{all_own, below_some}
 use Rattle.campaign_core.proofs.PlanRows.{row_reaches, rows_said}
 use Rattle.campaign_core.proofs.workers.run_plans.Goals as goal
@@ -22,4 +22,4 @@ returns g c =
     (all_own jobs ls c.args.target.now course (λ r. r.target) (λ r. r.course.now) (λ t s n. row_of (verdict_with (g.T.Target.asks t s.workload.now) g.T.Target.names s.seed s.max_hits) s.plans.now n) same_len c.in_ok-jobs.ensures.same (λ k j l lt. c.in_ok-rows.ensures.right k j l (let low : k < vec_len c.in_ok-jobs.jobs = omega (arith, c.in_ok-jobs.jobs.ok.0) in low)))
     (λ n. rows_said say plans n)
     (λ m lt. let found = row_reaches say plans m lt in
-    (found.0, (found.1.1, found.1.2, subst (λ n. 0 < n) (sym (c.in_ok-rows.ensures.once (λ y. nat_eq y found.0))) (below_some found.0 c.row_count.result (subst (λ n. found.0 < n) (sym c.row_count.ensures) found.1.0)))))
+    (found.0, (found.1.1, found.1.2, subst (λ n. 0 < n) (sym (c.in_ok-rows.ensures.once (λ y. nat_eq y found.0))) (below_some found.0 c.row_count.result (subst (λ n. found.0 < n) (sym (c.row_count.ensures ∙ ap row_count c.len-plans.ensures.many)) found.1.0)))))

@@ -6,5 +6,5 @@ use Rattle.answer_text.specs.Known.{verdict_in}
 use Rattle.outside_campaign.specs.Asked.{open_plans}
 use Rattle.outside_campaign.proofs.asking.add_plans.Given as goal
 
-abbrev pub invariant-loop-plan : goal.invariant-loop-plan
-invariant-loop-plan l = l.lines.keys ≡ fold (insert_key bytes_eq) l.fn.lines.keys (map scenario_text (open_plans (verdict_in l.known) (take l.plan-index l.plans)))
+abbrev pub invariant-loop-number : goal.invariant-loop-number
+invariant-loop-number l = l.lines.keys ≡ fold (insert_key bytes_eq) l.fn.lines.keys (map scenario_text (open_plans (verdict_in l.known) (take l.number l.plans)))

@@ -13,30 +13,30 @@ pub told_text-requires-clause-each : goal.told_text-requires-clause-each
 told_text-requires-clause-each c =
     let h = rw c.in-Told.is at c.in_ok-scenario.ensures in
     ap length c.as_slice-verdicts.ensures.value
-    ∙ verdicts_each (verdict_in c.in_ok-known.known) c.as_slice-plans.result.now c.in-Told.verdicts.items c.in-Told.findings.items h.1
+    ∙ verdicts_each (verdict_in c.in_ok-known.known) c.in_ok-plans.plans c.in-Told.verdicts.items c.in-Told.findings.items h.1
 
 pub told_text-requires-clause-some : goal.told_text-requires-clause-some
 told_text-requires-clause-some c =
     let h = rw c.in-Told.is at c.in_ok-scenario.ensures in
-    let each = ap length c.as_slice-verdicts.ensures.value ∙ verdicts_each (verdict_in c.in_ok-known.known) c.as_slice-plans.result.now c.in-Told.verdicts.items c.in-Told.findings.items h.1 in
-    omega (arith, each, ap length c.as_slice-plans.ensures.value, c.in_ok-plans.ensures.some)
+    let each = ap length c.as_slice-verdicts.ensures.value ∙ verdicts_each (verdict_in c.in_ok-known.known) c.in_ok-plans.plans c.in-Told.verdicts.items c.in-Told.findings.items h.1 in
+    omega (arith, each, c.in_ok-plans.ensures.some)
 
 pub returns-clause-text : goal.returns-clause-text
 returns-clause-text c =
     let h = rw c.in-Told.is at c.in_ok-scenario.ensures in
     let codes : c.as_slice.result.now ≡ c.args.outside.now.codes = c.as_slice.ensures.value ∙ ap (λ (d : Description). d.codes) c.outside.view_is in
     let known : verdict_in c.in_ok-known.known ≡ known_by c.args.outside.now.codes c.args.answers.now = c.in_ok-known.ensures.known ∙ ap (λ (names : List (List ℕ)). known_by names c.args.answers.now) codes in
-    let text : List Verdict → List ℕ = λ vs. text_in c.args.form c.args.outside.now c.args.settings.now.seed vs c.in-Told.findings.items c.as_slice-plans.result.now in
-    report_told c.args.form c.args.outside.now c.args.settings.now c.args.answers.now (verdict_in c.in_ok-known.known) c.as_slice-plans.result.now c.in-Told.verdicts.items c.in-Told.findings.items c.in_ok-text-in-Told.text.items
-    known (c.as_slice-plans.ensures.value ∙ c.in_ok-plans.ensures.plans) h.1 (c.in_ok-text-in-Told.ensures ∙ ap text c.as_slice-verdicts.ensures.value)
+    let text : List Verdict → List ℕ = λ vs. text_in c.args.form c.args.outside.now c.args.settings.now.seed vs c.in-Told.findings.items c.in_ok-plans.plans in
+    report_told c.args.form c.args.outside.now c.args.settings.now c.args.answers.now (verdict_in c.in_ok-known.known) c.in_ok-plans.plans c.in-Told.verdicts.items c.in-Told.findings.items c.in_ok-text-in-Told.text.items
+    known c.in_ok-plans.ensures.plans h.1 (c.in_ok-text-in-Told.ensures ∙ ap text c.as_slice-verdicts.ensures.value)
 
 pub returns-clause-first : goal.returns-clause-first
 returns-clause-first c =
     let h = rw c.in-Told.is at c.in_ok-scenario.ensures in
     let codes : c.as_slice.result.now ≡ c.args.outside.now.codes = c.as_slice.ensures.value ∙ ap (λ (d : Description). d.codes) c.outside.view_is in
     let known : verdict_in c.in_ok-known.known ≡ known_by c.args.outside.now.codes c.args.answers.now = c.in_ok-known.ensures.known ∙ ap (λ (names : List (List ℕ)). known_by names c.args.answers.now) codes in
-    first_told c.args.outside.now c.args.settings.now c.args.answers.now (verdict_in c.in_ok-known.known) c.as_slice-plans.result.now c.in-Told.verdicts.items c.in-Told.findings.items c.first_number-first.result known
-    (c.as_slice-plans.ensures.value ∙ c.in_ok-plans.ensures.plans) h.1
+    first_told c.args.outside.now c.args.settings.now c.args.answers.now (verdict_in c.in_ok-known.known) c.in_ok-plans.plans c.in-Told.verdicts.items c.in-Told.findings.items c.first_number-first.result known
+    c.in_ok-plans.ensures.plans h.1
     (c.first_number-first.ensures ∙ ap (λ (fs : List FindingFacts). option_map (λ f. f.number) (slice_get fs 0)) c.deref.ensures.value)
 
 pub returns-clause-some : goal.returns-clause-some

@@ -8,8 +8,8 @@ loop-i-preserved c =
 
 pub returns-in_default : goal.returns-in_default
 returns-in_default c = λ known is.
-    open_at known c.args.plans.now c.args.verdicts.now c.loop-i.all.items c.loop-i.i None c.index-plans-i.result c.in_ok-scenario.scenario c.in_ok-tidy.field-0 c.loop-i-test.true c.requires.many is
-    c.loop-i.invariant c.in_default.is c.index-plans-i.is c.in_ok-scenario.ensures c.in_ok-tidy.ensures
+    open_at known c.args.plans.now c.args.verdicts.now c.loop-i.all.items c.loop-i.i None c.plan.result c.in_ok-scenario.scenario c.in_ok-tidy.field-0 c.loop-i-test.true c.requires.many is
+    c.loop-i.invariant c.in_default.is c.plan.ensures c.in_ok-scenario.ensures c.in_ok-tidy.ensures
 
 pub returns : goal.returns
 returns c = λ known is. verdicts_all known c.args.plans.now c.loop-i.i c.args.verdicts.now c.loop-i.all.items c.loop-i-test.false c.loop-i.invariant is c.requires.lawful

@@ -2,7 +2,6 @@ use Rattle.std.proofs.Common.{◌≡◌, ℕ, ◌≤◌, ◌+◌, length, List, 
 use Rattle.scenario_values.specs.Scenario.{Entries}
 use Rattle.target_trait.specs.declared.judgement.Verdict.{Verdict}
 use Rattle.target_trait.specs.Outcomes.{verdict_with}
-use Rattle.result_book.specs.Slots.{Pair}
 use Rattle.result_book.specs.Rows.{AreSaid}
 use Rattle.result_book.proofs.RowLemmas.{row_more, row_said, row_length}
 use Rattle.result_book.proofs.row.Row.run_over.Goals as goal
@@ -16,9 +15,9 @@ loop-number-preserved g c =
     let say = say_of c.args.target.now in
     let so_far = c.loop-number.verdicts.items in
     record {
-      setup = c.in_ok-pair.ensures.setup ∙ c.loop-number.invariant.setup;
+      setup = c.in_ok-verdict.ensures.setup ∙ c.loop-number.invariant.setup;
       verdicts = c.in_ok-push.ensures.items
-          ∙ ap (λ v. so_far ++ v ∷ []) (c.verdict.ensures ∙ ap (λ (p : Pair). p.verdict) c.in_ok-pair.ensures.ok ∙ ap (λ setup. say_of setup n (get_or plans n [])) c.loop-number.invariant.setup)
+          ∙ ap (λ v. so_far ++ v ∷ []) (c.in_ok-verdict.ensures.ok ∙ ap (λ setup. say_of setup n (get_or plans n [])) c.loop-number.invariant.setup)
           ∙ ap (λ vs. vs ++ say n (get_or plans n []) ∷ []) c.loop-number.invariant.verdicts
           ∙ sym (row_more say plans c.args.first n (omega arith) (omega arith));
     }

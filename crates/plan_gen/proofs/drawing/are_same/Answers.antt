@@ -1,5 +1,5 @@
 use Rattle.plan_gen.proofs.Rigged.{same_from}
-use Rattle.plan_gen.proofs.loading.are_same.Goals as goal
+use Rattle.plan_gen.proofs.drawing.are_same.Goals as goal
 
 pub loop-point-preserved : goal.loop-point-preserved
 loop-point-preserved c = λ rest.

@@ -1,7 +1,0 @@
-use Rattle.std.proofs.Common.{◌≡◌, drop}
-use Rattle.action_eval.specs.Answers.{texts}
-use Rattle.plan_gen.proofs.drawing.has_names.Given as goal
-
--- from the names that are left being the same it follows that all are
-abbrev pub invariant-loop-point : goal.invariant-loop-point
-invariant-loop-point l = drop l.point l.own ≡ texts (drop l.point l.catalogue) → l.own ≡ texts l.catalogue

@@ -1,0 +1,40 @@
+-- What a list of plans keeps: what all share, for each plan its rigged hits or its storm's number, and the listed scenarios.
+use Rattle.std.specs.Prelude.{ℕ, if◌then◌else◌, List, [], ◌∷◌, ◌++◌, map, flat_map}
+use Rattle.std.specs.List.{range_with_len}
+use Rattle.scenario_values.specs.Scenario.{Entries}
+use Rattle.action_eval.specs.declared.rig.Site.{Site}
+use Rattle.action_eval.specs.declared.rig.Kind.TheVariants.{OnceReturn}
+use Rattle.action_eval.specs.Rigging.{rig, rigging}
+use Rattle.plan_gen.specs.declared.drawing.Source.{Source}
+use Rattle.plan_gen.specs.declared.drawing.Source.TheVariants.{Empty, One, Two, Storm}
+use Rattle.plan_gen.specs.PlanList.{Asked, alone, second, pairs_of, storm}
+
+-- what all plans share: the points' names, their sites, and the seed and rate of storms
+pub record Shared : Type 0 where
+  pub names : List (List ℕ)
+  pub sites : List Site
+  pub seed : ℕ
+  pub rate : ℕ
+
+-- the scenario of a plan
+abbrev pub drawn : Shared → Source → Entries
+drawn shared Empty = []
+drawn shared (One site kind) = rigging shared.names (rig site kind ∷ [])
+drawn shared (Two first second kind) = rigging shared.names (rig first OnceReturn ∷ rig second kind ∷ [])
+drawn shared (Storm number) = rigging shared.names (storm shared.seed shared.rate shared.sites number)
+
+-- the plans of a list
+abbrev pub plans_of : Shared → List Source → List Entries → List Entries
+plans_of shared sources listed = map (drawn shared) sources ++ listed
+
+-- what is kept of the plans of a site, and of two sites
+abbrev pub site_sources : Site → List Source
+site_sources s = map (λ kind. One s kind) alone
+
+abbrev pub pair_sources : Site × Site → List Source
+pair_sources p = map (λ kind. Two p.0 p.1 kind) second
+
+-- and of all plans that aren't listed scenarios
+abbrev pub sources_of : Asked → List Site → List Source
+sources_of asked sites =
+    (Empty ∷ []) ++ flat_map site_sources sites ++ (if asked.pairs then flat_map pair_sources (pairs_of sites) else []) ++ map Storm (range_with_len 0 asked.storms)

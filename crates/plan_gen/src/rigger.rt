@@ -1,0 +1,80 @@
+//! Plans of a list, rigged over the points of a target.
+ghost use Rattle.std.specs.Prelude.{◌≡◌, true, [], slice_index_or, IfOk};
+ghost use Rattle.action_eval.specs.Answers.{texts};
+ghost use Rattle.action_eval.specs.Rigging.{rigged_as};
+ghost use Rattle.plan_gen.specs.inside.Drawn.{plans_of};
+
+use crate::drawing::{Drawing, Source};
+use action_eval::Rigging;
+use scenario_values::Scenario;
+use std::alloc::{AllocError, Global};
+use std::marker::Model;
+
+/// Rigs the plans of a list over the points of a catalogue. That it has the same names as the list's own is found once, for all plans.
+/// Contracts see the plans, and the names of the points.
+#[derive(Debug, Drop)]
+pub struct Rigger<'a, 'c> {
+    drawing: &'a Drawing<'a>,
+    sources: &'a [Source],
+    listed: &'a [Scenario],
+    catalogue: &'c [&'c str],
+    is_same: bool,
+}
+
+impl<'a, 'c> Model for Rigger<'a, 'c> {
+    ghost use Rattle.std.specs.Prelude.{◌≡◌, true};
+    ghost use Rattle.action_eval.specs.Answers.{texts};
+    ghost use Rattle.plan_gen.specs.Rigs.{Rigs};
+    ghost use Rattle.plan_gen.specs.inside.Drawn.{plans_of};
+
+    ghost Value = { Rigs };
+
+    ghost view = { λ r. record {
+      plans = plans_of r.drawing.now r.sources.now r.listed.now;
+      names = texts r.catalogue.now;
+    } };
+
+    ghost invariant = { λ r. r.is_same ≡ true → r.drawing.now.names ≡ texts r.catalogue.now };
+}
+
+impl<'a, 'c> Rigger<'a, 'c> {
+    /// Rigs the plans of these parts of a list.
+    pub(crate) fn new(
+        drawing: &'a Drawing<'a>,
+        sources: &'a [Source],
+        listed: &'a [Scenario],
+        catalogue: &'c [&'c str],
+    ) -> Self
+        ensures plans { result.plans ≡ plans_of drawing.now sources.now listed.now }
+        ensures names { result.names ≡ texts catalogue.now }
+    {
+        Rigger {
+            drawing,
+            sources,
+            listed,
+            catalogue,
+            is_same: drawing.is_over(catalogue),
+        }
+    }
+
+    /// Rigs the hits of the plan of this number, and tells whether it has. It hasn't where the plan is a listed scenario, or the list is of
+    /// the points of another catalogue: `Plan::scenario` serves each plan.
+    ///
+    /// An error means that memory was refused.
+    pub fn load(
+        &self,
+        alloc: Global,
+        number: usize,
+        rigging: &mut Rigging<'c>,
+    ) -> Result<bool, AllocError>
+        ensures { IfOk result (λ is_loaded. is_loaded ≡ true → rigging.new ≡ rigged_as self.now.names (slice_index_or self.now.plans number [])) }
+    {
+        match self.sources.get(number) {
+            Some(source) if self.is_same => {
+                self.drawing.load(alloc, *source, rigging, self.catalogue)?;
+                Ok(true)
+            }
+            _ => Ok(false),
+        }
+    }
+}
