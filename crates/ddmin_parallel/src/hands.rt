@@ -182,6 +182,7 @@ fn work<R: Wait, P: Probe, G: Gate>(
 
 /// What each hand answered, and the hands: each works in a thread of its own, where one can be made, while the caller's thread waits.
 /// `std::thread::map_vec` has the caller's thread work too, which Linux may leave on one processor with the first other for milliseconds.
+/// For the same reason a thread gives way to its starter before it works: so the others start at once.
 #[cycle(apart)]
 fn told_apart<R: Threads + Wait + Sync, P: Probe, G: Gate>(
     rt: &R,
@@ -200,7 +201,10 @@ fn told_apart<R: Threads + Wait + Sync, P: Probe, G: Gate>(
         move || -> (P, Answered)
             requires { IsSync R.row × IsSync G.row × IsSend P.row }
             ensures { (P.answers result.0 ≡ P.answers probe) × AreAnswers (P.answers probe) result.1.items }
-        { work(rt, alloc, gate, shared, probe) },
+        {
+            thread::yield_now();
+            work(rt, alloc, gate, shared, probe)
+        },
         move || -> Result<Vec<(P, Answered)>, AllocError>
             requires { IsSync R.row × IsSync G.row × IsSend P.row }
             ensures { IfOk result (λ all. AreBack P.answers hands.items all.items) }

@@ -3,12 +3,13 @@ ghost use Rattle.std.specs.Prelude.{◌≡◌};
 ghost use denote.Param.Send.{IsSync, IsSend};
 ghost use Rattle.worker_pool.specs.inside.Apart.{Accepts, AcceptsAll, Changes, ChangesAll};
 
-use std::thread::{Threads, join_mut};
+use std::thread::{Threads, join_mut, yield_now};
 
 /// Calls f with each element, each time in a thread of its own, where one can be made, while the caller's thread waits.
 ///
 /// `std::thread::for_each_mut` has the caller's thread make a call too. But Linux may start a thread on the processor of its starter, and
-/// move one of the two only milliseconds later: where both work, each runs at half its speed till then.
+/// move one of the two only milliseconds later: where both work, each runs at half its speed till then. A thread also gives way to its
+/// starter before its call, so that it doesn't hold up the start of the others.
 #[cycle(calls)]
 pub fn for_each_apart<R: Threads + Sync, T: Send, F: Fn(&mut T) + Sync>(
     rt: &R,
@@ -40,7 +41,10 @@ fn call_both<R: Threads + Sync, T: Send, F: Fn(&mut T) + Sync>(
     let mut one = ||
         requires { Accepts F.Fn f.now first.now }
         ensures { Changes F.Fn f.entry.now first.entry.now first.exit.now }
-    { call(f, first) };
+    {
+        yield_now();
+        call(f, first)
+    };
     let mut others = ||
         requires { IsSync R.row × IsSync F.row × IsSend T.row × AcceptsAll F.Fn f.now rest.now }
         ensures { ChangesAll F.Fn f.entry.now rest.entry.now rest.exit.now }
