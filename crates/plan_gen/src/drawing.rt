@@ -67,7 +67,7 @@ impl<'a> Model for Drawing<'a> {
     ghost use Rattle.std.specs.Prelude.{◌≤◌, length};
     ghost use Rattle.action_eval.specs.Answers.{texts};
     ghost use Rattle.action_eval.specs.Catalogue.{IsCatalogue};
-    ghost use Rattle.plan_gen.specs.PlanList.{most_plans, storm};
+    ghost use Rattle.plan_gen.specs.PlanList.{most_plans};
     ghost use Rattle.plan_gen.specs.inside.Drawn.{Shared};
 
     ghost Value = { Shared };
