@@ -1,5 +1,6 @@
 -- How a book keeps its places.
-use Rattle.std.proofs.Common.{◌≡◌, ℕ, zero, suc, ◌<◌, Bool, true, false, not, Option, Some, None, List, [], ◌∷◌, length, get_or, set, replicate, refl, sym, ap, ◌∙◌, arith}
+use Rattle.std.proofs.Common.{◌≡◌, ℕ, zero, suc, ◌-◌, ◌<◌, Bool, true, false, not, Option, Some, None, List, [], ◌∷◌, ◌++◌, length, get_or, set, take, replicate, refl, sym, ap, ◌∙◌, arith}
+use Rattle.std.proofs.Math.Seq.{take-nil}
 use Rattle.std.specs.List.{list_all, list_any}
 use mathlib.Core.Bool.{beq}
 use Rattle.std.proofs.lemmas.Bool.{false≢true}
@@ -31,6 +32,11 @@ place_set [] vs n v same lt = absurd (omega arith)
 place_set (c ∷ bs) [] n v same lt = absurd (omega arith)
 place_set (c ∷ bs) (w ∷ vs) zero v same lt = refl
 place_set (c ∷ bs) (w ∷ vs) (suc n) v same lt = ap (λ s. place c w ∷ s) (place_set bs vs n v (omega arith) (omega arith))
+
+-- an empty list that was filled up
+pub filled : {A : Type 0} (old new : List A) (n len : ℕ) (x : A) → old ≡ [] → len ≡ 0 → new ≡ take n old ++ replicate (n - len) x → new ≡ replicate n x
+filled old new n len x none zero_long is =
+    is ∙ ap (λ l. take n l ++ replicate (n - len) x) none ∙ ap (λ l. l ++ replicate (n - len) x) (take-nil n) ∙ ap (λ k. replicate k x) (omega (arith, zero_long))
 
 -- where none was put, all places are empty
 pub none_put : (n : ℕ) (v : Verdict) → places (replicate n false) (replicate n v) ≡ replicate n None

@@ -52,12 +52,11 @@ impl Book {
         requires { length course.now.plans.now ≤ 65536 }
         ensures { IfOk result (λ book. book ≡ replicate (length course.now.plans.now) None) }
     {
-        let mut verdicts = Vec::with_capacity(alloc, course.plans.len())?;
-        let mut is_put = Vec::with_capacity(alloc, course.plans.len())?;
-        for _ in 0..course.plans.len() {
-            verdicts.push(Verdict::Unresolved)?;
-            is_put.push(false)?;
-        }
+        let places = course.plans.len();
+        let mut verdicts = Vec::new(alloc);
+        verdicts.resize(places, Verdict::Unresolved)?;
+        let mut is_put = Vec::new(alloc);
+        is_put.resize(places, false)?;
         Ok(Book { verdicts, is_put })
     }
 
