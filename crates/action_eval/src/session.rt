@@ -200,6 +200,8 @@ impl<'a> Session<'a> {
     }
 
     /// The same in the room that an earlier session left, of whatever run that was. Want of memory gives the room back to the system.
+    // A session has the place of a generator in it: made within its caller, it isn't moved.
+    #[inline(always)]
     pub fn over_in(
         alloc: Global,
         room: Room,
