@@ -1,42 +1,39 @@
 -- Hits that come to nothing, by what the next hits of points meet.
 use Rattle.std.proofs.Common.{◌≡◌, ℕ, zero, suc, ◌<◌, Bool, true, false, cond, eqb, ◌&&◌, List, [], ◌∷◌, length, map, slice_index, slice_set, get_or, Option, Some, None, is_some, refl, ap, sym, ◌∙◌, arith, add-zero, subst}
 use Rattle.std.proofs.lemmas.Bool.Decides.{nat_tests}
+use Rattle.std.proofs.lemmas.List.{length-map, map-set}
 use Rattle.scenario_values.specs.declared.term.Term.{Term}
 use Rattle.scenario_values.specs.declared.term.Task.TheVariants as task
 use Rattle.scenario_values.specs.Scenario.{is_off}
 use Rattle.action_eval.specs.declared.answer.Stop.{Stop}
 use Rattle.action_eval.specs.declared.answer.Note.{Note}
-use Rattle.action_eval.specs.declared.found.Found.{Found}
 use Rattle.action_eval.specs.declared.found.Head.{Head}
 use Rattle.action_eval.specs.declared.found.Head.TheVariants as head
 use Rattle.action_eval.specs.Answers.{Run, name_of}
-use Rattle.action_eval.specs.inside.Session.{Keeps, found_of, seen, head_of, first_head, with_one_less, IsRest}
+use Rattle.action_eval.specs.inside.Session.{Keeps, found_of, head_of, first_head, with_one_less, IsRest}
 use Rattle.action_eval.proofs.Tidied.{off_is}
 use Rattle.action_eval.proofs.Steps.{Finds, finds_none, finds_off, found_within, known_found, point_found}
 
 -- ---- the heads of points
 
-pub heads_length : (found : List (Option Found)) → length (map head_of (map seen found)) ≡ length found
-heads_length [] = refl
-heads_length (f ∷ fs) = ap suc (heads_length fs)
-
-set_head : (found : List (Option Found)) (p : ℕ) (f : Option Found) → slice_set (map head_of (map seen found)) p (head_of (seen f)) ≡ map head_of (map seen (slice_set found p f))
-set_head [] p f = refl
-set_head (x ∷ xs) zero f = refl
-set_head (x ∷ xs) (suc p) f = ap (λ (l : List Head). head_of (seen x) ∷ l) (set_head xs p f)
-
 -- where the chain of a point is another one
-pub heads_with : (found : List (Option Found)) (heads : List Head) (p : ℕ) (f : Option Found) → heads ≡ map head_of (map seen found) → slice_set heads p (head_of (seen f)) ≡ map head_of (map seen (slice_set found p f))
-heads_with found heads p f e = ap (λ (l : List Head). slice_set l p (head_of (seen f))) e ∙ set_head found p f
+pub heads_with : (found : List (Option (List Term × ℕ))) (heads : List Head) (p : ℕ) (f : Option (List Term × ℕ)) → heads ≡ map head_of found → slice_set heads p (head_of f) ≡ map head_of (slice_set found p f)
+heads_with found heads p f e = ap (λ (l : List Head). slice_set l p (head_of f)) e ∙ sym (map-set head_of found p f)
 
-head_at : (found : List (Option Found)) (p : ℕ) (d : Head) → p < length found → get_or (map head_of (map seen found)) p d ≡ head_of (seen (get_or found p None))
+head_at : (found : List (Option (List Term × ℕ))) (p : ℕ) (d : Head) → p < length found → get_or (map head_of found) p d ≡ head_of (get_or found p None)
 head_at [] p d h = absurd (omega arith)
 head_at (f ∷ fs) zero d h = refl
 head_at (f ∷ fs) (suc p) d h = head_at fs p d (omega arith)
 
 -- the head that a look-up gave
-pub head_is : (found : List (Option Found)) (heads : List Head) (p : ℕ) (d o : Head) → heads ≡ map head_of (map seen found) → p < length found → o ≡ get_or heads p d → head_of (seen (get_or found p None)) ≡ o
+pub head_is : (found : List (Option (List Term × ℕ))) (heads : List Head) (p : ℕ) (d o : Head) → heads ≡ map head_of found → p < length found → o ≡ get_or heads p d → head_of (get_or found p None) ≡ o
 head_is found heads p d o e h at = sym (head_at found p d h) ∙ ap (λ (l : List Head). get_or l p d) (sym e) ∙ sym at
+
+-- each point has a head
+pub known_head : (r now : Run) (found : List (Option (List Term × ℕ))) (left : List ℕ) (taken : ℕ) (notes : List Note) (millis : ℕ) (halt : Option Stop) → Keeps r found left taken notes millis halt
+    → r ≡ now → (p : ℕ) → p < length now.given.catalogue → (heads : List Head) → heads ≡ map head_of found → p < length heads
+known_head r now found left taken notes millis halt k same p h heads e =
+    omega (arith, known_found r now found left taken notes millis halt k same p h, length-map found head_of, ap length e)
 
 -- a number that a look-up gave
 pub value_at : (xs : List ℕ) (i d : ℕ) → i < length xs → (v : ℕ) → v ≡ get_or xs i d → v ≡ slice_index xs i
@@ -76,9 +73,9 @@ nothing_left r p found left taken notes millis halt k (t ∷ ts) start at e = ab
 
 -- a hit of a point without a term that is left
 finds_no_term : (r : Run) (p : ℕ) (found : List (Option (List Term × ℕ))) (left : List ℕ) (taken : ℕ) (notes : List Note) (millis : ℕ) (halt : Option Stop) → Keeps r found left taken notes millis halt
-    → (o : Option Found) → IsRest left (found_of r.given.scenario (name_of r.given p)) (seen o) → head_of (seen o) ≡ head.Nothing → Finds r p left task.Off taken
+    → (o : Option (List Term × ℕ)) → IsRest left (found_of r.given.scenario (name_of r.given p)) o → head_of o ≡ head.Nothing → Finds r p left task.Off taken
 finds_no_term r p found left taken notes millis halt k None at e = finds_none r p found left taken notes millis halt k at
-finds_no_term r p found left taken notes millis halt k (Some f) at e = nothing_left r p found left taken notes millis halt k f.chain.now f.start at e
+finds_no_term r p found left taken notes millis halt k (Some f) at e = nothing_left r p found left taken notes millis halt k f.0 f.1 at e
 
 -- an `off` that acts wherever it is reached, and of whose count something is left
 pub record Counts (r : Run) (p : ℕ) (left : List ℕ) (taken i : ℕ) : Type 0 where
@@ -103,21 +100,21 @@ counts_first r p found left taken notes millis halt k (t ∷ ts) start i at e =
 
 -- a hit of a point with one
 counts_off : (r : Run) (p : ℕ) (found : List (Option (List Term × ℕ))) (left : List ℕ) (taken : ℕ) (notes : List Note) (millis : ℕ) (halt : Option Stop) → Keeps r found left taken notes millis halt
-    → (o : Option Found) (i : ℕ) → IsRest left (found_of r.given.scenario (name_of r.given p)) (seen o) → head_of (seen o) ≡ head.Off i → Counts r p left taken i
+    → (o : Option (List Term × ℕ)) (i : ℕ) → IsRest left (found_of r.given.scenario (name_of r.given p)) o → head_of o ≡ head.Off i → Counts r p left taken i
 counts_off r p found left taken notes millis halt k None i at e = absurd (cc)
-counts_off r p found left taken notes millis halt k (Some f) i at e = counts_first r p found left taken notes millis halt k f.chain.now f.start i at e
+counts_off r p found left taken notes millis halt k (Some f) i at e = counts_first r p found left taken notes millis halt k f.0 f.1 i at e
 
 -- the same of the head that a look-up gave
-pub nothing_by : (r now : Run) (found : List (Option Found)) (left : List ℕ) (taken : ℕ) (notes : List Note) (millis : ℕ) (halt : Option Stop) → Keeps r (map seen found) left taken notes millis halt
-    → (heads : List Head) → heads ≡ map head_of (map seen found) → r ≡ now → (p : ℕ) → p < length now.given.catalogue → (d o : Head) → o ≡ get_or heads p d → o ≡ head.Nothing → Finds r p left task.Off taken
+pub nothing_by : (r now : Run) (found : List (Option (List Term × ℕ))) (left : List ℕ) (taken : ℕ) (notes : List Note) (millis : ℕ) (halt : Option Stop) → Keeps r found left taken notes millis halt
+    → (heads : List Head) → heads ≡ map head_of found → r ≡ now → (p : ℕ) → p < length now.given.catalogue → (d o : Head) → o ≡ get_or heads p d → o ≡ head.Nothing → Finds r p left task.Off taken
 nothing_by r now found left taken notes millis halt k heads e same p h d o at is =
     let o' = get_or found p None in
-    finds_no_term r p (map seen found) left taken notes millis halt k o' (point_found r now found left taken notes millis halt k same p h None o' refl)
+    finds_no_term r p found left taken notes millis halt k o' (point_found r now found left taken notes millis halt k same p h None o' refl)
     (head_is found heads p d o e (known_found r now found left taken notes millis halt k same p h) at ∙ is)
 
-pub off_by : (r now : Run) (found : List (Option Found)) (left : List ℕ) (taken : ℕ) (notes : List Note) (millis : ℕ) (halt : Option Stop) → Keeps r (map seen found) left taken notes millis halt
-    → (heads : List Head) → heads ≡ map head_of (map seen found) → r ≡ now → (p : ℕ) → p < length now.given.catalogue → (d o : Head) → o ≡ get_or heads p d → (i : ℕ) → o ≡ head.Off i → Counts r p left taken i
+pub off_by : (r now : Run) (found : List (Option (List Term × ℕ))) (left : List ℕ) (taken : ℕ) (notes : List Note) (millis : ℕ) (halt : Option Stop) → Keeps r found left taken notes millis halt
+    → (heads : List Head) → heads ≡ map head_of found → r ≡ now → (p : ℕ) → p < length now.given.catalogue → (d o : Head) → o ≡ get_or heads p d → (i : ℕ) → o ≡ head.Off i → Counts r p left taken i
 off_by r now found left taken notes millis halt k heads e same p h d o at i is =
     let o' = get_or found p None in
-    counts_off r p (map seen found) left taken notes millis halt k o' i (point_found r now found left taken notes millis halt k same p h None o' refl)
+    counts_off r p found left taken notes millis halt k o' i (point_found r now found left taken notes millis halt k same p h None o' refl)
     (head_is found heads p d o e (known_found r now found left taken notes millis halt k same p h) at ∙ is)

@@ -10,13 +10,13 @@ use Rattle.std.proofs.lemmas.Slice.Eq.{bytes_eq-Decides}
 use Rattle.scenario_values.specs.declared.term.Term.{Term}
 use Rattle.scenario_values.specs.Scenario.{Entries, New, entry_of, chain_at}
 use Rattle.action_eval.specs.declared.rig.Rig.{Rig}
-use Rattle.action_eval.specs.declared.found.Found.{Found}
 use Rattle.action_eval.specs.declared.found.Head.{Head}
 use Rattle.action_eval.specs.Catalogue.{HasDistinct}
 use Rattle.action_eval.specs.Rigging.{chain_from, entry, entries_from, rigging}
-use Rattle.action_eval.specs.inside.Session.{found_of, start_of, left_row, left_counts, seen, head_of}
-use Rattle.action_eval.specs.inside.Laid.{laid, AreSizes, joined, sizes_of, placed}
+use Rattle.action_eval.specs.inside.Session.{found_of, start_of, left_row, left_counts, head_of}
+use Rattle.action_eval.specs.inside.Laid.{laid, AreSizes, joined, sizes_of}
 use Rattle.action_eval.proofs.NamedCounts.{length-left_row}
+use Rattle.action_eval.proofs.Spans.{placed}
 use Rattle.action_eval.proofs.TidiedEntries.{flipped}
 use Rattle.action_eval.proofs.Rigged.{goes_on, all_both, entry_all}
 
@@ -209,15 +209,12 @@ left_done names sizes terms left whole none h = sym (append-nil left) ∙ ap (λ
 pub found_done : (names : List (List ℕ)) (sizes : List ℕ) (terms : List Term) (k : ℕ) (found whole : List (Option (List Term × ℕ))) → names ≡ [] → found ++ all_found k names (laid names sizes terms) ≡ whole → found ≡ whole
 found_done names sizes terms k found whole none h = sym (append-nil found) ∙ ap (λ (l : List (List ℕ)). found ++ all_found k l (laid l sizes terms)) (sym none) ∙ h
 
-pub seen_push : (found new : List (Option Found)) (here : Option Found) → new ≡ found ++ here ∷ [] → map seen new ≡ map seen found ++ seen here ∷ []
-seen_push found new here e = ap (map seen) e ∙ map_push seen found here
-
 -- what the next hit of each point meets
-pub heads_push : (found new : List (Option Found)) (heads heads' : List Head) (here : Option Found) (head : Head) → heads ≡ map head_of (map seen found) → heads' ≡ heads ++ head ∷ [] → head ≡ head_of (seen here) → new ≡ found ++ here ∷ []
-    → heads' ≡ map head_of (map seen new)
-heads_push found new heads heads' here head h e is f =
-    e ∙ ap (λ l. l ++ head ∷ []) h ∙ ap (λ x. map head_of (map seen found) ++ x ∷ []) is
-    ∙ sym (map_push head_of (map seen found) (seen here)) ∙ ap (map head_of) (sym (seen_push found new here f))
+pub heads_push : {A : Type 0} (f : A → Option (List Term × ℕ)) (found new : List A) (heads heads' : List Head) (here : A) (head : Head) → heads ≡ map head_of (map f found) → heads' ≡ heads ++ head ∷ [] → head ≡ head_of (f here) → new ≡ found ++ here ∷ []
+    → heads' ≡ map head_of (map f new)
+heads_push {A} f found new heads heads' here head h e is g =
+    e ∙ ap (λ (l : List Head). l ++ head ∷ []) h ∙ ap (λ (x : Head). map head_of (map f found) ++ x ∷ []) is
+    ∙ sym (map_push head_of (map f found) (f here)) ∙ ap (map head_of) (sym (map_push f found here)) ∙ ap (λ (l : List A). map head_of (map f l)) (sym g)
 
 pub counted : (left new : List ℕ) (c : List Term) → new ≡ left ++ left_row (λ _. 0) 0 c → length new ≡ length left + length c
 counted left new c e = ap length e ∙ length-append left (left_row (λ _. 0) 0 c) ∙ ap (λ n. length left + n) (length-left_row (λ _. 0) 0 c)
@@ -243,3 +240,7 @@ pub sizes_next : (n count size : ℕ) (rs : List Rig) (old new whole : List ℕ)
     → new ++ sizes_of (n + 1) (count - (n + 1)) rs ≡ whole
 sizes_next n count size rs old new whole h e g is =
     goes_on old new (length (chain_from n 0 rs) ∷ []) (sizes_of (n + 1) (count - (n + 1)) rs) whole (ap (λ l. old ++ l) (sym (sizes_more n count rs h)) ∙ e) (g ∙ ap (λ k. old ++ k ∷ []) is)
+
+-- the entries that are laid, of one point more
+pub laid_next : (names rest : List (List ℕ)) (n : List ℕ) (sizes more : List ℕ) (size : ℕ) (terms : List Term) → names ≡ n ∷ rest → sizes ≡ size ∷ more → laid names sizes terms ≡ entry n (take size terms) ++ laid rest more (drop size terms)
+laid_next names rest n sizes more size terms e f = ap (λ (l : List (List ℕ)). laid l sizes terms) e ∙ ap (λ (s : List ℕ). laid (n ∷ rest) s terms) f

@@ -10,6 +10,7 @@ pub mod KeptFaults
 pub mod Dropped
 pub mod Trials
 pub mod NamedCounts
+pub mod Spans
 pub mod Renumbered
 pub mod Histories
 pub mod Rests

@@ -96,12 +96,12 @@ less_right xs ys n i h =
     let value : slice_index (xs ++ ys) (n + i) ≡ slice_index ys i = get_or-append_right xs ys n (n + i) 0 h (omega arith) ∙ ap (slice_index ys) at in
     ap (λ v. slice_set (xs ++ ys) (n + i) (v - 1)) value ∙ set-append_right xs ys n (n + i) (slice_index ys i - 1) h (omega arith) ∙ ap (λ k. xs ++ slice_set ys k (slice_index ys i - 1)) at
 
-range_left : (xs ys : List ℕ) (n : ℕ) → length xs ≡ n → slice_range (xs ++ ys) 0 (0 + n) ≡ xs
+pub range_left : {A : Type 0} (xs ys : List A) (n : ℕ) → length xs ≡ n → slice_range (xs ++ ys) 0 (0 + n) ≡ xs
 range_left xs ys n h =
     let at : 0 + n - 0 ≡ length xs = omega arith in
     ap (λ k. take k (xs ++ ys)) at ∙ take-append_seam xs ys
 
-range_right : (xs ys : List ℕ) (n a b : ℕ) → length xs ≡ n → slice_range (xs ++ ys) (n + a) (n + a + b) ≡ slice_range ys a (a + b)
+pub range_right : {A : Type 0} (xs ys : List A) (n a b : ℕ) → length xs ≡ n → slice_range (xs ++ ys) (n + a) (n + a + b) ≡ slice_range ys a (a + b)
 range_right xs ys n a b h =
     let from : n + a ≡ length xs + a = omega arith in
     let many : n + a + b - (n + a) ≡ a + b - a = omega arith in

@@ -8,14 +8,13 @@ use Rattle.scenario_values.specs.declared.term.Task.TheVariants as task
 use Rattle.action_eval.specs.declared.answer.Stop.{Stop}
 use Rattle.action_eval.specs.declared.answer.Stop.TheVariants as stop
 use Rattle.action_eval.specs.declared.answer.Note.{Note}
-use Rattle.action_eval.specs.declared.found.Found.{Found}
 use Rattle.action_eval.specs.declared.found.Head.{Head}
 use Rattle.action_eval.specs.declared.found.Head.TheVariants as head
 use Rattle.action_eval.specs.Answers.{Run, Reply, Go, AllGo, GoesOn, hit, hits_of, replies, rounds, reply_to, stopped, stopped_by, history_of}
-use Rattle.action_eval.specs.inside.Session.{Keeps, seen, head_of, with_one_less}
+use Rattle.action_eval.specs.inside.Session.{Keeps, head_of, with_one_less}
 use Rattle.action_eval.specs.inside.Quiet.{CountsWithin, head_at, taken_by, taken_at, IsCounted, AreCounted, Spent, SpentBy}
-use Rattle.action_eval.proofs.Steps.{Finds, keeps_off, known_found, reply_found}
-use Rattle.action_eval.proofs.Heads.{heads_length, nothing_by, off_by}
+use Rattle.action_eval.proofs.Steps.{Finds, keeps_off, reply_found}
+use Rattle.action_eval.proofs.Heads.{known_head, nothing_by, off_by}
 use Rattle.action_eval.proofs.CallerLemmas.{replies_more, goes_on}
 
 -- ---- counts
@@ -47,33 +46,33 @@ pub record Passed (r : Run) (found : List (Option (List Term × ℕ))) (left : L
   pub go : AllGo r ps
   pub running : stopped (hits_of r ps) ≡ None
 
-finds_quiet : (r : Run) (found : List (Option Found)) (left : List ℕ) (taken : ℕ) (notes : List Note) (millis : ℕ) → Keeps r (map seen found) left taken notes millis None
-    → (heads : List Head) → heads ≡ map head_of (map seen found) → (p : ℕ) → p < length r.given.catalogue → (o : Head) → o ≡ head_at heads p → IsQuiet left o → Finds r p (after_head left o) task.Off taken
+finds_quiet : (r : Run) (found : List (Option (List Term × ℕ))) (left : List ℕ) (taken : ℕ) (notes : List Note) (millis : ℕ) → Keeps r found left taken notes millis None
+    → (heads : List Head) → heads ≡ map head_of found → (p : ℕ) → p < length r.given.catalogue → (o : Head) → o ≡ head_at heads p → IsQuiet left o → Finds r p (after_head left o) task.Off taken
 finds_quiet r found left taken notes millis k heads e p h head.Nothing at q = nothing_by r r found left taken notes millis None k heads e refl p h head.Nothing head.Nothing at refl
 finds_quiet r found left taken notes millis k heads e p h (head.Off i) at q = (off_by r r found left taken notes millis None k heads e refl p h head.Nothing (head.Off i) at i refl).finds q
 finds_quiet r found left taken notes millis k heads e p h head.Terms at q = absurd q
 
-pub passed_all : (heads : List Head) (found : List (Option Found)) (taken : ℕ) (notes : List Note) (millis : ℕ) → heads ≡ map head_of (map seen found) → (ps : List ℕ) (r : Run) (left : List ℕ)
-    → Keeps r (map seen found) left taken notes millis None → All (λ p. p < length r.given.catalogue) ps → stopped r ≡ None → length r.hits + length ps ≤ r.given.limit → AreQuiet heads left ps
-    → Passed r (map seen found) (after_all heads left ps) taken notes millis ps
+pub passed_all : (heads : List Head) (found : List (Option (List Term × ℕ))) (taken : ℕ) (notes : List Note) (millis : ℕ) → heads ≡ map head_of found → (ps : List ℕ) (r : Run) (left : List ℕ)
+    → Keeps r found left taken notes millis None → All (λ p. p < length r.given.catalogue) ps → stopped r ≡ None → length r.hits + length ps ≤ r.given.limit → AreQuiet heads left ps
+    → Passed r found (after_all heads left ps) taken notes millis ps
 passed_all heads found taken notes millis e [] r left k known running room q =
     let same : hits_of r [] ≡ r = ap (λ (l : List ℕ). let x : Run = record { given = r.given; hits = l } in x) (append-nil r.hits) in
     record {
-      keeps = subst (λ (x : Run). Keeps x (map seen found) left taken notes millis None) (sym same) k;
+      keeps = subst (λ (x : Run). Keeps x found left taken notes millis None) (sym same) k;
       go = tt;
       running = ap stopped same ∙ running;
     }
 passed_all heads found taken notes millis e (p ∷ ps) r left k known running room q =
     let o = head_at heads p in
     let f = finds_quiet r found left taken notes millis k heads e p (known 0 0 (omega arith)) o refl q.0 in
-    let kept = keeps_off r p (map seen found) left taken notes millis None k (omega arith) running (after_head left o) f (r.hits ++ p ∷ []) refl (after_head left o) refl (map seen found) k.found_is in
+    let kept = keeps_off r p found left taken notes millis None k (omega arith) running (after_head left o) f (r.hits ++ p ∷ []) refl (after_head left o) refl found k.found_is in
     let says : reply_to r p ≡ Go = sym (reply_found r p (after_head left o) task.Off taken f (omega arith)) in
     let goes : stopped (hit r p) ≡ None = subst (λ (a : Reply). GoesOn a (hit r p)) says (goes_on r p running) in
     let longer : length (hit r p).hits ≡ length r.hits + 1 = length-append r.hits (p ∷ []) in
     let rest = passed_all heads found taken notes millis e ps (hit r p) (after_head left o) kept (λ i d less. known (suc i) d (omega arith)) goes (omega (arith, longer)) q.1 in
     let same : hits_of (hit r p) ps ≡ hits_of r (p ∷ ps) = ap (λ (l : List ℕ). let x : Run = record { given = r.given; hits = l } in x) (append_assoc r.hits (p ∷ []) ps) in
     record {
-      keeps = subst (λ (x : Run). Keeps x (map seen found) (after_all heads (after_head left o) ps) taken notes millis None) same rest.keeps;
+      keeps = subst (λ (x : Run). Keeps x found (after_all heads (after_head left o) ps) taken notes millis None) same rest.keeps;
       go = (replies_more r p running ∙ ap (λ (a : Reply). replies r ++ a ∷ []) says, rest.go);
       running = ap stopped (sym same) ∙ rest.running;
     }
@@ -256,51 +255,51 @@ after_passed r found left taken notes millis ps p now same halt none after is hi
       running = ap stopped is_run ∙ p.running;
     }
 
-pub rounds_after : (r now : Run) (found : List (Option Found)) (left : List ℕ) (taken : ℕ) (notes : List Note) (millis : ℕ) (halt : Option Stop) → Keeps r (map seen found) left taken notes millis halt
-    → r ≡ now → stopped now ≡ None → (heads : List Head) → heads ≡ map head_of (map seen found) → (n : ℕ) (ps : List ℕ) → All (λ p. p < length now.given.catalogue) ps → (read : List Head) → read ≡ heads → (after : List ℕ) → Spent read ps n left after
-    → n * length ps ≤ r.given.limit - length r.hits → (hits : List ℕ) → hits ≡ r.hits ++ rounds n ps → After r now (map seen found) after taken notes millis halt hits (rounds n ps)
+pub rounds_after : (r now : Run) (found : List (Option (List Term × ℕ))) (left : List ℕ) (taken : ℕ) (notes : List Note) (millis : ℕ) (halt : Option Stop) → Keeps r found left taken notes millis halt
+    → r ≡ now → stopped now ≡ None → (heads : List Head) → heads ≡ map head_of found → (n : ℕ) (ps : List ℕ) → All (λ p. p < length now.given.catalogue) ps → (read : List Head) → read ≡ heads → (after : List ℕ) → Spent read ps n left after
+    → n * length ps ≤ r.given.limit - length r.hits → (hits : List ℕ) → hits ≡ r.hits ++ rounds n ps → After r now found after taken notes millis halt hits (rounds n ps)
 rounds_after r now found left taken notes millis halt k same running heads e n ps known read is after s room hits more =
     let still : stopped r ≡ None = ap stopped same ∙ running in
     let none : halt ≡ None = k.stop_is ∙ still in
     let l = leaves_rounds heads n ps left after (subst (λ (h : List Head). Spent h ps n left after) is s) in
     let here = subst (λ (x : Run). All (λ p. p < length x.given.catalogue) ps) (sym same) known in
-    let passed = passed_all heads found taken notes millis e (rounds n ps) r left (subst (λ (s : Option Stop). Keeps r (map seen found) left taken notes millis s) none k)
+    let passed = passed_all heads found taken notes millis e (rounds n ps) r left (subst (λ (s : Option Stop). Keeps r found left taken notes millis s) none k)
     (all_rounds (length r.given.catalogue) n ps here) still (omega (arith, length_rounds n ps, room, within_limit r still)) l.quiet in
-    after_passed r (map seen found) _ taken notes millis (rounds n ps) passed now same halt none after l.left hits more
+    after_passed r found _ taken notes millis (rounds n ps) passed now same halt none after l.left hits more
 
 one_point : (n p : ℕ) → rounds n (p ∷ []) ≡ replicate n p
 one_point zero p = refl
 one_point (suc n) p = ap (λ (l : List ℕ). p ∷ l) (one_point n p)
 
-pub many_after : (r now : Run) (found : List (Option Found)) (left : List ℕ) (taken : ℕ) (notes : List Note) (millis : ℕ) (halt : Option Stop) → Keeps r (map seen found) left taken notes millis halt
-    → r ≡ now → stopped now ≡ None → (heads : List Head) → heads ≡ map head_of (map seen found) → (n p : ℕ) → p < length now.given.catalogue → (read : List Head) → read ≡ heads → (after : List ℕ) → Spent read (p ∷ []) n left after
-    → n ≤ r.given.limit - length r.hits → (hits : List ℕ) → hits ≡ r.hits ++ replicate n p → After r now (map seen found) after taken notes millis halt hits (replicate n p)
+pub many_after : (r now : Run) (found : List (Option (List Term × ℕ))) (left : List ℕ) (taken : ℕ) (notes : List Note) (millis : ℕ) (halt : Option Stop) → Keeps r found left taken notes millis halt
+    → r ≡ now → stopped now ≡ None → (heads : List Head) → heads ≡ map head_of found → (n p : ℕ) → p < length now.given.catalogue → (read : List Head) → read ≡ heads → (after : List ℕ) → Spent read (p ∷ []) n left after
+    → n ≤ r.given.limit - length r.hits → (hits : List ℕ) → hits ≡ r.hits ++ replicate n p → After r now found after taken notes millis halt hits (replicate n p)
 many_after r now found left taken notes millis halt k same running heads e n p known read is after s room hits more =
     let one : n * length (p ∷ []) ≡ n = omega arith in
     let all = all_first (length now.given.catalogue) p [] known (none_of (length now.given.catalogue)) in
-    subst (λ (ps : List ℕ). After r now (map seen found) after taken notes millis halt hits ps) (one_point n p)
+    subst (λ (ps : List ℕ). After r now found after taken notes millis halt hits ps) (one_point n p)
     (rounds_after r now found left taken notes millis halt k same running heads e n (p ∷ []) all read is after s (omega (arith, one, room)) hits (more ∙ ap (λ (l : List ℕ). r.hits ++ l) (sym (one_point n p))))
 
 -- the count at the head of a point's chain is one of the counts
-within_head : (r now : Run) (found : List (Option Found)) (left : List ℕ) (taken : ℕ) (notes : List Note) (millis : ℕ) (halt : Option Stop) → Keeps r (map seen found) left taken notes millis halt
-    → (heads : List Head) → heads ≡ map head_of (map seen found) → r ≡ now → (p : ℕ) → p < length now.given.catalogue → (o : Head) → o ≡ head_at heads p → CountsWithin (length left) o
+within_head : (r now : Run) (found : List (Option (List Term × ℕ))) (left : List ℕ) (taken : ℕ) (notes : List Note) (millis : ℕ) (halt : Option Stop) → Keeps r found left taken notes millis halt
+    → (heads : List Head) → heads ≡ map head_of found → r ≡ now → (p : ℕ) → p < length now.given.catalogue → (o : Head) → o ≡ head_at heads p → CountsWithin (length left) o
 within_head r now found left taken notes millis halt k heads e same p h head.Nothing at = tt
 within_head r now found left taken notes millis halt k heads e same p h (head.Off i) at = (off_by r now found left taken notes millis halt k heads e same p h head.Nothing (head.Off i) at i refl).within
 within_head r now found left taken notes millis halt k heads e same p h head.Terms at = tt
 
-pub within_by : (r now : Run) (found : List (Option Found)) (left : List ℕ) (taken : ℕ) (notes : List Note) (millis : ℕ) (halt : Option Stop) → Keeps r (map seen found) left taken notes millis halt
-    → (heads : List Head) → heads ≡ map head_of (map seen found) → r ≡ now → (p : ℕ) → p < length now.given.catalogue → (read : List Head) → read ≡ heads → CountsWithin (length left) (head_at read p)
+pub within_by : (r now : Run) (found : List (Option (List Term × ℕ))) (left : List ℕ) (taken : ℕ) (notes : List Note) (millis : ℕ) (halt : Option Stop) → Keeps r found left taken notes millis halt
+    → (heads : List Head) → heads ≡ map head_of found → r ≡ now → (p : ℕ) → p < length now.given.catalogue → (read : List Head) → read ≡ heads → CountsWithin (length left) (head_at read p)
 within_by r now found left taken notes millis halt k heads e same p h read is =
     subst (λ (l : List Head). CountsWithin (length left) (head_at l p)) (sym is) (within_head r now found left taken notes millis halt k heads e same p h (head_at heads p) refl)
 
 -- the same of all points of a list
-pub known_all : (r now : Run) (found : List (Option Found)) (left : List ℕ) (taken : ℕ) (notes : List Note) (millis : ℕ) (halt : Option Stop) → Keeps r (map seen found) left taken notes millis halt
-    → (heads : List Head) → heads ≡ map head_of (map seen found) → r ≡ now → (ps : List ℕ) → All (λ p. p < length now.given.catalogue) ps → (read : List Head) → read ≡ heads → All (λ p. p < length read) ps
+pub known_all : (r now : Run) (found : List (Option (List Term × ℕ))) (left : List ℕ) (taken : ℕ) (notes : List Note) (millis : ℕ) (halt : Option Stop) → Keeps r found left taken notes millis halt
+    → (heads : List Head) → heads ≡ map head_of found → r ≡ now → (ps : List ℕ) → All (λ p. p < length now.given.catalogue) ps → (read : List Head) → read ≡ heads → All (λ p. p < length read) ps
 known_all r now found left taken notes millis halt k heads e same ps known read is = λ i d less.
-    omega (arith, known_found r now found left taken notes millis halt k same (get_or ps i d) (known i d less), heads_length found, ap length e, ap length is)
+    omega (arith, known_head r now found left taken notes millis halt k same (get_or ps i d) (known i d less) heads e, ap length is)
 
-pub within_all : (r now : Run) (found : List (Option Found)) (left : List ℕ) (taken : ℕ) (notes : List Note) (millis : ℕ) (halt : Option Stop) → Keeps r (map seen found) left taken notes millis halt
-    → (heads : List Head) → heads ≡ map head_of (map seen found) → r ≡ now → (ps : List ℕ) → All (λ p. p < length now.given.catalogue) ps → (read : List Head) → read ≡ heads → (counts : List ℕ) → counts ≡ left
+pub within_all : (r now : Run) (found : List (Option (List Term × ℕ))) (left : List ℕ) (taken : ℕ) (notes : List Note) (millis : ℕ) (halt : Option Stop) → Keeps r found left taken notes millis halt
+    → (heads : List Head) → heads ≡ map head_of found → r ≡ now → (ps : List ℕ) → All (λ p. p < length now.given.catalogue) ps → (read : List Head) → read ≡ heads → (counts : List ℕ) → counts ≡ left
     → All (λ p. CountsWithin (length counts) (head_at read p)) ps
 within_all r now found left taken notes millis halt k heads e same ps known read is counts are = λ i d less.
     subst (λ (l : List ℕ). CountsWithin (length l) (head_at read (get_or ps i d))) (sym are)

@@ -1,15 +1,13 @@
 -- What is left of a chain when terms at its head that are spent are left out: it is tried as the whole is, and they stay spent.
-use Rattle.std.proofs.Common.{◌≡◌, ℕ, zero, suc, ◌+◌, ◌-◌, ◌<◌, ◌≤◌, ◌%◌, nat_lt, Bool, true, false, cond, eqb, ◌&&◌, List, [], ◌∷◌, ◌++◌, length, map, take, drop, get_or, slice_index, slice_set, slice_get, slice_range, Option, Some, None, option_map, is_some, IfSome, refl, ap, sym, ◌∙◌, arith, add-zero, zero-add, append_assoc, length-append, subst, get_or-take, get_or-drop}
+use Rattle.std.proofs.Common.{◌≡◌, ℕ, zero, suc, ◌+◌, ◌-◌, ◌<◌, ◌≤◌, ◌%◌, nat_lt, Bool, true, false, cond, eqb, ◌&&◌, List, [], ◌∷◌, ◌++◌, length, take, drop, get_or, slice_index, slice_set, slice_get, slice_range, Option, Some, None, option_map, is_some, IfSome, refl, ap, sym, ◌∙◌, arith, add-zero, zero-add, append_assoc, length-append, subst, get_or-take, get_or-drop}
 use Rattle.std.proofs.lemmas.Bool.Decides.{nat_tests}
-use Rattle.std.proofs.lemmas.List.{map-append, length-set}
+use Rattle.std.proofs.lemmas.List.{length-set}
 use Rattle.std.specs.Option.{option_map_or}
 use Rattle.scenario_values.specs.declared.term.Term.{Term}
 use Rattle.scenario_values.specs.declared.term.Task.TheVariants as task
-use Rattle.action_eval.specs.declared.found.Found.{Found}
-use Rattle.action_eval.specs.declared.found.Head.{Head}
 use Rattle.action_eval.specs.Trial.{tried, is_spent, Trial}
 use Rattle.action_eval.specs.Answers.{task_at}
-use Rattle.action_eval.specs.inside.Session.{AllSpent, StartsUnspent, Rest, IsRest, AreRests, left_after, with_one_less, seen}
+use Rattle.action_eval.specs.inside.Session.{AllSpent, StartsUnspent, Rest, IsRest, AreRests, left_after, with_one_less}
 
 at_next : (i k : ℕ) → (i + 1) + k ≡ i + suc k
 at_next i k = omega arith
@@ -224,21 +222,12 @@ rests_length left [] (r ∷ rs) h = absurd h
 rests_length left (w ∷ ws) [] h = absurd h
 rests_length left (w ∷ ws) (r ∷ rs) h = ap suc (rests_length left ws rs h.1)
 
-rests_set : (left : List ℕ) (ws rs : List (Option (List Term × ℕ))) (p : ℕ) (d o : Option (List Term × ℕ)) → AreRests left ws rs → IsRest left (get_or ws p d) o → AreRests left ws (slice_set rs p o)
+pub rests_set : (left : List ℕ) (ws rs : List (Option (List Term × ℕ))) (p : ℕ) (d o : Option (List Term × ℕ)) → AreRests left ws rs → IsRest left (get_or ws p d) o → AreRests left ws (slice_set rs p o)
 rests_set left [] [] p d o h g = tt
 rests_set left [] (r ∷ rs) p d o h g = absurd h
 rests_set left (w ∷ ws) [] p d o h g = h
 rests_set left (w ∷ ws) (r ∷ rs) zero d o h g = (g, h.1)
 rests_set left (w ∷ ws) (r ∷ rs) (suc p) d o h g = (h.0, rests_set left ws rs p d o h.1 g)
-
-seen_set : (found : List (Option Found)) (p : ℕ) (f : Option Found) → map seen (slice_set found p f) ≡ slice_set (map seen found) p (seen f)
-seen_set [] p f = refl
-seen_set (x ∷ xs) zero f = refl
-seen_set (x ∷ xs) (suc p) f = ap (λ (l : List (Option (List Term × ℕ))). seen x ∷ l) (seen_set xs p f)
-
-pub rests_with : (left : List ℕ) (ws : List (Option (List Term × ℕ))) (found : List (Option Found)) (p : ℕ) (d : Option (List Term × ℕ)) (f : Option Found) → AreRests left ws (map seen found) → IsRest left (get_or ws p d) (seen f)
-    → AreRests left ws (map seen (slice_set found p f))
-rests_with left ws found p d f h g = subst (λ (l : List (Option (List Term × ℕ))). AreRests left ws l) (sym (seen_set found p f)) (rests_set left ws (map seen found) p d (seen f) h g)
 
 -- ---- terms found spent, one after another
 
@@ -252,33 +241,3 @@ one_more_spent spent i p ts t l e s h = let one : suc p ≡ p + 1 = omega arith 
 
 pub spent_by : (left : List ℕ) (j : ℕ) (t : Term) → is_some t.count ≡ true → slice_index left j ≡ 0 → is_spent left j t ≡ true
 spent_by left j t some none = ap (λ (b : Bool). b && eqb (slice_index left j) 0) some ∙ ap (λ (n : ℕ). eqb n 0) none
-
--- ---- points found one after another
-
-take_one : {A : Type 0} (xs : List A) (i : ℕ) (x : A) → i < length xs → take (i + 1) xs ≡ take i xs ++ get_or xs i x ∷ []
-take_one [] i x h = absurd (omega arith)
-take_one (y ∷ ys) zero x h = refl
-take_one {A} (y ∷ ys) (suc i) x h = let one : suc i + 1 ≡ suc (i + 1) = omega arith in ap (λ (n : ℕ). take n (y ∷ ys)) one ∙ ap (λ (l : List A). y ∷ l) (take_one ys i x (omega arith))
-
-take_set : {A : Type 0} (xs : List A) (i : ℕ) (x : A) → i < length xs → take (i + 1) (slice_set xs i x) ≡ take i xs ++ x ∷ []
-take_set [] i x h = absurd (omega arith)
-take_set (y ∷ ys) zero x h = refl
-take_set {A} (y ∷ ys) (suc i) x h = let one : suc i + 1 ≡ suc (i + 1) = omega arith in ap (λ (n : ℕ). take n (slice_set (y ∷ ys) (suc i) x)) one ∙ ap (λ (l : List A). y ∷ l) (take_set ys i x (omega arith))
-
-pub length_seen : (found : List (Option Found)) → length (map seen found) ≡ length found
-length_seen [] = refl
-length_seen (f ∷ fs) = ap suc (length_seen fs)
-
-pub found_more : {B : Type 0} (g : B → Option (List Term × ℕ)) (names : List B) (n : B) (found : List (Option Found)) (i : ℕ) (f : Option Found) → i < length names → i < length found
-    → take i (map seen found) ≡ map g (take i names) → seen f ≡ g (get_or names i n) → take (i + 1) (map seen (slice_set found i f)) ≡ map g (take (i + 1) names)
-found_more {B} g names n found i f less within so_far is =
-    ap (take (i + 1)) (seen_set found i f) ∙ take_set (map seen found) i (seen f) (omega (arith, length_seen found, within))
-    ∙ ap (λ (l : List (Option (List Term × ℕ))). l ++ seen f ∷ []) so_far ∙ ap (λ (o : Option (List Term × ℕ)). map g (take i names) ++ o ∷ []) is
-    ∙ sym (map-append g (take i names) (get_or names i n ∷ [])) ∙ ap (map g) (sym (take_one names i n less))
-
-pub heads_more : (head : Option (List Term × ℕ) → Head) (heads : List Head) (found : List (Option Found)) (i : ℕ) (h : Head) (f : Option Found) → i < length heads → i < length found
-    → take i heads ≡ map head (take i (map seen found)) → h ≡ head (seen f) → take (i + 1) (slice_set heads i h) ≡ map head (take (i + 1) (map seen (slice_set found i f)))
-heads_more head heads found i h f less within so_far is =
-    take_set heads i h less ∙ ap (λ (l : List Head). l ++ h ∷ []) so_far ∙ ap (λ (x : Head). map head (take i (map seen found)) ++ x ∷ []) is
-    ∙ sym (map-append head (take i (map seen found)) (seen f ∷ []))
-    ∙ ap (map head) (sym (ap (take (i + 1)) (seen_set found i f) ∙ take_set (map seen found) i (seen f) (omega (arith, length_seen found, within))))

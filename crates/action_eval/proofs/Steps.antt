@@ -11,12 +11,12 @@ use Rattle.scenario_values.specs.Scenario.{Entries, IsScenario, DistinctNames, e
 use Rattle.action_eval.specs.declared.answer.Stop.{Stop}
 use Rattle.action_eval.specs.declared.answer.Stop.TheVariants as stop
 use Rattle.action_eval.specs.declared.answer.Note.{Note}
-use Rattle.action_eval.specs.declared.found.Found.{Found}
+use Rattle.action_eval.specs.declared.found.Span.{Span}
 use Rattle.action_eval.specs.Words.{word, Drawn}
 use Rattle.action_eval.specs.Trial.{tried, is_spent, Trial}
 use Rattle.action_eval.specs.Answers.{Given, given_of, Run, Hit, Halt, next, hit, hit_by, history_of, and_then, name_of, trial, acted, is_used_up, words_of, notes_of, notes_of_task, total_millis, millis_of, stopped_by, stop_of, stopped, place_in, task_at, reply_to, reply_of}
-use Rattle.action_eval.specs.inside.Session.{IsOpen, Keeps, left_counts, start_of, found_of, with_one_less, left_after, seen, Rest, IsRest, AreRests, StartsUnspent}
-use Rattle.action_eval.proofs.Rests.{Stays, after_stays, whole_of, trial_of_rest, further, after_rest, within_rest, task_of_rest, length_of_rest, none_of_rest, rest_at, rests_with, rests_stay, rests_self, rests_length, rest_on, starts_in}
+use Rattle.action_eval.specs.inside.Session.{IsOpen, Keeps, left_counts, start_of, found_of, with_one_less, left_after, seen_in, IsSpan, Rest, IsRest, AreRests, StartsUnspent}
+use Rattle.action_eval.proofs.Rests.{Stays, after_stays, whole_of, trial_of_rest, further, after_rest, within_rest, task_of_rest, length_of_rest, none_of_rest, rest_at, rests_set, rests_stay, rests_self, rests_length, rest_on, starts_in}
 use Rattle.action_eval.proofs.Trials.{few_words}
 use Rattle.action_eval.proofs.NamedCounts.{found, trial_by_counts, counts_spent, counts_stay, ends_within, stands, stands_nowhere}
 use Rattle.action_eval.proofs.Histories.{history-hit, words-more, millis-more, notes-more, stopped-more}
@@ -176,16 +176,14 @@ keeps_same scenario catalogue limit found hits hits' left left' drawn drawn' not
     (subst (λ (x : ℕ). Keeps (record { given = given_of scenario catalogue drawn.seed drawn.stream limit; hits = hits }) found left drawn.taken notes x halt') e
     (subst (λ (x : Option Stop). Keeps (record { given = given_of scenario catalogue drawn.seed drawn.stream limit; hits = hits }) found left drawn.taken notes millis x) f k)))))
 
+pub keeps_found : (r : Run) (found found' : List (Option (List Term × ℕ))) (left : List ℕ) (taken : ℕ) (notes : List Note) (millis : ℕ) (halt : Option Stop) → found ≡ found' → Keeps r found left taken notes millis halt → Keeps r found' left taken notes millis halt
+keeps_found r found found' left taken notes millis halt e k = subst (λ (cs : List (Option (List Term × ℕ))). Keeps r cs left taken notes millis halt) e k
+
 -- what is left of the chain that was found for a point
 entry_at : (s : Entries) (names : List (List ℕ)) (p : ℕ) (d : Option (List Term × ℕ)) → p < length names → get_or (map (found_of s) names) p d ≡ found_of s (slice_index_or names p [])
 entry_at s [] p d h = absurd (omega arith)
 entry_at s (n ∷ ns) zero d h = refl
 entry_at s (n ∷ ns) (suc p) d h = entry_at s ns p d (omega arith)
-
-seen_at : (found : List (Option Found)) (p : ℕ) (d : Option Found) → get_or (map seen found) p (seen d) ≡ seen (get_or found p d)
-seen_at [] p d = refl
-seen_at (f ∷ fs) zero d = refl
-seen_at (f ∷ fs) (suc p) d = seen_at fs p d
 
 many : (s : Entries) (names : List (List ℕ)) (p : ℕ) → p < length names → p < length (map (found_of s) names)
 many s [] p h = absurd (omega arith)
@@ -195,64 +193,59 @@ many s (n ∷ ns) (suc p) h = omega (arith, many s ns p (omega arith))
 pub known_by : (r now : Run) (p : ℕ) → r ≡ now → p < length now.given.catalogue → p < length r.given.catalogue
 known_by r now p e h = subst (λ (x : Run). p < length x.given.catalogue) (sym e) h
 
-pub point_found : (r now : Run) (found : List (Option Found)) (left : List ℕ) (taken : ℕ) (notes : List Note) (millis : ℕ) (halt : Option Stop) → Keeps r (map seen found) left taken notes millis halt
-    → r ≡ now → (p : ℕ) → p < length now.given.catalogue → (d o : Option Found) → o ≡ get_or found p d → IsRest left (found_of r.given.scenario (name_of r.given p)) (seen o)
+pub point_found : (r now : Run) (found : List (Option (List Term × ℕ))) (left : List ℕ) (taken : ℕ) (notes : List Note) (millis : ℕ) (halt : Option Stop) → Keeps r found left taken notes millis halt
+    → r ≡ now → (p : ℕ) → p < length now.given.catalogue → (d o : Option (List Term × ℕ)) → o ≡ get_or found p d → IsRest left (found_of r.given.scenario (name_of r.given p)) o
 point_found r now found left taken notes millis halt k same p h d o e =
     let s = r.given.scenario in
     let names = r.given.catalogue in
     let known = known_by r now p same h in
-    let here = rest_at left (map (found_of s) names) (map seen found) p (seen d) (many s names p known) k.found_is in
-    subst (λ (f : Option (List Term × ℕ)). IsRest left (found_of s (name_of r.given p)) f) (seen_at found p d ∙ sym (ap seen e))
-    (subst (λ (f : Option (List Term × ℕ)). IsRest left f (get_or (map seen found) p (seen d))) (entry_at s names p (seen d) known) here)
+    let here = rest_at left (map (found_of s) names) found p d (many s names p known) k.found_is in
+    subst (λ (f : Option (List Term × ℕ)). IsRest left (found_of s (name_of r.given p)) f) (sym e)
+    (subst (λ (f : Option (List Term × ℕ)). IsRest left f (get_or found p d)) (entry_at s names p d known) here)
 
-seen_length : (found : List (Option Found)) → length (map seen found) ≡ length found
-seen_length [] = refl
-seen_length (f ∷ fs) = ap suc (seen_length fs)
-
-pub known_found : (r now : Run) (found : List (Option Found)) (left : List ℕ) (taken : ℕ) (notes : List Note) (millis : ℕ) (halt : Option Stop) → Keeps r (map seen found) left taken notes millis halt
+pub known_found : (r now : Run) (found : List (Option (List Term × ℕ))) (left : List ℕ) (taken : ℕ) (notes : List Note) (millis : ℕ) (halt : Option Stop) → Keeps r found left taken notes millis halt
     → r ≡ now → (p : ℕ) → p < length now.given.catalogue → p < length found
 known_found r now found left taken notes millis halt k same p h =
     let s = r.given.scenario in
     let names = r.given.catalogue in
-    let all = rests_length left (map (found_of s) names) (map seen found) k.found_is in
-    omega (arith, all, seen_length found, many s names p (known_by r now p same h))
+    let all = rests_length left (map (found_of s) names) found k.found_is in
+    omega (arith, all, many s names p (known_by r now p same h))
 
 -- there are as many as there are points
 points_length : (s : Entries) (names : List (List ℕ)) → length (map (found_of s) names) ≡ length names
 points_length s [] = refl
 points_length s (n ∷ ns) = ap suc (points_length s ns)
 
-pub found_length : (r : Run) (found : List (Option Found)) (left : List ℕ) (taken : ℕ) (notes : List Note) (millis : ℕ) (halt : Option Stop) → Keeps r (map seen found) left taken notes millis halt → length found ≡ length r.given.catalogue
+pub found_length : (r : Run) (found : List (Option (List Term × ℕ))) (left : List ℕ) (taken : ℕ) (notes : List Note) (millis : ℕ) (halt : Option Stop) → Keeps r found left taken notes millis halt → length found ≡ length r.given.catalogue
 found_length r found left taken notes millis halt k =
-    sym (seen_length found) ∙ rests_length left (map (found_of r.given.scenario) r.given.catalogue) (map seen found) k.found_is ∙ points_length r.given.scenario r.given.catalogue
+    rests_length left (map (found_of r.given.scenario) r.given.catalogue) found k.found_is ∙ points_length r.given.scenario r.given.catalogue
 
 -- the same of what a look-up gave
-pub point_none : (r now : Run) (found : List (Option Found)) (left : List ℕ) (taken : ℕ) (notes : List Note) (millis : ℕ) (halt : Option Stop) → Keeps r (map seen found) left taken notes millis halt
-    → r ≡ now → (p : ℕ) → p < length now.given.catalogue → (d o : Option Found) → o ≡ get_or found p d → o ≡ None → IsRest left (found_of r.given.scenario (name_of r.given p)) None
+pub point_none : (r now : Run) (found : List (Option (List Term × ℕ))) (left : List ℕ) (taken : ℕ) (notes : List Note) (millis : ℕ) (halt : Option Stop) → Keeps r found left taken notes millis halt
+    → r ≡ now → (p : ℕ) → p < length now.given.catalogue → (d o : Option (List Term × ℕ)) → o ≡ get_or found p d → o ≡ None → IsRest left (found_of r.given.scenario (name_of r.given p)) None
 point_none r now found left taken notes millis halt k same p h d o e is =
-    subst (λ (x : Option Found). IsRest left (found_of r.given.scenario (name_of r.given p)) (seen x)) is (point_found r now found left taken notes millis halt k same p h d o e)
+    subst (λ (x : Option (List Term × ℕ)). IsRest left (found_of r.given.scenario (name_of r.given p)) x) is (point_found r now found left taken notes millis halt k same p h d o e)
 
-pub point_some : (r now : Run) (found : List (Option Found)) (left : List ℕ) (taken : ℕ) (notes : List Note) (millis : ℕ) (halt : Option Stop) → Keeps r (map seen found) left taken notes millis halt
-    → r ≡ now → (p : ℕ) → p < length now.given.catalogue → (d o : Option Found) → o ≡ get_or found p d → (f : Found) → o ≡ Some f → IsRest left (found_of r.given.scenario (name_of r.given p)) (seen (Some f))
+pub point_some : (r now : Run) (found : List (Option (List Term × ℕ))) (left : List ℕ) (taken : ℕ) (notes : List Note) (millis : ℕ) (halt : Option Stop) → Keeps r found left taken notes millis halt
+    → r ≡ now → (p : ℕ) → p < length now.given.catalogue → (d o : Option (List Term × ℕ)) → o ≡ get_or found p d → (f : List Term × ℕ) → o ≡ Some f → IsRest left (found_of r.given.scenario (name_of r.given p)) (Some f)
 point_some r now found left taken notes millis halt k same p h d o e f is =
-    subst (λ (x : Option Found). IsRest left (found_of r.given.scenario (name_of r.given p)) (seen x)) is (point_found r now found left taken notes millis halt k same p h d o e)
+    subst (λ (x : Option (List Term × ℕ)). IsRest left (found_of r.given.scenario (name_of r.given p)) x) is (point_found r now found left taken notes millis halt k same p h d o e)
 
 -- the rests, where that of a point is another one
-rests_after : (r now : Run) (found : List (Option Found)) (left : List ℕ) (taken : ℕ) (notes : List Note) (millis : ℕ) (halt : Option Stop) → Keeps r (map seen found) left taken notes millis halt
-    → r ≡ now → (p : ℕ) → p < length now.given.catalogue → (f : Option Found) → IsRest left (found_of r.given.scenario (name_of r.given p)) (seen f)
-    → AreRests left (map (found_of r.given.scenario) r.given.catalogue) (map seen (slice_set found p f))
+rests_after : (r now : Run) (found : List (Option (List Term × ℕ))) (left : List ℕ) (taken : ℕ) (notes : List Note) (millis : ℕ) (halt : Option Stop) → Keeps r found left taken notes millis halt
+    → r ≡ now → (p : ℕ) → p < length now.given.catalogue → (f : Option (List Term × ℕ)) → IsRest left (found_of r.given.scenario (name_of r.given p)) f
+    → AreRests left (map (found_of r.given.scenario) r.given.catalogue) (slice_set found p f)
 rests_after r now found left taken notes millis halt k same p h f at =
     let s = r.given.scenario in
-    rests_with left (map (found_of s) r.given.catalogue) found p None f k.found_is
-    (subst (λ (o : Option (List Term × ℕ)). IsRest left o (seen f)) (sym (entry_at s r.given.catalogue p None (known_by r now p same h))) at)
+    rests_set left (map (found_of s) r.given.catalogue) found p None f k.found_is
+    (subst (λ (o : Option (List Term × ℕ)). IsRest left o f) (sym (entry_at s r.given.catalogue p None (known_by r now p same h))) at)
 
 -- the fields after a hit of a point, where terms that are spent then are left out of what is left of its chain
-pub keeps_rest : (r : Run) (p : ℕ) (found : List (Option Found)) (left : List ℕ) (taken : ℕ) (notes : List Note) (millis : ℕ) (halt : Option Stop) → Keeps r (map seen found) left taken notes millis halt
-    → p < length r.given.catalogue → (f g : Found) → IsRest left (found_of r.given.scenario (name_of r.given p)) (seen (Some f)) → (read : List ℕ) → read ≡ left → Rest read (f.chain.now, f.start) (g.chain.now, g.start)
-    → Keeps r (map seen (slice_set found p (Some g))) left taken notes millis halt
+pub keeps_rest : (r : Run) (p : ℕ) (found : List (Option (List Term × ℕ))) (left : List ℕ) (taken : ℕ) (notes : List Note) (millis : ℕ) (halt : Option Stop) → Keeps r found left taken notes millis halt
+    → p < length r.given.catalogue → (f g : List Term × ℕ) → IsRest left (found_of r.given.scenario (name_of r.given p)) (Some f) → (read : List ℕ) → read ≡ left → Rest read f g
+    → Keeps r (slice_set found p (Some g)) left taken notes millis halt
 keeps_rest r p found left taken notes millis halt k h f g at read read_is rest =
-    let less = rest_on left (found_of r.given.scenario (name_of r.given p)) (f.chain.now, f.start) (g.chain.now, g.start) at
-    (subst (λ (l : List ℕ). Rest l (f.chain.now, f.start) (g.chain.now, g.start)) read_is rest) in
+    let less = rest_on left (found_of r.given.scenario (name_of r.given p)) f g at (subst (λ (l : List ℕ). Rest l f g) read_is rest) in
     record {
       scenario = k.scenario;
       found_is = rests_after r r found left taken notes millis halt k refl p h (Some g) less;
@@ -273,18 +266,24 @@ room_of r now same h = subst (λ (x : Run). length x.hits < x.given.limit) (sym 
 pub limit_of : (r now : Run) → r ≡ now → now.given.limit < 2 ^ 32 → r.given.limit < 2 ^ 32
 limit_of r now same h = subst (λ (x : Run). x.given.limit < 2 ^ 32) (sym same) h
 
-abbrev RestBy : Run → ℕ → Option (List Term × ℕ) → Type 0
-RestBy x p o = IsRest (left_counts (history_of x) x.given.scenario) (found_of x.given.scenario (name_of x.given p)) o
+abbrev RestBy : Run → ℕ → Option Span → Type 0
+RestBy x p o = IsRest (left_counts (history_of x) x.given.scenario) (found_of x.given.scenario (name_of x.given p)) (seen_in x.given.scenario o)
 
 pub rest_of_point : (r now : Run) (found : List (Option (List Term × ℕ))) (left : List ℕ) (taken : ℕ) (notes : List Note) (millis : ℕ) (halt : Option Stop) → Keeps r found left taken notes millis halt
-    → r ≡ now → (p : ℕ) (o : Option (List Term × ℕ)) → RestBy now p o → IsRest left (found_of r.given.scenario (name_of r.given p)) o
+    → r ≡ now → (p : ℕ) (o : Option Span) → RestBy now p o → IsRest left (found_of r.given.scenario (name_of r.given p)) (seen_in r.given.scenario o)
 rest_of_point r now found left taken notes millis halt k same p o h =
-    subst (λ (l : List ℕ). IsRest l (found_of r.given.scenario (name_of r.given p)) o) (sym k.left_is) (subst (λ (x : Run). RestBy x p o) (sym same) h)
+    subst (λ (l : List ℕ). IsRest l (found_of r.given.scenario (name_of r.given p)) (seen_in r.given.scenario o)) (sym k.left_is) (subst (λ (x : Run). RestBy x p o) (sym same) h)
 
 pub rest_by_point : (r now : Run) (found : List (Option (List Term × ℕ))) (left : List ℕ) (taken : ℕ) (notes : List Note) (millis : ℕ) (halt : Option Stop) → Keeps r found left taken notes millis halt
-    → r ≡ now → (p : ℕ) (o : Option (List Term × ℕ)) → IsRest left (found_of r.given.scenario (name_of r.given p)) o → RestBy now p o
+    → r ≡ now → (p : ℕ) (o : Option Span) → IsRest left (found_of r.given.scenario (name_of r.given p)) (seen_in r.given.scenario o) → RestBy now p o
 rest_by_point r now found left taken notes millis halt k same p o h =
-    subst (λ (x : Run). RestBy x p o) same (subst (λ (l : List ℕ). IsRest l (found_of r.given.scenario (name_of r.given p)) o) k.left_is h)
+    subst (λ (x : Run). RestBy x p o) same (subst (λ (l : List ℕ). IsRest l (found_of r.given.scenario (name_of r.given p)) (seen_in r.given.scenario o)) k.left_is h)
+
+pub span_of : (r now : Run) (p : Span) → r ≡ now → IsSpan now.given.scenario p → IsSpan r.given.scenario p
+span_of r now p same is = subst (λ (x : Run). IsSpan x.given.scenario p) (sym same) is
+
+pub span_by : (r now : Run) (p : Span) → r ≡ now → IsSpan r.given.scenario p → IsSpan now.given.scenario p
+span_by r now p same is = subst (λ (x : Run). IsSpan x.given.scenario p) same is
 
 -- a hit of a point without a chain
 pub finds_none : (r : Run) (p : ℕ) (found : List (Option (List Term × ℕ))) (left : List ℕ) (taken : ℕ) (notes : List Note) (millis : ℕ) (halt : Option Stop) → Keeps r found left taken notes millis halt

@@ -1,16 +1,25 @@
 //! Where the chains of the points stand.
 ghost use Rattle.std.specs.Prelude.{◌≡◌, ◌+◌, ◌<◌, ◌≤◌, length, map};
+ghost use Rattle.std.specs.List.{slice_range};
+ghost use Rattle.std.specs.Option.{IfSome};
 ghost use Rattle.scenario_values.specs.Scenario.{IsScenario};
 ghost use Rattle.action_eval.specs.Answers.{texts};
-ghost use Rattle.action_eval.specs.inside.Session.{seen, found_of, start_of, head_of, Rest, StartsUnspent};
+ghost use Rattle.action_eval.specs.inside.Session.{AreSpans, IsSpan, Rest, StartsUnspent, first_head, found_of, head_of, seen_in, spanned, start_of, terms_of};
 ghost use Rattle.action_eval.specs.Trial.{is_spent};
-ghost use Rattle.action_eval.specs.inside.Laid.{placed};
 
 use crate::terms::FULL_SHARE;
 use scenario_values::{Scenario, Task, Term};
 
-/// A chain, and where its counts begin among those of all chains. Terms at its head that are spent may be left out: a count never grows,
-/// so they stay spent.
+/// Where a chain stands among the terms of all entries, of which there is a count each: its entry, its first term, and what is behind its
+/// last. Terms at its head that are spent may be left out: a count never grows, so they stay spent.
+#[derive(Clone, Copy)]
+pub struct Span {
+    pub entry: usize,
+    pub start: usize,
+    pub end: usize,
+}
+
+/// A chain, and where its counts begin among those of all chains.
 #[derive(Clone, Copy)]
 pub struct Found<'a> {
     pub chain: &'a [Term],
@@ -19,8 +28,8 @@ pub struct Found<'a> {
 
 /// Where the chain of each point stands, what its next hit meets, and what is left of the counts of all chains.
 #[derive(Drop)]
-pub struct Layout<'a> {
-    pub found: Vec<Option<Found<'a>>>,
+pub struct Layout {
+    pub spans: Vec<Option<Span>>,
     pub heads: Vec<Head>,
     pub left: Vec<u32>,
 }
@@ -36,32 +45,52 @@ pub enum Head {
     Terms,
 }
 
-impl<'a> Found<'a> {
-    /// A chain whose counts begin at this place; of no term, none.
-    pub fn of(chain: &'a [Term], start: usize) -> Option<Self>
-        ensures { seen result ≡ placed chain.now start }
+impl Span {
+    /// Where the terms from one place to another stand, which are those of this entry; of no term, nowhere.
+    pub fn of(entry: usize, start: usize, end: usize) -> Option<Self>
+        ensures { result ≡ spanned entry start end }
     {
-        if chain.is_empty() {
+        if start == end {
             return None;
         }
-        Some(Found { chain, start })
+        Some(Span { entry, start, end })
     }
 }
 
 /// What the next hit of a point meets, by what is left of its chain.
-pub fn head_of(found: Option<Found<'_>>) -> Head
-    ensures { result ≡ head_of (seen found.entry) }
+pub fn first_head(found: Found<'_>) -> Head
+    ensures { result ≡ first_head found.entry.chain.now found.entry.start }
 {
-    let Some(found) = found else {
+    let Some(first) = found.chain.first() else {
         return Head::Nothing;
     };
-    match found.chain.first() {
-        None => Head::Nothing,
-        Some(first) => match first.task {
-            Task::Off if first.share == FULL_SHARE => Head::Off(found.start),
-            _ => Head::Terms,
-        },
+    match first.task {
+        Task::Off if first.share == FULL_SHARE => Head::Off(found.start),
+        _ => Head::Terms,
     }
+}
+
+/// The chain that stands there.
+pub fn chain_in<'a>(scenario: &'a Scenario, span: Span) -> &'a [Term]
+    requires { IsSpan scenario.now span }
+    ensures { result.now ≡ slice_range (terms_of scenario.now) span.start span.end }
+{
+    let chain = scenario.chain(span.entry);
+    &chain[chain.len() - (span.end - span.start)..]
+}
+
+/// What the next hit of a point meets whose chain stands there; of a point without one, no term.
+fn head_of(scenario: &Scenario, span: Option<Span>) -> Head
+    requires { IfSome span (λ p. IsSpan scenario.now p) }
+    ensures { result ≡ head_of (seen_in scenario.now span) }
+{
+    let Some(span) = span else {
+        return Head::Nothing;
+    };
+    first_head(Found {
+        chain: chain_in(scenario, span),
+        start: span.start,
+    })
 }
 
 /// A chain without the terms at its head that are spent.
@@ -98,31 +127,36 @@ pub fn start_of(scenario: &Scenario, entry: usize) -> usize
 }
 
 /// Where the chain of a name stands.
-pub fn find<'a>(scenario: &'a Scenario, name: &str) -> Option<Found<'a>>
-    ensures { seen result ≡ found_of scenario.now name.now }
+pub fn find(scenario: &Scenario, name: &str) -> Option<Span>
+    ensures span { IfSome result (λ p. IsSpan scenario.now p) }
+    ensures seen { seen_in scenario.now result ≡ found_of scenario.now name.now }
 {
+    let _ = scenario.entries();
     let entry = scenario.entry_of(name)?;
-    Some(Found {
-        chain: scenario.chain(entry),
-        start: start_of(scenario, entry),
+    let start = start_of(scenario, entry);
+    Some(Span {
+        entry,
+        start,
+        end: start + scenario.chain(entry).len(),
     })
 }
 
 /// Where the chain of each point stands, and what its next hit meets, in place of what stood there.
-pub fn find_all<'a>(
-    found: &mut Vec<Option<Found<'a>>>,
+pub fn find_all(
+    spans: &mut Vec<Option<Span>>,
     heads: &mut Vec<Head>,
-    scenario: &'a Scenario,
+    scenario: &Scenario,
     catalogue: &[&str],
 )
-    requires found { length found.old.items ≡ length catalogue.now }
+    requires spans { length spans.old.items ≡ length catalogue.now }
     requires heads { length heads.old.items ≡ length catalogue.now }
-    ensures found { map seen found.new.items ≡ map (found_of scenario.now) (texts catalogue.now) }
-    ensures heads { heads.new.items ≡ map head_of (map seen found.new.items) }
+    ensures are_spans { AreSpans scenario.now spans.new.items }
+    ensures found { map (seen_in scenario.now) spans.new.items ≡ map (found_of scenario.now) (texts catalogue.now) }
+    ensures heads { heads.new.items ≡ map head_of (map (seen_in scenario.now) spans.new.items) }
 {
     for (point, name) in catalogue.iter().enumerate() {
-        let chain = find(scenario, name);
-        found[point] = chain;
-        heads[point] = head_of(chain);
+        let span = find(scenario, name);
+        spans[point] = span;
+        heads[point] = head_of(scenario, span);
     }
 }

@@ -7,7 +7,7 @@ ghost use Rattle.action_eval.specs.inside.Replay.{chain_or_none, trial_by};
 use crate::answer::{Stop, stop_of};
 use crate::counts::{fill_counts, spend};
 use crate::draws::Draws;
-use crate::found::{Found, find};
+use crate::found::{Found, chain_in, find};
 use crate::terms::{task_at, try_terms};
 use scenario_values::{Scenario, Task};
 use std::alloc::{AllocError, Global};
@@ -86,7 +86,10 @@ fn find_or_none<'a>(scenario: &'a Scenario, name: &str) -> Found<'a>
     ensures { (result.chain.now, result.start) ≡ chain_or_none (found_of scenario.now name.now) }
 {
     match find(scenario, name) {
-        Some(found) => found,
+        Some(span) => Found {
+            chain: chain_in(scenario, span),
+            start: span.start,
+        },
         None => Found {
             chain: &[],
             start: 0,

@@ -5,10 +5,12 @@ ghost use Rattle.action_eval.specs.Catalogue.{IsCatalogue, HasDistinct};
 ghost use Rattle.action_eval.specs.Rigging.{term_of, offs, terms_at, done_after, chain_from, rigging, CanBeRigged, rigged_as};
 ghost use Rattle.action_eval.specs.inside.Laid.{joined, sizes_of, laid, AreSizes};
 ghost use Rattle.scenario_values.specs.Scenario.{IsScenario};
+ghost use Rattle.std.specs.List.{slice_range};
 ghost use Rattle.action_eval.specs.inside.Layout.{IsLayout};
+ghost use Rattle.action_eval.specs.inside.Session.{terms_of};
 
 use crate::counts::push_counts;
-use crate::found::{Found, Head, Layout, head_of};
+use crate::found::{Found, Layout, Span, first_head};
 use crate::rig::{Kind, Rig};
 use crate::terms::FULL_SHARE;
 use scenario_values::{Task, Term};
@@ -99,35 +101,40 @@ fn lay(
     Ok(())
 }
 
-/// Where the chains of points stand that have so many of the terms each, and their counts, in the room of these vectors.
-fn layout_of<'a>(
-    alloc: Global,
+/// Where the chains of points stand that have so many of the terms each, and their counts, in the room of another layout.
+#[inline(always)]
+fn layout_of(
     catalogue: &[&str],
     sizes: &[usize],
-    terms: &'a [Term],
-    mut heads: Vec<Head>,
-    mut left: Vec<u32>,
-) -> Result<Layout<'a>, AllocError>
+    terms: &[Term],
+    room: Layout,
+) -> Result<Layout, AllocError>
     requires distinct { HasDistinct (texts catalogue.now) }
     requires sizes { AreSizes (texts catalogue.now) sizes.now terms.now }
     requires limits { IsScenario (laid (texts catalogue.now) sizes.now terms.now) }
     ensures { IfOk result (λ layout. IsLayout (laid (texts catalogue.now) sizes.now terms.now) (texts catalogue.now) layout) }
 {
-    let mut found = Vec::with_capacity(alloc, catalogue.len())?;
+    let mut spans = room.spans;
+    spans.clear();
+    spans.reserve(catalogue.len())?;
+    let mut heads = room.heads;
     heads.clear();
     heads.reserve(catalogue.len())?;
+    let mut left = room.left;
     left.clear();
     left.reserve(terms.len())?;
     let mut rest = terms;
+    let mut entry = 0;
     for point in 0..catalogue.len() {
         let (chain, behind) = rest.split_at(sizes[point]);
-        let here = Found::of(chain, left.len());
+        let start = left.len();
         push_counts(&mut left, chain);
-        heads.push_reserved(head_of(here));
-        found.push_reserved(here);
+        heads.push_reserved(first_head(Found { chain, start }));
+        spans.push_reserved(Span::of(entry, start, left.len()));
+        entry += usize::from(!chain.is_empty());
         rest = behind;
     }
-    Ok(Layout { found, heads, left })
+    Ok(Layout { spans, heads, left })
 }
 
 /// Hits of points at which faults are rigged, laid out so that a session finds each point's chain by the point's number.
@@ -199,22 +206,25 @@ impl<'a> Rigging<'a> {
         self.catalogue
     }
 
-    /// Where the chains of the points stand, and their counts, in the room of these vectors. An error means that memory was refused.
-    pub(crate) fn layout<'s>(
-        &'s self,
-        alloc: Global,
-        heads: Vec<Head>,
-        left: Vec<u32>,
-    ) -> Result<Layout<'s>, AllocError>
+    /// The terms of which all chains are made, from one place to another.
+    pub(crate) fn terms(&self, start: usize, end: usize) -> &[Term]
+        requires ordered { start ≤ end }
+        requires within { end ≤ length (terms_of self.now.scenario) }
+        ensures { result.now ≡ slice_range (terms_of self.now.scenario) start end }
+    {
+        &self.terms[start..end]
+    }
+
+    /// Where the chains of the points stand, and their counts, in the room of another layout. An error means that memory was refused.
+    #[inline(always)]
+    pub(crate) fn layout(&self, room: Layout) -> Result<Layout, AllocError>
         ensures { IfOk result (λ layout. IsLayout self.now.scenario self.now.names layout) }
     {
         layout_of(
-            alloc,
             self.catalogue,
             self.sizes.as_slice(),
             self.terms.as_slice(),
-            heads,
-            left,
+            room,
         )
     }
 }

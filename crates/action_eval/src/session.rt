@@ -1,17 +1,18 @@
 //! A session: one run, hit by hit.
 ghost use Rattle.std.specs.Prelude.{◌≡◌, ◌+◌, ◌^◌, ◌<◌, ◌≤◌, [], All, replicate, length, IfOk, OnOk, OnErr, None, Some, false, ◌++◌, ◌∷◌};
 ghost use Rattle.action_eval.specs.Answers.{AllGo, hits_of, rounds, did, task_at, replies, GoesOn, reply_to, reply_of_answer, hit, stopped, notes_of_task, asked, history_of, notes_of, total_millis, words_of, start, given_of, texts, name_of};
-ghost use Rattle.action_eval.specs.inside.Session.{found_of, seen, left_counts, IsRest};
+ghost use Rattle.std.specs.List.{slice_range};
+ghost use Rattle.action_eval.specs.inside.Session.{found_of, seen_in, left_counts, terms_of, IsRest, IsSpan};
 ghost use Rattle.action_eval.specs.inside.Layout.{faults_of, IsLayout};
 
 use crate::answer::{Answer, Note, Stop, answer_of, millis_of, push_note, stop_of};
 use crate::counts::{fill_counts, spend};
 use crate::draws::Draws;
-use crate::found::{Found, Head, Layout, find_all, head_of, without_spent};
+use crate::found::{Found, Head, Layout, Span, chain_in, find_all, first_head, without_spent};
 use crate::quiet::{pass_hits, pass_points};
 use crate::rigging::Rigging;
 use crate::terms::{task_at, try_terms};
-use scenario_values::{Scenario, Task};
+use scenario_values::{Scenario, Task, Term};
 use std::alloc::{AllocError, Global};
 use std::marker::Model;
 
@@ -32,21 +33,17 @@ fn answerable_after(stopped: Option<Stop>, answerable: u32) -> u32
 
 /// Where the chains of the points of a catalogue stand in a scenario: each is looked up by its name. An error means that memory was
 /// refused.
-fn layout_of<'a>(
-    alloc: Global,
-    scenario: &'a Scenario,
-    catalogue: &[&str],
-) -> Result<Layout<'a>, AllocError>
+fn layout_of(alloc: Global, scenario: &Scenario, catalogue: &[&str]) -> Result<Layout, AllocError>
     ensures { IfOk result (λ layout. IsLayout scenario.now (texts catalogue.now) layout) }
 {
     let mut left = Vec::new(alloc);
     fill_counts(&mut left, scenario)?;
-    let mut found = Vec::new(alloc);
-    found.resize(catalogue.len(), None)?;
+    let mut spans = Vec::new(alloc);
+    spans.resize(catalogue.len(), None)?;
     let mut heads = Vec::new(alloc);
     heads.resize(catalogue.len(), Head::Nothing)?;
-    find_all(&mut found, &mut heads, scenario, catalogue);
-    Ok(Layout { found, heads, left })
+    find_all(&mut spans, &mut heads, scenario, catalogue);
+    Ok(Layout { spans, heads, left })
 }
 
 /// Keeps a hit and its note, or neither.
@@ -85,8 +82,7 @@ struct Records {
 #[derive(Drop)]
 pub struct Room {
     records: Records,
-    heads: Vec<Head>,
-    left: Vec<u32>,
+    layout: Layout,
 }
 
 impl Model for Room {
@@ -107,8 +103,11 @@ impl Room {
                 hits: Vec::new(alloc),
                 notes: Vec::new(alloc),
             },
-            heads: Vec::new(alloc),
-            left: Vec::new(alloc),
+            layout: Layout {
+                spans: Vec::new(alloc),
+                heads: Vec::new(alloc),
+                left: Vec::new(alloc),
+            },
         }
     }
 }
@@ -120,6 +119,19 @@ pub enum Faults<'a> {
     Rigged(&'a Rigging<'a>),
 }
 
+impl<'a> Faults<'a> {
+    /// The chain that stands there.
+    fn chain(self, span: Span) -> &'a [Term]
+        requires { IsSpan (faults_of self) span }
+        ensures { result.now ≡ slice_range (terms_of (faults_of self.entry)) span.start span.end }
+    {
+        match self {
+            Faults::Written(scenario) => chain_in(scenario, span),
+            Faults::Rigged(rigging) => rigging.terms(span.start, span.end),
+        }
+    }
+}
+
 /// One run under a scenario: what it is given, and the hits so far. It borrows the scenario and the names of the points.
 ///
 /// Contracts see it as what it is given and the list of points that were hit: all else follows from these.
@@ -129,7 +141,7 @@ pub struct Session<'a> {
     catalogue: &'a [&'a str],
     max_hits: u32,
     hits: Vec<u32>,
-    found: Vec<Option<Found<'a>>>,
+    spans: Vec<Option<Span>>,
     heads: Vec<Head>,
     left: Vec<u32>,
     draws: Draws,
@@ -145,8 +157,8 @@ pub struct Session<'a> {
 impl<'a> Model for Session<'a> {
     ghost use Rattle.std.specs.Prelude.{◌≡◌, map};
     ghost use Rattle.action_eval.specs.Answers.{Run};
-    ghost use Rattle.action_eval.specs.inside.Session.{IsOpen, Keeps, seen, head_of};
-    ghost use Rattle.action_eval.specs.inside.Layout.{run_of};
+    ghost use Rattle.action_eval.specs.inside.Session.{AreSpans, IsOpen, Keeps, seen_in, head_of};
+    ghost use Rattle.action_eval.specs.inside.Layout.{faults_of, run_of};
 
     ghost Value = { Run };
 
@@ -154,8 +166,9 @@ impl<'a> Model for Session<'a> {
 
     ghost invariant = { λ s.
         Keeps (run_of s.faults (map (λ n. n.now) s.catalogue.now) s.draws s.max_hits s.hits.items)
-        (map seen s.found.items) s.left.items s.draws.taken s.notes.items s.millis s.stopped
-        × (s.heads.items ≡ map head_of (map seen s.found.items))
+        (map (seen_in (faults_of s.faults)) s.spans.items) s.left.items s.draws.taken s.notes.items s.millis s.stopped
+        × (s.heads.items ≡ map head_of (map (seen_in (faults_of s.faults)) s.spans.items))
+        × AreSpans (faults_of s.faults) s.spans.items
         × IsOpen s.stopped s.max_hits s.answerable s.asked_after_stop };
 }
 
@@ -196,14 +209,13 @@ impl<'a> Session<'a> {
     ) -> Result<Self, AllocError>
         ensures { IfOk result (λ s. s ≡ start (given_of rigging.now.scenario rigging.now.names seed stream max_hits)) }
     {
-        Session::over_in(alloc, Room::new(alloc), rigging, seed, stream, max_hits)
+        Session::over_in(Room::new(alloc), rigging, seed, stream, max_hits)
     }
 
     /// The same in the room that an earlier session left, of whatever run that was. Want of memory gives the room back to the system.
     // A session has the place of a generator in it: made within its caller, it isn't moved.
     #[inline(always)]
     pub fn over_in(
-        alloc: Global,
         room: Room,
         rigging: &'a Rigging<'a>,
         seed: u64,
@@ -212,7 +224,7 @@ impl<'a> Session<'a> {
     ) -> Result<Self, AllocError>
         ensures { IfOk result (λ s. s ≡ start (given_of rigging.now.scenario rigging.now.names seed stream max_hits)) }
     {
-        let layout = rigging.layout(alloc, room.heads, room.left)?;
+        let layout = rigging.layout(room.layout)?;
         Session::begin(
             Faults::Rigged(rigging),
             rigging.catalogue(),
@@ -229,7 +241,7 @@ impl<'a> Session<'a> {
     fn begin(
         faults: Faults<'a>,
         catalogue: &'a [&'a str],
-        layout: Layout<'a>,
+        layout: Layout,
         records: Records,
         seed: u64,
         stream: u64,
@@ -248,7 +260,7 @@ impl<'a> Session<'a> {
             catalogue,
             max_hits,
             hits,
-            found: layout.found,
+            spans: layout.spans,
             heads: layout.heads,
             left: layout.left,
             draws: Draws::new(seed, stream),
@@ -327,20 +339,21 @@ impl<'a> Session<'a> {
         ensures goes_on { IfOk result (λ a. GoesOn (reply_of_answer a) self.new) }
         ensures err { OnErr result (self.new ≡ self.old) }
     {
-        let Some(found) = self.found[point as usize] else {
+        let Some(span) = self.spans[point as usize] else {
             self.hits.push(point)?;
             return Ok(Answer::Go);
         };
-        self.hit_chain(point, found)
+        self.hit_chain(point, span)
     }
 
-    /// Hits a point with a chain, of which this is what is left.
-    fn hit_chain(&mut self, point: u32, found: Found<'a>) -> Result<Answer<'a>, AllocError>
+    /// Hits a point with a chain, of which what is left stands there.
+    fn hit_chain(&mut self, point: u32, span: Span) -> Result<Answer<'a>, AllocError>
         requires room { length self.old.hits < self.old.given.limit }
         requires limit { self.old.given.limit < 2 ^ 32 }
         requires known { point < length self.old.given.catalogue }
         requires chain { IsRest (left_counts (history_of self.old) self.old.given.scenario)
-            (found_of self.old.given.scenario (name_of self.old.given point)) (seen (Some found)) }
+            (found_of self.old.given.scenario (name_of self.old.given point)) (seen_in self.old.given.scenario (Some span)) }
+        requires span { IsSpan self.old.given.scenario span }
         requires running { stopped self.old ≡ None }
         ensures answer { IfOk result (λ a. reply_of_answer a ≡ reply_to self.old point) }
         ensures ok { OnOk result (self.new ≡ hit self.old point) }
@@ -349,17 +362,21 @@ impl<'a> Session<'a> {
         ensures err { OnErr result (self.new ≡ self.old) }
     {
         let taken = self.draws.taken();
-        let end = found.start + found.chain.len();
-        let place = try_terms(found.chain, &self.left[found.start..end], &mut self.draws);
-        let task = task_at(found.chain, place);
+        let chain = self.faults.chain(span);
+        let place = try_terms(chain, &self.left[span.start..span.end], &mut self.draws);
+        let task = task_at(chain, place);
         if let Err(refused) = keep(&mut self.hits, &mut self.notes, point, task) {
             self.draws.go_back(taken);
             return Err(refused);
         }
-        spend(&mut self.left, found.start, place);
-        let found = without_spent(found, &self.left);
-        self.found[point as usize] = Some(found);
-        self.heads[point as usize] = head_of(Some(found));
+        spend(&mut self.left, span.start, place);
+        let start = span.start;
+        let rest = without_spent(Found { chain, start }, &self.left);
+        self.spans[point as usize] = Some(Span {
+            start: rest.start,
+            ..span
+        });
+        self.heads[point as usize] = first_head(rest);
         self.millis += u64::from(millis_of(task));
         self.stopped = stop_of(task);
         self.answerable = answerable_after(self.stopped, self.answerable);
@@ -445,8 +462,11 @@ impl<'a> Session<'a> {
                 hits: self.hits,
                 notes: self.notes,
             },
-            heads: self.heads,
-            left: self.left,
+            layout: Layout {
+                spans: self.spans,
+                heads: self.heads,
+                left: self.left,
+            },
         }
     }
 

@@ -27,7 +27,6 @@ fn rigged_verdict<T: Target>(
 {
     let left = mem::replace(room, Room::new(alloc));
     let mut session = Session::over_in(
-        alloc,
         left,
         rigging,
         course.seed,

@@ -1,5 +1,5 @@
 -- How a rigging keeps its scenario: the terms of all points one after another, and how many of them each point has.
-use Rattle.std.specs.Prelude.{ℕ, zero, suc, ◌+◌, ◌≤◌, List, [], ◌∷◌, ◌++◌, length, take, drop, Option, Some, None}
+use Rattle.std.specs.Prelude.{ℕ, zero, suc, ◌+◌, ◌≤◌, List, [], ◌∷◌, ◌++◌, length, take, drop}
 use Rattle.scenario_values.specs.declared.term.Term.{Term}
 use Rattle.scenario_values.specs.Scenario.{Entries}
 use Rattle.action_eval.specs.declared.rig.Rig.{Rig}
@@ -26,8 +26,3 @@ joined p (suc count) rigs = chain_from p 0 rigs ++ joined (p + 1) count rigs
 abbrev pub sizes_of : ℕ → ℕ → List Rig → List ℕ
 sizes_of p zero rigs = []
 sizes_of p (suc count) rigs = length (chain_from p 0 rigs) ∷ sizes_of (p + 1) count rigs
-
--- a chain and its start; of no term, none
-abbrev pub placed : List Term → ℕ → Option (List Term × ℕ)
-placed [] start = None
-placed (t ∷ ts) start = Some (t ∷ ts, start)

@@ -6,7 +6,7 @@ use Rattle.action_eval.specs.declared.session.Faults.{Faults}
 use Rattle.action_eval.specs.declared.session.Faults.TheVariants.{Written, Rigged}
 use Rattle.action_eval.specs.Words.{Drawn}
 use Rattle.action_eval.specs.Answers.{Run}
-use Rattle.action_eval.specs.inside.Session.{seen, found_of, head_of, left_counts}
+use Rattle.action_eval.specs.inside.Session.{AreSpans, found_of, head_of, left_counts, seen_in}
 
 -- the scenario that a session's hits are answered by
 abbrev pub faults_of : Faults → Entries
@@ -23,6 +23,7 @@ run_of faults names draws limit hits = record {
 -- where the chains of points stand, what the next hit of each meets, and the counts of all terms
 pub record IsLayout (scenario : Entries) (names : List (List ℕ)) (layout : Layout) : Type 0 where
   pub limits : IsScenario scenario
-  pub found_is : map seen layout.found.items ≡ map (found_of scenario) names
-  pub heads_are : layout.heads.items ≡ map head_of (map seen layout.found.items)
+  pub are_spans : AreSpans scenario layout.spans.items
+  pub found_is : map (seen_in scenario) layout.spans.items ≡ map (found_of scenario) names
+  pub heads_are : layout.heads.items ≡ map head_of (map (seen_in scenario) layout.spans.items)
   pub left_is : layout.left.items ≡ left_counts [] scenario

@@ -1,11 +1,12 @@
 -- How a session keeps its run: the chain of each point, what is left of the counts, and what the hits came to.
-use Rattle.std.specs.Prelude.{◌≡◌, ℕ, zero, suc, ◌+◌, ◌-◌, ◌*◌, ◌^◌, ◌≤◌, List, [], ◌∷◌, ◌++◌, length, map, Option, Some, None, option_map, slice_index, slice_set, Bool, true, false, ◌==◌, ◌&&◌, if◌then◌else◌}
-use Rattle.std.specs.Option.{option_map_or}
+use Rattle.std.specs.Prelude.{◌≡◌, ℕ, zero, suc, ◌+◌, ◌-◌, ◌*◌, ◌^◌, ◌<◌, ◌≤◌, List, [], ◌∷◌, ◌++◌, length, map, Option, Some, None, option_map, slice_index, slice_set, Bool, true, false, ◌==◌, ◌&&◌, if◌then◌else◌}
+use Rattle.std.specs.List.{AllByRecursion, slice_range}
+use Rattle.std.specs.Option.{IfSome, option_map_or}
 use Rattle.scenario_values.specs.declared.term.Term.{Term}
 use Rattle.scenario_values.specs.Scenario.{Entries, IsScenario, entry_of, chain_at, is_off}
 use Rattle.action_eval.specs.declared.answer.Stop.{Stop}
 use Rattle.action_eval.specs.declared.answer.Note.{Note}
-use Rattle.action_eval.specs.declared.found.Found.{Found}
+use Rattle.action_eval.specs.declared.found.Span.{Span}
 use Rattle.action_eval.specs.declared.found.Head.{Head}
 use Rattle.action_eval.specs.declared.found.Head.TheVariants as head
 use Rattle.action_eval.specs.Trial.{is_spent}
@@ -23,8 +24,30 @@ start_of (x ∷ xs) (suc e) = length x.1 + start_of xs e
 abbrev pub found_of : Entries → List ℕ → Option (List Term × ℕ)
 found_of s name = option_map (λ e. (chain_at s e, start_of s e)) (entry_of s name)
 
-abbrev pub seen : Option Found → Option (List Term × ℕ)
-seen found = option_map (λ f. (f.chain.now, f.start)) found
+-- ---- where a chain stands
+
+-- the terms of all entries, one after another
+abbrev pub terms_of : Entries → List Term
+terms_of [] = []
+terms_of (x ∷ xs) = x.1 ++ terms_of xs
+
+-- the chain that stands at a span, and its start
+abbrev pub seen_in : Entries → Option Span → Option (List Term × ℕ)
+seen_in s span = option_map (λ p. (slice_range (terms_of s) p.start p.end, p.start)) span
+
+-- a span is that of what is left of its entry's chain
+pub record IsSpan (s : Entries) (p : Span) : Type 0 where
+  pub within : p.entry < length s
+  pub begins : start_of s p.entry ≤ p.start
+  pub ordered : p.start ≤ p.end
+  pub ends : p.end ≡ start_of s p.entry + length (chain_at s p.entry)
+
+abbrev pub AreSpans : Entries → List (Option Span) → Type 0
+AreSpans s spans = AllByRecursion (λ o. IfSome o (λ p. IsSpan s p)) spans
+
+-- the span of an entry's terms from one place to another; of no term, none
+abbrev pub spanned : ℕ → ℕ → ℕ → Option Span
+spanned entry start end = if start == end then None else Some (record { entry = entry; start = start; end = end })
 
 -- ---- what is left of the counts
 

@@ -1,12 +1,12 @@
-use Rattle.std.proofs.Common.{length, refl, slice_set, ◌-◌, ap, ◌∙◌, arith}
+use Rattle.std.proofs.Common.{refl, slice_set, ◌-◌, ap, ◌∙◌, arith}
 use Rattle.action_eval.specs.Answers.{stopped, reply_to}
-use Rattle.action_eval.proofs.Steps.{open_of, known_found, keeps_off, reply_found}
-use Rattle.action_eval.proofs.Heads.{heads_length, value_at, nothing_by, off_by}
+use Rattle.action_eval.proofs.Steps.{open_of, keeps_off, reply_found}
+use Rattle.action_eval.proofs.Heads.{known_head, value_at, nothing_by, off_by}
 use Rattle.action_eval.proofs.CallerLemmas.{told_by, goes_by}
 use Rattle.action_eval.proofs.session.Session.hit.Goals as goal
 
 pub index-requires : goal.index-requires
-index-requires c = omega (arith, known_found _ _ _ _ _ _ _ _ c.self.invariant.0 c.self.view_is c.args.point c.requires.known, heads_length c.self.inside.found.items, ap length c.self.invariant.1)
+index-requires c = omega (arith, known_head _ _ _ _ _ _ _ _ c.self.invariant.0 c.self.view_is c.args.point c.requires.known _ c.self.invariant.1)
 
 -- ---- a point without a term that is left
 
@@ -14,13 +14,13 @@ pub invariant_of-self-in-Nothing-1 : goal.invariant_of-self-in-Nothing-1
 invariant_of-self-in-Nothing-1 c =
     let k = c.self.invariant.0 in
     let f = nothing_by _ _ _ _ _ _ _ _ k _ c.self.invariant.1 c.self.view_is c.args.point c.requires.known _ _ c.index.ensures c.in-Nothing.is in
-    (keeps_off _ c.args.point _ _ _ _ _ _ k (omega (arith, open_of _ _ _ _ _ _ _ _ c.self.invariant.0 _ _ _ c.self.invariant.2 c.self.view_is c.requires.running)) (ap stopped c.self.view_is ∙ c.requires.running) _ f _ c.in_ok-push-in-Nothing.ensures.items _ refl _ k.found_is, c.self.invariant.1, c.self.invariant.2)
+    (keeps_off _ c.args.point _ _ _ _ _ _ k (omega (arith, open_of _ _ _ _ _ _ _ _ c.self.invariant.0 _ _ _ c.self.invariant.3 c.self.view_is c.requires.running)) (ap stopped c.self.view_is ∙ c.requires.running) _ f _ c.in_ok-push-in-Nothing.ensures.items _ refl _ k.found_is, c.self.invariant.1, c.self.invariant.2, c.self.invariant.3)
 
 pub returns-in_ok-push-in-Nothing-clause-answer : goal.returns-in_ok-push-in-Nothing-clause-answer
 returns-in_ok-push-in-Nothing-clause-answer c =
     let k = c.self.invariant.0 in
     let f = nothing_by _ _ _ _ _ _ _ _ k _ c.self.invariant.1 c.self.view_is c.args.point c.requires.known _ _ c.index.ensures c.in-Nothing.is in
-    reply_found _ c.args.point _ _ _ f (omega (arith, open_of _ _ _ _ _ _ _ _ c.self.invariant.0 _ _ _ c.self.invariant.2 c.self.view_is c.requires.running)) ∙ ap (λ r. reply_to r c.args.point) c.self.view_is
+    reply_found _ c.args.point _ _ _ f (omega (arith, open_of _ _ _ _ _ _ _ _ c.self.invariant.0 _ _ _ c.self.invariant.3 c.self.view_is c.requires.running)) ∙ ap (λ r. reply_to r c.args.point) c.self.view_is
 
 pub returns-in_ok-push-in-Nothing-clause-told : goal.returns-in_ok-push-in-Nothing-clause-told
 returns-in_ok-push-in-Nothing-clause-told c = told_by _ _ c.args.point _ _ c.self.view_is c.requires.running c.in_ok-push-in-Nothing.ensures.items (returns-in_ok-push-in-Nothing-clause-answer c)
@@ -53,10 +53,11 @@ invariant_of-self-then-index-gt0 c =
     let o = off_by _ _ _ _ _ _ _ _ k _ c.self.invariant.1 c.self.view_is c.args.point c.requires.known _ _ c.index.ensures c.in-Off.at c.in-Off.is in
     let read = value_at c.self.inside.left.items c.in-Off.at _ o.within _ c.index-in-Off-1.ensures in
     let value = value_at c.self.inside.left.items c.in-Off.at _ o.within _ c.index_mut.ensures.value in (
-      keeps_off _ c.args.point _ _ _ _ _ _ k (omega (arith, open_of _ _ _ _ _ _ _ _ c.self.invariant.0 _ _ _ c.self.invariant.2 c.self.view_is c.requires.running)) (ap stopped c.self.view_is ∙ c.requires.running) _ (o.finds (omega (arith, c.if-index-gt0.true, read))) _ c.in_ok-push-in-Off.ensures.items _
+      keeps_off _ c.args.point _ _ _ _ _ _ k (omega (arith, open_of _ _ _ _ _ _ _ _ c.self.invariant.0 _ _ _ c.self.invariant.3 c.self.view_is c.requires.running)) (ap stopped c.self.view_is ∙ c.requires.running) _ (o.finds (omega (arith, c.if-index-gt0.true, read))) _ c.in_ok-push-in-Off.ensures.items _
           (ap (λ v. slice_set c.self.inside.left.items c.in-Off.at (v - 1)) value) _ k.found_is,
       c.self.invariant.1,
       c.self.invariant.2,
+      c.self.invariant.3,
     )
 
 pub returns-in_ok-push-in-Off-clause-answer : goal.returns-in_ok-push-in-Off-clause-answer
@@ -64,7 +65,7 @@ returns-in_ok-push-in-Off-clause-answer c =
     let k = c.self.invariant.0 in
     let o = off_by _ _ _ _ _ _ _ _ k _ c.self.invariant.1 c.self.view_is c.args.point c.requires.known _ _ c.index.ensures c.in-Off.at c.in-Off.is in
     let read = value_at c.self.inside.left.items c.in-Off.at _ o.within _ c.index-in-Off-1.ensures in
-    reply_found _ c.args.point _ _ _ (o.finds (omega (arith, c.if-index-gt0.true, read))) (omega (arith, open_of _ _ _ _ _ _ _ _ c.self.invariant.0 _ _ _ c.self.invariant.2 c.self.view_is c.requires.running)) ∙ ap (λ r. reply_to r c.args.point) c.self.view_is
+    reply_found _ c.args.point _ _ _ (o.finds (omega (arith, c.if-index-gt0.true, read))) (omega (arith, open_of _ _ _ _ _ _ _ _ c.self.invariant.0 _ _ _ c.self.invariant.3 c.self.view_is c.requires.running)) ∙ ap (λ r. reply_to r c.args.point) c.self.view_is
 
 pub returns-in_ok-push-in-Off-clause-told : goal.returns-in_ok-push-in-Off-clause-told
 returns-in_ok-push-in-Off-clause-told c = told_by _ _ c.args.point _ _ c.self.view_is c.requires.running c.in_ok-push-in-Off.ensures.items (returns-in_ok-push-in-Off-clause-answer c)

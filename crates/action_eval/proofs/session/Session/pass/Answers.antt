@@ -1,14 +1,12 @@
 use Rattle.std.proofs.Common.{◌-◌, ◌≤◌, length, ap, arith}
-use Rattle.action_eval.proofs.Steps.{open_of, known_found}
-use Rattle.action_eval.proofs.Heads.{heads_length}
+use Rattle.action_eval.proofs.Steps.{open_of}
+use Rattle.action_eval.proofs.Heads.{known_head}
 use Rattle.action_eval.proofs.PassedHits.{many_after, within_by}
 use Rattle.action_eval.proofs.session.Session.pass.Goals as goal
 
 pub pass_hits-requires-clause-known : goal.pass_hits-requires-clause-known
 pass_hits-requires-clause-known c =
-    let k = c.self.invariant.0 in
-    let has = known_found _ _ _ _ _ _ _ _ k c.self.view_is c.args.point c.requires.known in
-    omega (arith, has, heads_length c.self.inside.found.items, ap length c.self.invariant.1, ap length c.deref.ensures.value)
+    omega (arith, known_head _ _ _ _ _ _ _ _ c.self.invariant.0 c.self.view_is c.args.point c.requires.known _ c.self.invariant.1, ap length c.deref.ensures.value)
 
 pub pass_hits-requires-clause-within : goal.pass_hits-requires-clause-within
 pass_hits-requires-clause-within c =
@@ -16,18 +14,18 @@ pass_hits-requires-clause-within c =
 
 pub invariant_of-self-2 : goal.invariant_of-self-2
 invariant_of-self-2 c =
-    let room : c.in_ok-count.count ≤ c.self.inside.max_hits - length c.self.inside.hits.items = omega (arith, c.in_ok-count.ensures.count, open_of _ _ _ _ _ _ _ _ c.self.invariant.0 _ _ _ c.self.invariant.2 c.self.view_is c.requires.running) in
+    let room : c.in_ok-count.count ≤ c.self.inside.max_hits - length c.self.inside.hits.items = omega (arith, c.in_ok-count.ensures.count, open_of _ _ _ _ _ _ _ _ c.self.invariant.0 _ _ _ c.self.invariant.3 c.self.view_is c.requires.running) in
     let a = many_after _ _ _ _ _ _ _ _ c.self.invariant.0 c.self.view_is c.requires.running _ c.self.invariant.1 _ _ c.requires.known _ c.deref.ensures.value _ c.in_ok-count.ensures.left room _ c.in_ok-count.ensures.hits in
-    (a.keeps, c.self.invariant.1, c.self.invariant.2)
+    (a.keeps, c.self.invariant.1, c.self.invariant.2, c.self.invariant.3)
 
 pub returns-clause-told : goal.returns-clause-told
 returns-clause-told c =
-    let room : c.in_ok-count.count ≤ c.self.inside.max_hits - length c.self.inside.hits.items = omega (arith, c.in_ok-count.ensures.count, open_of _ _ _ _ _ _ _ _ c.self.invariant.0 _ _ _ c.self.invariant.2 c.self.view_is c.requires.running) in
+    let room : c.in_ok-count.count ≤ c.self.inside.max_hits - length c.self.inside.hits.items = omega (arith, c.in_ok-count.ensures.count, open_of _ _ _ _ _ _ _ _ c.self.invariant.0 _ _ _ c.self.invariant.3 c.self.view_is c.requires.running) in
     let a = many_after _ _ _ _ _ _ _ _ c.self.invariant.0 c.self.view_is c.requires.running _ c.self.invariant.1 _ _ c.requires.known _ c.deref.ensures.value _ c.in_ok-count.ensures.left room _ c.in_ok-count.ensures.hits in
     a.go
 
 pub returns-clause-goes_on : goal.returns-clause-goes_on
 returns-clause-goes_on c =
-    let room : c.in_ok-count.count ≤ c.self.inside.max_hits - length c.self.inside.hits.items = omega (arith, c.in_ok-count.ensures.count, open_of _ _ _ _ _ _ _ _ c.self.invariant.0 _ _ _ c.self.invariant.2 c.self.view_is c.requires.running) in
+    let room : c.in_ok-count.count ≤ c.self.inside.max_hits - length c.self.inside.hits.items = omega (arith, c.in_ok-count.ensures.count, open_of _ _ _ _ _ _ _ _ c.self.invariant.0 _ _ _ c.self.invariant.3 c.self.view_is c.requires.running) in
     let a = many_after _ _ _ _ _ _ _ _ c.self.invariant.0 c.self.view_is c.requires.running _ c.self.invariant.1 _ _ c.requires.known _ c.deref.ensures.value _ c.in_ok-count.ensures.left room _ c.in_ok-count.ensures.hits in
     a.running

@@ -16,9 +16,9 @@ invariant_of-self-2 c =
     let n = c.in_ok-count.count in
     let q = c.saturating_sub.result in
     let few : n ≤ q / k = omega (arith, c.in_ok-count.ensures.count, c.min-most.ensures) in
-    let room : n * k ≤ c.self.inside.max_hits - length c.self.inside.hits.items = omega (arith, open_of _ _ _ _ _ _ _ _ c.self.invariant.0 _ _ _ c.self.invariant.2 c.self.view_is c.requires.running, mul-le-mul_right k few, div-mul-le_self q k, c.saturating_sub.ensures) in
+    let room : n * k ≤ c.self.inside.max_hits - length c.self.inside.hits.items = omega (arith, open_of _ _ _ _ _ _ _ _ c.self.invariant.0 _ _ _ c.self.invariant.3 c.self.view_is c.requires.running, mul-le-mul_right k few, div-mul-le_self q k, c.saturating_sub.ensures) in
     let a = rounds_after _ _ _ _ _ _ _ _ c.self.invariant.0 c.self.view_is c.requires.running _ c.self.invariant.1 _ _ c.requires.known _ c.deref.ensures.value _ c.in_ok-count.ensures.left room _ c.in_ok-count.ensures.hits in
-    (a.keeps, c.self.invariant.1, c.self.invariant.2)
+    (a.keeps, c.self.invariant.1, c.self.invariant.2, c.self.invariant.3)
 
 pub returns-clause-told : goal.returns-clause-told
 returns-clause-told c =
@@ -26,7 +26,7 @@ returns-clause-told c =
     let n = c.in_ok-count.count in
     let q = c.saturating_sub.result in
     let few : n ≤ q / k = omega (arith, c.in_ok-count.ensures.count, c.min-most.ensures) in
-    let room : n * k ≤ c.self.inside.max_hits - length c.self.inside.hits.items = omega (arith, open_of _ _ _ _ _ _ _ _ c.self.invariant.0 _ _ _ c.self.invariant.2 c.self.view_is c.requires.running, mul-le-mul_right k few, div-mul-le_self q k, c.saturating_sub.ensures) in
+    let room : n * k ≤ c.self.inside.max_hits - length c.self.inside.hits.items = omega (arith, open_of _ _ _ _ _ _ _ _ c.self.invariant.0 _ _ _ c.self.invariant.3 c.self.view_is c.requires.running, mul-le-mul_right k few, div-mul-le_self q k, c.saturating_sub.ensures) in
     let a = rounds_after _ _ _ _ _ _ _ _ c.self.invariant.0 c.self.view_is c.requires.running _ c.self.invariant.1 _ _ c.requires.known _ c.deref.ensures.value _ c.in_ok-count.ensures.left room _ c.in_ok-count.ensures.hits in
     a.go
 
@@ -36,6 +36,6 @@ returns-clause-goes_on c =
     let n = c.in_ok-count.count in
     let q = c.saturating_sub.result in
     let few : n ≤ q / k = omega (arith, c.in_ok-count.ensures.count, c.min-most.ensures) in
-    let room : n * k ≤ c.self.inside.max_hits - length c.self.inside.hits.items = omega (arith, open_of _ _ _ _ _ _ _ _ c.self.invariant.0 _ _ _ c.self.invariant.2 c.self.view_is c.requires.running, mul-le-mul_right k few, div-mul-le_self q k, c.saturating_sub.ensures) in
+    let room : n * k ≤ c.self.inside.max_hits - length c.self.inside.hits.items = omega (arith, open_of _ _ _ _ _ _ _ _ c.self.invariant.0 _ _ _ c.self.invariant.3 c.self.view_is c.requires.running, mul-le-mul_right k few, div-mul-le_self q k, c.saturating_sub.ensures) in
     let a = rounds_after _ _ _ _ _ _ _ _ c.self.invariant.0 c.self.view_is c.requires.running _ c.self.invariant.1 _ _ c.requires.known _ c.deref.ensures.value _ c.in_ok-count.ensures.left room _ c.in_ok-count.ensures.hits in
     a.running
