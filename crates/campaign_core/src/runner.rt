@@ -4,8 +4,7 @@ ghost use Rattle.target_trait.specs.Outcomes.{verdict_with};
 ghost use Rattle.campaign_core.specs.inside.Rows.{row_limit, row_of};
 
 use crate::rows::row_bounds;
-use action_eval::{Rigging, Room};
-use result_book::{Course, Row};
+use result_book::{Course, Row, Workspace};
 use scenario_values::Scenario;
 use std::alloc::{AllocError, Global};
 use std::collections::LinkedList;
@@ -21,14 +20,12 @@ pub struct Setup<T: Target> {
     pub max_hits: u32,
 }
 
-/// A target, with the course whose plans it runs, and with a rigging and a session's room of its own that each run takes over from the one
-/// before.
+/// A target, with the course whose plans it runs, and with a workspace of its own that each run takes over from the one before.
 #[derive(Drop)]
 pub struct Runner<'a, T: Target> {
     pub target: T,
     pub course: &'a Course<'a, T>,
-    pub rigging: Rigging<'static>,
-    pub room: Room,
+    pub workspace: Workspace,
     pub alloc: Global,
 }
 
@@ -59,8 +56,7 @@ where
         Row::run_over(
             self.alloc,
             &mut self.target,
-            &mut self.rigging,
-            &mut self.room,
+            &mut self.workspace,
             self.course,
             first,
             end,

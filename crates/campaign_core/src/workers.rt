@@ -6,8 +6,7 @@ ghost use Rattle.campaign_core.specs.inside.Says.{course_says};
 
 use crate::rows::{RowGate, row_count};
 use crate::runner::Runner;
-use action_eval::{Rigging, Room};
-use result_book::{Book, Course, put_all};
+use result_book::{Book, Course, Workspace, put_all};
 use std::alloc::{AllocError, Global};
 use std::sync::Wait;
 use std::thread::Threads;
@@ -66,8 +65,7 @@ where
         all.push(Runner {
             target,
             course,
-            rigging: Rigging::new(alloc),
-            room: Room::new(alloc),
+            workspace: Workspace::new(alloc),
             alloc,
         })?;
     }

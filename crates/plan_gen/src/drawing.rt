@@ -98,12 +98,13 @@ impl<'a> Drawing<'a> {
         are_same(self.catalogue, catalogue)
     }
 
-    /// Rigs the hits of a plan over a catalogue of the same names. An error means that memory was refused.
+    /// Rigs the hits of a plan over a catalogue of the same names. Those of a storm are drawn in place of what stood in the list. An error
+    /// means that memory was refused.
     pub fn load<'c>(
         &self,
-        alloc: Global,
         source: Source,
         rigging: &mut Rigging<'c>,
+        rigs: &mut Vec<Rig>,
         catalogue: &'c [&'c str],
     ) -> Result<(), AllocError>
         requires { self.now.names ≡ texts catalogue.now }
@@ -117,7 +118,7 @@ impl<'a> Drawing<'a> {
             }
             Source::Storm(number) => {
                 let sites = self.sites.as_slice();
-                let rigs = storm(alloc, self.seed, self.rate, sites, number)?;
+                storm(rigs, self.seed, self.rate, sites, number)?;
                 rigging.load(catalogue, rigs.as_slice())
             }
         }
@@ -135,7 +136,8 @@ impl<'a> Drawing<'a> {
             }
             Source::Storm(number) => {
                 let sites = self.sites.as_slice();
-                let rigs = storm(alloc, self.seed, self.rate, sites, number)?;
+                let mut rigs = Vec::new(alloc);
+                storm(&mut rigs, self.seed, self.rate, sites, number)?;
                 scenario_of(alloc, self.catalogue, rigs.as_slice())
             }
         }

@@ -5,9 +5,9 @@ ghost use Rattle.action_eval.specs.Rigging.{rigged_as};
 ghost use Rattle.plan_gen.specs.inside.Drawn.{plans_of};
 
 use crate::drawing::{Drawing, Source};
-use action_eval::Rigging;
+use action_eval::{Rig, Rigging};
 use scenario_values::Scenario;
-use std::alloc::{AllocError, Global};
+use std::alloc::AllocError;
 use std::marker::Model;
 
 /// Rigs the plans of a list over the points of a catalogue. That it has the same names as the list's own is found once, for all plans.
@@ -60,18 +60,19 @@ impl<'a, 'c> Rigger<'a, 'c> {
     /// Rigs the hits of the plan of this number, and tells whether it has. It hasn't where the plan is a listed scenario, or the list is of
     /// the points of another catalogue: `Plan::scenario` serves each plan.
     ///
-    /// An error means that memory was refused.
+    /// A storm's hits are drawn in place of what stood in the list, which serves plan after plan as the rigging does. An error means that
+    /// memory was refused.
     pub fn load(
         &self,
-        alloc: Global,
         number: usize,
         rigging: &mut Rigging<'c>,
+        rigs: &mut Vec<Rig>,
     ) -> Result<bool, AllocError>
         ensures { IfOk result (λ is_loaded. is_loaded ≡ true → rigging.new ≡ rigged_as self.now.names (slice_index_or self.now.plans number [])) }
     {
         match self.sources.get(number) {
             Some(source) if self.is_same => {
-                self.drawing.load(alloc, *source, rigging, self.catalogue)?;
+                self.drawing.load(*source, rigging, rigs, self.catalogue)?;
                 Ok(true)
             }
             _ => Ok(false),

@@ -1,5 +1,5 @@
 //! Storms: rigged hits drawn by random words.
-ghost use Rattle.std.specs.Prelude.{◌≡◌, ◌++◌, ◌∷◌, [], ◌%◌, ◌&&◌, ◌≤◌, ◌<◌, ◌^◌, nat_lt, length, if◌then◌else◌, vec_capacity, IfOk};
+ghost use Rattle.std.specs.Prelude.{◌≡◌, ◌++◌, ◌∷◌, [], ◌%◌, ◌&&◌, ◌≤◌, ◌<◌, ◌^◌, nat_lt, length, if◌then◌else◌, vec_capacity, OnOk};
 ghost use Rattle.std.specs.List.{AllByRecursion};
 ghost use Rattle.action_eval.specs.Words.{seed_bytes, at_word};
 ghost use Rattle.plan_gen.specs.PlanList.{most_plans, storm_kind, storm};
@@ -10,7 +10,7 @@ use action_eval::{Kind, Rig};
 use rand_chacha::ChaCha8Rng;
 use rand_core::SeedableRng;
 use rand_core::utils::NextWord;
-use std::alloc::{AllocError, Global};
+use std::alloc::AllocError;
 
 /// A storm takes at most so many sites.
 const MOST_SITES: usize = 64;
@@ -79,24 +79,27 @@ fn draw(rigs: &mut Vec<Rig>, rate: u32, word: u32, site: &PackedSite)
     }
 }
 
-/// The rigged hits of a storm: each site takes a word, also after the most are taken.
+/// The rigged hits of a storm, in place of what stood there: each site takes a word, also after the most are taken.
+///
+/// An error means that memory was refused. Nothing stands there then.
 #[tactic(auto, unfolding(crate::specs::PlanList::storm))]
 pub fn storm(
-    alloc: Global,
+    rigs: &mut Vec<Rig>,
     seed: u64,
     rate: u32,
     sites: &[PackedSite],
     number: u32,
-) -> Result<Vec<Rig>, AllocError>
+) -> Result<(), AllocError>
     requires { length sites.now ≤ most_plans }
-    ensures rigs { IfOk result (λ rigs. rigs.items ≡ storm seed rate sites.now number) }
-    ensures few { IfOk result (λ rigs. length rigs.items ≤ most_rigs) }
-    ensures small { IfOk result (λ rigs. AllByRecursion (λ r. r.site.hit < 2 ^ 32) rigs.items) }
+    ensures rigs { OnOk result (rigs.new.items ≡ storm seed rate sites.now number) }
+    ensures few { OnOk result (length rigs.new.items ≤ most_rigs) }
+    ensures small { OnOk result (AllByRecursion (λ r. r.site.hit < 2 ^ 32) rigs.new.items) }
 {
+    rigs.clear();
+    rigs.reserve(MOST_SITES)?;
     let mut rng = generator(seed, FIRST_STREAM + u64::from(number));
-    let mut rigs = Vec::with_capacity(alloc, MOST_SITES)?;
     for site in sites {
-        draw(&mut rigs, rate, rng.next_word(), site);
+        draw(rigs, rate, rng.next_word(), site);
     }
-    Ok(rigs)
+    Ok(())
 }

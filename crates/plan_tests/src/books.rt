@@ -2,9 +2,8 @@
 
 use crate::one_step::OneStep;
 use crate::scenarios::{plans, scenarios};
-use action_eval::{Rigging, Room};
 use plan_gen::PlanList;
-use result_book::{Book, Course, Numbered, PutFault, Row, put_all};
+use result_book::{Book, Course, Numbered, PutFault, Row, Workspace, put_all};
 use std::alloc::Global;
 use std::process::Abort;
 use std::test::Fail;
@@ -42,17 +41,8 @@ fn row<'a>(
     end: u32,
 ) -> Result<Row<'a, OneStep>, Fail> {
     assert!(rt; first <= end && end as usize <= course.plans.len());
-    let mut rigging = Rigging::new(alloc);
-    let mut room = Room::new(alloc);
-    Ok(Row::run_over(
-        alloc,
-        &mut OneStep,
-        &mut rigging,
-        &mut room,
-        course,
-        first,
-        end,
-    )?)
+    let mut workspace = Workspace::new(alloc);
+    Ok(Row::run_over(alloc, &mut OneStep, &mut workspace, course, first, end)?)
 }
 
 /// The rows of these plans, each from its first number on, before its end, as one worker hands them back.

@@ -14,7 +14,7 @@ use target_trait::Target;
 fn is_rigged(alloc: Global, plans: &PlanList<'_>, number: usize) -> Result<bool, Fail> {
     let mut rigging = Rigging::new(alloc);
     let rigger = plans.rigger(OneStep::catalogue());
-    let is_rigged = rigger.load(alloc, number, &mut rigging)?;
+    let is_rigged = rigger.load(number, &mut rigging, &mut Vec::new(alloc))?;
     Ok(is_rigged)
 }
 

@@ -7,6 +7,7 @@ mod failures;
 mod laws;
 mod numbered;
 mod row;
+mod workspace;
 
 pub use book::{Book, PutFault, put_all};
 pub use course::Course;
@@ -16,3 +17,4 @@ pub use laws::{
 };
 pub use numbered::Numbered;
 pub use row::Row;
+pub use workspace::Workspace;

@@ -3,6 +3,7 @@ ghost use Rattle.std.specs.Prelude.{◌≡◌, ℕ, ◌<◌, List, [], length, I
 ghost use Rattle.target_trait.specs.Outcomes.{verdict_with};
 
 use crate::course::Course;
+use crate::workspace::Workspace;
 use action_eval::{Rigging, Room, Session};
 use plan_gen::{Plan, Rigger};
 use std::alloc::{AllocError, Global};
@@ -66,8 +67,7 @@ pub(crate) fn verdict_of<T: Target>(
     alloc: Global,
     target: &mut T,
     rigger: &Rigger<'_, 'static>,
-    rigging: &mut Rigging<'static>,
-    room: &mut Room,
+    workspace: &mut Workspace,
     course: &Course<'_, T>,
     number: u32,
 ) -> Result<Verdict, AllocError>
@@ -78,7 +78,12 @@ pub(crate) fn verdict_of<T: Target>(
         course.now.seed course.now.max_hits number (slice_index_or course.now.plans.now number [])) }
     ensures setup { target.new ≡ target.old }
 {
-    let is_loaded = rigger.load(alloc, number as usize, rigging)?;
+    let Workspace {
+        rigging,
+        rigs,
+        room,
+    } = workspace;
+    let is_loaded = rigger.load(number as usize, rigging, rigs)?;
     if is_loaded {
         rigged_verdict(alloc, target, course, rigging, room, number)
     } else {
@@ -130,18 +135,16 @@ impl<'a, T: Target> Numbered<'a, T> {
         }) }
         ensures setup { target.new ≡ target.old }
     {
-        let mut rigging = Rigging::new(alloc);
-        let mut room = Room::new(alloc);
-        Numbered::run_over(alloc, target, &mut rigging, &mut room, course, number)
+        let mut workspace = Workspace::new(alloc);
+        Numbered::run_over(alloc, target, &mut workspace, course, number)
     }
 
-    /// The same as `run`, over a rigging and in a session's room that serve run after run: the rigging is loaded with the plan's rigged hits, and
-    /// both keep the memory that they have taken. Whatever they hold before makes no difference.
+    /// The same as `run`, in a workspace that serves run after run: it keeps the memory that it has taken. Whatever it holds before makes no
+    /// difference.
     pub fn run_over(
         alloc: Global,
         target: &mut T,
-        rigging: &mut Rigging<'static>,
-        room: &mut Room,
+        workspace: &mut Workspace,
         course: &'a Course<'a, T>,
         number: u32,
     ) -> Result<Self, AllocError>
@@ -154,7 +157,7 @@ impl<'a, T: Target> Numbered<'a, T> {
         ensures setup { target.new ≡ target.old }
     {
         let rigger = course.plans.rigger(T::catalogue());
-        let verdict = verdict_of(alloc, target, &rigger, rigging, room, course, number)?;
+        let verdict = verdict_of(alloc, target, &rigger, workspace, course, number)?;
         Ok(Numbered {
             course,
             number,

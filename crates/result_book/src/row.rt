@@ -6,7 +6,7 @@ ghost use Rattle.result_book.specs.Verdicts.{verdicts_from};
 
 use crate::course::Course;
 use crate::numbered::{Numbered, verdict_of};
-use action_eval::{Rigging, Room};
+use crate::workspace::Workspace;
 use std::alloc::{AllocError, Global};
 use std::marker::Model;
 use target_trait::{Target, Verdict};
@@ -40,13 +40,11 @@ impl<'a, T: Target> Model for Row<'a, T> {
 }
 
 impl<'a, T: Target> Row<'a, T> {
-    /// Runs the plans from this number on, before `end`, in their order, over a rigging and in a session's room as `Numbered::run_over`
-    /// does. An error means that memory was refused. The target keeps its setup, after an error too.
+    /// Runs the plans from this number on, before `end`, in their order, in a workspace as `Numbered::run_over` does. An error means that memory was refused. The target keeps its setup, after an error too.
     pub fn run_over(
         alloc: Global,
         target: &mut T,
-        rigging: &mut Rigging<'static>,
-        room: &mut Room,
+        workspace: &mut Workspace,
         course: &'a Course<'a, T>,
         first: u32,
         end: u32,
@@ -63,7 +61,7 @@ impl<'a, T: Target> Row<'a, T> {
         let rigger = course.plans.rigger(T::catalogue());
         let mut verdicts = Vec::with_capacity(alloc, (end - first) as usize)?;
         for number in first..end {
-            let verdict = verdict_of(alloc, target, &rigger, rigging, room, course, number)?;
+            let verdict = verdict_of(alloc, target, &rigger, workspace, course, number)?;
             verdicts.push(verdict)?;
         }
         Ok(Row {

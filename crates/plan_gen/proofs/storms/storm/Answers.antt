@@ -10,7 +10,7 @@ pub loop-site-init : goal.loop-site-init
 unfolding at_word
 loop-site-init c =
     let g = c.generator-rng.result in
-    let none = c.in_ok-rigs.ensures.items in
+    let none = c.reserve.ensures.items ∙ c.clear.ensures.items in
     record {
       key = refl;
       stream = refl;
