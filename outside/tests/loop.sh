@@ -1,29 +1,149 @@
-# The loop round `paklour asks`, with a program in its place that asks for the lines of a list that have no answer. Sourced
-# by `test`.
+# The loop round `paklour asks`, with a program in its place that asks for the lines of a list that have no answer, and reports
+# what failed. Sourced by `test`.
 mkdir "$here/bin"
 cat > "$here/bin/paklour" <<'END'
-#!/bin/sh
-answered=$(cut -f 2)
+#!/bin/bash
+brief=
+[ "$2" != --brief ] || { brief=yes; set -- "$1" "$3"; }
+cat > "$0.in"
+[ -z "${REFUSES-}" ] || { [ "$1" = asks ] && exit 2; }
 case $1 in
-asks) printf '%s\n' "$answered" | grep -vxF -f - "$2" | head -n 3 ;;
-report) printf '%s\n' "$answered" | LC_ALL=C sort | paste -s -d ' ' ;;
+asks) cut -f 2 "$0.in" | grep -vxF -f - "$2" | head -n "${ROUND:-3}" ;;
+report)
+    [ -z "$brief" ] || sed -n 's/^fail \(.*\)\t/ fail \1 /p' "$0.in" | awk '{ print "verdict " NR $0 }'
+    [ -n "$brief" ] || { cut -f 2 "$0.in" | LC_ALL=C sort | paste -s -d ' '; sed -n 's/^\(fail .*\)\t.*/ \1/p' "$0.in" | awk '{ print "verdict " NR $0 }'; }
+    grep -q '^fail' "$0.in" && { echo 'first 1 lost of all'; echo 'reduced e=off'; exit 1; } ;;
 esac
-[ -z "${REFUSES-}" ] || exit 2
+exit 0
 END
 printf '%s\n' '#!/bin/sh' 'printf "pass\\t%s\\n" "$1"' > "$here/bin/answers"
 printf '%s\n' '#!/bin/sh' 'echo "$1" >&2' > "$here/bin/tells_nothing"
-chmod +x "$here/bin/paklour" "$here/bin/answers" "$here/bin/tells_nothing"
+printf '%s\n' '#!/bin/sh' 'echo "pass	another=off"' > "$here/bin/tells_another"
+printf '%s\n' '#!/bin/sh' 'sleep 30 & echo $! > "$0.$1.pid"; wait; echo never' > "$here/bin/hangs"
+# Fails for two: d=off each time with the same, e=off by a code that is told once.
+cat > "$here/bin/fails" <<'END'
+#!/bin/sh
+code=pass
+[ "$1" != d=off ] || code='fail torn'
+[ "$1" != e=off ] || { mkdir "$0.once" && code='fail lost of all'; } 2> "$0.said"
+printf '%s\t%s\n' "$code" "$1"
+END
+chmod +x "$here"/bin/*
 printf '%s\n' none a=off 'b=print( x )' "c=print(it's)" d=off e=off f=off > "$here/list"
-loop() { PATH="$here/bin:$PATH" ./loop "$here/list" "$here/answers" "$here/bin/$1" 2>&1; }
+all="a=off b=print( x ) c=print(it's) d=off e=off f=off none"
+# loop TRY OPTION.. [-- WORD..]
+loop() {
+    tries=$here/bin/$1
+    shift
+    PATH="$here/bin:$PATH" ./loop "${options:---progress}" "$here/list" "$here/answers" "$tries" "$@" 2> "$here/told"
+    loop_status=$?
+    cat "$here/told" >&2
+    return $loop_status
+}
+told() { grep -v ' time left ' "$here/told"; }
 
-is 'the loop goes on until nothing is asked' "a=off b=print( x ) c=print(it's) d=off e=off f=off none" "$(loop answers)"
+is 'the loop goes on until nothing is asked' "$all" "$(loop answers 2> "$here/faults")"
+is 'and tells how far it is' 'loop: answered 0, asked 3, failing 0, time left unknown
+loop: answered 3, asked 3, failing 0, time left 0:00:00
+loop: answered 6, asked 1, failing 0, time left 0:00:00
+loop: answered 7, asked 0, failing 0, time left 0:00:00' "$(cat "$here/told")"
 head -n 4 "$here/answers" > "$here/part" && mv "$here/part" "$here/answers"
-is 'and on where it was stopped' "a=off b=print( x ) c=print(it's) d=off e=off f=off none" "$(loop answers)"
+is 'and on where it was stopped' "$all" "$(loop answers 2> "$here/faults")"
 is 'with each asked once' 7 "$(wc -l < "$here/answers")"
 rm "$here/answers"
-is 'and stops where no answer comes' "loop: no answer came from $here/bin/tells_nothing" "$(loop tells_nothing | tail -n 1)"
+loop tells_nothing > "$here/said" 2>&1
+is 'it stops where no answer comes' "2 loop: no answer came from $here/bin/tells_nothing" "$? $(tail -n 1 "$here/said")"
+loop tells_another > "$here/said" 2>&1
+is 'or answers to what nobody asked' "2 loop: $here/bin/tells_another answers nothing that is asked" "$? $(tail -n 1 "$here/said")"
+rm "$here/answers"
 REFUSES=yes
 export REFUSES
-loop answers > "$here/said"
+loop answers > "$here/said" 2>&1
 is 'or where asks refuses' 2 $?
 unset REFUSES
+options=--what
+loop answers > "$here/said" 2>&1
+is 'unknown options are refused' '2 loop [OPTION..] SETTINGS ANSWERS TRY [-- WORD..]: asks what is still to be tried' "$? $(sed 's/, tries.*//;q' "$here/said")"
+unset options
+
+# A run that takes too long, with what it started.
+head -n 3 "$here/list" > "$here/three"
+is 'a run that takes too long' 'a=off b=print( x ) none' \
+    "$(PATH="$here/bin:$PATH" ./loop --seconds 1 "$here/three" "$here/answers" "$here/bin/hangs" 2> "$here/told")"
+is 'is unresolved' '3 unresolved' "$(cut -f 1 "$here/answers" | sort | uniq -c | sed 's/^ *//')"
+is 'and told' 'loop: ended after 1 seconds: a=off' "$(LC_ALL=C sort "$here/told" | head -n 1)"
+# going: which of the children of `hangs` are running; one that has ended may still be listed
+going() { for pid in "$here"/bin/hangs.*.pid; do grep -hs '^State:.[^ZX]' "/proc/$(cat "$pid")/status"; done; }
+is 'and its children are ended' '3 ' "$(ls "$here"/bin/hangs.*.pid | wc -l) $(going)"
+rm "$here/answers" "$here"/bin/hangs.*.pid
+
+# Stopped, as by Ctrl-C.
+PATH="$here/bin:$PATH" setsid ./loop "$here/three" "$here/answers" "$here/bin/hangs" > "$here/told" 2>&1 &
+stopped=$!
+tries=0
+until [ "$(cat "$here"/bin/hangs.*.pid 2> "$here/said" | wc -l)" -eq 3 ] || [ "$tries" -ge 100 ]; do sleep 0.1; tries=$((tries + 1)); done
+kill -TERM "-$stopped"
+wait "$stopped"
+is 'a loop that is stopped' 2 $?
+tries=0
+while [ -n "$(going)" ] && [ "$tries" -lt 20 ]; do sleep 0.1; tries=$((tries + 1)); done
+is 'ends what is running' '3 0 ' "$(ls "$here"/bin/hangs.*.pid | wc -l) $(wc -l < "$here/answers") $(going)"
+rm "$here/answers"
+
+# What fails is run once more.
+loop fails > "$here/said" 2>&1
+is 'a plan that fails but once' '5 loop: told otherwise: fail lost of all, then pass: e=off' "$? $(told)"
+is 'after the report' 'reduced e=off' "$(grep -v '^loop' "$here/said" | tail -n 1)"
+is 'which may be the brief one' 'fail lost of all e=off' \
+    "$(PATH="$here/bin:$PATH" ./loop --brief --no-recheck "$here/list" "$here/answers" "$here/bin/fails" | sed -n 's/^verdict [0-9]* \(fail lost\)/\1/p')"
+options=--no-recheck
+loop fails > "$here/said" 2>&1
+is 'or not, by an option' '1 ' "$? $(told)"
+unset options
+sed -i '/^fail lost/d' "$here/answers"
+rmdir "$here/bin/fails.once"
+printf '#!/bin/sh\nprintf "fail lost of all\\t%%s\\n" "$1"\n' > "$here/bin/fails_again"
+chmod +x "$here/bin/fails_again"
+sed -i 's/^fail torn/fail lost of all/' "$here/answers"
+loop fails_again > "$here/said" 2>&1
+is 'where all fail again, nothing is told' '1 ' "$? $(told)"
+rm "$here/answers"
+
+# Lines that no single write takes stay whole.
+long=$(head -c 60000 /dev/zero | tr '\0' x)
+for number in 1 2 3 4 5 6 7 8; do echo "n$number=print($long)"; done > "$here/long"
+PATH="$here/bin:$PATH" ROUND=8 ./loop -j 8 "$here/long" "$here/answers" "$here/bin/answers" > "$here/said"
+is 'long answers stay whole' "$(cksum < "$here/long")" "$(cut -f 2 "$here/answers" | LC_ALL=C sort | cksum)"
+rm "$here/answers"
+
+# GNU parallel, here and on two other machines: folders, which a program in place of ssh enters.
+if command -v parallel > "$here/said"; then
+    ROUND=7
+    export ROUND
+    is 'GNU parallel runs them' "$all" "$(PATH="$here/bin:$PATH" ./loop --engine parallel "$here/list" "$here/answers" "$here/bin/answers")"
+    is 'each once' 7 "$(wc -l < "$here/answers")"
+    rm "$here/answers"
+    cat > "$here/bin/enters" <<'END'
+#!/bin/bash
+# enters WORD.. MACHINE -- COMMAND..: as ssh, whose logins have a SHELL, but into a folder of that name beside this program
+while [ "$1" = -l ] || [ "$1" = -p ]; do shift 2; done
+machine=$1
+shift
+[ "$1" != -- ] || shift
+cd "${0%/*}/../$machine" && SHELL=/bin/bash exec bash -c "$*"
+END
+    chmod +x "$here/bin/enters"
+    for machine in first second; do
+        mkdir "$here/$machine"
+        printf '#!/bin/sh\nsleep 0.1; pwd >> where; printf "pass\\t%%s\\n" "$1"\n' > "$here/$machine/try.sh"
+        chmod +x "$here/$machine/try.sh"
+    done
+    is 'on two machines' "$all" "$(PATH="$here/bin:$PATH" ./loop -j 1 --engine parallel "$here/list" "$here/answers" ./try.sh -- \
+        --sshlogin "$here/bin/enters first" --sshlogin "$here/bin/enters second" 2> "$here/faults")"
+    is 'that both did some' "7 first second" "$(cat "$here/first/where" "$here/second/where" | wc -l) $(
+        cat "$here/first/where" "$here/second/where" | sort -u | sed 's|.*/||' | paste -s -d ' ')"
+    rm "$here/answers"
+    unset ROUND
+else
+    echo 'skipped the loop with GNU parallel: it is not installed'
+fi

@@ -34,4 +34,34 @@ else
     database 'EXTRA, both' 'libc::open=2*off->1*return;libc::write=9*off->1*panic' 'fail corrupt' SYNC=EXTRA
     database 'EXTRA, both, by the sync' 'libc::fsync=1*off->1*return;libc::write=9*off->1*panic' 'fail corrupt' SYNC=EXTRA
     database 'EXTRA, a fault that is not met' 'libc::mkdir=1*return' unresolved SYNC=EXTRA
+
+    # Any part of what is pending: the plans of one fault, three of which fail, the first in none of the four states. The
+    # journal's name lasts and its removal doesn't, as the folder was never opened for its sync.
+    first='libc::open=2*off->return'
+    is 'sqlite EXTRA, one fault, each pending change' "fail lost $first
+fail lost libc::open=3*off->1*return
+fail lost libc::open=3*off->return" \
+        "$(tests/plans.py examples/sqlite/extra.toml | sed -n 1,82p | SYNC=EXTRA STATES=each xargs -d '\n' -n 1 examples/sqlite/try.sh |
+            tr '\t' ' ' | grep -v '^pass')"
+    database 'EXTRA, the first new one, in the four states' "$first" pass SYNC=EXTRA
+    database 'EXTRA, the first new one, by the change that it keeps' "$first;power::keep=1*return" 'fail lost' SYNC=EXTRA STATES=keep
+    database 'EXTRA, the first new one, nothing kept' "$first" pass SYNC=EXTRA STATES=keep
+    # With pairs there are twelve, of 784; these beside the three.
+    for plan in 'libc::open=2*off->1*return->1*return' 'libc::open=3*off->1*return;libc::fsync=1*off->1*return' \
+        'libc::open=3*off->1*return;libc::fsync=4*off->1*return' 'libc::open=3*off->1*return;libc::fsync=4*off->1*panic'; do
+        database "EXTRA, a pair" "$plan" 'fail lost' SYNC=EXTRA STATES=each
+    done
+    for plan in 'libc::open=2*off->1*return;libc::write=9*off->1*panic' 'libc::open=2*off->1*return;libc::write=10*off->1*panic' \
+        'libc::open=2*off->1*return;libc::write=11*off->1*panic' 'libc::open=2*off->1*return;libc::fsync=2*off->1*panic' \
+        'libc::fsync=1*off->1*return->1*off->1*panic'; do
+        database "EXTRA, a pair" "$plan" 'fail corrupt' SYNC=EXTRA STATES=each
+    done
+    # With a model in which a sync of a file makes its name last the journal can't be lost.
+    database 'EXTRA, dies while it writes pages, names by syncs of files' 'libc::open=2*off->1*return;libc::write=9*off->1*panic' pass \
+        SYNC=EXTRA STATES=each FAULTS_SYNC=names
+
+    # Recovery under faults: it dies while it writes pages, and the roll-back that follows dies as well, or its write fails.
+    database 'EXTRA, dies, and dies in recovery' 'libc::write=9*off->1*panic->1*off->1*panic;power::keep=return' pass \
+        SYNC=EXTRA STATES=keep RECOVER=yes
+    database 'EXTRA, dies, and a write of recovery fails' 'libc::write=9*off->1*panic->1*off->1*return' pass SYNC=EXTRA STATES=keep RECOVER=yes
 fi

@@ -3,14 +3,15 @@
    `done N` on standard output, so that whoever judges knows what was promised.
 
    FLAW is `sound`, `late_sync` (the file is synced after the folder, and acknowledged then), `ignore_sync` (goes on where
-   the file's sync failed) or `retry_write` (a chunk whose write failed is written once more). */
+   the file's sync failed), `retry_write` (a chunk whose write failed is written once more), `rename_first` (the file is
+   synced under its new name) or `in_place` (no `tmp`: the old file is unlinked and its name made anew). */
 #include <fcntl.h>
 #include <stdbool.h>
 #include <stdio.h>
 #include <string.h>
 #include <unistd.h>
 
-static bool late_sync, ignore_sync, retry_write;
+static bool late_sync, ignore_sync, retry_write, rename_first, in_place;
 static int folder;
 
 /* A short write is a failed one, and what it wrote stays. */
@@ -30,17 +31,33 @@ static bool write_chunks(int file, char **chunks, int count) {
 /* From the new file to the name; what fails here is cleaned up. */
 static bool fill_and_rename(int file, char **chunks, int count) {
     if (!write_chunks(file, chunks, count)) return false;
-    if (!late_sync && fsync(file) && !ignore_sync) return false;
+    if (!late_sync && !rename_first && fsync(file) && !ignore_sync) return false;
     return !rename("tmp", "target");
+}
+
+/* After the name is there; what fails here leaves nothing to clean up. */
+static bool make_last(int file) {
+    if (rename_first && fsync(file)) return false;
+    return !fsync(folder) && !(late_sync && fsync(file));
+}
+
+static bool replace_in_place(char **chunks, int count) {
+    if (!access("target", F_OK) && unlink("target")) return false;
+    int file = open("target", O_WRONLY | O_CREAT | O_EXCL, 0600);
+    if (file < 0) return false;
+    bool done = write_chunks(file, chunks, count) && !fsync(file) && !fsync(folder);
+    close(file);
+    return done;
 }
 
 /* Whether the replacement may be acknowledged. */
 static bool replace(char **chunks, int count) {
+    if (in_place) return replace_in_place(chunks, count);
     if (!access("tmp", F_OK) && unlink("tmp")) return false;
     int file = open("tmp", O_WRONLY | O_CREAT | O_EXCL, 0600);
     if (file < 0) return false;
     bool done = fill_and_rename(file, chunks, count);
-    if (done) done = !fsync(folder) && !(late_sync && fsync(file));
+    if (done) done = make_last(file);
     else unlink("tmp");
     close(file);
     return done;
@@ -50,7 +67,9 @@ static bool set_flaw(const char *flaw) {
     late_sync = !strcmp(flaw, "late_sync");
     ignore_sync = !strcmp(flaw, "ignore_sync");
     retry_write = !strcmp(flaw, "retry_write");
-    return late_sync || ignore_sync || retry_write || !strcmp(flaw, "sound");
+    rename_first = !strcmp(flaw, "rename_first");
+    in_place = !strcmp(flaw, "in_place");
+    return late_sync || ignore_sync || retry_write || rename_first || in_place || !strcmp(flaw, "sound");
 }
 
 static int end_of_list(char **words, int at, int count) {
@@ -60,7 +79,7 @@ static int end_of_list(char **words, int at, int count) {
 
 int main(int count, char **words) {
     if (count < 2 || !set_flaw(words[1])) {
-        fprintf(stderr, "usage: replace sound|late_sync|ignore_sync|retry_write CHUNK.. [, CHUNK..]..\n");
+        fprintf(stderr, "usage: replace sound|late_sync|ignore_sync|retry_write|rename_first|in_place CHUNK.. [, CHUNK..]..\n");
         return 2;
     }
     folder = open(".", O_RDONLY | O_DIRECTORY);

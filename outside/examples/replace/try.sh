@@ -1,10 +1,10 @@
 #!/bin/sh
 # try.sh [SCENARIO]: replaces the file under that scenario, or the one in FAILPOINTS, cuts the power, and writes what became
 # of it: a line `VERDICT<TAB>SCENARIO`. `make` in outside/ has to have been done. By the environment:
-#   FLAW           sound (where it isn't set), late_sync, ignore_sync or retry_write
+#   FLAW           sound (where it isn't set), late_sync, ignore_sync, retry_write, rename_first or in_place
 #   OLD            what the file holds before: old
 #   REPLACEMENTS   lists of chunks without blanks, a comma between two lists: ne w
-#   STATES         the states after a power cut that are judged: lasting
+#   STATES         the states after a power cut that are judged: lasting; keep is what the scenario says of power::keep
 #   TRACE          a file that takes the run's trace
 outside=$(cd "$(dirname "$0")/../.." && pwd) || exit 2
 scenario=${1-${FAILPOINTS-none}}
@@ -22,9 +22,9 @@ mkdir "$here/data" && printf %s "$OLD" > "$here/data/target" || exit 2
 (cd "$here/data" && LD_PRELOAD="$outside/out/faults.so" FAULTS_ROOT="$here/data" FAULTS_RUN="$here/run" FAILPOINTS="$scenario" \
     timeout -s KILL 20 "$outside/out/replace" "${FLAW:-sound}" $REPLACEMENTS) > "$here/said"
 status=$?
-[ -z "${TRACE-}" ] || cp "$here/run/trace" "$TRACE"
 
 verdict() {
+    [ -z "${TRACE-}" ] || cp "$here/run/trace" "$TRACE" || exit 2
     printf '%s\t%s\n' "$1" "$scenario"
     exit 0
 }
@@ -57,7 +57,10 @@ begun=$(sed -n 's/^begun //p' "$here/said" | tail -n 1)
 promised=$(sed -n 's/^done //p' "$here/said" | tail -n 1)
 begun=${begun:-0}
 for state in ${STATES-lasting}; do
-    "$outside/out/powercut" cut "$here/run" "$here/data" "$state" || exit 2
+    set -- "$state"
+    [ "$state" = keep ] && set -- keep "$scenario"
+    "$outside/out/powercut" cut "$here/run" "$here/data" "$@"
+    case $? in 0) ;; 97) verdict unresolved ;; *) exit 2 ;; esac
     holds_from "${promised:-0}" && continue
     holds_from 0 && verdict "fail stale"
     verdict "fail torn"

@@ -3,24 +3,28 @@
 
 #include <errno.h>
 #include <stddef.h>
+#include <stdio.h>
 #include <string.h>
 
 const char *const point_names[POINTS] = {
-    "libc::open",   "libc::read", "libc::write",  "libc::fsync", "libc::ftruncate",
-    "libc::rename", "libc::link", "libc::unlink", "libc::mkdir", "libc::rmdir",
+    "libc::open",   "libc::read",  "libc::write", "libc::fsync",   "libc::ftruncate", "libc::rename", "libc::link", "libc::unlink",
+    "libc::mkdir",  "libc::rmdir", "libc::symlink", "libc::connect", "libc::accept", "libc::send",   "libc::recv", "power::keep",
 };
 const char *const task_names[TASKS] = {"off", "return", "sleep", "panic", "print", "pause", "yield", "delay"};
 
 static const char prefix[] = "libc::";
 
-/* What a return may name. None and the empty argument are the error of a broken disk. */
+/* What a return may name. */
 static const struct {
     const char *name;
     int number;
 } errors[] = {
-    {"", EIO},           {"EIO", EIO},       {"ENOSPC", ENOSPC}, {"EDQUOT", EDQUOT}, {"EACCES", EACCES}, {"EPERM", EPERM},
-    {"EROFS", EROFS},    {"EINTR", EINTR},   {"EAGAIN", EAGAIN}, {"EBUSY", EBUSY},   {"EEXIST", EEXIST}, {"EFBIG", EFBIG},
-    {"EMFILE", EMFILE},  {"ENFILE", ENFILE}, {"ENOENT", ENOENT}, {"ENOMEM", ENOMEM}, {"ESTALE", ESTALE}, {"EXDEV", EXDEV},
+    {"EIO", EIO},               {"ENOSPC", ENOSPC},         {"EDQUOT", EDQUOT},           {"EACCES", EACCES},
+    {"EPERM", EPERM},           {"EROFS", EROFS},           {"EINTR", EINTR},             {"EAGAIN", EAGAIN},
+    {"EBUSY", EBUSY},           {"EEXIST", EEXIST},         {"EFBIG", EFBIG},             {"EMFILE", EMFILE},
+    {"ENFILE", ENFILE},         {"ENOENT", ENOENT},         {"ENOMEM", ENOMEM},           {"ESTALE", ESTALE},
+    {"EXDEV", EXDEV},           {"ECONNRESET", ECONNRESET}, {"ECONNREFUSED", ECONNREFUSED}, {"ECONNABORTED", ECONNABORTED},
+    {"EPIPE", EPIPE},           {"ETIMEDOUT", ETIMEDOUT},   {"ENOTCONN", ENOTCONN},       {"EHOSTUNREACH", EHOSTUNREACH},
 };
 
 static bool refuse(struct scenario *scenario, const char *kind, unsigned term) {
@@ -126,11 +130,34 @@ static bool read_term(struct scenario *scenario, struct chain *chain, char *text
     return true;
 }
 
+/* The point of a name: the call, and where points are named by file, an at sign and the file. */
+static enum point point_of(const struct scenario *scenario, const char *name) {
+    size_t length = strcspn(name, "@");
+    if (strncmp(name, prefix, sizeof prefix - 1)) return strcmp(name, point_names[KEEP]) ? POINTS : KEEP;
+    if (scenario->by_file != (name[length] == '@')) return POINTS;
+    for (int point = 0; point < KEEP; point++)
+        if (!strncmp(name, point_names[point], length) && !point_names[point][length]) return point;
+    return POINTS;
+}
+
+const struct chain *chain_named(const struct scenario *scenario, const char *name) {
+    for (unsigned i = 0; i < scenario->length; i++)
+        if (!strcmp(scenario->chains[i].name, name)) return &scenario->chains[i];
+    return NULL;
+}
+
 static struct chain *chain_of(struct scenario *scenario, const char *name) {
-    for (int point = 0; point < POINTS; point++)
-        if (!strcmp(name, point_names[point])) return &scenario->chains[point];
-    if (!strncmp(name, prefix, sizeof prefix - 1)) scenario->stranger = name;
-    return &scenario->other;
+    if (scenario->own) return scenario->own(name);
+    enum point point = point_of(scenario, name);
+    if (point == POINTS) {
+        if (!strncmp(name, prefix, sizeof prefix - 1)) scenario->stranger = name;
+        return &scenario->other;
+    }
+    struct chain *chain = (struct chain *)chain_named(scenario, name);
+    if (!chain) chain = &scenario->chains[scenario->length++];
+    chain->name = name;
+    chain->point = point;
+    return chain;
 }
 
 static bool read_piece(struct scenario *scenario, char *piece) {
@@ -152,10 +179,19 @@ static bool read_piece(struct scenario *scenario, char *piece) {
     return true;
 }
 
-/* The error of a return at a point, false where there is none of that name or no half of the point's work. */
+static bool moves_bytes(enum point point) { return point == READ || point == WRITE || point == SEND || point == RECV; }
+
+/* The error of a return at a point, false where there is none of that name or no half of the point's work. Without a name it
+   is that of a broken disk or line. A cut takes each return as it is. */
 static bool find_error(struct term *term, enum point point) {
     const char *name = term->argument ? term->argument : "";
-    if (!strcmp(name, "HALF")) return point == READ || point == WRITE;
+    if (point == KEEP) return true;
+    if (!strcmp(name, "HALF")) return moves_bytes(point);
+    if (!strcmp(name, "DROP")) {
+        term->error = DROPPED;
+        return point == SEND;
+    }
+    if (!*name) name = point >= CONNECT ? "ECONNRESET" : "EIO";
     for (size_t i = 0; i < sizeof errors / sizeof *errors; i++)
         if (!strcmp(name, errors[i].name)) {
             term->error = errors[i].number;
@@ -167,13 +203,13 @@ static bool find_error(struct term *term, enum point point) {
 /* What the grammar takes and this library can't do, told before anything runs. Who would draw the words of a share is the
    component, and not the same ones again. */
 static bool can_do(struct scenario *scenario) {
-    for (int point = 0; point < POINTS; point++)
-        for (unsigned i = 0; i < scenario->chains[point].length; i++) {
-            struct chain *chain = &scenario->chains[point];
+    for (unsigned number = 0; number < scenario->length; number++)
+        for (unsigned i = 0; i < scenario->chains[number].length; i++) {
+            struct chain *chain = &scenario->chains[number];
             struct term *term = &chain->terms[i];
             scenario->piece = chain->entry;
             if (term->share > 0 && term->share < WHOLE_SHARE) return refuse(scenario, "NoShares", i + 1);
-            if (term->task == RETURN && !find_error(term, point)) return refuse(scenario, "UnknownError", i + 1);
+            if (term->task == RETURN && !find_error(term, chain->point)) return refuse(scenario, "UnknownError", i + 1);
         }
     return true;
 }
@@ -186,4 +222,34 @@ bool read_scenario(struct scenario *scenario, char *text) {
         if (*piece && !read_piece(scenario, piece)) return false;
     }
     return can_do(scenario);
+}
+
+const struct term *acting_term(const struct chain *chain, uint64_t *used) {
+    for (unsigned i = 0; chain && i < chain->length; i++) {
+        const struct term *term = &chain->terms[i];
+        if (term->share == 0 || (term->counted && used[i] >= term->count)) continue;
+        used[i]++;
+        return term;
+    }
+    return NULL;
+}
+
+char *escaped(char *to, const char *text) {
+    for (; *text; text++) {
+        unsigned char byte = (unsigned char)*text;
+        if (byte >= ' ' && byte != 127 && byte != '\\') *to++ = *text;
+        else to += sprintf(to, "\\%03o", byte);
+    }
+    return to;
+}
+
+char *written_answer(char *to, const struct term *term) {
+    if (!term || term->task == OFF || term->task == YIELD) return stpcpy(to, "go");
+    to = stpcpy(to, task_names[term->task]);
+    if (term->task == SLEEP || term->task == DELAY) return to + sprintf(to, "(%u)", term->millis);
+    if (!term->argument) return to;
+    *to++ = '(';
+    to = escaped(to, term->argument);
+    *to++ = ')';
+    return to;
 }

@@ -1,0 +1,323 @@
+#define _GNU_SOURCE
+#include "replay.h"
+
+#include <errno.h>
+#include <fcntl.h>
+#include <stdio.h>
+#include <stdlib.h>
+#include <sys/mman.h>
+#include <sys/stat.h>
+#include <unistd.h>
+
+enum { SYSTEM_BLOCK = 4096 };
+
+static void *made(size_t size) {
+    void *memory = calloc(1, size);
+    must(memory, "memory");
+    return memory;
+}
+
+/* ---- files and names */
+
+struct file *file_of(struct replay *replay, const struct key *key) {
+    struct file **first = &replay->files[(key->number * 31 + key->nanoseconds) % HASHES];
+    for (struct file *file = *first; file; file = file->next_of_hash)
+        if (same_key(&file->key, key)) return file;
+    struct file *file = made(sizeof *file);
+    file->key = *key;
+    file->next_of_hash = *first;
+    return *first = file;
+}
+
+static struct name *name_of(struct replay *replay, struct file *folder, const char *text) {
+    uint64_t place = folder->key.number;
+    for (const char *byte = text; *byte; byte++) place = place * 31 + (unsigned char)*byte;
+    struct name **first = &replay->names[place % HASHES];
+    for (struct name *name = *first; name; name = name->next_of_hash)
+        if (name->folder == folder && !strcmp(name->text, text)) return name;
+    struct name *name = made(sizeof *name);
+    *name = (struct name){.folder = folder, .text = strdup(text), .next_in_folder = folder->names, .next_of_hash = *first};
+    folder->names = name;
+    return *first = name;
+}
+
+static void clear_names(struct replay *replay) {
+    for (size_t i = 0; i < HASHES; i++)
+        for (struct name *name = replay->names[i]; name; name = name->next_of_hash) name->file = NULL;
+}
+
+/* ---- what is in a book */
+
+static void read_folder(struct replay *replay, struct file *folder, const char *book, bool is_base);
+
+/* One name of a folder's note. The line's last part may hold blanks. */
+static void read_name(struct replay *replay, FILE *note, const char *line, struct file *folder, const char *book, bool is_base) {
+    char kind, text[KEY_TEXT];
+    struct key key;
+    unsigned mode;
+    int end = 0;
+    bool read = sscanf(line, "%c %o %63s%n", &kind, &mode, text, &end) == 3 && line[end] == ' ' && read_key(text, &key);
+    if (!read) refuse(line, "a bad note");
+    struct file *file = file_of(replay, &key);
+    struct name *name = name_of(replay, folder, line + end + 1);
+    if (!is_base || !file->key.mode) file->key.mode = mode | (kind == 'd' ? S_IFDIR : kind == 'l' ? S_IFLNK : S_IFREG);
+    name->file = file;
+    if (is_base) file->in_base = true;
+    if (!file->known_folder) file->known_folder = folder, file->known_name = name->text;
+    if (kind == 'd') read_folder(replay, file, book, is_base);
+    if (kind != 'l') return;
+    char *target = NULL;
+    size_t size = 0;
+    must(getdelim(&target, &size, 0, note) > 0, line);
+    file->target = target;
+}
+
+static void read_folder(struct replay *replay, struct file *folder, const char *book, bool is_base) {
+    char kind[LONG_PATH], path[LONG_PATH], text[KEY_TEXT], *line = NULL;
+    size_t size = 0;
+    write_key(text, &folder->key);
+    joined(kind, book, "d");
+    joined(path, kind, text);
+    FILE *note = fopen(path, "re");
+    if (!note) return;
+    while (getdelim(&line, &size, 0, note) > 0) read_name(replay, note, line, folder, book, is_base);
+    free(line);
+    fclose(note);
+}
+
+void names_of_book(struct replay *replay, const char *book) {
+    clear_names(replay);
+    read_folder(replay, replay->root, book, false);
+}
+
+/* ---- the path of a change, for a look */
+
+static char *path_of(const struct file *folder, const char *name) {
+    char path[LONG_PATH], longer[LONG_PATH];
+    snprintf(path, sizeof path, "%s", name);
+    for (int depth = 0; folder && folder->known_name && depth < 100; depth++, folder = folder->known_folder) {
+        joined(longer, folder->known_name, path);
+        strcpy(path, longer);
+    }
+    return strdup(path);
+}
+
+static char *shown_names(const struct change *change) {
+    char *first = path_of(change->folder, change->name), *both = NULL;
+    if (change->kind != RENAMED && change->kind != EXCHANGED) return first;
+    char *second = path_of(change->other_folder, change->other_name);
+    must(asprintf(&both, "%s -> %s", first, second) > 0, "memory");
+    return both;
+}
+
+/* ---- which changes last */
+
+bool is_contents(const struct change *change) { return change->kind >= WRITTEN; }
+
+static bool lasts_whole(const struct change *change) { return change->lasts && (!change->other_folder || change->other_lasts); }
+
+/* Lets go of the pending changes that last by now. */
+static void settle(struct replay *replay) {
+    size_t left = 0;
+    for (size_t i = 0; i < replay->pending_count; i++)
+        if (!lasts_whole(replay->changes[replay->pending[i]])) replay->pending[left++] = replay->pending[i];
+    replay->pending_count = left;
+}
+
+/* Names that a sync of the file itself makes last, and those of the folders that lead to it. */
+static void sync_own_names(struct replay *replay, struct file *file, uint64_t noted) {
+    for (int depth = 0; file && depth < 100; depth++, file = file->known_folder)
+        for (size_t i = 0; i < replay->pending_count; i++) {
+            struct change *change = replay->changes[replay->pending[i]];
+            bool names_it = change->kind != UNLINKED && (change->file == file || change->other_file == file);
+            if (!is_contents(change) && names_it && change->noted < noted) change->lasts = change->other_lasts = true;
+        }
+}
+
+static bool is_synced(const struct change *change, const struct note *note, const struct file *file) {
+    if (change->noted >= note->at || change->lost) return false;
+    if (note->kind == SYNCED_ALL) return true;
+    if (!is_contents(change) || change->file != file) return false;
+    if (note->kind == SYNCED || change->kind == RESIZED) return true;
+    return change->at >= note->from && change->at + change->length <= note->from + note->length;
+}
+
+static void sync_changes(struct replay *replay, const struct note *note) {
+    struct file *file = file_of(replay, &note->file);
+    for (size_t i = 0; i < replay->pending_count; i++) {
+        struct change *change = replay->changes[replay->pending[i]];
+        if (is_synced(change, note, file)) change->lasts = change->other_lasts = true;
+        if (note->kind != SYNCED || is_contents(change) || change->noted >= note->at) continue;
+        if (change->folder == file) change->lasts = true;
+        if (change->other_folder == file) change->other_lasts = true;
+    }
+    if (replay->sync_names && note->kind == SYNCED) sync_own_names(replay, file, note->at);
+    settle(replay);
+}
+
+static void lose_changes(struct replay *replay, const struct note *note) {
+    struct file *file = file_of(replay, &note->file);
+    for (size_t i = 0; i < replay->pending_count; i++) {
+        struct change *change = replay->changes[replay->pending[i]];
+        bool has_bytes = is_contents(change) && change->kind != RESIZED;
+        if (has_bytes && change->file == file && change->noted < note->at) change->lost = true;
+    }
+}
+
+/* A block that is written to is dirty again, with all that is in it. */
+static void dirty_again(struct replay *replay, const struct file *file, uint64_t at, uint64_t length) {
+    uint64_t from = at / SYSTEM_BLOCK * SYSTEM_BLOCK, to = (at + length + SYSTEM_BLOCK - 1) / SYSTEM_BLOCK * SYSTEM_BLOCK;
+    for (size_t i = 0; i < replay->pending_count; i++) {
+        struct change *change = replay->changes[replay->pending[i]];
+        if (change->lost && change->file == file && change->at < to && change->at + change->length > from) change->lost = false;
+    }
+}
+
+/* ---- the notes, one by one */
+
+static struct change *add_change(struct replay *replay, const struct change *from) {
+    struct change *change = made(sizeof *change);
+    *change = *from;
+    if (replay->count == replay->room) {
+        replay->room = replay->room ? 2 * replay->room : 1024;
+        replay->changes = realloc(replay->changes, replay->room * sizeof *replay->changes);
+        replay->pending = realloc(replay->pending, replay->room * sizeof *replay->pending);
+        must(replay->changes && replay->pending, "memory");
+    }
+    replay->pending[replay->pending_count++] = replay->count;
+    replay->changes[replay->count++] = change;
+    return change;
+}
+
+static void add_part(struct replay *replay, struct change part, uint64_t at, uint64_t length) {
+    part.bytes += at - part.at;
+    part.at = at;
+    part.length = length;
+    part.shown = path_of(part.file->known_folder, part.file->known_name ? part.file->known_name : "(no name)");
+    struct change *change = add_change(replay, &part);
+    if (part.file->last) part.file->last->next_of_file = change;
+    else part.file->first = change;
+    part.file->last = change;
+}
+
+/* A long write is a change for each of its blocks. Where a sync failed for good, the system's blocks are told apart too. */
+static void add_contents(struct replay *replay, const struct note *note, const char *bytes) {
+    struct change whole = {
+        .kind = note->kind, .file = file_of(replay, &note->file), .noted = (uint64_t)((const char *)note - replay->notes),
+        .at = note->at, .length = note->length, .bytes = (uint64_t)(bytes - replay->notes), .later = note->flags & LATER,
+    };
+    uint64_t end = note->at + note->length, at = note->at;
+    if (note->kind == RESIZED) whole.length = 0;
+    if (replay->forgets && note->kind != RESIZED) dirty_again(replay, whole.file, note->at, note->length);
+    if (note->kind == RESIZED || !note->length) return add_part(replay, whole, note->at, whole.length);
+    while (at < end) {
+        uint64_t to = note->length > replay->block ? (at / replay->block + 1) * replay->block : end;
+        uint64_t system_to = (at / SYSTEM_BLOCK + 1) * SYSTEM_BLOCK;
+        if (replay->forgets && system_to < to) to = system_to;
+        if (to > end) to = end;
+        add_part(replay, whole, at, to - at);
+        at = to;
+    }
+}
+
+static void add_copy(struct replay *replay, const struct note *note, const char *bytes) {
+    struct file *file = file_of(replay, &note->file);
+    struct late_copy *copy = made(sizeof *copy);
+    *copy = (struct late_copy){.noted = (uint64_t)((const char *)note - replay->notes), .at = note->at, .length = note->length,
+                               .bytes = (uint64_t)(bytes - replay->notes), .next = file->copies};
+    file->copies = copy;
+}
+
+static void set_known(struct file *file, struct file *folder, const char *name) {
+    file->known_folder = folder;
+    file->known_name = name;
+}
+
+static void add_names(struct replay *replay, const struct note *note, const char *name, const char *other_name) {
+    struct file *file = file_of(replay, &note->file), *folder = file_of(replay, &note->folder);
+    bool has_two = note->kind == RENAMED || note->kind == EXCHANGED;
+    struct change change = {.kind = note->kind, .file = file, .folder = folder, .name = name,
+                            .noted = (uint64_t)((const char *)note - replay->notes)};
+    file->key.mode = note->file.mode;
+    if (has_two) {
+        change.other_folder = file_of(replay, &note->other_folder);
+        change.other_name = other_name;
+        change.other_file = note->kind == EXCHANGED ? file_of(replay, &note->other_file) : NULL;
+    }
+    if (note->kind == CREATED && note->other_name) file->target = other_name;
+    if (note->kind == CREATED || (note->kind == LINKED && !file->known_name)) set_known(file, folder, name);
+    change.shown = shown_names(&change);
+    if (has_two) set_known(file, change.other_folder, other_name);
+    if (change.other_file) set_known(change.other_file, folder, name);
+    add_change(replay, &change);
+}
+
+static void read_note(struct replay *replay, const struct note *note) {
+    const char *name = (const char *)(note + 1), *other_name = name + note->name, *bytes = other_name + note->other_name;
+    switch ((enum kind)note->kind) {
+    case CREATED: case LINKED: case UNLINKED: case RENAMED: case EXCHANGED: return add_names(replay, note, name, other_name);
+    case WRITTEN: case STORED: case CLEARED: case RESIZED: return add_contents(replay, note, bytes);
+    case COPIED: return add_copy(replay, note, bytes);
+    case SYNCED: case SYNCED_RANGE: case SYNCED_ALL: return sync_changes(replay, note);
+    case SYNC_FAILED: return lose_changes(replay, note);
+    default: refuse(replay->run, "bad notes");
+    }
+}
+
+static const struct note *note_at(const struct replay *replay, uint64_t at) {
+    const struct note *note = (const struct note *)(replay->notes + at);
+    uint64_t left = replay->noted - at;
+    if (left < sizeof *note || note->size < sizeof *note || note->size > left) refuse(replay->run, "bad notes");
+    return note;
+}
+
+static void map_notes(struct replay *replay) {
+    char path[LONG_PATH];
+    struct stat told;
+    joined(path, replay->run, "changes");
+    int file = open(path, O_RDONLY | O_CLOEXEC);
+    must(file >= 0 && !fstat(file, &told), path);
+    if ((uint64_t)told.st_size < replay->noted) refuse(path, "bad notes");
+    if (replay->noted) replay->notes = mmap(NULL, replay->noted, PROT_READ, MAP_PRIVATE, file, 0);
+    must(replay->notes != MAP_FAILED, path);
+    close(file);
+}
+
+void read_run(struct replay *replay, const char *run, const struct state *state, uint64_t noted) {
+    char root_link[LONG_PATH], root[PATH_MAX];
+    joined(root_link, run, "root");
+    ssize_t length = readlink(root_link, root, sizeof root - 1);
+    if (length < 0) refuse(run, "no folder of a run that noted a root");
+    root[length] = 0;
+    *replay = (struct replay){.noted = noted, .block = state->block, .sync_names = state->sync_names};
+    snprintf(replay->run, sizeof replay->run, "%s", run);
+    joined(replay->base, run, "kept");
+    joined(replay->live, run, "live");
+    struct key key = key_of(root);
+    replay->root = file_of(replay, &key);
+    replay->root->in_base = true;
+    read_folder(replay, replay->root, replay->base, true);
+    map_notes(replay);
+    for (uint64_t at = 0; at < noted; at += note_at(replay, at)->size)
+        replay->forgets |= note_at(replay, at)->kind == SYNC_FAILED;
+    for (uint64_t at = 0; at < noted; at += note_at(replay, at)->size) read_note(replay, note_at(replay, at));
+}
+
+/* ---- names as changes leave them */
+
+static void apply_names(struct replay *replay, const struct change *change, bool first, bool second) {
+    struct name *name = name_of(replay, change->folder, change->name);
+    struct name *other = change->other_folder ? name_of(replay, change->other_folder, change->other_name) : NULL;
+    if (first) name->file = change->kind == CREATED || change->kind == LINKED ? change->file : change->other_file;
+    if (other && second) other->file = change->file;
+}
+
+void names_of_changes(struct replay *replay, bool all) {
+    clear_names(replay);
+    read_folder(replay, replay->root, replay->base, true);
+    for (size_t i = 0; i < replay->count; i++) {
+        const struct change *change = replay->changes[i];
+        bool whole = all || change->kept;
+        if (!is_contents(change)) apply_names(replay, change, whole || change->lasts, whole || change->other_lasts);
+    }
+}

@@ -1,0 +1,171 @@
+"""commit.py run FOLDER TRANSACTIONS: two-phase commit with presumed abort, by a coordinator and two participants, each a process with a
+log in FOLDER. Writes `done N` or `aborted N` for each transaction as its client is told.
+commit.py judge FOLDER < what it wrote: what recovery makes of the logs: ok, split (one participant commits and the other doesn't), lost
+(the client was told `done`, and none commits) or phantom (it was told `aborted`, and all commit).
+
+Messages are points of its own (`commit::send_..`): one that fails is lost. What is lost comes as an empty line, in place of a wait.
+Logs are files, so their writes and syncs are points of the library of faults. FLAW:
+  sound            where it isn't set
+  lazy_prepare     a prepare record is written, and not synced before the vote
+  early_end        the coordinator forgets a transaction whatever was acknowledged
+  abort_on_doubt   a coordinator whose commit record failed tells the participants to abort, though the record may last"""
+import os
+import socket
+import sys
+
+from paklour_points import hit
+
+FLAW = os.environ.get("FLAW", "sound")
+NAMES = ("a", "b")
+GONE = 3  # another process is gone, or the outcome is in doubt: recovery decides
+
+
+def log_name(folder, name):
+    return os.path.join(folder, f"{name}.log")
+
+
+class Log:
+    def __init__(self, folder, name):
+        try:
+            self.file = os.open(log_name(folder, name), os.O_WRONLY | os.O_APPEND)
+        except OSError:
+            sys.exit(GONE)
+        self.is_whole = True
+
+    def append(self, record, is_forced):
+        """Whether the record is there, and lasts if it is forced. After a failure no record follows, since half of one may stand."""
+        line = record.encode() + b"\n"
+        try:
+            self.is_whole = self.is_whole and os.write(self.file, line) == len(line)
+            if self.is_whole and is_forced:
+                os.fsync(self.file)
+        except OSError:
+            self.is_whole = False
+        return self.is_whole
+
+
+class Peer:
+    """The other end of a socket."""
+
+    def __init__(self, end):
+        self.end, self.lines = end, end.makefile("r")
+
+    def send(self, point, text):
+        message = "" if hit(point) is not None else text
+        try:
+            self.end.sendall(f"{message}\n".encode())
+        except OSError:
+            sys.exit(GONE)
+        return message != ""
+
+    def hear(self):
+        """A message without its line feed, empty where it was lost."""
+        line = self.lines.readline()
+        if not line.endswith("\n"):
+            sys.exit(GONE)
+        return line[:-1]
+
+
+def participant(folder, name, coordinator):
+    log = Log(folder, name)
+    coordinator.end.sendall(b"ready\n")
+    while True:
+        what, _, number = coordinator.hear().partition(" ")
+        if what == "prepare":
+            is_prepared = log.append(f"prepare {number}", FLAW != "lazy_prepare")
+            coordinator.send("commit::send_vote", "yes" if is_prepared else "no")
+        if what == "commit":
+            # Without its record it can't acknowledge, and asks again when it starts anew.
+            if not log.append(f"commit {number}", True):
+                sys.exit(GONE)
+            coordinator.send("commit::send_ack", "ack")
+        if what == "abort":
+            log.append(f"abort {number}", False)
+
+
+def tell(text):
+    os.write(1, f"{text}\n".encode())
+
+
+def transact(log, participants, number):
+    voted = []
+    for each in participants:
+        if each.send("commit::send_prepare", f"prepare {number}") and each.hear() == "yes":
+            voted.append(each)
+    decides = len(voted) == len(participants)
+    is_kept = decides and log.append(f"commit {number}", True)
+    if decides and not is_kept and FLAW != "abort_on_doubt":
+        sys.exit(GONE)  # whether the record lasts isn't known
+    if not is_kept:
+        tell(f"aborted {number}")
+        for each in voted:
+            each.send("commit::send_outcome", f"abort {number}")
+        return
+    tell(f"done {number}")
+    heard = [each.send("commit::send_outcome", f"commit {number}") and each.hear() == "ack" for each in participants]
+    if all(heard) or FLAW == "early_end":
+        log.append(f"end {number}", FLAW == "early_end")
+
+
+def started(folder, name, before):
+    """A participant that is ready, so that each run has its hits in one order."""
+    mine, theirs = socket.socketpair()
+    if os.fork() == 0:
+        for each in before:
+            each.lines.close()
+            each.end.close()
+        mine.close()
+        participant(folder, name, Peer(theirs))
+    theirs.close()
+    peer = Peer(mine)
+    peer.hear()
+    return peer
+
+
+def run(folder, transactions):
+    participants = []
+    for name in NAMES:
+        participants.append(started(folder, name, participants))
+    try:
+        log = Log(folder, "coordinator")
+        for number in range(1, transactions + 1):
+            transact(log, participants, number)
+    finally:
+        for each in participants:
+            each.end.shutdown(socket.SHUT_RDWR)
+        for each in participants:
+            os.wait()
+
+
+def records(folder, name):
+    """The whole lines of a log."""
+    with open(log_name(folder, name), encoding="utf-8", errors="replace") as log:
+        return set(line[:-1] for line in log if line.endswith("\n"))
+
+
+def commits(folder, name, number):
+    """What a participant comes to when it starts anew: prepared and told nothing, it asks the coordinator, who knows no aborts."""
+    own, coordinators = records(folder, name), records(folder, "coordinator")
+    if f"commit {number}" in own:
+        return True
+    if f"abort {number}" in own or f"prepare {number}" not in own:
+        return False
+    return f"commit {number}" in coordinators and f"end {number}" not in coordinators
+
+
+def judged(folder, told, transactions):
+    for number in range(1, transactions + 1):
+        ends = {commits(folder, name, number) for name in NAMES}
+        if len(ends) > 1:
+            return "split"
+        if f"done {number}" in told and ends == {False}:
+            return "lost"
+        if f"aborted {number}" in told and ends == {True}:
+            return "phantom"
+    return "ok"
+
+
+if sys.argv[1] == "run":
+    run(sys.argv[2], int(sys.argv[3]))
+else:
+    print(judged(sys.argv[2], sys.stdin.read().split("\n"), int(sys.argv[3])))

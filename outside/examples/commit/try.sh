@@ -1,0 +1,35 @@
+#!/bin/sh
+# try.sh [SCENARIO]: two-phase commit by three processes (commit.py) under that scenario or the one in FAILPOINTS, which names messages
+# (`commit::send_..`, by the Python client of outside/points) and calls on the logs (`libc::..`, by the library of faults); then the
+# power is cut, and what recovery makes of it written: a line `VERDICT<TAB>SCENARIO`. By the environment, beside what ../shared.sh says:
+#   FLAW           sound, lazy_prepare, early_end or abort_on_doubt
+#   TRANSACTIONS   how many, one after the other: 1
+# TRACE takes the lines of both traces, numbered anew, for the census.
+outside=$(cd "$(dirname "$0")/../.." && pwd) || exit 2
+scenario=${1-${FAILPOINTS-none}}
+. "$outside/examples/shared.sh"
+needs python3
+TRANSACTIONS=${TRANSACTIONS:-1}
+unset FAILPOINTS POINTS_TRACE
+
+commit() { timeout -s KILL 20 "$@" -S -B "$outside/examples/commit/commit.py" "$what" "$here/data" "$TRANSACTIONS"; }
+
+PYTHONPATH=$outside/points/python/src
+export PYTHONPATH
+mkdir "$here/data" && for name in a b coordinator; do : > "$here/data/$name.log"; done || exit 2
+begin
+what=run
+POINTS_TRACE=$here/points commit "$under" python3 > "$here/said" 2> "$here/errors"
+status=$?
+cat "$here/points" >> "$here/run/trace" 2>> "$here/errors"
+ended
+
+# 3: a process was gone, or the outcome in doubt.
+case $status in 0 | 3 | 99) ;; 1 | 134 | 139) verdict 'fail crashed' ;; *) verdict unresolved ;; esac
+for state in $(states); do
+    cut_to "$state"
+    what=judge
+    told=$(commit python3 < "$here/said") || exit 2
+    [ "$told" = ok ] || verdict "fail $told"
+done
+verdict pass

@@ -1,0 +1,74 @@
+# What the try.sh of the examples beside this file share: sourced, with $outside and $scenario set. By the environment, beside what
+# each try.sh says of its own:
+#   STATES        the states after a power cut that are judged: lasting names contents live. keep is what the scenario says of
+#                 power::keep; keep:N what lasts, and change N of those that are pending; each is what lasts with none of them, with each
+#                 alone, and with all
+#   FAULTS_SYNC   names: a sync of a file makes its name last too; and the library's other variables
+#   TRACE         a file that takes the run's trace
+#   SHOW          where it is set, what the program said, and each verdict's state, on standard error
+here=$(mktemp -d) || exit 2
+trap 'leave' EXIT
+trap 'exit 2' HUP INT TERM
+export outside here scenario
+under=$outside/examples/under
+leave() { rm -rf "$here"; }
+
+# needs PROGRAM..: ends with 2 where one isn't installed
+needs() {
+    for program in "$@"; do
+        command -v "$program" > "$here/where" && continue
+        echo "try.sh: not installed: $program" >&2
+        exit 2
+    done
+}
+
+# begin: what is under $here/data now lasts
+begin() { "$outside/out/powercut" begin "$here/run" "$here/data" || exit 2; }
+
+verdict() {
+    [ -z "${SHOW-}" ] || echo "$1 ${state+in $state}" >&2
+    printf '%s\t%s\n' "$1" "$scenario"
+    exit 0
+}
+
+# traced: gives the trace to who asked for it, numbered anew, since `commit` puts two together
+traced() { [ -z "${TRACE-}" ] || awk -F '\t' -v OFS='\t' '{ $1 = NR } 1' "$here/run/trace" > "$TRACE"; }
+
+# met: a fault that was never met wasn't tried
+met() { [ "$scenario" = none ] || cut -f 4 "$here/run/trace" | grep -qvx go || verdict unresolved; }
+
+# ended: after the program's run, before anything is judged. Where no call was seen and the scenario could be read, the power cut tells
+# that the library wasn't loaded, or not in which program.
+ended() {
+    if [ ! -s "$here/run/trace" ] && ! grep -q '^faults: scenario: ' "$here/errors"; then
+        "$outside/out/powercut" cut "$here/run" "$here/data" live && echo 'try.sh: no call on a file was seen' >&2
+        exit 2
+    fi
+    traced
+    [ -z "${SHOW-}" ] || cat "$here/said" "$here/errors" >&2
+    case $scenario in *power::keep*) ;; *) met ;; esac
+}
+
+# states: those that are judged, a word for each. The run has ended, so what is pending is known.
+states() {
+    for word in ${STATES:-lasting names contents live}; do
+        [ "$word" = each ] || { echo "$word"; continue; }
+        echo keep:none
+        "$outside/out/powercut" pending "$here/run" | sed 's/^\([0-9]*\).*/keep:\1/'
+        echo keep:all
+    done
+}
+
+# cut_to STATE: the files as a power cut leaves them
+cut_to() {
+    state=$1
+    case $state in
+    keep) set -- keep "$scenario" ;;
+    keep:none) set -- keep none ;;
+    keep:all) set -- keep power::keep=return ;;
+    keep:*) set -- keep "power::keep=$((${state#keep:} - 1))*off->1*return" ;;
+    esac
+    "$outside/out/powercut" cut "$here/run" "$here/data" "$@"
+    case $? in 0) ;; 97) verdict unresolved ;; *) exit 2 ;; esac
+    [ "$state" != keep ] || { traced; met; }
+}

@@ -1,0 +1,222 @@
+/* The client of points.h. Where POINTS_TRACE names a file, that is all that the processes of a run share: which hit of a
+   point is next is counted from its lines, under a lock, and a line that says panic or pause ends each process at its next
+   hit. So a trace belongs to one run. Without one each process counts for itself. */
+#define _GNU_SOURCE
+#include "points.h"
+
+#include "../shim/run.h"
+
+#include <errno.h>
+#include <fcntl.h>
+#include <limits.h>
+#include <sched.h>
+#include <signal.h>
+#include <stdio.h>
+#include <stdlib.h>
+#include <string.h>
+#include <sys/file.h>
+#include <sys/stat.h>
+#include <time.h>
+#include <unistd.h>
+
+enum { MOST_NAME = 200 };
+
+/* A name of the scenario, of a hit or of the trace. */
+struct named {
+    struct named *next;
+    uint64_t hits;
+    struct chain *chain; /* null where the scenario doesn't name it */
+    char name[];
+};
+
+static struct scenario scenario;
+static struct named *names;
+static uint64_t number; /* hits so far */
+static char trace_name[2 * PATH_MAX];
+static off_t seen; /* bytes of the trace that are counted */
+static pthread_mutex_t mutex = PTHREAD_MUTEX_INITIALIZER;
+
+static _Noreturn void refuse(const char *what, const char *why) {
+    dprintf(2, "points: %s: %s\n", what, why);
+    _exit(REFUSED);
+}
+
+static void *room(void *before, size_t bytes) {
+    void *made = realloc(before, bytes);
+    if (!made) refuse("no memory", strerror(ENOMEM));
+    return made;
+}
+
+static struct named *named(const char *name, size_t length) {
+    struct named *found = names;
+    while (found && (strncmp(found->name, name, length) || found->name[length])) found = found->next;
+    if (found) return found;
+    found = room(NULL, sizeof *found + length + 1);
+    *found = (struct named){.next = names};
+    memcpy(found->name, name, length);
+    found->name[length] = 0;
+    return names = found;
+}
+
+/* ---- the scenario */
+
+static struct chain *chain_of_name(const char *name) {
+    struct named *its = named(name, strlen(name));
+    if (!its->chain) its->chain = room(NULL, sizeof *its->chain);
+    return its->chain;
+}
+
+/* What a share draws here couldn't be drawn again: the first entry that has one, or null. */
+static const struct chain *first_share(unsigned *term) {
+    const struct chain *first = NULL;
+    for (struct named *its = names; its; its = its->next)
+        for (unsigned i = its->chain ? its->chain->length : 0; i-- > 0;) {
+            uint32_t share = its->chain->terms[i].share;
+            if (share == 0 || share == WHOLE_SHARE || (first && first->entry < its->chain->entry)) continue;
+            first = its->chain;
+            *term = i + 1;
+        }
+    return first;
+}
+
+static void take_scenario(const char *text) {
+    char *own = strcpy(room(NULL, strlen(text) + 1), text), where[64];
+    scenario.own = chain_of_name;
+    bool is_read = read_scenario(&scenario, own);
+    const struct chain *first = is_read ? first_share(&scenario.bad.term) : NULL;
+    if (first) scenario.bad = (struct bad){"NoShares", first->entry, scenario.bad.term};
+    if (is_read && !first) return;
+    snprintf(where, sizeof where, "%s entry %u term %u", scenario.bad.kind, scenario.bad.entry, scenario.bad.term);
+    refuse("scenario", where);
+}
+
+/* The whole path, since a program may change its folder. */
+static void take_trace(const char *name) {
+    char folder[PATH_MAX];
+    if (*name != '/' && !getcwd(folder, sizeof folder)) refuse("no trace", strerror(errno));
+    int length = snprintf(trace_name, sizeof trace_name, "%s%s%s", *name == '/' ? "" : folder, *name == '/' ? "" : "/", name);
+    if (length >= (int)sizeof trace_name) refuse("no trace", strerror(ENAMETOOLONG));
+    int file = open(trace_name, O_RDWR | O_APPEND | O_CREAT | O_CLOEXEC, 0666);
+    if (file < 0) refuse("no trace", strerror(errno));
+    close(file);
+}
+
+/* Before `main`, so that nothing is done under a scenario that can't be read. */
+__attribute__((constructor)) static void begin(void) {
+    const char *text = getenv("FAILPOINTS"), *trace = getenv("POINTS_TRACE");
+    if (text && strcmp(text, "none")) take_scenario(text);
+    if (trace && *trace) take_trace(trace);
+}
+
+/* ---- the trace: number of the hit, point, which hit of the point, answer, and a column that says nothing */
+
+static bool begins(const char *text, const char *with) { return !strncmp(text, with, strlen(with)); }
+
+/* Counts a line that any process of the run has written. */
+static void count_line(const char *line) {
+    const char *point = strchr(line, '\t'), *hit = point ? strchr(point + 1, '\t') : NULL;
+    const char *answer = hit ? strchr(hit + 1, '\t') : NULL;
+    if (!answer) refuse("no line of a trace", line);
+    if (begins(answer, "\tpanic")) _exit(PANICKED);
+    if (begins(answer, "\tpause")) _exit(PAUSED);
+    number++;
+    named(point + 1, (size_t)(hit - point - 1))->hits++;
+}
+
+static void count_new_lines(int file) {
+    struct stat found;
+    if (fstat(file, &found)) refuse("no trace", strerror(errno));
+    if (found.st_size < seen) refuse("no trace", "it was cut short");
+    size_t length = (size_t)(found.st_size - seen), had = 0;
+    if (!length) return;
+    char *text = room(NULL, length + 1);
+    while (had < length) {
+        ssize_t got = pread(file, text + had, length - had, seen + (off_t)had);
+        if (got <= 0 && errno != EINTR) refuse("no trace", strerror(errno));
+        if (got > 0) had += (size_t)got;
+    }
+    text[length] = 0;
+    if (text[length - 1] != '\n') refuse("no trace", "its last line has no end");
+    for (char *line = text, *end; (end = strchr(line, '\n')); line = end + 1) {
+        *end = 0;
+        count_line(line);
+    }
+    free(text);
+    seen = found.st_size;
+}
+
+static void write_line(int file, const struct named *point, const struct term *term) {
+    static char line[4 * MOST_BYTES + MOST_NAME + 256]; /* under the mutex */
+    char *end = line + sprintf(line, "%llu\t%s\t%llu\t", (unsigned long long)number, point->name, (unsigned long long)point->hits);
+    end = stpcpy(written_answer(end, term), "\t-\n");
+    if (write(file, line, (size_t)(end - line)) != end - line) refuse("no trace", strerror(errno));
+    seen += end - line;
+}
+
+/* ---- a hit */
+
+/* The term that acts at a hit: each term has its count of them, and one without a count all that are left. */
+static const struct term *term_at(const struct chain *chain, uint64_t hit) {
+    for (unsigned i = 0; chain && i < chain->length; i++) {
+        const struct term *term = &chain->terms[i];
+        if (term->share == 0) continue;
+        if (!term->counted || hit <= term->count) return term;
+        hit -= term->count;
+    }
+    return NULL;
+}
+
+/* The file is opened for each hit: a program may close every descriptor that it doesn't know. */
+static const struct term *hit_traced(struct named *point) {
+    int file = open(trace_name, O_RDWR | O_APPEND | O_CLOEXEC);
+    if (file < 0) refuse("no trace", strerror(errno));
+    while (flock(file, LOCK_EX))
+        if (errno != EINTR) refuse("no trace", strerror(errno));
+    count_new_lines(file);
+    number++;
+    const struct term *term = term_at(point->chain, ++point->hits);
+    write_line(file, point, term);
+    close(file);
+    return term;
+}
+
+static void check_name(const char *name) {
+    size_t length = strlen(name);
+    bool is_lawful = length > 0 && length <= MOST_NAME && !begins(name, "libc::") && name[0] != ' ' && name[length - 1] != ' ';
+    for (const char *byte = name; *byte; byte++)
+        if ((unsigned char)*byte < ' ' || *byte == 127 || *byte == ';' || *byte == '=') is_lawful = false;
+    if (!is_lawful) refuse("no name of a point", name);
+}
+
+static void wait_millis(uint32_t millis) {
+    struct timespec left = {millis / 1000, millis % 1000 * 1000000L};
+    while (nanosleep(&left, &left) && errno == EINTR) continue;
+}
+
+static const char *act(const struct term *term) {
+    switch (term ? term->task : OFF) {
+    case RETURN: return term->argument ? term->argument : "";
+    case PANIC: _exit(PANICKED);
+    case PAUSE: _exit(PAUSED);
+    case SLEEP: case DELAY: wait_millis(term->millis); return NULL;
+    case YIELD: sched_yield(); return NULL;
+    default: return NULL;
+    }
+}
+
+/* Signals wait, since a handler may hit a point too. */
+const char *points_hit(const char *name) {
+    sigset_t all, before;
+    int error = errno;
+    check_name(name);
+    sigfillset(&all);
+    pthread_sigmask(SIG_BLOCK, &all, &before);
+    pthread_mutex_lock(&mutex);
+    struct named *point = named(name, strlen(name));
+    const struct term *term = *trace_name ? hit_traced(point) : term_at(point->chain, ++point->hits);
+    pthread_mutex_unlock(&mutex);
+    pthread_sigmask(SIG_SETMASK, &before, NULL);
+    const char *answer = act(term);
+    errno = error;
+    return answer;
+}

@@ -1,0 +1,35 @@
+# The tutorial of docs/OUTSIDE.md, as its page has it: `save.c` and `try.sh` by the page's own text. Sourced by `test`.
+page=../docs/OUTSIDE.md
+
+# block FIRST: the block of code of the page whose text begins with, or has as second line, FIRST
+block() {
+    awk -v first="$1" '
+        /^```/ { if (inside && found) exit; inside = !inside; line = 0; text = ""; found = 0; next }
+        inside { line++; text = text $0 "\n"; if (line <= 2 && index($0, first) == 1) found = 1; if (found) { printf "%s", text; text = "" } }
+    ' "$page"
+}
+
+mkdir -p "$here/page"
+block '/* save.c */' > "$here/page/save.c"
+block '# try.sh SCENARIO' > "$here/page/try.sh"
+chmod +x "$here/page/try.sh"
+gcc -o "$here/page/save" "$here/page/save.c"
+
+# tried PAKLOUR SCENARIO: what the page's try.sh writes there, what it tells, and its status
+tried() { (cd "$here/page" && PAKLOUR=$1 ./try.sh "$2" 2>&1; echo "$?") | tr '\t' ' ' | grep -v '^ERROR: ld.so' | paste -s -d , ; }
+
+is 'the page with the shim' 'pass none,0' "$(tried "$outside/.." none)"
+is 'its flaw' 'fail lost libc::fsync=1*return,0' "$(tried "$outside/.." 'libc::fsync=1*return')"
+is 'without PAKLOUR it ends with 2' 2 "$(tried '' 'libc::fsync=1*return' | sed 's/.*,//')"
+is 'with a wrong path too' 2 "$(tried "$here/none" 'libc::fsync=1*return' | sed 's/.*,//')"
+mkdir -p "$here/half/outside/out" && cp out/powercut "$here/half/outside/out"
+is 'and where the library is not built' "powercut: no process of the run loaded the shim: LD_PRELOAD leads to no faults.so, or the program can't load it,2" \
+    "$(tried "$here/half" 'libc::fsync=1*return')"
+is 'so do the examples' 2 "$(cp -r examples "$here/half/outside" && cp out/replace "$here/half/outside/out" &&
+    "$here/half/outside/examples/replace/try.sh" none > "$here/said" 2>&1; echo $?)"
+printf '%s\n' '#!/bin/sh' 'exec env -i "${0%/*}/saves" "$@"' > "$here/page/clears" && mv "$here/page/save" "$here/page/saves"
+mv "$here/page/clears" "$here/page/save" && chmod +x "$here/page/save"
+is 'and a program that clears its environment' "powercut: no call was seen: a program without the library in its environment: $here/page/saves,2" \
+    "$(tried "$outside/.." 'libc::fsync=1*return' | sed 's/^faults: not seen:[^,]*,//')"
+is 'the trace of a run without faults, as the page has it' '5 libc::rename 1 go note' \
+    "$(mv "$here/page/saves" "$here/page/save"; TRACE=$here/trace tried "$outside/.." none > "$here/said"; cut -f 1-5 "$here/trace" | sed -n 5p | tr '\t' ' ')"
