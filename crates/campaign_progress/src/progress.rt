@@ -3,7 +3,7 @@ use crate::shown::Shown;
 use std::io::Eprint;
 use std::rt::Clock;
 use std::sync::atomic::{AtomicU64, Ordering};
-use target_trait::{Gate, Phase};
+use work_gate::{Gate, Phase};
 
 /// How many milliseconds stand at least between two lines.
 const PAUSE: u64 = 100;

@@ -15,7 +15,7 @@ use std::alloc::{AllocError, Global};
 use std::sync::{Condvar, Mutex, Wait};
 use std::thread;
 use std::thread::Threads;
-use target_trait::{Gate, Phase};
+use work_gate::{Gate, Phase};
 
 /// What one hand answered: sets of faults, and whether each fails.
 type Answered = Vec<(FaultSet, bool)>;

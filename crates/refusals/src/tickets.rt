@@ -6,7 +6,7 @@ use std::alloc::{AllocError, Global};
 use std::sync::Wait;
 use std::sync::atomic::{AtomicU64, Ordering};
 use std::thread::Threads;
-use target_trait::FreeGate;
+use work_gate::FreeGate;
 use worker_pool::{Gathered, Hand, Job, PoolFault, run_all};
 
 const TICKETS: u32 = 19;
@@ -32,6 +32,8 @@ impl<'a> Job for Adder<'a> {
     ghost limit = { λ _. 2 ^ 32 };
 
     ghost answers = { λ _ n a. a.items ≡ (n + 7) ∷ [] };
+
+    ghost becomes = { λ _ _ _. Unit {0} };
 
     fn perform(&mut self, number: u32) -> Result<Vec<u64>, AllocError> {
         if self.refusals > 0 {

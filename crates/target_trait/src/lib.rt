@@ -1,8 +1,7 @@
-//! What a target is, the outcome of a case on it, and what a campaign lends: a gate for its workers and a sink for its text.
+//! What a target is, the outcome of a case on it, and the sink that a text goes to.
 #![tactic(auto)]
 
 mod case;
-mod gate;
 mod judgement;
 mod laws;
 mod output;
@@ -11,7 +10,6 @@ mod target;
 
 pub use action_eval::{Answer, Note, Session, Stop};
 pub use case::{Case, Outcome, run_case, run_session, run_verdict};
-pub use gate::{FreeGate, Gate, Phase};
 pub use judgement::{Judgement, Verdict};
 pub use laws::{same_meaning_same_outcome, verdict_of_outcome};
 pub use output::{Out, Sink};

@@ -1,5 +1,5 @@
 -- What a caller sees of hands, and of what they performed in a run.
-use Rattle.std.specs.Prelude.{◌≡◌, ℕ, ◌+◌, ◌<◌, ◌≤◌, ◌^◌, Bool, List, [], Vec, length, map, All, count_by, slice_index_or}
+use Rattle.std.specs.Prelude.{◌≡◌, ℕ, ◌+◌, ◌<◌, ◌≤◌, ◌^◌, Bool, List, [], Vec, vec_len, length, map, All, count_by, slice_index_or}
 use Rattle.std.specs.List.{sum_by}
 use Rattle.std.specs.declared.alloc.Global.{Global}
 use Rattle.worker_pool.specs.declared.hand.Hand.{Hand}
@@ -29,6 +29,17 @@ EachOnce lists count = (test : ℕ → Bool) → answered test lists ≡ count_b
 -- how many answers of hand k are of a number that passes the test
 abbrev pub answered_at : {A : Type 0} → (ℕ → Bool) → List (List (ℕ × A)) → ℕ → ℕ
 answered_at test lists k = count_by (λ p. test p.0) (slice_index_or lists k [])
+
+-- each of n lists has answers that the setup of its hand's job gives
+abbrev pub AreRight : {J A S T : Type 0} → (J → T) → (T → ℕ → A → Type 0) → ℕ → List (Hand J A S) → List (Vec (ℕ × A) Global) → Type 0
+AreRight setup answers n hands lists = (k : ℕ) (h : _) (l : _) → k < n
+    → All (λ p. answers (setup (hand_job (slice_index_or hands k h))) p.0 p.1) (slice_index_or lists k l).items
+
+-- each of n hands has counted its answers, where its count doesn't saturate
+abbrev pub AreCounted : {J A S : Type 0} → ℕ → List (Hand J A S) → List (Hand J A S) → List (Vec (ℕ × A) Global) → Type 0
+AreCounted n before after lists = (k : ℕ) (h : _) (l : _) → k < n
+    → hand_performed (slice_index_or before k h) + vec_len (slice_index_or lists k l) < 2 ^ 64
+    → hand_performed (slice_index_or after k h) ≡ hand_performed (slice_index_or before k h) + vec_len (slice_index_or lists k l)
 
 -- A whole run: some steps of n hands deal the tickets below the count round, leave each deque empty, and leave each hand
 -- with just the numbers that it answered, each once.

@@ -28,10 +28,12 @@ impl<J: Job> Hand<J> {
         self.performed
     }
 
-    /// Performs a ticket, which is spent. Where the job refuses, the ticket comes back, and nothing changed but the job, whose setup stays.
+    /// Performs a ticket, by one call of the job. The ticket is spent. Where the job refuses, it comes back, and nothing changed but the job,
+    /// whose setup stays.
     pub(crate) fn perform(&mut self, ticket: Ticket) -> Result<J::Answer, Ticket>
         requires { ticket < J.limit (J.setup (hand_job self.old)) }
         ensures setup { J.setup (hand_job self.new) ≡ J.setup (hand_job self.old) }
+        ensures once { J.becomes (hand_job self.old) ticket (hand_job self.new) }
         ensures done { IfOk result (λ answer. J.answers (J.setup (hand_job self.old)) ticket answer) }
         ensures counted { OnOk result (hand_performed self.old + 1 < 2 ^ 64 → hand_performed self.new ≡ hand_performed self.old + 1) }
         ensures refused { IfErr result (λ back. (back ≡ ticket) × (hand_performed self.new ≡ hand_performed self.old)) }

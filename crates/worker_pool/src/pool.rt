@@ -1,9 +1,9 @@
 //! Every ticket once, by any number of hands.
-ghost use Rattle.std.specs.Prelude.{◌≡◌, ℕ, ◌+◌, ◌<◌, ◌≤◌, ◌^◌, [], All, IfOk, IfErr, OnOk, MatchResult, map, vec_len, slice_index_or};
+ghost use Rattle.std.specs.Prelude.{◌≡◌, ℕ, ◌+◌, ◌<◌, ◌≤◌, ◌^◌, All, IfOk, IfErr, OnOk, MatchResult, map, vec_len};
 ghost use Rattle.std.specs.List.{sum_by};
-ghost use Rattle.worker_pool.specs.Hands.{hand_job, hand_performed, setups_of, EachOnce, PerformsPart, SharesAll, SharesPart};
-ghost use Rattle.worker_pool.specs.inside.Ring.{AreDealtRound, Fresh, IsRing, PushedOnce};
-ghost use Rattle.worker_pool.specs.inside.Stations.{answers_of, EachDesk, EachGoesOn};
+ghost use Rattle.worker_pool.specs.Hands.{hand_job, hand_performed, setups_of, AreCounted, AreRight, EachOnce, PerformsPart, SharesAll, SharesPart};
+ghost use Rattle.worker_pool.specs.inside.Ring.{PushedOnce};
+ghost use Rattle.worker_pool.specs.inside.Stations.{answers_of, AreAtDesks, EachGoesOn};
 ghost use Rattle.worker_pool.specs.inside.Rooms.{HasPlaces};
 
 use crate::desk::Desk;
@@ -17,7 +17,7 @@ use crate::station::Station;
 use std::alloc::{AllocError, Global};
 use std::sync::Wait;
 use std::thread::Threads;
-use target_trait::Gate;
+use work_gate::Gate;
 
 /// All hands, in their order, and for each the numbers that it performed with their answers.
 #[derive(Drop)]
@@ -41,19 +41,12 @@ fn work_all<J: Job, G: Gate, R: Threads + Wait + Sync>(
     desks: Vec<Desk>,
     spare: Vec<Desk>,
 ) -> Result<(), AllocError>
-    requires some { 0 < vec_len stations.old }
-    requires len { vec_len desks ≡ vec_len stations.old }
-    requires rest { All (λ s. s.answers.items ≡ []) stations.old.items }
+    requires begun { AreAtDesks J.setup J.limit stations.old desks }
     requires spare { HasPlaces (vec_len stations.old) spare }
-    requires fresh { EachDesk Fresh J.setup J.limit (vec_len stations.old) stations.old.items desks.items }
-    requires ring { IsRing desks.items }
-    requires round { AreDealtRound (vec_len stations.old) desks.items }
     ensures len { vec_len stations.new ≡ vec_len stations.old }
     ensures on { EachGoesOn J.setup J.answers (vec_len stations.old) stations.old.items stations.new.items }
-    ensures all { OnOk result ((count : ℕ) → PushedOnce count desks.items
-        → SharesAll (vec_len stations.old) count (answers_of stations.new.items)) }
-    ensures part { (count : ℕ) → PushedOnce count desks.items
-        → SharesPart (vec_len stations.old) count (answers_of stations.new.items) }
+    ensures all { OnOk result ((count : ℕ) → PushedOnce count desks.items → SharesAll (vec_len stations.old) count (answers_of stations.new.items)) }
+    ensures part { (count : ℕ) → PushedOnce count desks.items → SharesPart (vec_len stations.old) count (answers_of stations.new.items) }
 {
     let mut back = round(rt, gate, stations, desks, spare);
     absorb_all(&mut back);
@@ -85,9 +78,7 @@ pub fn run_all<J: Job, G: Gate, R: Threads + Wait + Sync>(
     requires limit { All (λ h. count ≤ J.limit (J.setup (hand_job h))) hands.items }
 
     // Each hand comes back with its setup.
-    ensures hands { MatchResult result
-        (λ g. vec_len g.hands ≡ vec_len hands)
-        (λ e. vec_len e.hands ≡ vec_len hands) }
+    ensures hands { MatchResult result (λ g. vec_len g.hands ≡ vec_len hands) (λ e. vec_len e.hands ≡ vec_len hands) }
     ensures setups { MatchResult result
         (λ g. setups_of J.setup g.hands.items ≡ setups_of J.setup hands.items)
         (λ e. setups_of J.setup e.hands.items ≡ setups_of J.setup hands.items) }
@@ -95,9 +86,7 @@ pub fn run_all<J: Job, G: Gate, R: Threads + Wait + Sync>(
     // One list for each hand, of numbers with the answers that its setup gives. Over all lists each number below the
     // count stands once.
     ensures many { IfOk result (λ g. vec_len g.answers ≡ vec_len hands) }
-    ensures right { IfOk result (λ g. (k : ℕ) (h : _) (l : _) → k < vec_len hands
-        → All (λ p. J.answers (J.setup (hand_job (slice_index_or hands.items k h))) p.0 p.1)
-        (slice_index_or g.answers.items k l).items) }
+    ensures right { IfOk result (λ g. AreRight J.setup J.answers (vec_len hands) hands.items g.answers.items) }
     ensures once { IfOk result (λ g. EachOnce g.answers.items count) }
 
     // After the joins all deques and hands together are where steps of the hands lead: ticket i was pushed by hand `i mod n`,
@@ -105,10 +94,7 @@ pub fn run_all<J: Job, G: Gate, R: Threads + Wait + Sync>(
     ensures shared { IfOk result (λ g. SharesAll (vec_len hands) count (map (λ l. l.items) g.answers.items)) }
 
     // What the hands count, where the counter does not saturate.
-    ensures counted { IfOk result (λ g. (k : ℕ) (h : _) (l : _) → k < vec_len hands
-        → hand_performed (slice_index_or hands.items k h) + vec_len (slice_index_or g.answers.items k l) < 2 ^ 64
-        → hand_performed (slice_index_or g.hands.items k h)
-        ≡ hand_performed (slice_index_or hands.items k h) + vec_len (slice_index_or g.answers.items k l)) }
+    ensures counted { IfOk result (λ g. AreCounted (vec_len hands) hands.items g.hands.items g.answers.items) }
     ensures performed { IfOk result (λ g. sum_by hand_performed hands.items + count < 2 ^ 64
         → sum_by hand_performed g.hands.items ≡ sum_by hand_performed hands.items + count) }
 

@@ -13,7 +13,7 @@ use crate::station::Station;
 use crate::work::work;
 use std::sync::Wait;
 use std::thread::Threads;
-use target_trait::Gate;
+use work_gate::Gate;
 
 /// Each station works in a thread of its own, where one can be made: a single one in the caller's.
 #[tactic(auto, unfolding(crate::specs::inside::Apart::ChangesAll))]

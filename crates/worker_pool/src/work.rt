@@ -7,7 +7,7 @@ use crate::desk::Desk;
 use crate::job::Job;
 use crate::station::Station;
 use std::sync::Wait;
-use target_trait::{Gate, Phase};
+use work_gate::{Gate, Phase};
 
 /// Performs what the station's desk gives it. Where memory is refused, the ticket stays at the desk, and the station leaves.
 pub fn work<J: Job, G: Gate, R: Wait>(rt: &R, gate: &G, station: &mut Station<J>)

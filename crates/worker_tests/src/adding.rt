@@ -7,7 +7,7 @@ use std::sync::Wait;
 use std::sync::atomic::{AtomicU64, Ordering};
 use std::test::Fail;
 use std::thread::Threads;
-use target_trait::Gate;
+use work_gate::Gate;
 use worker_pool::{Gathered, Hand, Job, PoolFault, run_all};
 
 /// Nothing: what is added is always 7.
@@ -30,6 +30,8 @@ impl<'a> Job for Adder<'a> {
     ghost limit = { λ _. 2 ^ 32 };
 
     ghost answers = { λ _ n a. a ≡ n + 7 };
+
+    ghost becomes = { λ _ _ _. Unit {0} };
 
     fn perform(&mut self, number: u32) -> Result<u64, AllocError> {
         if self.refusals > 0 {

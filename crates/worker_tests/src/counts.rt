@@ -7,7 +7,7 @@ use std::sync::Wait;
 use std::sync::atomic::AtomicU64;
 use std::test::Fail;
 use std::thread::Threads;
-use target_trait::FreeGate;
+use work_gate::FreeGate;
 use worker_pool::Hand;
 
 /// One run of three hands that isn't refused, after which they have performed so many tickets over all their runs.

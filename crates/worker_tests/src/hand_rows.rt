@@ -13,7 +13,7 @@ use std::sync::atomic::{AtomicU64, Ordering};
 use std::thread;
 use std::thread::Threads;
 use std::time::Duration;
-use target_trait::{FreeGate, Gate, Phase};
+use work_gate::{FreeGate, Gate, Phase};
 
 const TURNS: u32 = 10_000;
 

@@ -5,7 +5,7 @@ use ddmin_parallel::{Probe, Reduction, reduce};
 use std::alloc::{AllocError, Global};
 use std::sync::Wait;
 use std::thread::Threads;
-use target_trait::Gate;
+use work_gate::Gate;
 
 /// A probe of which others of the same setup can be made.
 pub trait Twin: Probe + Sized {

@@ -10,7 +10,7 @@ use std::sync::atomic::{AtomicU64, Ordering};
 use std::test::Fail;
 use std::thread::Threads;
 use target_checks::comes_to;
-use target_trait::{FreeGate, Gate, Phase};
+use work_gate::{FreeGate, Gate, Phase};
 use worker_pool::{Gathered, Hand, Job, run_all};
 
 /// Raises its own flag and waits for the other. Counts the waits in vain.
@@ -87,6 +87,8 @@ impl<'a, C: Clock + Sync> Job for Meeter<'a, C> {
     ghost limit = { λ _. 2 ^ 32 };
 
     ghost answers = { λ _ n a. a ≡ n + 7 };
+
+    ghost becomes = { λ _ _ _. Unit {0} };
 
     fn perform(&mut self, number: u32) -> Result<u64, AllocError> {
         if !self.met {

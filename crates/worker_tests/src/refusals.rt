@@ -8,7 +8,7 @@ use std::sync::Wait;
 use std::sync::atomic::AtomicU64;
 use std::test::Fail;
 use std::thread::Threads;
-use target_trait::FreeGate;
+use work_gate::FreeGate;
 use worker_pool::{Gathered, Hand};
 
 // What the body tickets_of_a_leaver_dropped fails: each hand leaves at its first ticket.

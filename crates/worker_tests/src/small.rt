@@ -12,7 +12,8 @@ use std::sync::atomic::{AtomicU64, Ordering};
 use std::test::Fail;
 use std::thread::Threads;
 use target_checks::small_workload;
-use target_trait::{FreeGate, Target, Verdict};
+use target_trait::{Target, Verdict};
+use work_gate::FreeGate;
 use worker_pool::{Gathered, Hand, Job, run_all};
 
 /// Runs the plans of a course on a target of its own, and counts its calls.
@@ -34,6 +35,8 @@ impl<'a> Job for Runner<'a> {
     ghost limit = { λ _. 2 ^ 32 };
 
     ghost answers = { λ _ n a. ⊤ };
+
+    ghost becomes = { λ _ _ _. Unit {0} };
 
     fn perform(&mut self, number: u32) -> Result<Verdict, AllocError> {
         if number as usize >= self.course.plans.len() {

@@ -1,10 +1,11 @@
 -- A station at work: what one turn, or many, do to it and to its desk.
-use Rattle.std.specs.Prelude.{◌≡◌, ℕ, ◌+◌, ◌<◌, ◌≤◌, ◌^◌, Bool, List, All, Option, Some, None, count_by, length, map, slice_index_or}
+use Rattle.std.specs.Prelude.{◌≡◌, ℕ, ◌+◌, ◌<◌, ◌≤◌, ◌^◌, Bool, List, [], Vec, vec_len, All, Option, Some, None, count_by, length, map, slice_index_or}
+use Rattle.std.specs.declared.alloc.Global.{Global}
 use Rattle.crossbeam_deque.specs.Handles.{worker_view}
 use Rattle.worker_pool.specs.declared.desk.Desk.{Desk}
 use Rattle.worker_pool.specs.declared.station.Station.{Station}
 use Rattle.worker_pool.specs.inside.Desks.{took, kept_by, SameDesk, IsReady, KeptBelow}
-use Rattle.worker_pool.specs.inside.Ring.{TakenIn}
+use Rattle.worker_pool.specs.inside.Ring.{AreDealtRound, Fresh, IsRing, TakenIn}
 
 -- how many answers are of a number that passes the test
 abbrev pub answered_by : {J A S : Type 0} → (ℕ → Bool) → Station J A S → ℕ
@@ -38,6 +39,15 @@ EachGoesOn setup answers n old new = (k : ℕ) (s : _) → k < n → GoesOn setu
 abbrev pub EachDesk : {J A S T : Type 0} → (ℕ → Desk → Type 0) → (J → T) → (T → ℕ) → ℕ → List (Station J A S) → List Desk → Type 0
 EachDesk Fact setup limit n stations desks =
     (k : ℕ) (s : _) (d : Desk) → k < n → Fact (limit (setup (slice_index_or stations k s).hand.job)) (slice_index_or desks k d)
+
+-- stations that have answered nothing yet, a desk for each, and the tickets dealt round
+pub record AreAtDesks {J A S T : Type 0} (setup : J → T) (limit : T → ℕ) (stations : Vec (Station J A S) Global) (desks : Vec Desk Global) : Type 0 where
+  pub some : 0 < vec_len stations
+  pub len : vec_len desks ≡ vec_len stations
+  pub rest : All (λ s. s.answers.items ≡ []) stations.items
+  pub fresh : EachDesk Fresh setup limit (vec_len stations) stations.items desks.items
+  pub ring : IsRing desks.items
+  pub round : AreDealtRound (vec_len stations) desks.items
 
 -- what the desk's hand took more, or the desk had kept, was answered, each once, or the desk keeps it
 abbrev pub IsBalanced : {J A S : Type 0} → Station J A S → Station J A S → Desk → Desk → Type 0

@@ -13,29 +13,34 @@ use Rattle.worker_pool.proofs.Leaving.{stayed, all_right, all_counted, lists_bac
 use Rattle.worker_pool.proofs.Leaving.{performs_part}
 use Rattle.worker_pool.proofs.pool.run_all.Goals as goal
 
-pub work_all-finished-requires-clause-fresh : goal.work_all-finished-requires-clause-fresh
-work_all-finished-requires-clause-fresh g c κs within = λ k s d lt.
+pub work_all-finished-requires-clause-begun : goal.work_all-finished-requires-clause-begun
+work_all-finished-requires-clause-begun g c κs within =
     let setup = g.J.Job.setup in
     let limit = g.J.Job.limit in
     let hs : List (Hand g.row.J.Denot g.row.J-Answer.Denot g.row.J-Setup.Denot) = c.args.hands.items in
     let ss : List (Station g.row.J.Denot g.row.J-Answer.Denot g.row.J-Setup.Denot) = c.seat_all-stations.result.items in
     let seat = c.seat_all-stations.ensures in
+    let dealt = c.in-Ok.ensures.desks in
     let len_s : length ss ≡ length hs = sym (length-map ss (λ (x : Station g.row.J.Denot g.row.J-Answer.Denot g.row.J-Setup.Denot). x.hand))
     ∙ ap length seat.hands in
-    let in_h : k < length hs = omega (arith, len_s) in
-    let in_d : k < length c.in-Ok.room.desks.items = omega (arith, len_s, c.in-Ok.ensures.desks.len, c.in-Ok.room.desks.ok.0) in
-    let h : Hand g.row.J.Denot g.row.J-Answer.Denot g.row.J-Setup.Denot = pick hs k in_h in
-    let is : (slice_index_or ss k s).hand ≡ slice_index_or hs k h =
-    map_at (λ (x : Station g.row.J.Denot g.row.J-Answer.Denot g.row.J-Setup.Denot). x.hand) ss hs seat.hands k s h in_h in
-    let most : c.args.count ≤ limit (setup (slice_index_or hs k h).job) = c.requires.limit k h in_h in
-    Fresh-weaker c.args.count _ (slice_index_or c.in-Ok.room.desks.items k d)
-    (subst (λ (x : Hand g.row.J.Denot g.row.J-Answer.Denot g.row.J-Setup.Denot). c.args.count ≤ limit (setup x.job)) (sym is) most)
-    (c.in-Ok.ensures.desks.fresh k d in_d)
-
-pub work_all-finished-requires-clause-round : goal.work_all-finished-requires-clause-round
-work_all-finished-requires-clause-round g c κs within =
     let seated : c.len.result ≡ vec_len c.seat_all-stations.result = omega arith in
-    subst (λ (n : ℕ). AreDealtRound n c.in-Ok.room.desks.items) seated c.in-Ok.ensures.desks.round
+    record {
+      some = omega arith;
+      len = omega arith;
+      rest = seat.rest;
+      fresh = λ k s d lt.
+          let in_h : k < length hs = omega (arith, len_s) in
+          let in_d : k < length c.in-Ok.room.desks.items = omega (arith, len_s, dealt.len, c.in-Ok.room.desks.ok.0) in
+          let h : Hand g.row.J.Denot g.row.J-Answer.Denot g.row.J-Setup.Denot = pick hs k in_h in
+          let is : (slice_index_or ss k s).hand ≡ slice_index_or hs k h =
+          map_at (λ (x : Station g.row.J.Denot g.row.J-Answer.Denot g.row.J-Setup.Denot). x.hand) ss hs seat.hands k s h in_h in
+          let most : c.args.count ≤ limit (setup (slice_index_or hs k h).job) = c.requires.limit k h in_h in
+          Fresh-weaker c.args.count _ (slice_index_or c.in-Ok.room.desks.items k d)
+          (subst (λ (x : Hand g.row.J.Denot g.row.J-Answer.Denot g.row.J-Setup.Denot). c.args.count ≤ limit (setup x.job)) (sym is) most)
+          (dealt.fresh k d in_d);
+      ring = dealt.ring;
+      round = subst (λ (n : ℕ). AreDealtRound n c.in-Ok.room.desks.items) seated dealt.round;
+    }
 
 pub returns-in-Ok-finished-clause-setups : goal.returns-in-Ok-finished-clause-setups
 returns-in-Ok-finished-clause-setups g c =

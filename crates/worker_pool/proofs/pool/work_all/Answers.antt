@@ -11,7 +11,7 @@ use Rattle.worker_pool.proofs.Joined.{part_shared, all_shared}
 use Rattle.worker_pool.proofs.pool.work_all.Goals as goal
 
 pub round-back-requires-clause-ready : goal.round-back-requires-clause-ready
-round-back-requires-clause-ready g c κs within = λ k s d lt. (let fresh = c.requires.fresh k s d lt in (fresh.below, fresh.kept))
+round-back-requires-clause-ready g c κs within = λ k s d lt. (let fresh = c.requires.begun.fresh k s d lt in (fresh.below, fresh.kept))
 
 pub finish_all-finished-requires-clause-left : goal.finish_all-finished-requires-clause-left
 finish_all-finished-requires-clause-left g c κs within = λ k s d lt.
@@ -19,7 +19,7 @@ finish_all-finished-requires-clause-left g c κs within = λ k s d lt.
     let in_a : k < length c.absorb_all.new.desks.items = omega arith in
     let limit = g.J.Job.limit in
     let setup = g.J.Job.setup in
-    let fresh = (c.requires.fresh k s d in_k).below.0 in
+    let fresh = (c.requires.begun.fresh k s d in_k).below.0 in
     let worked = c.round-back.ensures.worked k s d in_k in
     let own = c.absorb_all.ensures.each k d in
     let now = sym worked.on.stays in
@@ -58,11 +58,11 @@ pub returns-clause-part : goal.returns-clause-part
 returns-clause-part g c =
     let back : List Desk = c.round-back.result.items in
     let absorbed : List Desk = c.absorb_all.new.desks.items in
-    part_shared g.J.Job.setup g.J.Job.limit g.J.Job.answers (vec_len c.args.stations.now) c.requires.some
+    part_shared g.J.Job.setup g.J.Job.limit g.J.Job.answers (vec_len c.args.stations.now) c.requires.begun.some
     c.args.stations.now.items c.round-back.new.stations.items c.finish_all-finished.new.stations.items
     c.args.desks.items back absorbed c.finish_all-finished.new.desks.items
     (omega arith) (omega arith) (omega arith) (omega arith) (omega arith)
-    c.requires.fresh c.requires.rest c.requires.round c.round-back.ensures.worked c.absorb_all.ensures.whole
+    c.requires.begun.fresh c.requires.begun.rest c.requires.begun.round c.round-back.ensures.worked c.absorb_all.ensures.whole
     (stolen_len back absorbed _ _ (omega arith) c.absorb_all.ensures.stolen) c.absorb_all.ensures.each
     (λ k s d lt. c.finish_all-finished.ensures.finishes k s d (let low : k < vec_len c.round-back.new.stations = omega arith in low)) c.settle_all.ensures
 
@@ -72,10 +72,10 @@ returns-clause-all g c =
     let absorbed : List Desk = c.absorb_all.new.desks.items in
     let ends : List Desk = c.finish_all-finished.new.desks.items in
     on_ok c.finish_all-finished.result (All IsDone ends) _
-    (λ done. all_shared g.J.Job.setup g.J.Job.limit g.J.Job.answers (vec_len c.args.stations.now) c.requires.some
+    (λ done. all_shared g.J.Job.setup g.J.Job.limit g.J.Job.answers (vec_len c.args.stations.now) c.requires.begun.some
     c.args.stations.now.items c.round-back.new.stations.items c.finish_all-finished.new.stations.items c.args.desks.items back absorbed ends
     (omega arith) (omega arith) (omega arith) (omega arith) (omega arith)
-    c.requires.fresh c.requires.rest c.requires.round c.round-back.ensures.worked c.absorb_all.ensures.whole
+    c.requires.begun.fresh c.requires.begun.rest c.requires.begun.round c.round-back.ensures.worked c.absorb_all.ensures.whole
     (stolen_len back absorbed _ _ (omega arith) c.absorb_all.ensures.stolen) c.absorb_all.ensures.each
     (λ k s d lt. c.finish_all-finished.ensures.finishes k s d (let low : k < vec_len c.round-back.new.stations = omega arith in low)) c.settle_all.ensures
     (λ k d lt. done k d (let low : k < length ends = omega arith in low)))

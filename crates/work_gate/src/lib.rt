@@ -1,4 +1,5 @@
 //! Where workers may be held before they begin a piece of work, and where their work may be seen.
+#![tactic(auto)]
 
 /// What a worker is about to do.
 #[derive(Clone, Copy, Debug, PartialEq, Eq)]
