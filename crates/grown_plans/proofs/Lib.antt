@@ -1,0 +1,13 @@
+pub mod Members
+pub mod Paths
+pub mod PlayedRuns
+pub mod Riggings
+pub mod PlanRuns
+pub mod Faults
+pub mod Levels
+pub mod Apart
+pub mod Cases
+pub mod Causes
+pub mod Onward
+pub mod FromThenOn
+pub mod AskedSites

@@ -1,0 +1,142 @@
+-- Plans that grow from the hits of each other's runs.
+use Rattle.std.specs.Prelude.{ℕ, zero, suc, ◌+◌, ◌==◌, ◌&&◌, ◌||◌, nat_lt, if◌then◌else◌, Bool, true, false, List, [], ◌∷◌, ◌++◌, map, length, count_by}
+use Rattle.std.specs.List.{flat_map, list_any}
+use Rattle.scenario_values.specs.Scenario.{Entries}
+use Rattle.action_eval.specs.Answers.{Reply, Given, given_of}
+use Rattle.action_eval.specs.declared.rig.Site.{Site}
+use Rattle.action_eval.specs.declared.rig.Rig.{Rig}
+use Rattle.action_eval.specs.declared.rig.Kind.{Kind}
+use Rattle.action_eval.specs.declared.rig.Kind.TheVariants.{OnceReturn, OnwardReturn, OncePanic}
+use Rattle.action_eval.specs.Rigging.{rig, rigging}
+use Rattle.target_trait.specs.Play.{Move}
+use Rattle.plan_gen.specs.PlanList.{Asked, storm_part}
+use Rattle.plan_gen.specs.RiggedAnswers.{is_onward}
+use Rattle.grown_plans.specs.Runs.{Met, run}
+
+-- what is put under faults: what it asks, the names of its points, how many hits of a run are answered, and which kinds of faults are tried
+-- at the hits of each point, in which order
+pub record Subject : Type 0 where
+  pub asks : List Reply → Move
+  pub names : List (List ℕ)
+  pub limit : ℕ
+  pub kinds : ℕ → List Kind
+
+-- where nothing else is said, a return and a panic
+abbrev pub usual_kinds : ℕ → List Kind
+usual_kinds point = OnceReturn ∷ OncePanic ∷ []
+
+abbrev pub usual_subject : (List Reply → Move) → List (List ℕ) → ℕ → Subject
+usual_subject asks names limit = record { asks = asks; names = names; limit = limit; kinds = usual_kinds }
+
+-- ---- the scenario of a plan. A plan is the list of its faults, the last one to act first.
+
+abbrev pub is_before : Site → Site → Bool
+is_before a b = nat_lt a.point b.point || ((a.point == b.point) && nat_lt a.hit b.hit)
+
+abbrev pub placed : Rig → List Rig → List Rig
+placed r [] = r ∷ []
+placed r (t ∷ ts) = if is_before r.site t.site then r ∷ t ∷ ts else (t ∷ placed r ts)
+
+-- faults in the order of points, and of the hits of each
+abbrev pub in_order : List Rig → List Rig
+in_order [] = []
+in_order (r ∷ rs) = placed r (in_order rs)
+
+abbrev pub is_once_return : Kind → Bool
+is_once_return OnceReturn = true
+is_once_return OnwardReturn = false
+is_once_return OncePanic = false
+
+-- a return just before one from then on is a part of that: `1*return->return` is `return`
+abbrev pub is_part : Rig → Rig → Bool
+is_part r t = is_once_return r.kind && is_onward t.kind && (r.site.point == t.site.point) && (r.site.hit + 1 == t.site.hit)
+
+abbrev pub merged_onto : Rig → List Rig → List Rig
+merged_onto r [] = r ∷ []
+merged_onto r (t ∷ ts) = if is_part r t then rig r.site OnwardReturn ∷ ts else (r ∷ t ∷ ts)
+
+abbrev pub merged : List Rig → List Rig
+merged [] = []
+merged (r ∷ rs) = merged_onto r (merged rs)
+
+-- the hits that are rigged for a plan, and its scenario
+abbrev pub rigs_of : List Rig → List Rig
+rigs_of plan = merged (in_order plan)
+
+abbrev pub scenario_of : Subject → List Rig → Entries
+scenario_of t plan = rigging t.names (rigs_of plan)
+
+-- the run of a plan. Its seed and stream number make no difference, by a law.
+abbrev pub given_for : Subject → List Rig → ℕ → ℕ → Given
+given_for t plan seed stream = given_of (scenario_of t plan) t.names seed stream t.limit
+
+unfoldable pub run_of_plan : Subject → List Rig → List Met
+run_of_plan t plan = run t.asks (given_for t plan 0 0)
+
+-- ---- the list
+
+abbrev pub is_at : Site → Met → Bool
+is_at s m = (m.site.point == s.point) && (m.site.hit == s.hit)
+
+-- the hits of a run after a plan's last fault
+abbrev pub hits_after : Site → List Met → List Met
+hits_after s [] = []
+hits_after s (m ∷ ms) = if is_at s m then ms else hits_after s ms
+
+abbrev pub hits_past : List Rig → List Met → List Met
+hits_past [] ms = ms
+hits_past (r ∷ rs) ms = hits_after r.site ms
+
+-- the plan with one more fault, in each way that is tried at the hit's point
+abbrev pub grown_at : Subject → List Rig → Met → List (List Rig)
+grown_at t plan m = map (λ kind. rig m.site kind ∷ plan) (t.kinds m.site.point)
+
+-- a plan's children: one more fault at each hit of its own run after its last fault, in the order of the hits
+abbrev pub children : Subject → List Rig → List (List Rig)
+children t plan = flat_map (grown_at t plan) (hits_past plan (run_of_plan t plan))
+
+-- the plans of n faults: the empty one, and the children of each plan of the level before, in order
+unfoldable pub level : Subject → ℕ → List (List Rig)
+level t zero = [] ∷ []
+level t (suc n) = flat_map (children t) (level t n)
+
+-- levels 0 to d
+unfoldable pub levels : Subject → ℕ → List (List Rig)
+levels t zero = level t zero
+levels t (suc d) = levels t d ++ level t (suc d)
+
+-- whether the point of a fault is hit once more after it
+abbrev pub is_hit_again : Site → List Met → Bool
+is_hit_again s ms = list_any (λ m. m.site.point == s.point) (hits_after s ms)
+
+-- a plan whose last fault is a return, with this fault from then on, where its point is hit once more
+abbrev pub onward_of : Subject → List Rig → List (List Rig)
+onward_of t [] = []
+onward_of t (r ∷ rs) =
+    if is_once_return r.kind && is_hit_again r.site (run_of_plan t (r ∷ rs)) then (rig r.site OnwardReturn ∷ rs) ∷ [] else []
+
+unfoldable pub onward : Subject → ℕ → List (List Rig)
+onward t d = flat_map (onward_of t) (level t d)
+
+-- the grown plans of depth d
+abbrev pub grown : Subject → ℕ → List (List Rig)
+grown t d = levels t d ++ onward t d
+
+-- the list of depth d: the grown plans, then storms and listed scenarios, as without a depth. A plan's number is its place in it.
+abbrev pub grown_list : Subject → ℕ → Asked → List Site → List Entries
+grown_list t d asked sites =
+    map (scenario_of t) (grown t d) ++ storm_part t.names asked.seed asked.rate asked.storms sites ++ asked.listed
+
+-- ---- what a report tells of it
+
+-- how many plans the next level has
+abbrev pub beyond : Subject → ℕ → ℕ
+beyond t d = length (level t (suc d))
+
+abbrev pub most : List ℕ → ℕ
+most [] = 0
+most (n ∷ ns) = if nat_lt (most ns) n then n else most ns
+
+-- the most hits of a point that the run of a grown plan has
+abbrev pub reached : Subject → ℕ → ℕ → ℕ
+reached t d point = most (map (λ plan. count_by (λ m. m.site.point == point) (run_of_plan t plan)) (grown t d))

@@ -1,0 +1,4 @@
+pub mod Runs
+pub mod GrownPlans
+pub mod Promises
+pub mod AskedPoints

@@ -1,0 +1,63 @@
+//! Laws of grown plans, as contracts of functions that do nothing. All but the first are of every subject that is lawful, whatever it asks,
+//! for every limit of hits.
+ghost use Rattle.std.specs.Prelude.{ℕ};
+ghost use Rattle.std.specs.List.{AllByRecursion};
+ghost use Rattle.grown_plans.specs.AskedPoints.{GrowsByAsked};
+ghost use Rattle.grown_plans.specs.GrownPlans.{Subject, usual_subject, level, grown};
+ghost use Rattle.grown_plans.specs.Promises.{IsLawful, NeedsNoSeed, KeepsPrefix, SkipsNothing, RunsNothingTwice, TriesOnward, IsLeast, IsWhole, HasCauses};
+
+use target_trait::Target;
+
+/// Every target is a lawful subject for the usual kinds of faults, a return and a panic, at every limit of hits.
+pub fn each_target_is_a_lawful_subject<T: Target>()
+    ensures { (setup : T) (workload : T.Workload) (limit : ℕ) → IsLawful (usual_subject (T.asks setup workload) T.names limit) }
+{}
+
+/// The run of a grown plan is the same under every seed and stream number.
+pub fn each_plan_needs_no_seed()
+    ensures { (t : Subject) → IsLawful t → (d : ℕ) → AllByRecursion (NeedsNoSeed t) (grown t d) }
+{}
+
+/// The children of a plan of a level follow from the points that its run asked, under whatever seed and stream number it was run.
+pub fn each_plan_grows_by_what_was_asked()
+    ensures { (t : Subject) → IsLawful t → (n : ℕ) → AllByRecursion (GrowsByAsked t) (level t n) }
+{}
+
+/// Prefix: up to its last fault a plan's run is its parent's; there the fault acts; after it none does.
+pub fn each_plan_keeps_its_parents_prefix()
+    ensures { (t : Subject) → IsLawful t → (n : ℕ) → AllByRecursion (KeepsPrefix t) (level t n) }
+{}
+
+/// Nothing skipped: for every scenario, seed and stream number, of whose run at most d hits aren't answered Go and that no pause stopped,
+/// exactly one plan of levels 0 to d has the same hits and answers, and the same verdict.
+pub fn nothing_is_skipped()
+    ensures { (t : Subject) → IsLawful t → (d : ℕ) → SkipsNothing t d }
+{}
+
+/// Nothing run twice: no two of the plans of levels 0 to d and of those with a fault from then on have the same hits and answers.
+pub fn nothing_is_run_twice()
+    ensures { (t : Subject) → IsLawful t → (d : ℕ) → RunsNothingTwice t d }
+{}
+
+/// From then on: of each case in which fewer than d faults act and then, from one hit on, each hit of its point returns, exactly one plan of
+/// levels 0 to d or with a fault from then on has the same hits and answers, and the same verdict.
+pub fn faults_from_then_on_are_tried()
+    ensures { (t : Subject) → IsLawful t → (d : ℕ) → TriesOnward t d }
+{}
+
+/// Least: where no plan of levels 0 to d fails with a code, no scenario does under which at most d faults act, and none of at most d rigged
+/// hits. So a first failure in level d + 1 keeps each of its faults in a reduction.
+pub fn first_failures_have_least_faults()
+    ensures { (t : Subject) → IsLawful t → (d : ℕ) → IsLeast t d }
+{}
+
+/// Whole: where level d + 1 is empty, nothing is skipped of any scenario, however many faults act under it.
+pub fn an_empty_level_makes_it_whole()
+    ensures { (t : Subject) → IsLawful t → (d : ℕ) → IsWhole t d }
+{}
+
+/// A cause for each failure: each plan of levels 0 to d that fails with a code has a cause of this code among these plans: it fails with the
+/// code, without any one of its faults it doesn't, and all its faults are the plan's.
+pub fn each_failure_has_a_cause()
+    ensures { (t : Subject) → IsLawful t → (d : ℕ) → HasCauses t d }
+{}
