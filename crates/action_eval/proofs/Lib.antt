@@ -23,3 +23,4 @@ pub mod RunLaws
 pub mod LeftFaults
 pub mod Rigged
 pub mod LaidChains
+pub mod MayAct

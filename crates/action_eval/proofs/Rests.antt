@@ -50,7 +50,7 @@ tried_further word spent spent' k i (t ∷ ts) n h =
 
 -- ---- counts of a part
 
-index_in : (left : List ℕ) (start many j : ℕ) → j < many → slice_index (slice_range left start (start + many)) j ≡ slice_index left (start + j)
+pub index_in : (left : List ℕ) (start many j : ℕ) → j < many → slice_index (slice_range left start (start + many)) j ≡ slice_index left (start + j)
 index_in left start many j h =
     let size : start + many - start ≡ many = omega arith in
     ap (λ (m : ℕ). slice_index (take m (drop start left)) j) size ∙ get_or-take many (drop start left) j 0 h ∙ get_or-drop start left j 0

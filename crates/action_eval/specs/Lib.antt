@@ -1,6 +1,7 @@
 pub mod Words
 pub mod Trial
 pub mod Answers
+pub mod MayAct
 pub mod SameMeaning
 pub mod Catalogue
 pub mod Rigging

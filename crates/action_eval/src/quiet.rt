@@ -1,5 +1,5 @@
 //! Hits that surely come to nothing, many at once.
-ghost use Rattle.std.specs.Prelude.{◌≡◌, ℕ, true, false, List, ◌+◌, ◌*◌, ◌^◌, ◌<◌, ◌≤◌, [], slice_index, ◌∷◌, ◌++◌, All, IfOk, OnOk, OnErr, length, replicate, vec_len, vec_capacity};
+ghost use Rattle.std.specs.Prelude.{◌≡◌, ℕ, true, false, List, ◌+◌, ◌*◌, ◌^◌, ◌<◌, ◌≤◌, [], slice_index, ◌∷◌, ◌++◌, All, IfOk, OnOk, OnErr, length, min, replicate, vec_len, vec_capacity};
 ghost use Rattle.action_eval.specs.Answers.{rounds};
 ghost use Rattle.action_eval.specs.inside.Quiet.{CountsWithin, IsCounted, Spent, SpentBy, head_at, quiet_of, taken_by};
 
@@ -31,7 +31,7 @@ pub fn pass_hits(
 ) -> Result<usize, AllocError>
     requires known { point < length heads.now }
     requires within { CountsWithin (length left.old.items) (head_at heads.now point) }
-    ensures count { IfOk result (λ n. n ≤ most) }
+    ensures count { IfOk result (λ n. n ≡ min (quiet_of left.old.items (head_at heads.now point)) most) }
     ensures left { IfOk result (λ n. Spent heads.now (point ∷ []) n left.old.items left.new.items) }
     ensures hits { IfOk result (λ n. hits.new.items ≡ hits.old.items ++ replicate n point) }
     ensures err_left { OnErr result (left.new.items ≡ left.old.items) }

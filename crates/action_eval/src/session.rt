@@ -1,6 +1,7 @@
 //! A session: one run, hit by hit.
 ghost use Rattle.std.specs.Prelude.{◌≡◌, ◌+◌, ◌^◌, ◌<◌, ◌≤◌, [], All, replicate, length, IfOk, OnOk, OnErr, None, Some, false, ◌++◌, ◌∷◌};
 ghost use Rattle.action_eval.specs.Answers.{AllGo, hits_of, rounds, did, task_at, replies, GoesOn, reply_to, reply_of_answer, hit, stopped, notes_of_task, asked, history_of, notes_of, total_millis, words_of, start, given_of, texts, name_of};
+ghost use Rattle.action_eval.specs.MayAct.{MayAct};
 ghost use Rattle.std.specs.List.{slice_range};
 ghost use Rattle.action_eval.specs.inside.Session.{found_of, seen_in, left_counts, terms_of, IsRest, IsSpan};
 ghost use Rattle.action_eval.specs.inside.Layout.{faults_of, IsLayout};
@@ -383,14 +384,15 @@ impl<'a> Session<'a> {
         Ok(answer_of(task))
     }
 
-    /// Hits the point of this number in the catalogue as often as that surely comes to nothing, at most so often, and gives how often that
-    /// was. Each of these hits is answered `Go`; 0 says nothing of the next one, which is for `hit`.
+    /// Hits the point of this number in the catalogue while nothing comes of it, up to `most` times, and gives how many hits that were. Each
+    /// of these is answered `Go`. Where they are fewer, the limit is reached, or something may come of the next one, which is for `hit`.
     ///
     /// Want of memory leaves the session as it was.
     pub fn pass(&mut self, point: u32, most: usize) -> Result<usize, AllocError>
         requires known { point < length self.old.given.catalogue }
         requires running { stopped self.old ≡ None }
         ensures count { IfOk result (λ n. n ≤ most) }
+        ensures fewer { IfOk result (λ n. n < most → length self.new.hits < self.new.given.limit → MayAct self.new point) }
         ensures ok { IfOk result (λ n. self.new ≡ hits_of self.old (replicate n point)) }
         ensures told { IfOk result (λ n. AllGo self.old (replicate n point)) }
         ensures goes_on { OnOk result (stopped self.new ≡ None) }

@@ -1,5 +1,5 @@
 //! Storms: rigged hits drawn by random words.
-ghost use Rattle.std.specs.Prelude.{◌≡◌, ◌++◌, ◌∷◌, [], ◌%◌, ◌&&◌, ◌≤◌, ◌<◌, ◌^◌, nat_lt, length, if◌then◌else◌, vec_capacity, OnOk};
+ghost use Rattle.std.specs.Prelude.{◌≡◌, ◌++◌, ◌∷◌, [], ◌%◌, ◌&&◌, ◌≤◌, ◌<◌, ◌^◌, nat_lt, length, if◌then◌else◌, vec_capacity, OnErr, OnOk};
 ghost use Rattle.std.specs.List.{AllByRecursion};
 ghost use Rattle.action_eval.specs.Words.{seed_bytes, at_word};
 ghost use Rattle.plan_gen.specs.PlanList.{most_plans, storm_kind, storm};
@@ -94,6 +94,7 @@ pub fn storm(
     ensures rigs { OnOk result (rigs.new.items ≡ storm seed rate sites.now number) }
     ensures few { OnOk result (length rigs.new.items ≤ most_rigs) }
     ensures small { OnOk result (AllByRecursion (λ r. r.site.hit < 2 ^ 32) rigs.new.items) }
+    ensures err { OnErr result (rigs.new.items ≡ []) }
 {
     rigs.clear();
     rigs.reserve(MOST_SITES)?;

@@ -40,7 +40,8 @@ impl<'a, T: Target> Model for Row<'a, T> {
 }
 
 impl<'a, T: Target> Row<'a, T> {
-    /// Runs the plans from this number on, before `end`, in their order, in a workspace as `Numbered::run_over` does. An error means that memory was refused. The target keeps its setup, after an error too.
+    /// Runs the plans from this number on, before `end`, in their order, in a workspace as `Numbered::run_over` does. An error means that
+    /// memory was refused. The target keeps its setup, after an error too.
     pub fn run_over(
         alloc: Global,
         target: &mut T,

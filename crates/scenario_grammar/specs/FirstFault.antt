@@ -1,4 +1,5 @@
--- The first fault of a scenario text; kinds and order are this project's own. Each rule of the grammar is one function into what it finds or the kind of fault; the rules
+-- The first fault of a scenario text; kinds and order are this project's own. Each rule of the grammar is one function into what it finds or
+-- the kind of fault; the rules
 -- follow one another in the order in which faults count: the length before all; then the pieces from left to right; in a piece
 -- TooMany for the piece, NoAction, NoName, then its terms from left to right; in a term TooMany for the term, Parentheses,
 -- BadPercent, BadCount, UnknownTask, BadMillis, then TooMany for the fault.

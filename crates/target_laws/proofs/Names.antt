@@ -1,5 +1,5 @@
 -- What is so of each name of a catalogue.
-use Rattle.std.proofs.Common.{◌≡◌, ◌<◌, ◌≤◌, ◌==◌, ◌∙◌, ap, subst, sym, refl, arith, ℕ, zero, suc, List, [], ◌∷◌, true, false, Bool, Bor, length, slice_index_or}
+use Rattle.std.proofs.Common.{◌≡◌, ◌<◌, ◌≤◌, ◌==◌, ◌∙◌, ap, subst, sym, refl, arith, ℕ, zero, suc, List, [], ◌∷◌, true, false, Bool, not, Bor, length, slice_index_or}
 use Rattle.std.proofs.lemmas.Bool.Decides.{nat_tests}
 use Rattle.std.specs.List.{AllByRecursion}
 use Rattle.std.specs.Str.{bytes_eq}
@@ -11,11 +11,11 @@ use Rattle.plan_gen.proofs.CleanRuns.{apart}
 abbrev pub none : Bor (List ℕ)
 none = record { ref_ptr = (0, 0); now = [] }
 
-length_texts : (names : List (Bor (List ℕ))) → length (texts names) ≡ length names
+pub length_texts : (names : List (Bor (List ℕ))) → length (texts names) ≡ length names
 length_texts [] = refl
 length_texts (n ∷ ns) = ap suc (length_texts ns)
 
-text_at : (names : List (Bor (List ℕ))) (p : ℕ) → slice_index_or (texts names) p [] ≡ (slice_index_or names p none).now
+pub text_at : (names : List (Bor (List ℕ))) (p : ℕ) → slice_index_or (texts names) p [] ≡ (slice_index_or names p none).now
 text_at [] p = refl
 text_at (n ∷ ns) zero = refl
 text_at (n ∷ ns) (suc p) = text_at ns p
@@ -32,6 +32,15 @@ short_at names p is less =
 pub lawful_at : (names : List (Bor (List ℕ))) (p : ℕ) → IsCatalogue (texts names) → p < length names → is_name (slice_index_or names p none).now ≡ true
 lawful_at names p is less =
     subst (λ (x : List ℕ). is_name x ≡ true) (text_at names p) (at_each (λ (x : List ℕ). is_name x ≡ true) (texts names) p is.lawful (omega (arith, less, length_texts names)))
+
+pub not_true : (b : Bool) → not b ≡ true → b ≡ false
+not_true true e = cc
+not_true false e = refl
+
+pub new_here : (names : List (Bor (List ℕ))) (p q : ℕ) → bytes_eq (slice_index_or names q none).now (slice_index_or names p none).now ≡ false
+    → bytes_eq (slice_index_or (texts names) q []) (slice_index_or (texts names) p []) ≡ false
+new_here names p q e =
+    ap (λ (x : List ℕ). bytes_eq x (slice_index_or (texts names) p [])) (text_at names q) ∙ ap (λ (x : List ℕ). bytes_eq (slice_index_or names q none).now x) (text_at names p) ∙ e
 
 pub none_before : (names : List (Bor (List ℕ))) (p q : ℕ) → IsCatalogue (texts names) → q < p → p < length names
     → bytes_eq (slice_index_or names q none).now (slice_index_or names p none).now ≡ false

@@ -2,6 +2,7 @@
 ghost use Rattle.std.specs.Prelude.{◌≡◌, ◌<◌, true, false, length};
 ghost use Rattle.action_eval.specs.Answers.{texts};
 ghost use Rattle.action_eval.specs.Catalogue.{IsCatalogue};
+ghost use Rattle.target_laws.specs.inside.Names.{IsLawfulAt, IsNewAt};
 
 use scenario_grammar::is_name;
 
@@ -13,7 +14,8 @@ const MOST_BYTES: usize = 200;
 /// Whether the name of this place stands at an earlier one too.
 fn is_repeated(names: &[&str], place: usize) -> bool
     requires { place < length names.now }
-    ensures { IsCatalogue (texts names.now) → result ≡ false }
+    ensures lawful { IsCatalogue (texts names.now) → result ≡ false }
+    ensures new { result ≡ false → IsNewAt (texts names.now) place }
 {
     for earlier in 0..place {
         if names[earlier] == names[place] {
@@ -26,7 +28,8 @@ fn is_repeated(names: &[&str], place: usize) -> bool
 /// Whether the name of this place is one that a scenario can have, short enough, and not one of those before it.
 fn is_lawful_at(names: &[&str], place: usize) -> bool
     requires { place < length names.now }
-    ensures { IsCatalogue (texts names.now) → result ≡ true }
+    ensures lawful { IsCatalogue (texts names.now) → result ≡ true }
+    ensures only { result ≡ true → IsLawfulAt (texts names.now) place }
 {
     let name = names[place];
     if name.len() > MOST_BYTES {
@@ -40,7 +43,8 @@ fn is_lawful_at(names: &[&str], place: usize) -> bool
 
 /// Whether these are 1 to 64 distinct names of at most 200 bytes, each of which a scenario can have.
 pub fn is_lawful(names: &[&str]) -> bool
-    ensures { IsCatalogue (texts names.now) → result ≡ true }
+    ensures lawful { IsCatalogue (texts names.now) → result ≡ true }
+    ensures only { result ≡ true → IsCatalogue (texts names.now) }
 {
     if names.is_empty() || names.len() > MOST_POINTS {
         return false;

@@ -1,5 +1,5 @@
 //! Runs in which a target's laws are looked at.
-ghost use Rattle.std.specs.Prelude.{◌≡◌, ◌<◌, false, true, length, IfOk};
+ghost use Rattle.std.specs.Prelude.{◌≡◌, ◌↔◌, ◌<◌, false, true, length, IfOk};
 
 use action_eval::Session;
 use scenario_grammar::{ScenarioFault, parse};
@@ -10,7 +10,7 @@ use target_trait::{Outcome, Target};
 
 /// Whether two runs came to the same: the same points were asked, and the verdicts are equal.
 pub fn are_alike(one: &Outcome, other: &Outcome) -> bool
-    ensures { one.now ≡ other.now → result ≡ true }
+    ensures { (result ≡ true) ↔ (one.now.verdict ≡ other.now.verdict) × (one.now.asked ≡ other.now.asked) }
 {
     one.verdict == other.verdict && one.asked.as_slice() == other.asked.as_slice()
 }

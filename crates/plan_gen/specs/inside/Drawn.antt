@@ -37,4 +37,5 @@ pair_sources p = map (λ kind. Two p.0 p.1 kind) second
 -- and of all plans that aren't listed scenarios
 abbrev pub sources_of : Asked → List Site → List Source
 sources_of asked sites =
-    (Empty ∷ []) ++ flat_map site_sources sites ++ (if asked.pairs then flat_map pair_sources (pairs_of sites) else []) ++ map Storm (range_with_len 0 asked.storms)
+    (Empty ∷ []) ++ flat_map site_sources sites ++ (if asked.pairs then flat_map pair_sources (pairs_of sites) else [])
+    ++ map Storm (range_with_len 0 asked.storms)

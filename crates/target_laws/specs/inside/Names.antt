@@ -1,0 +1,14 @@
+-- What a lawful catalogue has at each of its places.
+use Rattle.std.specs.Prelude.{◌≡◌, ℕ, ◌<◌, ◌≤◌, List, [], true, false, length, slice_index_or}
+use Rattle.std.specs.Str.{bytes_eq}
+use Rattle.scenario_values.specs.Scenario.{is_name}
+
+-- the name of this place is none of those before it
+abbrev pub IsNewAt : List (List ℕ) → ℕ → Type 0
+IsNewAt names p = (q : ℕ) → q < p → bytes_eq (slice_index_or names q []) (slice_index_or names p []) ≡ false
+
+-- it is short enough too, and one that a scenario can have
+pub record IsLawfulAt (names : List (List ℕ)) (p : ℕ) : Type 0 where
+  pub short : length (slice_index_or names p []) ≤ 200
+  pub lawful : is_name (slice_index_or names p []) ≡ true
+  pub new : IsNewAt names p
