@@ -21,7 +21,8 @@ use result_book::Course;
 use std::alloc::{AllocError, Global};
 use std::sync::Wait;
 use std::thread::Threads;
-use target_trait::{Gate, Sink, Target};
+use target_trait::{Sink, Target};
+use work_gate::Gate;
 
 /// The text of the brief report over a list of plans, and how the campaign ends. An error means that memory was refused.
 fn brief_over<T: Target + Send, G: Gate, R: Threads + Wait + Sync>(

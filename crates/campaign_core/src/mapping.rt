@@ -14,7 +14,8 @@ use report::write_report;
 use std::alloc::Global;
 use std::sync::Wait;
 use std::thread::Threads;
-use target_trait::{Gate, Sink, Target};
+use target_trait::{Sink, Target};
+use work_gate::Gate;
 
 /// Runs the plans of a campaign as `campaign` does, reduces nothing, and writes the map of all plans, an SVG picture: a cell for each plan,
 /// coloured by its verdict, and the first failure of each code marked. The caller's target isn't touched, and the map is that of one

@@ -10,7 +10,8 @@ use scenario_values::{Scenario, are_faults, faults, faults_are_counted, keep};
 use std::alloc::{AllocError, Global};
 use std::sync::Wait;
 use std::thread::Threads;
-use target_trait::{Case, Gate, Target, Verdict, run_verdict};
+use target_trait::{Case, Target, Verdict, run_verdict};
+use work_gate::Gate;
 
 /// How many faults a scenario has. An error means that memory was refused.
 pub fn fault_count(alloc: Global, scenario: &Scenario) -> Result<u32, AllocError>

@@ -20,7 +20,8 @@ use std::alloc::{AllocError, Global};
 use std::fmt::Write;
 use std::sync::Wait;
 use std::thread::Threads;
-use target_trait::{Case, Gate, Sink, Target, Verdict, run_verdict};
+use target_trait::{Case, Sink, Target, Verdict, run_verdict};
+use work_gate::Gate;
 
 /// The scenario that a failure is reduced to, tidied, and how many sets of faults were tested. An error means that memory was refused.
 pub fn reduced_scenario<T: Target + Send, G: Gate, R: Threads + Wait + Sync>(

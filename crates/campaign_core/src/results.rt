@@ -9,7 +9,8 @@ use result_book::{Course, full_books_tell_their_verdicts};
 use std::alloc::{AllocError, Global};
 use std::sync::Wait;
 use std::thread::Threads;
-use target_trait::{Gate, Target, Verdict};
+use target_trait::{Target, Verdict};
+use work_gate::Gate;
 
 /// What the plans of a course come to.
 #[derive(Drop)]

@@ -2,7 +2,7 @@
 ghost use Rattle.std.specs.Prelude.{◌≡◌, ◌+◌};
 ghost use Rattle.campaign_core.specs.inside.Rows.{row_count, row_size, row_start};
 
-use target_trait::{Gate, Phase};
+use work_gate::{Gate, Phase};
 
 /// How many plans a row has. A row of many takes less memory than its plans one by one, and less of the time after all have run; where
 /// plans are few, one by one they keep all workers at work to the end.

@@ -50,6 +50,8 @@ where
     ghost answers = { λ setup n row. row ≡ row_of
         (verdict_with (T.asks setup.target setup.workload) T.names setup.seed setup.max_hits) setup.plans n };
 
+    ghost becomes = { λ _ _ _. Unit {0} };
+
     fn perform(&mut self, number: u32) -> Result<Row<'a, T>, AllocError> {
         // A number is below the limit only where the plans are few, so their count is not cut.
         let (first, end) = row_bounds(self.course.plans.len() as u32, number);

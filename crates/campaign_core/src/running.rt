@@ -19,7 +19,8 @@ use result_book::{Course, first_failures_are_the_least};
 use std::alloc::{AllocError, Global};
 use std::sync::Wait;
 use std::thread::Threads;
-use target_trait::{Gate, Sink, Target};
+use target_trait::{Sink, Target};
+use work_gate::Gate;
 
 /// What is told of a first failure of a course, by its number and code, with its plan's scenario reduced. An error means that memory was
 /// refused.

@@ -10,7 +10,8 @@ use result_book::{Book, Course, Workspace, put_all};
 use std::alloc::{AllocError, Global};
 use std::sync::Wait;
 use std::thread::Threads;
-use target_trait::{Gate, Phase, Target};
+use target_trait::Target;
+use work_gate::{Gate, Phase};
 use worker_pool::{Gathered, Hand, Job, run_all};
 
 /// A hand for each job, in their order. An error means that memory was refused.

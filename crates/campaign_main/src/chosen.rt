@@ -16,7 +16,8 @@ use maildir_target::Maildir;
 use std::alloc::Global;
 use std::sync::Wait;
 use std::thread::Threads;
-use target_trait::{Gate, Sink};
+use target_trait::Sink;
+use work_gate::Gate;
 
 /// Does what is ordered with a bundled target and its workload, or with a component from outside.
 pub fn chosen_command<W: Sink, E: Sink, H: Threads + Wait + Sync, G: Gate>(

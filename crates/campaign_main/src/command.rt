@@ -24,7 +24,8 @@ use scenario_grammar::{Scenario, parse};
 use std::alloc::Global;
 use std::sync::Wait;
 use std::thread::Threads;
-use target_trait::{Gate, Sink, Target};
+use target_trait::{Sink, Target};
+use work_gate::Gate;
 
 /// Runs a campaign, and writes its report in this form.
 fn report_plans<T: Target + Send, W: Sink, H: Threads + Wait + Sync, G: Gate>(

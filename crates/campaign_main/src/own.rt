@@ -17,7 +17,8 @@ use std::io::Read;
 use std::sync::Wait;
 use std::thread::Threads;
 use target_laws::broken_law;
-use target_trait::{Gate, Sink, Target};
+use target_trait::{Sink, Target};
+use work_gate::Gate;
 
 /// Does what is ordered with this target, unless it is seen to break a law, which none does that is proved.
 fn target_command<T: Target + Send, W: Sink, E: Sink, H: Threads + Wait + Sync, G: Gate>(

@@ -15,7 +15,8 @@ use std::alloc::Global;
 use std::io::Read;
 use std::sync::Wait;
 use std::thread::Threads;
-use target_trait::{Gate, Sink};
+use target_trait::Sink;
+use work_gate::Gate;
 
 /// Does what is ordered with the target that the settings choose.
 fn perform_chosen<W: Sink, E: Sink, H: Threads + Wait + Sync, G: Gate>(

@@ -26,7 +26,8 @@ pub fn unreadable_settings<E: Sink>(error: &io::Error, faults: &mut E) -> Exit
 /// so. One line on the sink of faults says which.
 pub fn unreadable_words<E: Sink>(error: &io::Error, faults: &mut E) -> Exit
     requires { E.has_failed faults.old ≡ false }
-    ensures end { RefusesWith (codes "error: invalid UTF-8 was detected in one or more arguments\n") result (E.told faults.old) (E.told faults.new) (E.has_failed faults.new) }
+    ensures end { RefusesWith (codes "error: invalid UTF-8 was detected in one or more arguments\n") result
+        (E.told faults.old) (E.told faults.new) (E.has_failed faults.new) }
     ensures memory { (result ≡ Exit.Memory) ↔ (error_kind error.now ≡ ErrorKind.OutOfMemory) }
 {
     unreadable(

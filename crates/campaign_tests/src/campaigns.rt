@@ -9,7 +9,7 @@ use std::sync::Wait;
 use std::sync::atomic::Ordering;
 use std::test::Fail;
 use std::thread::Threads;
-use target_trait::FreeGate;
+use work_gate::FreeGate;
 
 // Each point is asked once, so that there are 1 + 3 * 2 plans. In plans 1, 2, 4 and 5 one point fails, in 3 and 6 the run halts.
 const ALL_PASS: &str = "target meet

@@ -8,7 +8,7 @@ use std::sync::atomic::{AtomicU64, Ordering};
 use std::test::Fail;
 use std::thread::Threads;
 use target_checks::comes_to;
-use target_trait::{Gate, Phase};
+use work_gate::{Gate, Phase};
 
 /// Two that wait for each other, and how many of them waited in vain.
 #[derive(Drop)]

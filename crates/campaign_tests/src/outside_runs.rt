@@ -12,7 +12,8 @@ use std::process::Abort;
 use std::sync::Wait;
 use std::test::Fail;
 use std::thread::Threads;
-use target_trait::{FreeGate, Out, Target, Verdict};
+use target_trait::{Out, Target, Verdict};
+use work_gate::FreeGate;
 
 /// The campaign over these settings has this report, whose first failure is this one.
 fn reports<T: Target<Workload = ()> + Send, H: Threads + Wait + Sync + Abort>(

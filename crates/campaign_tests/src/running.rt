@@ -7,7 +7,8 @@ use scenario_grammar::Scenario;
 use std::alloc::Global;
 use std::sync::Wait;
 use std::thread::Threads;
-use target_trait::{Gate, Out, Target};
+use target_trait::{Out, Target};
+use work_gate::Gate;
 
 /// Seed 7, and else what holds where nothing is given.
 pub fn settings(alloc: Global, workers: u32, pairs: bool, scenarios: Vec<Scenario>) -> Settings

@@ -36,21 +36,29 @@ file_rule = record (new_rule (codes "file")) { value_names = 1 }
 abbrev pub needed_file_rule : Rule
 needed_file_rule = record (new_rule (codes "file")) { value_names = 1; required = true }
 
+-- an option of this name that takes a value
+abbrev pub value_rule : Text → Rule
+value_rule name = record (new_rule name) { long = Some name; value_names = 1 }
+
+-- one that takes none
+abbrev pub flag_rule : Text → Rule
+flag_rule name = record (new_rule name) { long = Some name; action = Some SetTrue }
+
 -- --scenario TEXT
 abbrev pub scenario_rule : Rule
-scenario_rule = record (new_rule (codes "scenario")) { long = Some (codes "scenario"); value_names = 1 }
+scenario_rule = value_rule (codes "scenario")
 
 -- --plan N
 abbrev pub plan_rule : Rule
-plan_rule = record (new_rule (codes "plan")) { long = Some (codes "plan"); value_names = 1 }
+plan_rule = value_rule (codes "plan")
 
 -- --brief, a flag
 abbrev pub brief_rule : Rule
-brief_rule = record (new_rule (codes "brief")) { long = Some (codes "brief"); action = Some SetTrue }
+brief_rule = flag_rule (codes "brief")
 
 -- --progress, a flag
 abbrev pub progress_rule : Rule
-progress_rule = record (new_rule (codes "progress")) { long = Some (codes "progress"); action = Some SetTrue }
+progress_rule = flag_rule (codes "progress")
 
 -- ---- commands
 

@@ -1,7 +1,7 @@
 ghost use Rattle.std.specs.Prelude.{◌≡◌, ◌↔◌, ◌∷◌, [], IsTrue, Some, None, option_map, is_some, true, false, IfOk, IfErr, IfSome, map, codes, string_bytes};
 ghost use Rattle.clap.specs.Words.{app_of, fault_of, first_value, found_of, rule_of, subcommand_of, takes};
 ghost use Rattle.clap.specs.declared.builder.command.Command.TheViews.{out-Command as fields_of};
-ghost use Rattle.command_words.specs.Words.{AsksToSee, HasAlso, HasNeeded, IsFaultOf, IsLine, IsLineOf, IsName, IsOrder, IsOrderName, IsQuestion, IsQuestionName, IsRefusedFor, IsScenarioName, IsWhich, Spells, bare_app, brief_rule, campaign_commands, choice_fault, choice_kinds, file_app, file_rule, form_of, needed_file_rule, paklour, plan_rule, progress_of, progress_rule, question_app, question_commands, question_report_app, report_app, scenario_app, scenario_commands, scenario_rule, shown_app, values_of, which_kinds, with_commands, words_fault};
+ghost use Rattle.command_words.specs.Words.{AsksToSee, HasAlso, HasNeeded, IsFaultOf, IsLine, IsLineOf, IsName, IsOrder, IsOrderName, IsQuestion, IsQuestionName, IsRefusedFor, IsScenarioName, IsWhich, Spells, bare_app, campaign_commands, choice_fault, choice_kinds, file_app, file_rule, flag_rule, form_of, needed_file_rule, paklour, progress_of, question_app, question_commands, question_report_app, report_app, scenario_app, scenario_commands, shown_app, value_rule, values_of, which_kinds, with_commands, words_fault};
 ghost use Rattle.command_words.specs.declared.words.WordsFault.TheVariants.{Memory};
 ghost use Rattle.clap.specs.Kinds.{value_kinds};
 ghost use Rattle.clap.specs.declared.builder.value_parser.ValueParser.TheVariants.{Unsigned};
@@ -139,44 +139,26 @@ fn needed_file_arg<'a>(alloc: Global) -> Arg<'a>
         .help(help::NEEDED_FILE)
 }
 
-fn scenario_arg<'a>(alloc: Global) -> Arg<'a>
-    ensures rule { rule_of result ≡ scenario_rule }
+/// An option of this name that takes a value.
+fn value_arg<'a>(alloc: Global, name: &'a str, value: &'a str, help: &'a str) -> Arg<'a>
+    ensures rule { rule_of result ≡ value_rule name.entry.now }
     ensures local { result.global ≡ false }
 {
-    Arg::new(alloc, "scenario")
-        .long("scenario")
-        .value_name("TEXT")
-        .help(help::SCENARIO)
+    Arg::new(alloc, name)
+        .long(name)
+        .value_name(value)
+        .help(help)
 }
 
-fn plan_arg<'a>(alloc: Global) -> Arg<'a>
-    ensures rule { rule_of result ≡ plan_rule }
+/// An option of this name that takes none.
+fn flag_arg<'a>(alloc: Global, name: &'a str, help: &'a str) -> Arg<'a>
+    ensures rule { rule_of result ≡ flag_rule name.entry.now }
     ensures local { result.global ≡ false }
 {
-    Arg::new(alloc, "plan")
-        .long("plan")
-        .value_name("N")
-        .help(help::PLAN)
-}
-
-fn brief_arg<'a>(alloc: Global) -> Arg<'a>
-    ensures rule { rule_of result ≡ brief_rule }
-    ensures local { result.global ≡ false }
-{
-    Arg::new(alloc, "brief")
-        .long("brief")
+    Arg::new(alloc, name)
+        .long(name)
         .action(ArgAction::SetTrue)
-        .help(help::BRIEF)
-}
-
-fn progress_arg<'a>(alloc: Global) -> Arg<'a>
-    ensures rule { rule_of result ≡ progress_rule }
-    ensures local { result.global ≡ false }
-{
-    Arg::new(alloc, "progress")
-        .long("progress")
-        .action(ArgAction::SetTrue)
-        .help(help::PROGRESS)
+        .help(help)
 }
 
 fn file_command<'a>(
@@ -206,7 +188,7 @@ fn report_command<'a>(
     Command::new(alloc, name)
         .about(about)
         .after_help(examples)
-        .arg(brief_arg(alloc))?
+        .arg(flag_arg(alloc, "brief", help::BRIEF))?
         .arg(file_arg(alloc))
 }
 
@@ -222,8 +204,8 @@ fn scenario_command<'a>(
         .about(about)
         .override_usage(usage(name))
         .after_help(help::SCENARIO_TEXT)
-        .arg(scenario_arg(alloc))?
-        .arg(plan_arg(alloc))?
+        .arg(value_arg(alloc, "scenario", "TEXT", help::SCENARIO))?
+        .arg(value_arg(alloc, "plan", "N", help::PLAN))?
         .arg(file_arg(alloc))
 }
 
@@ -232,7 +214,11 @@ fn run_command<'a>(alloc: Global) -> Result<Command<'a>, AllocError>
     ensures app { IfOk result (λ command. app_of command ≡ shown_app (report_app (codes "run"))) }
     ensures local { IfOk result (λ command. (fields_of command).has_globals ≡ false) }
 {
-    report_command(alloc, "run", help::RUN, help::RUN_EXAMPLES)?.arg(progress_arg(alloc))
+    report_command(alloc, "run", help::RUN, help::RUN_EXAMPLES)?.arg(flag_arg(
+        alloc,
+        "progress",
+        help::PROGRESS,
+    ))
 }
 
 // The command that runs a campaign and draws it.
@@ -240,7 +226,11 @@ fn map_command<'a>(alloc: Global) -> Result<Command<'a>, AllocError>
     ensures app { IfOk result (λ command. app_of command ≡ shown_app (file_app (codes "map"))) }
     ensures local { IfOk result (λ command. (fields_of command).has_globals ≡ false) }
 {
-    file_command(alloc, "map", help::MAP, help::MAP_EXAMPLES)?.arg(progress_arg(alloc))
+    file_command(alloc, "map", help::MAP, help::MAP_EXAMPLES)?.arg(flag_arg(
+        alloc,
+        "progress",
+        help::PROGRESS,
+    ))
 }
 
 // The command that reduces a scenario.
@@ -248,7 +238,11 @@ fn reduce_command<'a>(alloc: Global) -> Result<Command<'a>, AllocError>
     ensures app { IfOk result (λ command. app_of command ≡ shown_app (scenario_app (codes "reduce"))) }
     ensures local { IfOk result (λ command. (fields_of command).has_globals ≡ false) }
 {
-    scenario_command(alloc, "reduce", help::REDUCE)?.arg(progress_arg(alloc))
+    scenario_command(alloc, "reduce", help::REDUCE)?.arg(flag_arg(
+        alloc,
+        "progress",
+        help::PROGRESS,
+    ))
 }
 
 fn question_command<'a>(
@@ -276,7 +270,7 @@ fn question_report_command<'a>(
     Command::new(alloc, name)
         .about(about)
         .after_help(help::ANSWERS)
-        .arg(brief_arg(alloc))?
+        .arg(flag_arg(alloc, "brief", help::BRIEF))?
         .arg(needed_file_arg(alloc))
 }
 

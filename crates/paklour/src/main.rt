@@ -13,7 +13,8 @@ use std::process::ExitCode;
 use std::sync::Wait;
 use std::thread::Threads;
 use std::{env, fs, io};
-use target_trait::{Gate, Out, Sink};
+use target_trait::{Out, Sink};
+use work_gate::Gate;
 
 fn main(rt: HostRuntime) -> ExitCode {
     let exit = run(&rt, &rt);

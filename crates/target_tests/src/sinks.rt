@@ -2,7 +2,8 @@
 
 use std::test::Fail;
 use target_checks::{Narrow, Trouble};
-use target_trait::{FreeGate, Gate, Out, Phase, Sink};
+use target_trait::{Out, Sink};
+use work_gate::{FreeGate, Gate, Phase};
 
 #[test]
 fn tells_what_was_written(rt: HostRuntime) -> Result<(), Fail> {
