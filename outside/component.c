@@ -1,7 +1,8 @@
 /* component STEP..: does one call of the C library after the other and writes what each came to, a line each: what it
    answered, or the name of its error. A step is a word and its arguments; the calls without a name use the file opened last.
 
-     open NAME, create NAME, log NAME (its writes sync by themselves), folder NAME, tmpfile FOLDER (it has no name)
+     open NAME, create NAME, creat NAME (the same by that call), log NAME (its writes sync by themselves), folder NAME,
+        tmpfile FOLDER (it has no name)
      write TEXT, pwrite TEXT, writev TEXT TEXT, pwritev TEXT TEXT, pwritev2 TEXT (synced by itself), fill N (so many bytes)
      read N, pread N, readv N N, preadv N N, preadv2 N
      fsync, fdatasync, sync_file_range, sync, syncfs, ftruncate N, truncate NAME N, fallocate MODE PLACE N, posix_fallocate N
@@ -9,7 +10,7 @@
      rename FROM TO, exchange ONE OTHER, link FROM TO, name NAME (gives the open file a name), unlink NAME, remove NAME
      mkdir NAME, rmdir NAME, symlink TEXT NAME, mkstemp PATTERN, mkstemps PATTERN N, mkdtemp PATTERN
      stream NAME MODE, reopened MODE (a stream of the open file), moved NAME (the stream is one of that file from now on)
-     print TEXT, gets N, flush, stream_sync, close_stream; dprint TEXT
+     print TEXT, gets N, flush, stream_sync, close_stream; dprint TEXT, vdprint TEXT
      map N, store PLACE TEXT, msync PLACE N, remap N, unmap
      pair (of sockets), listen NAME, connect NAME, accept, send TEXT, recv N, tell TEXT (by write), hear N (by read), sendmsg
         TEXT,
@@ -19,14 +20,16 @@
      start_by CALL PROGRAM: the same by that call, as execlp or posix_spawn
      splice TEXT, aio_write TEXT, aio_fsync
      threads N: so many threads write a byte each; answers how many of them failed
-     end N: ends at once with that status
-     forget: closes each descriptor above 2, also those that it doesn't know */
+     end N, quit N (the same by _Exit): ends at once with that status
+     forget: closes each descriptor above 2, also those that it doesn't know
+     cover N: makes every descriptor above 2 and up to N one of the open file */
 #define _GNU_SOURCE
 #include <aio.h>
 #include <errno.h>
 #include <fcntl.h>
 #include <pthread.h>
 #include <spawn.h>
+#include <stdarg.h>
 #include <stdbool.h>
 #include <stdio.h>
 #include <stdlib.h>
@@ -75,6 +78,7 @@ static long opened(const char *name, int flags) { return keep(open(name, flags |
 
 static long do_open(char **with) { return opened(with[0], O_RDWR); }
 static long do_create(char **with) { return opened(with[0], O_RDWR | O_CREAT | O_TRUNC); }
+static long do_creat(char **with) { return keep(creat(with[0], 0644)); }
 static long do_log(char **with) { return opened(with[0], O_RDWR | O_CREAT | O_APPEND | O_DSYNC); }
 static long do_folder(char **with) {
     volatile int flags = O_RDONLY | O_DIRECTORY | O_CLOEXEC; /* so that no compiler knows that no mode is needed */
@@ -167,6 +171,14 @@ static long do_flush(char **with) { return (void)with, fflush(stream); }
 static long do_stream_sync(char **with) { return (void)with, fsync(fileno(stream)); }
 static long do_close_stream(char **with) { return (void)with, fclose(stream); }
 static long do_dprint(char **with) { return dprintf(file, "%s", with[0]); }
+static long printed(const char *format, ...) {
+    va_list rest;
+    va_start(rest, format);
+    long result = vdprintf(file, format, rest);
+    va_end(rest);
+    return result;
+}
+static long do_vdprint(char **with) { return printed("%s", with[0]); }
 
 /* ---- mappings */
 
@@ -280,7 +292,14 @@ static long do_aio_fsync(char **with) {
     return aio_return(&what);
 }
 static long do_end(char **with) { _exit(atoi(with[0])); }
+static long do_quit(char **with) { _Exit(atoi(with[0])); }
 static long do_forget(char **with) { return (void)with, close_range(3, ~0U, 0); }
+static long do_cover(char **with) {
+    int from = file, to = (int)number(with[0]);
+    for (int other = 3; other <= to; other++)
+        if (other != from && dup2(from, other) < 0) return -1;
+    return 0;
+}
 
 static void *write_byte(void *unused) {
     (void)unused;
@@ -308,18 +327,18 @@ static const struct step {
     int arguments;
     long (*does)(char **with);
 } all_steps[] = {
-    STEP(open, 1), STEP(create, 1), STEP(log, 1), STEP(folder, 1), STEP(tmpfile, 1), STEP(write, 1), STEP(pwrite, 1),
-    STEP(writev, 2), STEP(pwritev, 2), STEP(pwritev2, 1), STEP(fill, 1), STEP(read, 1), STEP(pread, 1), STEP(readv, 2),
-    STEP(preadv, 2), STEP(preadv2, 1), STEP(fsync, 0), STEP(fdatasync, 0), STEP(sync_file_range, 0), STEP(sync, 0),
-    STEP(syncfs, 0), STEP(ftruncate, 1), STEP(truncate, 2), STEP(fallocate, 3), STEP(posix_fallocate, 1), STEP(copy, 2),
-    STEP(sendfile, 2), STEP(rename, 2), STEP(exchange, 2), STEP(link, 2), STEP(name, 1), STEP(unlink, 1), STEP(remove, 1),
-    STEP(mkdir, 1), STEP(rmdir, 1), STEP(symlink, 2), STEP(mkstemp, 1), STEP(mkstemps, 2), STEP(mkdtemp, 1), STEP(stream, 2),
-    STEP(reopened, 1), STEP(moved, 1), STEP(print, 1), STEP(gets, 1), STEP(flush, 0), STEP(stream_sync, 0),
-    STEP(close_stream, 0), STEP(dprint, 1), STEP(map, 1), STEP(store, 2), STEP(msync, 2), STEP(remap, 1), STEP(unmap, 0),
-    STEP(pair, 0), STEP(listen, 1), STEP(connect, 1), STEP(accept, 0), STEP(send, 1), STEP(recv, 1), STEP(tell, 1),
-    STEP(hear, 1), STEP(sendmsg, 1), STEP(sendmmsg, 1), STEP(recvmsg, 1), STEP(start, 1), STEP(start_clean, 1),
-    STEP(start_by, 2), STEP(splice, 1), STEP(aio_write, 1), STEP(aio_fsync, 0), STEP(end, 1), STEP(forget, 0),
-    STEP(threads, 1),
+    STEP(open, 1), STEP(create, 1), STEP(creat, 1), STEP(log, 1), STEP(folder, 1), STEP(tmpfile, 1), STEP(write, 1),
+    STEP(pwrite, 1), STEP(writev, 2), STEP(pwritev, 2), STEP(pwritev2, 1), STEP(fill, 1), STEP(read, 1), STEP(pread, 1),
+    STEP(readv, 2), STEP(preadv, 2), STEP(preadv2, 1), STEP(fsync, 0), STEP(fdatasync, 0), STEP(sync_file_range, 0),
+    STEP(sync, 0), STEP(syncfs, 0), STEP(ftruncate, 1), STEP(truncate, 2), STEP(fallocate, 3), STEP(posix_fallocate, 1),
+    STEP(copy, 2), STEP(sendfile, 2), STEP(rename, 2), STEP(exchange, 2), STEP(link, 2), STEP(name, 1), STEP(unlink, 1),
+    STEP(remove, 1), STEP(mkdir, 1), STEP(rmdir, 1), STEP(symlink, 2), STEP(mkstemp, 1), STEP(mkstemps, 2), STEP(mkdtemp, 1),
+    STEP(stream, 2), STEP(reopened, 1), STEP(moved, 1), STEP(print, 1), STEP(gets, 1), STEP(flush, 0), STEP(stream_sync, 0),
+    STEP(close_stream, 0), STEP(dprint, 1), STEP(vdprint, 1), STEP(map, 1), STEP(store, 2), STEP(msync, 2), STEP(remap, 1),
+    STEP(unmap, 0), STEP(pair, 0), STEP(listen, 1), STEP(connect, 1), STEP(accept, 0), STEP(send, 1), STEP(recv, 1),
+    STEP(tell, 1), STEP(hear, 1), STEP(sendmsg, 1), STEP(sendmmsg, 1), STEP(recvmsg, 1), STEP(start, 1), STEP(start_clean, 1),
+    STEP(start_by, 2), STEP(splice, 1), STEP(aio_write, 1), STEP(aio_fsync, 0), STEP(end, 1), STEP(quit, 1), STEP(forget, 0),
+    STEP(cover, 1), STEP(threads, 1),
 };
 
 static const struct step *step_of(const char *name) {

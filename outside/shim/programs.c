@@ -224,3 +224,7 @@ EXPORT int aio_fsync(int how, struct aiocb *what) {
     unseen_of("aio_fsync of", what->aio_fildes);
     return ((int (*)(int, struct aiocb *))next_of("aio_fsync"))(how, what);
 }
+EXPORT int aio_fsync64(int how, struct aiocb64 *what) {
+    unseen_of("aio_fsync of", what->aio_fildes);
+    return ((int (*)(int, struct aiocb64 *))next_of("aio_fsync64"))(how, what);
+}

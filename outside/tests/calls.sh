@@ -44,6 +44,8 @@ fails 'syncfs fails' libc::fsync 'open old syncfs syncfs' 'open 0,syncfs EIO,syn
 noted 'syncfs makes all last' 'create a write b syncfs write c' '1 write a 1 at 1' 'a=bc old=0123456789 '
 
 # Names.
+fails 'creat fails' libc::open 'creat a creat a write b' 'creat EIO,creat 0,write 1'
+noted 'creat' 'creat old write b' '1 resize old to 0,2 write old 1 at 0' 'old=b '
 fails 'symlink fails' libc::symlink 'symlink old way symlink old way' 'symlink EIO,symlink 0'
 fails 'mkstemp fails' libc::open 'mkstemp aXXXXXX mkstemp aXXXXXX write b' 'mkstemp EIO,mkstemp 0,write 1'
 fails 'mkostemps fails' libc::open 'mkstemps aXXXXXX.t 2 mkstemps aXXXXXX.t 2' 'mkstemps EIO,mkstemps 0'
@@ -76,6 +78,7 @@ go none stream lines r gets 5
 is 'a read takes a block of the file' 4096 "$(sed -n '2s/ *$//p' "$here/run/trace" | cut -f 8)"
 noted 'dprintf' 'create a dprint bc' '1 create a -,2 write a 2 at 0' 'a=bc old=0123456789 '
 fails 'dprintf fails' libc::write 'create a dprint bc dprint bc' 'create 0,dprint EIO,dprint 2'
+fails 'vdprintf fails' libc::write 'create a vdprint bc vdprint bc' 'create 0,vdprint EIO,vdprint 2'
 
 # Shared mappings.
 fails 'msync fails' libc::fsync 'open old map 10 store 0 ab msync 0 10 msync 0 10' 'open 0,map 0,store 0,msync EIO,msync 0'
@@ -85,6 +88,8 @@ is 'and what was stored behind it' 'old=ab23yz6789 ' "$(kept power::keep=return)
 is 'a shared mapping is told' 'faults: not seen: each store into the mapping of old' "$faults"
 noted 'fsync of a mapped file' 'open old map 10 store 0 ab fsync' '' 'old=ab23456789 '
 noted 'a mapping that is taken away' 'open old map 10 store 0 ab unmap' '1 store old 4096 at 0' 'old=ab23456789 '
+try none open old map 10 store 0 ab quit 3
+is 'and at an end by _Exit' '3 1 store old 4096 at 0' "$status $(pending)"
 try 'libc::fsync=1*panic' open old map 10 store 0 ab fsync
 is 'and at a panic' '99 1 store old 4096 at 0' "$status $(pending)"
 try none create a fill 12288 fsync folder . fsync open a map 12288 store 1 a store 8192 b msync 8192 1

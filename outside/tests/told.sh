@@ -53,6 +53,12 @@ else
 fi
 rm -f out/set_id
 
+# tells NAME STEPS EXPECTED UNSEEN: the run is as it would be, and tells at its end what wasn't seen
+tells() {
+    try none $2
+    is "$1" "$3 faults: not seen: $4" "$said $faults"
+}
+
 # What changed unseen, and what the library tells of itself.
 try none open old write ab
 printf x >> "$here/data/sub/in"
@@ -66,14 +72,10 @@ is 'also what was stored' '' "$(out/powercut cut "$here/run" "$here/data" 2>&1)"
 try none open old map 10 end 3
 is 'a process that ends at once tells too' '3 faults: not seen: each store into the mapping of old' "$status $faults"
 
-try none open old splice ab
-is 'splice is told' 'open 0,splice 2 faults: not seen: splice to old' "$said $faults"
-try none open old aio_write ab
-is 'aio_write is told' 'open 0,aio_write 2 faults: not seen: aio_write of old' "$said $faults"
-try none open old aio_fsync
-is 'aio_fsync is told' 'open 0,aio_fsync 0 faults: not seen: aio_fsync of old' "$said $faults"
-try none stream ../other.txt w moved old print ab close_stream
-is 'freopen is told' 'stream 0,moved 0,print 2,close_stream 0 faults: not seen: the stream that was opened again as old' "$said $faults"
+tells 'splice is told' 'open old splice ab' 'open 0,splice 2' 'splice to old'
+tells 'aio_write is told' 'open old aio_write ab' 'open 0,aio_write 2' 'aio_write of old'
+tells 'aio_fsync is told' 'open old aio_fsync' 'open 0,aio_fsync 0' 'aio_fsync of old'
+tells 'freopen is told' 'stream ../o w moved old print ab close_stream' 'stream 0,moved 0,print 2,close_stream 0' 'the stream that was opened again as old'
 try none open old aio_write ab
 is 'and what it wrote is no change that the notes explain' "powercut: changed, and the shim didn't see how: old" \
     "$(out/powercut cut "$here/run" "$here/data" 2>&1)"

@@ -1,6 +1,6 @@
-# The failing calls of points.sh, calls.sh and told.sh once more, by the other calls that a program has for them: those of a program
-# compiled for long files, with _FORTIFY_SOURCE, and the calls that take a folder. Sourced by `test`.
-grep -hE '^(fails |rm -f "[$]here/s"$)' tests/points.sh tests/calls.sh tests/told.sh > "$here/again"
+# The failing calls of points.sh, calls.sh and told.sh, and those that are told, once more, by the other calls that a program has for
+# them: those of a program compiled for long files, with _FORTIFY_SOURCE, and the calls that take a folder. Sourced by `test`.
+grep -hE '^(fails |tells |rm -f "[$]here/s"$)' tests/points.sh tests/calls.sh tests/told.sh > "$here/again"
 FAULTS_SOCKETS=1
 export FAULTS_SOCKETS
 long_files=-D_FILE_OFFSET_BITS=64
