@@ -132,14 +132,14 @@ EXPORT ssize_t write(int file, const void *bytes, size_t length) {
     if (fails(&hit, &length)) return done(&hit, -1);
     struct iovec part = {(void *)bytes, length};
     if (hit.answer == DROP) return dropped(&hit, &part, 1);
-    return write_noted(&hit, &CALL(SYS_write, {file, (long)bytes, (long)length}), file, &part, 1, -1, 0);
+    return write_noted(&hit, &CALL(SYS_write, {file, (long)bytes, (long)length}), &part, 1, -1, 0);
 }
 
 EXPORT ssize_t pwrite(int file, const void *bytes, size_t length, off_t at) {
     struct hit hit = hit_descriptor(WRITE, file);
     if (fails(&hit, &length)) return done(&hit, -1);
     struct iovec part = {(void *)bytes, length};
-    return write_noted(&hit, &CALL(SYS_pwrite64, {file, (long)bytes, (long)length, at}), file, &part, 1, at, 0);
+    return write_noted(&hit, &CALL(SYS_pwrite64, {file, (long)bytes, (long)length, at}), &part, 1, at, 0);
 }
 
 static ssize_t write_parts(int file, const struct call *call, const struct iovec *first, int count, off_t at, int flags) {
@@ -151,7 +151,7 @@ static ssize_t write_parts(int file, const struct call *call, const struct iovec
     if (hit.answer == HALF) halve(&parts);
     now.arguments[1] = (long)parts.first;
     now.arguments[2] = parts.count;
-    return write_noted(&hit, &now, file, parts.first, parts.count, at, flags);
+    return write_noted(&hit, &now, parts.first, parts.count, at, flags);
 }
 
 EXPORT ssize_t writev(int file, const struct iovec *first, int count) {
@@ -205,7 +205,7 @@ static ssize_t copy_noted(const struct hit *hit, const struct call *call, int ou
     char path[PATH_MAX];
     if (!notes_file(hit, out, &before) || !watched_descriptor(out, path)) return done(hit, perform(call));
     lock(&signals);
-    snprintf(path, sizeof path, "/proc/self/fd/%d", out);
+    link_of(out, path);
     uint64_t place = (uint64_t)(at ? *at : syscall(SYS_lseek, out, 0, SEEK_CUR));
     copy_later(&before.key, path, place, UINT64_MAX);
     long result = perform(call);
@@ -314,13 +314,8 @@ static long resize_noted(const struct hit *hit, const struct call *call, const c
     return done(hit, result);
 }
 
-static const char *link_of(int file, char *link) {
-    sprintf(link, "/proc/self/fd/%d", file);
-    return link;
-}
-
 EXPORT int ftruncate(int file, off_t length) {
-    char link[40];
+    char link[LINK_LENGTH];
     struct hit hit = hit_descriptor(FTRUNCATE, file);
     if (hit.answer == FAIL) return (int)done(&hit, -1);
     return (int)resize_noted(&hit, &CALL(SYS_ftruncate, {file, length}), link_of(file, link), (uint64_t)length);
@@ -349,7 +344,7 @@ static void note_allocated(const struct key *file, const char *link, int mode, u
 
 static int allocated(const struct hit *hit, int file, int mode, off_t at, off_t length) {
     struct file_facts before;
-    char link[40];
+    char link[LINK_LENGTH];
     bool notes = notes_file(hit, file, &before);
     uint64_t keeps = mode ? (uint64_t)at : UINT64_MAX;
     int result = (int)resize_noted(hit, &CALL(SYS_fallocate, {file, mode, at, length}), link_of(file, link), keeps);

@@ -6,9 +6,10 @@
 #include <sched.h>
 #include <stdio.h>
 #include <stdlib.h>
+#include <sys/stat.h>
 #include <time.h>
 
-enum { RESULT_WIDTH = 20 };
+enum { RESULT_WIDTH = 20, FIRST_KEPT = 500 };
 
 void lock(sigset_t *before) {
     sigset_t all;
@@ -25,40 +26,74 @@ void unlock(const sigset_t *before) {
 /* ---- the trace: number of the hit, point, which hit of the point, answer, file, process, flags of an open, and room for
    what the call came to */
 
-static int open_trace(int flags) {
+/* The descriptor is kept from line to line, above those that a program has. A program may close every descriptor that it
+   doesn't know, and have the number for a file of its own: so whether it is the trace is asked each time. */
+static int kept_trace = -1;
+static dev_t trace_device;
+static ino_t trace_number;
+
+static bool is_trace(int file, struct stat *told) {
+    return file >= 0 && !fstat(file, told) && told->st_ino == trace_number && told->st_dev == trace_device;
+}
+
+static int open_trace(struct stat *told) {
     char name[LONG_PATH];
+    int file = __atomic_load_n(&kept_trace, __ATOMIC_ACQUIRE);
+    if (is_trace(file, told)) return file;
     snprintf(name, sizeof name, "%s/trace", run_folder);
-    int file = raw_open(AT_FDCWD, name, O_WRONLY | O_CLOEXEC | flags, 0);
-    if (file < 0) refuse("no trace", strerror(errno));
+    file = raw_open(AT_FDCWD, name, O_WRONLY | O_CLOEXEC, 0);
+    if (file < 0 || fstat(file, told)) refuse("no trace", strerror(errno));
     return file;
 }
 
-/* Under the lock, so one line at a time and one buffer. The file is opened for each line: a program may close every
-   descriptor that it doesn't know. Answers where the room for the result begins. */
+/* Under the lock it may be kept, where the program's limit has room for it. */
+static void close_trace(int file, const struct stat *told, bool keeps) {
+    if (file == kept_trace) return;
+    int kept = keeps ? (int)syscall(SYS_fcntl, file, F_DUPFD_CLOEXEC, FIRST_KEPT) : -1;
+    trace_device = told->st_dev;
+    trace_number = told->st_ino;
+    if (kept >= 0) __atomic_store_n(&kept_trace, kept, __ATOMIC_RELEASE);
+    raw_close(file);
+}
+
+static char *column(char *end) {
+    *end = '\t';
+    return end + 1;
+}
+
+/* Under the lock, so one line at a time and one buffer. Answers where the room for the result begins. */
 static long write_trace(const struct counter *counter, const struct term *term, const char *path, const char *flags) {
     static char line[4 * (MOST_BYTES + PATH_MAX) + 1024];
-    char *end = line + sprintf(line, "%llu\t%s\t%llu\t", (unsigned long long)state->number, counter->name,
-                               (unsigned long long)counter->hits);
-    end = written_answer(end, term);
-    *end++ = '\t';
-    end = escaped(end, path);
-    end += sprintf(end, "\t%d\t%s\t%-*s\n", (int)getpid(), flags ? flags : "-", RESULT_WIDTH, "-");
-    int file = open_trace(O_APPEND);
-    if (!raw_write(file, line, (size_t)(end - line))) refuse("no trace", strerror(errno));
-    long at = syscall(SYS_lseek, file, 0, SEEK_CUR) - RESULT_WIDTH - 1;
-    raw_close(file);
-    return at;
+    struct stat told;
+    char *end = column(written_number(line, state->number));
+    end = column(stpcpy(end, counter->name));
+    end = column(written_number(end, counter->hits));
+    end = column(written_answer(end, term));
+    end = column(escaped(end, path));
+    end = column(written_number(end, (unsigned)getpid()));
+    end = column(stpcpy(end, flags ? flags : "-"));
+    memset(end, ' ', RESULT_WIDTH);
+    *end = '-';
+    end[RESULT_WIDTH] = '\n';
+    int file = open_trace(&told);
+    if (!raw_write_at(file, line, (size_t)(end + RESULT_WIDTH + 1 - line), told.st_size)) refuse("no trace", strerror(errno));
+    close_trace(file, &told, true);
+    return told.st_size + (end - line);
 }
 
 long done(const struct hit *hit, long result) {
     int before = errno;
-    char text[64];
+    char text[RESULT_WIDTH + 1];
+    struct stat told;
     if (!hit->seen) return result;
-    if (result < 0 && strerrorname_np(before)) snprintf(text, sizeof text, "%-*s", RESULT_WIDTH, strerrorname_np(before));
-    else snprintf(text, sizeof text, "%-*ld", RESULT_WIDTH, result);
-    int file = open_trace(0);
-    if (syscall(SYS_pwrite64, file, text, RESULT_WIDTH, hit->result_at) != RESULT_WIDTH) refuse("no trace", strerror(errno));
-    raw_close(file);
+    const char *error = result < 0 ? strerrorname_np(before) : NULL;
+    memset(text, ' ', RESULT_WIDTH);
+    if (error) memcpy(text, error, strlen(error));
+    else if (result < 0) written_number(stpcpy(text, "-"), -(uint64_t)result);
+    else written_number(text, (uint64_t)result);
+    int file = open_trace(&told);
+    if (!raw_write_at(file, text, RESULT_WIDTH, hit->result_at)) refuse("no trace", strerror(errno));
+    close_trace(file, &told, false);
     errno = before;
     return result;
 }

@@ -62,12 +62,11 @@ static void read_before(struct mapping *mapping, int file) {
 }
 
 static void add_mapping(char *memory, size_t length, int file, off_t at, const struct file_facts *facts, const char *path) {
-    char link[40];
+    char link[LINK_LENGTH];
     sigset_t signals;
     int i = 0;
     lock(&signals);
-    sprintf(link, "/proc/self/fd/%d", file);
-    copy_later_always(&facts->key, link);
+    copy_later_always(&facts->key, link_of(file, link));
     while (i < MOST_MAPPINGS && mappings[i].before) i++;
     if (i < MOST_MAPPINGS) {
         struct mapping *mapping = &mappings[i];

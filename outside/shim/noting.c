@@ -78,8 +78,9 @@ static bool write_in_file(struct iovec *parts, int count) {
 /* A record and what follows it. What a killed process left behind the last whole record is written over. */
 static void write_note(struct note *note, const char *name, const char *other_name, const struct iovec *first, int count,
     uint64_t length) {
-    struct iovec parts[MOST_PARTS] = {{note, sizeof *note}};
+    struct iovec parts[MOST_PARTS];
     int used = 1, before = errno;
+    parts[0] = (struct iovec){note, sizeof *note};
     note->name = name ? (uint32_t)strlen(name) + 1 : 0;
     note->other_name = other_name ? (uint32_t)strlen(other_name) + 1 : 0;
     note->size = sizeof *note + note->name + note->other_name + length;
@@ -219,21 +220,19 @@ static uint64_t length_of_parts(const struct iovec *first, int count) {
     return length;
 }
 
-static long write_under_lock(const struct call *call, int file, const struct iovec *first, int count, off_t at, int flags) {
-    struct file_facts before;
-    char path[64];
-    int errors = errno;
-    snprintf(path, sizeof path, "/proc/self/fd/%d", file);
-    if (!facts_of(file, "", AT_EMPTY_PATH, &before)) refuse("can't keep", strerror(errno));
+static long write_under_lock(const struct call *call, const struct file_facts *before, const struct iovec *first, int count,
+    off_t at, int flags) {
+    char link[LINK_LENGTH];
+    int errors = errno, file = (int)call->arguments[0];
     long all_flags = flags_of(file, flags);
-    uint64_t place = all_flags & O_APPEND ? before.length : (uint64_t)(at >= 0 ? at : syscall(SYS_lseek, file, 0, SEEK_CUR));
-    copy_later(&before.key, path, place, place + length_of_parts(first, count));
+    uint64_t place = all_flags & O_APPEND ? before->length : (uint64_t)(at >= 0 ? at : syscall(SYS_lseek, file, 0, SEEK_CUR));
+    copy_later(&before->key, link_of(file, link), place, place + length_of_parts(first, count));
     errno = errors;
     long result = perform(call);
     if (result <= 0) return result;
-    bool later = may_come_later(&before, place, (uint64_t)result);
-    note_bytes(WRITTEN, &before.key, place, later ? NULL : first, count, (uint64_t)result);
-    if (all_flags & O_DSYNC) note_sync(SYNCED_RANGE, &before.key, state->noted, place, (uint64_t)result);
+    bool later = may_come_later(before, place, (uint64_t)result);
+    note_bytes(WRITTEN, &before->key, place, later ? NULL : first, count, (uint64_t)result);
+    if (all_flags & O_DSYNC) note_sync(SYNCED_RANGE, &before->key, state->noted, place, (uint64_t)result);
     return result;
 }
 
@@ -244,15 +243,16 @@ bool notes_file(const struct hit *hit, int file, struct file_facts *facts) {
     return notes;
 }
 
-ssize_t write_noted(const struct hit *hit, const struct call *call, int file, const struct iovec *first, int count, off_t at,
-    int flags) {
-    struct file_facts facts;
+ssize_t write_noted(const struct hit *hit, const struct call *call, const struct iovec *first, int count, off_t at, int flags) {
+    struct file_facts before;
     sigset_t signals;
-    if (count < 0 || count > IOV_MAX || !notes_file(hit, file, &facts)) return done(hit, perform(call));
+    if (!hit->seen || !is_kept || count < 0 || count > IOV_MAX) return done(hit, perform(call));
     lock(&signals);
-    long result = write_under_lock(call, file, first, count, at, flags);
+    bool notes = notes_file(hit, (int)call->arguments[0], &before);
+    long result = notes ? write_under_lock(call, &before, first, count, at, flags) : 0;
     unlock(&signals);
-    return done(hit, result);
+    /* A write to a pipe may wait, which must not be under the lock. */
+    return done(hit, notes ? result : perform(call));
 }
 
 /* ---- opens that make a file, or cut it short */

@@ -3,7 +3,6 @@
 #include "shim.h"
 
 #include <errno.h>
-#include <stdio.h>
 #include <stdlib.h>
 
 const char *watched(const char *path) {
@@ -11,10 +10,21 @@ const char *watched(const char *path) {
     return path[root_length] == '/' || !path[root_length] ? path : NULL;
 }
 
+char *written_number(char *to, uint64_t number) {
+    char digits[20], *digit = digits + sizeof digits;
+    do *--digit = (char)('0' + number % 10);
+    while (number /= 10);
+    return mempcpy(to, digit, (size_t)(digits + sizeof digits - digit));
+}
+
+const char *link_of(int file, char *link) {
+    *written_number(stpcpy(link, "/proc/self/fd/"), (unsigned)file) = 0;
+    return link;
+}
+
 void descriptor_path(int file, char *path) {
-    char link[40];
-    snprintf(link, sizeof link, "/proc/self/fd/%d", file);
-    ssize_t length = syscall(SYS_readlink, link, path, PATH_MAX - 1);
+    char link[LINK_LENGTH];
+    ssize_t length = syscall(SYS_readlink, link_of(file, link), path, PATH_MAX - 1);
     path[length < 0 ? 0 : length] = 0;
 }
 

@@ -27,6 +27,13 @@ _Noreturn void end_process(int status);
 
 /* ---- paths */
 
+/* Decimal digits; answers their end. For each hit, where printf would cost more than some calls. */
+char *written_number(char *to, uint64_t number);
+
+/* The name that leads to an open file. */
+enum { LINK_LENGTH = 40 };
+const char *link_of(int file, char *link);
+
 /* That path where it is under the root, or null. */
 const char *watched(const char *path);
 void descriptor_path(int file, char *path);
@@ -96,10 +103,9 @@ long perform(const struct call *call);
 /* Whether what is done to that file is noted: a regular one that is watched. */
 bool notes_file(const struct hit *hit, int file, struct file_facts *facts);
 
-/* Performs a call that writes to a file from parts of memory, at a place or, where that is negative, where the file is; its
-   flags are those of pwritev2. Notes what it wrote. */
-ssize_t write_noted(const struct hit *hit, const struct call *call, int file, const struct iovec *first, int count, off_t at,
-    int flags);
+/* Performs a call that writes to a file, its first argument, from parts of memory, at a place or, where that is negative, where
+   the file is; its flags are those of pwritev2. Notes what it wrote. */
+ssize_t write_noted(const struct hit *hit, const struct call *call, const struct iovec *first, int count, off_t at, int flags);
 
 void note_names(enum kind kind, const struct key *file, const struct place *place, const char *target);
 void note_moved(enum kind kind, const struct key *file, const struct key *other_file, const struct place *place,

@@ -32,4 +32,14 @@ is 'written over, what was there is noted once, and what is new once' yes \
     "$([ "$(noted_kilobytes)" -lt $((2 * 382 * 256 + 3000)) ] && echo yes)"
 is 'and a sync notes no byte' yes "$(before=$(noted_kilobytes); go none open with fsync
     [ $(($(noted_kilobytes) - before)) -lt 10 ] && echo yes)"
+if command -v strace > "$here/said" && strace -o "$here/calls" true 2> "$here/faults"; then
+    # Its 13: where the file is; signals wait and go on, twice; who writes; the trace and its length, twice; the file's length, flags and
+    # place. Beside them the write itself, and where standard output is.
+    calls_of() { new; (cd "$here/data" && strace -o "$here/calls" -E LD_PRELOAD="$outside/out/faults.so" -E FAULTS_ROOT="$here/data" \
+        -E FAULTS_RUN="$here/run" "$component" create a $(yes 'write b' | head -n "$1") > "$here/said"); grep -vc '^write(1' "$here/calls"; }
+    fewer=$(calls_of 10)
+    is 'a small write costs 13 calls more' $(((13 + 1 + 1) * 100)) $(($(calls_of 110) - fewer))
+else
+    echo 'skipped the calls of a small write: no strace'
+fi
 new

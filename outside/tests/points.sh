@@ -101,6 +101,10 @@ try none symlink sub way create way/../way/x unlink ./sub//x
 is 'folders on the way are resolved' 'way,sub/x,sub/x' "$(cut -f 5 "$here/run/trace" | paste -s -d ,)"
 try 'libc::write=1*off->1*return' create a write b forget create c write d
 is 'a program may close every descriptor' 'create 0,write 1,forget 0,create 0,write EIO' "$said"
+try 'libc::write=2*off->1*return' create a write b cover 600 write c write d write e
+is 'or have them for a file of its own' 'create 0,write 1,cover 0,write 1,write EIO,write 1 a=bce 1 1 EIO 1' \
+    "$said $(files | cut -d ' ' -f 1) $(cut -f 8 "$here/run/trace" | tail -n 4 | paste -s -d ' ' | sed 's/  */ /g;s/ $//')"
+is 'or not many' 'create 0,write 1,write EIO,write 1' "$(ulimit -n 64; try 'libc::write=1*off->1*return' create a write b write c write d; echo "$said")"
 
 # Several processes of one run, and threads.
 try 'libc::write=2*off->1*return' create a write b child write c write d parent write e
