@@ -1,0 +1,53 @@
+What `make install` puts beside the program is made from its help (tools/pages, which the gate asks for words that are missing), and helps
+as it should. Which words are completed follows from the usage that `paklour help` and `paklour help COMMAND` write.
+
+  $ cat > complete <<'end'
+  > . "$TESTDIR/../share/bash-completion/completions/paklour"
+  > for line in "$@"; do
+  >     read -r -a COMP_WORDS <<< "paklour $line"
+  >     [[ $line != *' ' && $line ]] || COMP_WORDS+=('')
+  >     COMP_CWORD=$((${#COMP_WORDS[@]} - 1))
+  >     _paklour
+  >     echo "$line: ${COMPREPLY[*]}"
+  > done
+  > end
+  $ touch my.toml other.txt
+  $ mkdir folder
+  $ bash complete r 'run --b' 'reduce --p' 'try --scenario ' 'try --plan 3 --s' 'help ex' 'report --brief m' 'run f' 'run o'
+  r: run reduce report
+  run --b: --brief
+  reduce --p: --plan --progress
+  try --scenario : 
+  try --plan 3 --s: --scenario
+  help ex: explain
+  report --brief m: my.toml
+  run f: folder
+  run o: 
+
+Every command and every option of a command is completed. Those of a command stand in its help in front of a value or of two blanks.
+
+  $ for command in $(bash complete '' | sed 's/^: //;s/ -.*//'); do
+  >     paklour help $command | grep -oE '^ +(-[a-z], )?--[a-z-]+' | grep -oE -e '--[a-z-]+' | sort > said
+  >     [ $command = help ] || bash complete "$command --" | cut -d : -f 2 | tr ' ' '\n' | sed '/^$/d' | sort | diff said -
+  > done
+  $ paklour help | sed -n '/^Commands:/,/^$/s/^  \([a-z]*\) .*/\1/p' | sort > said
+  $ bash complete '' | sed 's/^: //;s/ -.*//' | tr ' ' '\n' | sort | diff said -
+
+`make install` puts each into its folder, and `make uninstall` takes just these away.
+
+  $ unset MAKEFLAGS MFLAGS MAKELEVEL
+  $ mkdir -p here/usr/bin here/usr/share/man/man1 && touch here/usr/bin/other here/usr/share/man/man1/other.1
+  $ make -s -C "$TESTDIR/.." --no-print-directory install PROGRAM="$(command -v paklour)" DESTDIR="$PWD/here" PREFIX=/usr
+  $ (cd here && find . -type f -printf '%m %p\n' | grep -v other | sort)
+  644 ./usr/share/bash-completion/completions/paklour
+  644 ./usr/share/fish/vendor_completions.d/paklour.fish
+  644 ./usr/share/man/man1/paklour.1
+  644 ./usr/share/zsh/site-functions/_paklour
+  755 ./usr/bin/paklour
+  $ here/usr/bin/paklour --version | sed 's/[0-9.]*$/N/'
+  paklour N
+  $ cmp here/usr/bin/paklour "$(command -v paklour)"
+  $ make -s -C "$TESTDIR/.." --no-print-directory uninstall DESTDIR="$PWD/here" PREFIX=/usr
+  $ (cd here && find . -type f | sort)
+  ./usr/bin/other
+  ./usr/share/man/man1/other.1
