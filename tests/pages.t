@@ -33,6 +33,19 @@ Every command and every option of a command is completed. Those of a command sta
   $ paklour help | sed -n '/^Commands:/,/^$/s/^  \([a-z]*\) .*/\1/p' | sort > said
   $ bash complete '' | sed 's/^: //;s/ -.*//' | tr ' ' '\n' | sort | diff said -
 
+The manual page has each line of each help, but for headings, and formats without a warning.
+
+  $ ! command -v groff > where || groff -man -Tascii -ww -P-cbou "$TESTDIR/../share/man/man1/paklour.1" | tr -s ' \n' '  ' > text
+  $ for command in help $(cat said); do
+  >     paklour $([ $command = help ] || echo help) $command | tail -n +2 | sed 's/^Usage: //;s/^ *//' | grep -vE '^([A-Z][a-z ]*:)?$' | tr -s ' ' > lines
+  >     [ ! -s where ] || while IFS= read -r line; do grep -qF -e "$line" text || echo "$command: $line"; done < lines
+  > done
+
+Where the other shells are installed, they read their own.
+
+  $ ! command -v zsh > where || zsh -n "$TESTDIR/../share/zsh/site-functions/_paklour"
+  $ ! command -v fish > where || fish --no-execute "$TESTDIR/../share/fish/vendor_completions.d/paklour.fish"
+
 `make install` puts each into its folder, and `make uninstall` takes just these away.
 
   $ unset MAKEFLAGS MFLAGS MAKELEVEL
