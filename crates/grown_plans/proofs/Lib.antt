@@ -11,3 +11,5 @@ pub mod Causes
 pub mod Onward
 pub mod FromThenOn
 pub mod AskedSites
+pub mod KeptPlans
+pub mod HitByHit

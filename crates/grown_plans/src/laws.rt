@@ -2,7 +2,7 @@
 //! for every limit of hits.
 ghost use Rattle.std.specs.Prelude.{ℕ};
 ghost use Rattle.std.specs.List.{AllByRecursion};
-ghost use Rattle.grown_plans.specs.AskedPoints.{GrowsByAsked};
+ghost use Rattle.grown_plans.specs.AskedPoints.{GrowsByAsked, GoesOnwardByAsked, ReachesByAsked, AsksWithin};
 ghost use Rattle.grown_plans.specs.GrownPlans.{Subject, usual_subject, level, grown};
 ghost use Rattle.grown_plans.specs.Promises.{IsLawful, NeedsNoSeed, KeepsPrefix, SkipsNothing, RunsNothingTwice, TriesOnward, IsLeast, IsWhole, HasCauses};
 
@@ -21,6 +21,14 @@ pub fn each_plan_needs_no_seed()
 /// The children of a plan of a level follow from the points that its run asked, under whatever seed and stream number it was run.
 pub fn each_plan_grows_by_what_was_asked()
     ensures { (t : Subject) → IsLawful t → (n : ℕ) → AllByRecursion (GrowsByAsked t) (level t n) }
+{}
+
+/// Whether a plan of a level goes onward follows from the points that its run asked, and so does, for each grown plan, how often its run hits
+/// a point; and each point that a run asks is one of the catalogue's.
+pub fn each_run_is_told_by_what_was_asked()
+    ensures onward { (t : Subject) → IsLawful t → (n : ℕ) → AllByRecursion (GoesOnwardByAsked t) (level t n) }
+    ensures reached { (t : Subject) → IsLawful t → (d : ℕ) → AllByRecursion (ReachesByAsked t) (grown t d) }
+    ensures within { (t : Subject) → IsLawful t → AsksWithin t }
 {}
 
 /// Prefix: up to its last fault a plan's run is its parent's; there the fault acts; after it none does.
