@@ -1,0 +1,9 @@
+//! Runs of plans that grow: their verdicts, and what grows from them.
+#![tactic(auto)]
+
+mod course;
+mod growth;
+mod run;
+
+pub use course::GrownCourse;
+pub use growth::{Growth, Workspace};
