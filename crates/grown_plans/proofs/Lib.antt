@@ -13,3 +13,4 @@ pub mod FromThenOn
 pub mod AskedSites
 pub mod KeptPlans
 pub mod HitByHit
+pub mod Rigged
