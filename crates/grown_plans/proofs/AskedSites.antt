@@ -132,9 +132,9 @@ path_within : (asks : List Reply → Move) (points : ℕ) → ((answers : List R
 path_within asks points within room before [] p = tt
 path_within asks points within zero before (m ∷ ms) p = absurd p
 path_within asks points within (suc room) before (m ∷ ms) p = (
-      is_within points m.site.point (asks (replies_of before)) (next_is asks before m.site p.0).0 (within (replies_of before)),
-      path_within asks points within room (before ++ m ∷ []) ms p.1,
-    )
+  is_within points m.site.point (asks (replies_of before)) (next_is asks before m.site p.0).0 (within (replies_of before)),
+  path_within asks points within room (before ++ m ∷ []) ms p.1,
+)
 
 pub asked_within : (t : Subject) → IsLawful t → (g : Given) → AllByRecursion (λ p. p < length t.names) (outcome t.asks g).asked
 asked_within t l g =

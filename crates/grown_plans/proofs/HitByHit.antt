@@ -49,12 +49,12 @@ pub kept_past : (number : ℕ) (plan : List Rig) (past past' again again' : Bool
 kept_past number plan false past' again again' children children' whole told s sites xs e is same added more kept = absurd cc
 kept_past number plan true false again again' children children' whole told s sites xs e is same added more kept = absurd cc
 kept_past number plan true true again again' children children' whole told s sites xs e is same added more kept = (
-      ap (λ l. l ++ flat_map (kept_at number) xs) added ∙ append_assoc children (kept_at number s) (flat_map (kept_at number) xs)
+  ap (λ l. l ++ flat_map (kept_at number) xs) added ∙ append_assoc children (kept_at number s) (flat_map (kept_at number) xs)
       ∙ ap (λ l. children ++ flat_map (kept_at number) l) (sym e) ∙ kept.0,
-      ap (λ b. b || is_again_in plan xs) more ∙ or_more again (is_point_of plan s.point) (is_again_in plan xs)
+  ap (λ b. b || is_again_in plan xs) more ∙ or_more again (is_point_of plan s.point) (is_again_in plan xs)
       ∙ ap (λ l. again || is_again_in plan l) (sym e) ∙ kept.1,
-      λ none. refl,
-    )
+  λ none. refl,
+)
 
 -- before it, a hit may be that fault's
 pub kept_before : (number : ℕ) (plan : List Rig) (past past' again again' : Bool) (children children' whole : List Grew) (told : Bool) (s : Site) (sites xs : List Site)

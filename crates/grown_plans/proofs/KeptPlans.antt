@@ -120,10 +120,11 @@ step_back now gs n parent child fault faults new whole is before lt some read up
     ∙ grew_as gs n child before some (omega (arith, many, lt))
     ∙ ap (λ (g : Grew). g.fault ∷ get_or (plans_from ([] ∷ []) gs) g.parent []) (sym read)
     ∙ ap (λ (ps : List (List Rig)). child.fault ∷ get_or ps child.parent []) is in (
-      less, omega (arith, less, lt),
+      less,
+      omega (arith, less, lt),
       ap (λ l. l ++ get_or now parent []) added ∙ append_assoc faults (fault ∷ []) (get_or now parent [])
-      ∙ ap (λ k. faults ++ fault ∷ get_or now k []) up ∙ ap (λ (f : Rig). faults ++ f ∷ get_or now child.parent []) at
-      ∙ ap (λ l. faults ++ l) (sym plan) ∙ rest,
+          ∙ ap (λ k. faults ++ fault ∷ get_or now k []) up ∙ ap (λ (f : Rig). faults ++ f ∷ get_or now child.parent []) at
+          ∙ ap (λ l. faults ++ l) (sym plan) ∙ rest,
     )
 
 pub at_the_first : (now : List (List Rig)) (gs : List Grew) (n : ℕ) (faults whole : List Rig) → plans_from ([] ∷ []) gs ≡ now → n ≡ 0

@@ -11,9 +11,8 @@ pub use child::Child;
 pub use growing::add_children;
 pub use laws::{
     an_empty_level_makes_it_whole, each_failure_has_a_cause, each_plan_can_be_rigged,
-    each_plan_grows_by_what_was_asked,
-    each_plan_keeps_its_parents_prefix, each_plan_needs_no_seed, each_run_is_told_by_what_was_asked,
-    each_target_is_a_lawful_subject,
+    each_plan_grows_by_what_was_asked, each_plan_keeps_its_parents_prefix, each_plan_needs_no_seed,
+    each_run_is_told_by_what_was_asked, each_target_is_a_lawful_subject,
     faults_from_then_on_are_tried, first_failures_have_least_faults, nothing_is_run_twice,
     nothing_is_skipped,
 };

@@ -18,7 +18,7 @@ use Rattle.grown_runs.specs.GrownRuns.{Runs, told, plan_at, verdicts_of, childre
 differ : OnceReturn ≡ OncePanic → ⊥
 differ e = cc
 
-usual_lawful : (asks : List Reply → Move) (names : List (List ℕ)) (limit : ℕ) → IsCatalogue names → ((answers : List Reply) → IsWithin (length names) (asks answers))
+pub usual_lawful : (asks : List Reply → Move) (names : List (List ℕ)) (limit : ℕ) → IsCatalogue names → ((answers : List Reply) → IsWithin (length names) (asks answers))
     → IsLawful (usual_subject asks names limit)
 usual_lawful asks names limit lawful within = record {
   catalogue = lawful;

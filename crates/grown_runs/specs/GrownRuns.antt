@@ -15,13 +15,17 @@ pub record Runs : Type 0 where
   pub seed : ℕ
   pub plans : List (List Rig)
 
--- the plans of a course, on a target
-abbrev pub runs_on : {T W : Type 0} → Ghosts T W → T → GrownCourse T W → Runs
-runs_on target setup course = record {
-  subject = usual_subject (target.asks setup course.workload.now) target.names course.max_hits;
-  seed = course.seed;
-  plans = course.plans.now;
+-- these plans, on a target
+abbrev pub runs_for : {T W : Type 0} → Ghosts T W → T → W → ℕ → ℕ → List (List Rig) → Runs
+runs_for target setup workload seed max_hits plans = record {
+  subject = usual_subject (target.asks setup workload) target.names max_hits;
+  seed = seed;
+  plans = plans;
 }
+
+-- those of a course
+abbrev pub runs_on : {T W : Type 0} → Ghosts T W → T → GrownCourse T W → Runs
+runs_on target setup course = runs_for target setup course.workload.now course.seed course.max_hits course.plans.now
 
 abbrev pub plan_at : Runs → ℕ → List Rig
 plan_at r n = slice_index_or r.plans n []

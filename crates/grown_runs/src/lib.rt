@@ -3,7 +3,9 @@
 
 mod course;
 mod growth;
+mod levels;
 mod run;
 
 pub use course::GrownCourse;
 pub use growth::{Growth, Workspace};
+pub use levels::{GrowFault, Grown, Limits, grow};
