@@ -1,24 +1,27 @@
 -- The hits of a run follow from the points that it asked, and so do a plan's children.
-use Rattle.std.proofs.Common.{◌≡◌, ℕ, suc, ◌+◌, Bool, true, false, cond, List, [], ◌∷◌, ◌++◌, map, refl, ap, sym, ◌∙◌, append_assoc}
+use Rattle.std.proofs.Common.{◌≡◌, ℕ, zero, suc, ◌+◌, ◌<◌, ◌==◌, ◌&&◌, ◌||◌, Bool, true, false, cond, List, [], ◌∷◌, ◌++◌, map, length, refl, ap, sym, ◌∙◌, subst, append_assoc, count_by}
 use Rattle.std.specs.Prelude.{flat_map}
-use Rattle.std.specs.List.{AllByRecursion}
+use Rattle.std.specs.List.{AllByRecursion, list_any}
 use Rattle.std.proofs.lemmas.List.{append-nil, map-append}
 use Rattle.action_eval.specs.declared.rig.Site.{Site}
 use Rattle.action_eval.specs.declared.rig.Rig.{Rig}
 use Rattle.action_eval.specs.declared.rig.Kind.{Kind}
+use Rattle.action_eval.specs.declared.rig.Kind.TheVariants.{OnwardReturn}
 use Rattle.action_eval.specs.Rigging.{rig}
 use Rattle.action_eval.specs.Answers.{Given, Run, Hit, Reply, start, history_of, asked, reply_of}
-use Rattle.target_trait.specs.Play.{Move}
+use Rattle.target_trait.specs.Play.{Move, IsWithin}
 use Rattle.target_trait.specs.Outcomes.{play, outcome}
 use Rattle.plan_gen.specs.LoopRuns.{times}
 use Rattle.grown_plans.specs.Runs.{Met, met, site_after, met_after, run}
-use Rattle.grown_plans.specs.GrownPlans.{Subject, given_for, run_of_plan, is_at, hits_after, hits_past, grown_at, children, level}
-use Rattle.grown_plans.specs.AskedPoints.{sites_from, sites_after, sites_past, GrowsByAsked}
-use Rattle.grown_plans.specs.Promises.{IsLawful}
+use Rattle.grown_plans.specs.GrownPlans.{Subject, given_for, run_of_plan, is_at, is_once_return, is_hit_again, hits_after, hits_past, grown_at, children, level, grown}
+use Rattle.grown_plans.specs.AskedPoints.{sites_from, sites_after, sites_past, is_asked_again, GrowsByAsked, GoesOnwardByAsked, ReachesByAsked}
+use Rattle.grown_plans.specs.Promises.{IsLawful, NeedsNoSeed}
 use Rattle.grown_plans.proofs.Members.{all_weaker}
-use Rattle.grown_plans.proofs.PlayedRuns.{points_of, history_points}
-use Rattle.grown_plans.proofs.PlanRuns.{count_points, needs_no_seed}
+use Rattle.grown_plans.proofs.PlayedRuns.{points_of, history_points, run_path}
+use Rattle.grown_plans.proofs.PlanRuns.{count_points, is_within, needs_no_seed}
 use Rattle.grown_plans.proofs.Levels.{IsGrown, level_grown}
+use Rattle.grown_plans.proofs.Onward.{no_seed_needed}
+use Rattle.grown_plans.proofs.Paths.{IsPath, replies_of, next_is}
 
 abbrev pub sites_of : List Met → List Site
 sites_of ms = map (λ m. m.site) ms
@@ -76,3 +79,64 @@ grows_by_asked t l n =
     children_are t plan (run t.asks (given_for t plan seed stream)) (sym (needs_no_seed t l plan g.can seed stream))
     ∙ ap (λ (l : List Site). flat_map (grown_by t.kinds plan) (sites_past plan l)) (run_sites t.asks (given_for t plan seed stream)))
     (level t n) (level_grown t l n)
+
+-- ---- how often a run hits a point
+
+points_sites : (ms : List Met) → points_of ms ≡ map (λ s. s.point) (sites_of ms)
+points_sites [] = refl
+points_sites (m ∷ ms) = ap (λ l. m.site.point ∷ l) (points_sites ms)
+
+sites_points : (before asked : List ℕ) → map (λ s. s.point) (sites_from before asked) ≡ asked
+sites_points before [] = refl
+sites_points before (p ∷ ps) = ap (λ l. p ∷ l) (sites_points (before ++ p ∷ []) ps)
+
+asked_points : (asks : List Reply → Move) (g : Given) → points_of (run asks g) ≡ (outcome asks g).asked
+asked_points asks g = points_sites (run asks g) ∙ ap (map (λ (s : Site). s.point)) (run_sites asks g) ∙ sites_points [] (outcome asks g).asked
+
+reaches : (t : Subject) (plan : List Rig) → NeedsNoSeed t plan → ReachesByAsked t plan
+reaches t plan same seed stream point =
+    ap (count_by (λ (m : Met). m.site.point == point)) (sym (same seed stream))
+    ∙ sym (count_points point 0 (run t.asks (given_for t plan seed stream)))
+    ∙ ap (times point) (asked_points t.asks (given_for t plan seed stream))
+
+pub reaches_by_asked : (t : Subject) → IsLawful t → (d : ℕ) → AllByRecursion (ReachesByAsked t) (grown t d)
+reaches_by_asked t l d = all_weaker (NeedsNoSeed t) (ReachesByAsked t) (reaches t) (grown t d) (no_seed_needed t l d)
+
+-- ---- whether its last fault's point is hit again
+
+any_sites : (f : Site → Bool) (ms : List Met) → list_any (λ m. f m.site) ms ≡ list_any f (sites_of ms)
+any_sites f [] = refl
+any_sites f (m ∷ ms) = ap (λ b. f m.site || b) (any_sites f ms)
+
+hit_again : (t : Subject) (r : Rig) (rs : List Rig) (g : Given) → run t.asks g ≡ run_of_plan t (r ∷ rs)
+    → is_hit_again r.site (run_of_plan t (r ∷ rs)) ≡ is_asked_again (r ∷ rs) (outcome t.asks g).asked
+hit_again t r rs g same =
+    any_sites (λ s. s.point == r.site.point) (hits_after r.site (run_of_plan t (r ∷ rs)))
+    ∙ ap (list_any (λ (s : Site). s.point == r.site.point))
+    (after_sites r.site (run_of_plan t (r ∷ rs)) ∙ ap (λ (ms : List Met). sites_after r.site (sites_of ms)) (sym same) ∙ ap (sites_after r.site) (run_sites t.asks g))
+
+goes_onward : (t : Subject) (plan : List Rig) → NeedsNoSeed t plan → GoesOnwardByAsked t plan
+goes_onward t [] same seed stream = refl
+goes_onward t (r ∷ rs) same seed stream =
+    ap (λ b. cond (is_once_return r.kind && b) ((rig r.site OnwardReturn ∷ rs) ∷ []) [])
+    (hit_again t r rs (given_for t (r ∷ rs) seed stream) (same seed stream))
+
+pub goes_onward_by_asked : (t : Subject) → IsLawful t → (n : ℕ) → AllByRecursion (GoesOnwardByAsked t) (level t n)
+goes_onward_by_asked t l n =
+    all_weaker (IsGrown t n) (GoesOnwardByAsked t) (λ plan g. goes_onward t plan (needs_no_seed t l plan g.can)) (level t n) (level_grown t l n)
+
+-- ---- a run asks points of the catalogue
+
+path_within : (asks : List Reply → Move) (points : ℕ) → ((answers : List Reply) → IsWithin points (asks answers)) → (room : ℕ) (before ms : List Met)
+    → IsPath asks room before ms → AllByRecursion (λ p. p < points) (points_of ms)
+path_within asks points within room before [] p = tt
+path_within asks points within zero before (m ∷ ms) p = absurd p
+path_within asks points within (suc room) before (m ∷ ms) p = (
+  is_within points m.site.point (asks (replies_of before)) (next_is asks before m.site p.0).0 (within (replies_of before)),
+  path_within asks points within room (before ++ m ∷ []) ms p.1,
+)
+
+pub asked_within : (t : Subject) → IsLawful t → (g : Given) → AllByRecursion (λ p. p < length t.names) (outcome t.asks g).asked
+asked_within t l g =
+    subst (λ (ps : List ℕ). AllByRecursion (λ p. p < length t.names) ps) (asked_points t.asks g)
+    (path_within t.asks (length t.names) l.within g.limit [] (run t.asks g) (run_path t.asks g))

@@ -11,3 +11,6 @@ pub mod Causes
 pub mod Onward
 pub mod FromThenOn
 pub mod AskedSites
+pub mod KeptPlans
+pub mod HitByHit
+pub mod Rigged

@@ -35,7 +35,7 @@ pub count_points : (p n : ℕ) (ms : List Met) → fold (λ a q. a + cond (q == 
 count_points p n [] = refl
 count_points p n (m ∷ ms) = count_points p (n + cond (m.site.point == p) 1 0) ms
 
-is_within : (points p : ℕ) (move : Move) → move ≡ Ask p → IsWithin points move → p < points
+pub is_within : (points p : ℕ) (move : Move) → move ≡ Ask p → IsWithin points move → p < points
 is_within points p move e w = subst (IsWithin points) e w
 
 as_rigged : (asks : List Reply → Move) (names : List (List ℕ)) → ((answers : List Reply) → IsWithin (length names) (asks answers)) → (rigs : List Rig) → AnswersAsRigged names rigs

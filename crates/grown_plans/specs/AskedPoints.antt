@@ -1,13 +1,15 @@
 -- A plan's children by the points that its run asked, as who runs it is told them.
-use Rattle.std.specs.Prelude.{◌≡◌, ℕ, ◌+◌, ◌==◌, ◌&&◌, if◌then◌else◌, List, [], ◌∷◌, ◌++◌, map}
-use Rattle.std.specs.List.{flat_map}
+use Rattle.std.specs.Prelude.{◌≡◌, ℕ, ◌+◌, ◌<◌, ◌==◌, ◌&&◌, length, if◌then◌else◌, Bool, false, List, [], ◌∷◌, ◌++◌, map, count_by}
+use Rattle.std.specs.List.{flat_map, list_any, AllByRecursion}
+use Rattle.action_eval.specs.Answers.{Given}
 use Rattle.action_eval.specs.declared.rig.Site.{Site}
 use Rattle.action_eval.specs.declared.rig.Rig.{Rig}
 use Rattle.action_eval.specs.declared.rig.Kind.{Kind}
+use Rattle.action_eval.specs.declared.rig.Kind.TheVariants.{OnwardReturn}
 use Rattle.action_eval.specs.Rigging.{rig}
 use Rattle.target_trait.specs.Outcomes.{outcome}
 use Rattle.plan_gen.specs.LoopRuns.{times}
-use Rattle.grown_plans.specs.GrownPlans.{Subject, given_for, children}
+use Rattle.grown_plans.specs.GrownPlans.{Subject, given_for, children, is_once_return, onward_of, run_of_plan}
 
 -- the hits of these points, asked one after another, after others
 abbrev pub sites_from : List ℕ → List ℕ → List Site
@@ -29,3 +31,35 @@ children_by kinds plan asked = flat_map (λ s. map (λ kind. rig s kind ∷ plan
 -- a plan's children are those by the points that its run asked, under whatever seed and stream number
 abbrev pub GrowsByAsked : Subject → List Rig → Type 0
 GrowsByAsked t plan = (seed stream : ℕ) → children t plan ≡ children_by t.kinds plan (outcome t.asks (given_for t plan seed stream)).asked
+
+-- and so does its plan from then on: where its last fault is a return, and its point is asked once more after it
+abbrev pub is_point_of : List Rig → ℕ → Bool
+is_point_of [] p = false
+is_point_of (r ∷ rs) p = p == r.site.point
+
+abbrev pub is_asked_again : List Rig → List ℕ → Bool
+is_asked_again plan asked = list_any (λ s. is_point_of plan s.point) (sites_past plan (sites_from [] asked))
+
+abbrev pub goes_onward : List Rig → List ℕ → Bool
+goes_onward [] asked = false
+goes_onward (r ∷ rs) asked = is_once_return r.kind && is_asked_again (r ∷ rs) asked
+
+-- the plan with its last fault from then on
+abbrev pub from_then_on : List Rig → List Rig
+from_then_on [] = []
+from_then_on (r ∷ rs) = rig r.site OnwardReturn ∷ rs
+
+abbrev pub onward_by : List Rig → List ℕ → List (List Rig)
+onward_by plan asked = if goes_onward plan asked then from_then_on plan ∷ [] else []
+
+abbrev pub GoesOnwardByAsked : Subject → List Rig → Type 0
+GoesOnwardByAsked t plan = (seed stream : ℕ) → onward_of t plan ≡ onward_by plan (outcome t.asks (given_for t plan seed stream)).asked
+
+-- and how often it hits a point
+abbrev pub ReachesByAsked : Subject → List Rig → Type 0
+ReachesByAsked t plan = (seed stream point : ℕ)
+    → count_by (λ m. m.site.point == point) (run_of_plan t plan) ≡ times point (outcome t.asks (given_for t plan seed stream)).asked
+
+-- a run asks points of the catalogue
+abbrev pub AsksWithin : Subject → Type 0
+AsksWithin t = (g : Given) → AllByRecursion (λ p. p < length t.names) (outcome t.asks g).asked

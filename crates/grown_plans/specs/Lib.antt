@@ -2,3 +2,5 @@ pub mod Runs
 pub mod GrownPlans
 pub mod Promises
 pub mod AskedPoints
+pub mod Kept
+pub mod inside

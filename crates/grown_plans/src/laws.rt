@@ -1,9 +1,10 @@
 //! Laws of grown plans, as contracts of functions that do nothing. All but the first are of every subject that is lawful, whatever it asks,
 //! for every limit of hits.
-ghost use Rattle.std.specs.Prelude.{ℕ};
+ghost use Rattle.std.specs.Prelude.{ℕ, ◌<◌, ◌≤◌, ◌^◌};
 ghost use Rattle.std.specs.List.{AllByRecursion};
-ghost use Rattle.grown_plans.specs.AskedPoints.{GrowsByAsked};
-ghost use Rattle.grown_plans.specs.GrownPlans.{Subject, usual_subject, level, grown};
+ghost use Rattle.action_eval.specs.Rigging.{CanBeRigged};
+ghost use Rattle.grown_plans.specs.AskedPoints.{GrowsByAsked, GoesOnwardByAsked, ReachesByAsked, AsksWithin};
+ghost use Rattle.grown_plans.specs.GrownPlans.{Subject, usual_subject, rigs_of, level, grown};
 ghost use Rattle.grown_plans.specs.Promises.{IsLawful, NeedsNoSeed, KeepsPrefix, SkipsNothing, RunsNothingTwice, TriesOnward, IsLeast, IsWhole, HasCauses};
 
 use target_trait::Target;
@@ -21,6 +22,19 @@ pub fn each_plan_needs_no_seed()
 /// The children of a plan of a level follow from the points that its run asked, under whatever seed and stream number it was run.
 pub fn each_plan_grows_by_what_was_asked()
     ensures { (t : Subject) → IsLawful t → (n : ℕ) → AllByRecursion (GrowsByAsked t) (level t n) }
+{}
+
+/// Whether a plan of a level goes onward follows from the points that its run asked, and so does, for each grown plan, how often its run hits
+/// a point; and each point that a run asks is one of the catalogue's.
+pub fn each_run_is_told_by_what_was_asked()
+    ensures onward { (t : Subject) → IsLawful t → (n : ℕ) → AllByRecursion (GoesOnwardByAsked t) (level t n) }
+    ensures reached { (t : Subject) → IsLawful t → (d : ℕ) → AllByRecursion (ReachesByAsked t) (grown t d) }
+    ensures within { (t : Subject) → IsLawful t → AsksWithin t }
+{}
+
+/// Of each grown plan of a depth of at most 64 a scenario can be made: it has at most 64 rigged hits, and their numbers fit 32 bits.
+pub fn each_plan_can_be_rigged()
+    ensures { (t : Subject) → IsLawful t → t.limit < 2 ^ 32 → (d : ℕ) → d ≤ 64 → AllByRecursion (λ plan. CanBeRigged (rigs_of plan)) (grown t d) }
 {}
 
 /// Prefix: up to its last fault a plan's run is its parent's; there the fault acts; after it none does.

@@ -1,0 +1,37 @@
+-- Plans as a list keeps them: each by the number of its parent and the fault that was added to it.
+use Rattle.std.specs.Prelude.{ℕ, ◌+◌, ◌<◌, List, [], ◌∷◌, ◌++◌, map, slice_index_or}
+use Rattle.std.specs.List.{flat_map, AllByRecursion}
+use Rattle.action_eval.specs.declared.rig.Site.{Site}
+use Rattle.action_eval.specs.declared.rig.Rig.{Rig}
+use Rattle.action_eval.specs.declared.rig.Kind.{Kind}
+use Rattle.action_eval.specs.Rigging.{rig}
+use Rattle.grown_plans.specs.GrownPlans.{usual_kinds}
+use Rattle.grown_plans.specs.AskedPoints.{sites_from, sites_past, onward_by}
+
+-- a plan that grew: its parent's number, and the fault that was added
+pub record Grew : Type 0 where
+  pub parent : ℕ
+  pub fault : Rig
+
+abbrev pub grew : ℕ → Rig → Grew
+grew parent fault = record { parent = parent; fault = fault }
+
+-- the plan itself, by the plans that are there
+abbrev pub plan_of : List (List Rig) → Grew → List Rig
+plan_of plans g = g.fault ∷ slice_index_or plans g.parent []
+
+-- plans, and after them those that grew, each from one before it
+abbrev pub plans_from : List (List Rig) → List Grew → List (List Rig)
+plans_from plans [] = plans
+plans_from plans (g ∷ gs) = plans_from (plans ++ plan_of plans g ∷ []) gs
+
+-- each parent is one of the first n plans
+abbrev pub GrewFrom : ℕ → List Grew → Type 0
+GrewFrom n gs = AllByRecursion (λ g. g.parent < n) gs
+
+-- a plan's children, by the points that its run asked, as they are kept
+abbrev pub kept_at : ℕ → Site → List Grew
+kept_at number s = map (λ kind. grew number (rig s kind)) (usual_kinds s.point)
+
+abbrev pub kept_children : ℕ → List Rig → List ℕ → List Grew
+kept_children number plan asked = flat_map (kept_at number) (sites_past plan (sites_from [] asked))

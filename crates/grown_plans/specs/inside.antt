@@ -1,0 +1,4 @@
+-- What the code keeps. No clause that a caller sees names any of it.
+pub mod Numbered
+pub mod Counted
+pub mod Merged

@@ -1,0 +1,28 @@
+-- How often each point was asked so far, and which hits are still to come.
+use Rattle.std.specs.Prelude.{◌≡◌, ℕ, ◌+◌, ◌<◌, ◌==◌, ◌&&◌, Bool, true, false, List, [], ◌∷◌, ◌++◌, length, slice_index_or}
+use Rattle.action_eval.specs.declared.rig.Site.{Site}
+use Rattle.action_eval.specs.declared.rig.Rig.{Rig}
+use Rattle.plan_gen.specs.LoopRuns.{times}
+use Rattle.grown_plans.specs.AskedPoints.{sites_past}
+
+-- a catalogue has at most so many points
+abbrev pub most_points : ℕ
+most_points = 64
+
+-- how often each point is among those asked
+abbrev pub AreCounts : List ℕ → List ℕ → Type 0
+AreCounts counts asked = (length counts ≡ most_points) × ((p : ℕ) → p < most_points → slice_index_or counts p 0 ≡ times p asked)
+
+-- the hit of a point, after others
+abbrev pub next_site : List ℕ → ℕ → Site
+next_site before p = record { point = p; hit = times p before + 1 }
+
+-- whether a hit is that of a plan's last fault
+abbrev pub is_site_of : List Rig → Site → Bool
+is_site_of [] s = false
+is_site_of (r ∷ rs) s = (s.point == r.site.point) && (s.hit == r.site.hit)
+
+-- of further hits those after a plan's last fault, where it is known whether that fault has been met
+abbrev pub sites_left : Bool → List Rig → List Site → List Site
+sites_left true plan xs = xs
+sites_left false plan xs = sites_past plan xs

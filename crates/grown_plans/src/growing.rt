@@ -1,0 +1,89 @@
+//! What grows from a plan's run, by the points that it asked.
+ghost use Rattle.std.specs.Prelude.{◌≡◌, ℕ, ◌+◌, ◌<◌, ◌^◌, ◌++◌, ◌∷◌, [], List, length, slice_index_or, IfOk, OnOk};
+ghost use Rattle.std.specs.List.{AllByRecursion};
+ghost use Rattle.grown_plans.specs.AskedPoints.{is_point_of, is_asked_again};
+ghost use Rattle.grown_plans.specs.Kept.{kept_at, kept_children};
+ghost use Rattle.grown_plans.specs.inside.Counted.{AreCounts, is_site_of, next_site};
+
+use crate::child::Child;
+use action_eval::{Kind, Rig, Site};
+use std::alloc::AllocError;
+
+/// A catalogue has at most so many points.
+const MOST_POINTS: usize = 64;
+
+/// The next hit of a point, which is counted.
+fn next_site(counts: &mut Vec<u32>, point: u32) -> Site
+    requires point { point < length counts.old.items }
+    requires few { slice_index_or counts.old.items point 0 + 1 < 2 ^ 32 }
+    ensures { (before : List ℕ) → AreCounts counts.old.items before
+        → (result ≡ next_site before point) × AreCounts counts.new.items (before ++ point ∷ []) }
+{
+    let hit = counts[point as usize] + 1;
+    counts[point as usize] = hit;
+    Site { point, hit }
+}
+
+/// Whether a hit is that of a plan's last fault.
+fn is_last(plan: &[Rig], site: Site) -> bool
+    ensures { result ≡ is_site_of plan.now site }
+{
+    match plan.first() {
+        Some(fault) => site.point == fault.site.point && site.hit == fault.site.hit,
+        None => false,
+    }
+}
+
+/// Whether a point is that of a plan's last fault.
+fn is_of_last(plan: &[Rig], point: u32) -> bool
+    ensures { result ≡ is_point_of plan.now point }
+{
+    match plan.first() {
+        Some(fault) => point == fault.site.point,
+        None => false,
+    }
+}
+
+/// Adds what grows at a hit: a return and a panic.
+fn add_at(children: &mut Vec<Child>, number: usize, site: Site) -> Result<(), AllocError>
+    requires { (number < 2 ^ 16) × (site.point < 2 ^ 8) }
+    ensures { OnOk result (children.new.items ≡ children.old.items ++ kept_at number site) }
+{
+    children.push(Child::new(number, site, Kind::OnceReturn))?;
+    children.push(Child::new(number, site, Kind::OncePanic))?;
+    Ok(())
+}
+
+/// Adds the children of the plan of this number, which has these faults, by the points that its run asked, and counts how often it asked
+/// each. Tells whether the run asked the last fault's point once more after that fault.
+///
+/// The counts take the place of what stood in their list. An error means that memory was refused.
+pub fn add_children(
+    children: &mut Vec<Child>,
+    counts: &mut Vec<u32>,
+    number: usize,
+    plan: &[Rig],
+    asked: &[u32],
+) -> Result<bool, AllocError>
+    requires number { number < 2 ^ 16 }
+    requires points { AllByRecursion (λ p. p < 64) asked.now }
+    requires few { length asked.now < 2 ^ 32 }
+    ensures children { OnOk result (children.new.items ≡ children.old.items ++ kept_children number plan.now asked.now) }
+    ensures counts { OnOk result (AreCounts counts.new.items asked.now) }
+    ensures again { IfOk result (λ is_again. is_again ≡ is_asked_again plan.now asked.now) }
+{
+    counts.clear();
+    counts.resize(MOST_POINTS, 0)?;
+    let mut is_past = plan.is_empty();
+    let mut is_again = false;
+    for point in asked {
+        let site = next_site(counts, *point);
+        if is_past {
+            add_at(children, number, site)?;
+            is_again = is_again || is_of_last(plan, *point);
+        } else {
+            is_past = is_last(plan, site);
+        }
+    }
+    Ok(is_again)
+}

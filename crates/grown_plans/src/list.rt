@@ -1,0 +1,74 @@
+//! A list of plans that grow.
+ghost use Rattle.std.specs.Prelude.{◌≡◌, ◌<◌, ◌++◌, ◌∷◌, [], length, map, slice_index_or, IfOk, OnOk, OnErr};
+ghost use Rattle.action_eval.specs.declared.rig.Rig.{Rig};
+ghost use Rattle.grown_plans.specs.Kept.{GrewFrom, plan_of};
+
+use crate::child::Child;
+use action_eval::Rig;
+use std::alloc::{AllocError, Global};
+use std::marker::Model;
+
+/// Plans that grow from each other's runs: the plan without faults, and others, each of which has one fault more than a plan before it. A
+/// plan's number is its place, from 0. Contracts see the list of the plans, each as the list of its faults, the last one to act first.
+///
+/// It keeps 8 bytes a plan.
+#[derive(Debug, Drop)]
+pub struct GrownPlans {
+    children: Vec<Child>,
+}
+
+impl Model for GrownPlans {
+    ghost use Rattle.std.specs.Prelude.{List, [], ◌∷◌};
+    ghost use Rattle.action_eval.specs.declared.rig.Rig.{Rig};
+    ghost use Rattle.grown_plans.specs.Kept.{plans_from};
+    ghost use Rattle.grown_plans.specs.inside.Numbered.{AreBefore};
+
+    ghost Value = { List (List Rig) };
+
+    ghost view = { λ p. plans_from ([] ∷ []) p.children.items };
+
+    ghost invariant = { λ p. AreBefore 1 p.children.items };
+}
+
+impl GrownPlans {
+    /// The plan without faults alone.
+    pub fn new(alloc: Global) -> Self
+        ensures { result ≡ [] ∷ [] }
+    {
+        GrownPlans {
+            children: Vec::new(alloc),
+        }
+    }
+
+    /// How many plans there are.
+    pub fn len(&self) -> usize
+        ensures { result ≡ length self.now }
+    {
+        self.children.len() + 1
+    }
+
+    /// Adds plans that grew from some that are there. An error means that memory was refused, and adds none.
+    pub fn add(&mut self, children: &[Child]) -> Result<(), AllocError>
+        requires { GrewFrom (length self.old) children.now }
+        ensures ok { OnOk result (self.new ≡ self.old ++ map (plan_of self.old) children.now) }
+        ensures err { OnErr result (self.new ≡ self.old) }
+    {
+        self.children.extend_from_slice(children)
+    }
+
+    /// Puts the faults of the plan of this number in place of what stood in the list, the last one to act first. An error means that memory
+    /// was refused.
+    pub fn faults_of(&self, number: usize, faults: &mut Vec<Rig>) -> Result<(), AllocError>
+        requires { number < length self.now }
+        ensures { OnOk result (faults.new.items ≡ slice_index_or self.now number []) }
+    {
+        faults.clear();
+        let mut number = number;
+        while number > 0 {
+            let child = self.children[number - 1];
+            faults.push(child.fault())?;
+            number = child.parent();
+        }
+        Ok(())
+    }
+}
