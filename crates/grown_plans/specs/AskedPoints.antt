@@ -1,5 +1,5 @@
 -- A plan's children by the points that its run asked, as who runs it is told them.
-use Rattle.std.specs.Prelude.{◌≡◌, ℕ, ◌+◌, ◌<◌, ◌==◌, ◌&&◌, length, if◌then◌else◌, Bool, false, List, [], ◌∷◌, ◌++◌, map, count_by}
+use Rattle.std.specs.Prelude.{◌≡◌, ℕ, ◌+◌, ◌<◌, ◌==◌, ◌&&◌, length, if◌then◌else◌, Bool, false, List, [], ◌∷◌, ◌++◌, map, count_by, slice_index_or}
 use Rattle.std.specs.List.{flat_map, list_any, AllByRecursion}
 use Rattle.action_eval.specs.Answers.{Given}
 use Rattle.action_eval.specs.declared.rig.Site.{Site}
@@ -63,3 +63,11 @@ ReachesByAsked t plan = (seed stream point : ℕ)
 -- a run asks points of the catalogue
 abbrev pub AsksWithin : Subject → Type 0
 AsksWithin t = (g : Given) → AllByRecursion (λ p. p < length t.names) (outcome t.asks g).asked
+
+-- a catalogue has at most so many points
+abbrev pub most_points : ℕ
+most_points = 64
+
+-- how often each point is among those asked
+abbrev pub AreCounts : List ℕ → List ℕ → Type 0
+AreCounts counts asked = (length counts ≡ most_points) × ((p : ℕ) → p < most_points → slice_index_or counts p 0 ≡ times p asked)

@@ -1,9 +1,9 @@
 //! What grows from a plan's run, by the points that it asked.
 ghost use Rattle.std.specs.Prelude.{◌≡◌, ℕ, ◌+◌, ◌<◌, ◌^◌, ◌++◌, ◌∷◌, [], List, length, slice_index_or, IfOk, OnOk};
 ghost use Rattle.std.specs.List.{AllByRecursion};
-ghost use Rattle.grown_plans.specs.AskedPoints.{is_point_of, is_asked_again};
+ghost use Rattle.grown_plans.specs.AskedPoints.{AreCounts, is_point_of, is_asked_again};
 ghost use Rattle.grown_plans.specs.Kept.{kept_at, kept_children};
-ghost use Rattle.grown_plans.specs.inside.Counted.{AreCounts, is_site_of, next_site};
+ghost use Rattle.grown_plans.specs.inside.Counted.{is_site_of, next_site};
 
 use crate::child::Child;
 use action_eval::{Kind, Rig, Site};

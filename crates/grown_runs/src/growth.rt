@@ -63,7 +63,8 @@ fn run_one<T: Target>(
     ensures verdict { OnOk result (growth.new.verdicts.items
         ≡ growth.old.verdicts.items ++ (told (runs_on T.Target target.old course.now) number).verdict ∷ []) }
     ensures children { OnOk result (growth.new.children.items
-        ≡ growth.old.children.items ++ kept_children number (slice_index_or course.now.plans.now number []) (told (runs_on T.Target target.old course.now) number).asked) }
+        ≡ growth.old.children.items ++ kept_children number (slice_index_or course.now.plans.now number [])
+        (told (runs_on T.Target target.old course.now) number).asked) }
     ensures setup { target.new ≡ target.old }
 {
     let Workspace {

@@ -1,17 +1,9 @@
--- How often each point was asked so far, and which hits are still to come.
-use Rattle.std.specs.Prelude.{◌≡◌, ℕ, ◌+◌, ◌<◌, ◌==◌, ◌&&◌, Bool, true, false, List, [], ◌∷◌, ◌++◌, length, slice_index_or}
+-- The hits of a run, one by one, and which are still to come.
+use Rattle.std.specs.Prelude.{ℕ, ◌+◌, ◌==◌, ◌&&◌, Bool, true, false, List, [], ◌∷◌}
 use Rattle.action_eval.specs.declared.rig.Site.{Site}
 use Rattle.action_eval.specs.declared.rig.Rig.{Rig}
 use Rattle.plan_gen.specs.LoopRuns.{times}
 use Rattle.grown_plans.specs.AskedPoints.{sites_past}
-
--- a catalogue has at most so many points
-abbrev pub most_points : ℕ
-most_points = 64
-
--- how often each point is among those asked
-abbrev pub AreCounts : List ℕ → List ℕ → Type 0
-AreCounts counts asked = (length counts ≡ most_points) × ((p : ℕ) → p < most_points → slice_index_or counts p 0 ≡ times p asked)
 
 -- the hit of a point, after others
 abbrev pub next_site : List ℕ → ℕ → Site

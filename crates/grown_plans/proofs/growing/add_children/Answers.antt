@@ -2,9 +2,9 @@ use Rattle.std.proofs.Common.{◌≡◌, ℕ, ◌+◌, ◌||◌, Bool, List, ◌
 use Rattle.std.specs.List.{AllByRecursion}
 use Rattle.std.proofs.lemmas.List.{take_more}
 use Rattle.action_eval.specs.declared.rig.Site.{Site}
-use Rattle.grown_plans.specs.AskedPoints.{sites_from, is_asked_again, is_point_of}
+use Rattle.grown_plans.specs.AskedPoints.{AreCounts, sites_from, is_asked_again, is_point_of}
 use Rattle.grown_plans.specs.Kept.{Grew, kept_children}
-use Rattle.grown_plans.specs.inside.Counted.{AreCounts, next_site}
+use Rattle.grown_plans.specs.inside.Counted.{next_site}
 use Rattle.grown_plans.proofs.HitByHit.{sites_ahead, kept_past, kept_before, all_at, again_now, again_still}
 use Rattle.grown_plans.proofs.growing.add_children.Goals as goal
 use Rattle.grown_plans.proofs.growing.add_children.Goals.{then-is_past+in_ok-add_at+then-is_again, then-is_past+in_ok-add_at+else-is_again, else-is_past}

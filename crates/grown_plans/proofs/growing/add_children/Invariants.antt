@@ -1,8 +1,8 @@
 use Rattle.std.proofs.Common.{◌≡◌, ◌++◌, ◌||◌, [], true, take, drop}
 use Rattle.std.specs.List.{flat_map, list_any}
-use Rattle.grown_plans.specs.AskedPoints.{sites_from, is_point_of, is_asked_again}
+use Rattle.grown_plans.specs.AskedPoints.{AreCounts, sites_from, is_point_of, is_asked_again}
 use Rattle.grown_plans.specs.Kept.{kept_at, kept_children}
-use Rattle.grown_plans.specs.inside.Counted.{AreCounts, sites_left}
+use Rattle.grown_plans.specs.inside.Counted.{sites_left}
 use Rattle.grown_plans.proofs.growing.add_children.Given as goal
 
 abbrev pub invariant-loop-point : goal.invariant-loop-point
