@@ -3,6 +3,7 @@ use Rattle.std.proofs.lemmas.List.{get_or_read}
 use Rattle.scenario_values.specs.Scenario.{Entries}
 use Rattle.target_trait.specs.declared.judgement.Verdict.{Verdict}
 use Rattle.target_trait.specs.declared.judgement.Verdict.TheVariants as verdict
+use Rattle.campaign_given.specs.Given.{Given}
 use Rattle.result_book.specs.Says.{course_says}
 use Rattle.result_book.specs.Verdicts.{verdicts_from, numbered}
 use Rattle.result_book.specs.FirstFailures.{first_failures}
@@ -38,7 +39,7 @@ returns-clause-report g c =
     let some : 0 < length items = omega (arith, ap length c.requires.results.0, length_verdicts say 0 course.plans.now, c.requires.some) in
     let firsts : c.as_slice-firsts.result.now ≡ first_failures (numbered vs) = c.as_slice-firsts.ensures.value ∙ c.requires.results.1 in
     report_is say (g.T.Target.label_of a.target.now) course.settings.now.plans.seed a.census.now course.plans.now
-    c.label.result.now course.settings.now.plans.seed c.index.result.now a.census.now shown c.in_ok-findings.findings.items c.label.ensures refl
+    c.label.result.now c.settings.inside.seed c.index.result.now a.census.now shown c.in_ok-findings.findings.items c.label.ensures (ap (λ (s : Given). s.plans.seed) c.settings.view_is)
     (get_or_read items 0 c.index.result.now some c.index.ensures verdict.Unresolved
     ∙ ap (λ v. get_or v 0 verdict.Unresolved) (sym c.as_slice.ensures.value)) refl
     same (c.in_ok-findings.ensures.found ∙ ap (map (finding say course.plans.now)) firsts)
