@@ -134,7 +134,13 @@ fn is_refused(rt: &impl Abort, alloc: Global, answers: &str, line: &str) -> Resu
         return Err(Fail::from("another target"));
     };
     let mut out = Out::new(Vec::new(alloc));
-    match write_asks(alloc, outside, &settings.campaign, answers.as_bytes(), &mut out) {
+    match write_asks(
+        alloc,
+        outside,
+        &settings.campaign,
+        answers.as_bytes(),
+        &mut out,
+    ) {
         Err(OutsideFault::Answers(fault)) => {
             assert_eq!(rt; format!(in alloc; "{fault}")?.as_str(), line);
             Ok(())

@@ -172,9 +172,7 @@ fn try_which<T: Target, W: Sink, E: Sink>(
         Noted (taken_answer (try_answer c) (taken c which.now)) (E.told faults.old) (E.told faults.new) (E.has_failed faults.new) result }
 {
     let (stream, scenario, notes) = take_noted(alloc, target, workload, settings, which)?;
-    let verdict = try_one(
-        alloc, target, workload, settings, stream, &scenario, output,
-    )?;
+    let verdict = try_one(alloc, target, workload, settings, stream, &scenario, output)?;
     note(notes.as_str(), faults);
     Ok(is_fail(verdict))
 }
@@ -197,9 +195,7 @@ fn explain_which<T: Target, W: Sink, E: Sink>(
         Noted (taken_answer (explain_answer c) (taken c which.now)) (E.told faults.old) (E.told faults.new) (E.has_failed faults.new) result }
 {
     let (stream, scenario, notes) = take_noted(alloc, target, workload, settings, which)?;
-    let verdict = explain_one(
-        alloc, target, workload, settings, stream, &scenario, output,
-    )?;
+    let verdict = explain_one(alloc, target, workload, settings, stream, &scenario, output)?;
     note(notes.as_str(), faults);
     Ok(is_fail(verdict))
 }

@@ -35,11 +35,26 @@ pub fn read_running(table: &Table) -> Result<Running, SettingsFault>
     ensures ranges { IfOk result IsRunning }
     ensures refused { IfErr result (RefusedBy (running_in (table_view table.now))) }
 {
-    let seed = read_number(value_at(table, "seed"), Ok(SEED_IF_MISSING), 0, 9223372036854775807);
+    let seed = read_number(
+        value_at(table, "seed"),
+        Ok(SEED_IF_MISSING),
+        0,
+        9223372036854775807,
+    );
     let seed = keyed(Key::Seed, seed)?;
-    let workers = read_number(value_at(table, "workers"), Ok(WORKERS_IF_MISSING as u64), 1, 64);
+    let workers = read_number(
+        value_at(table, "workers"),
+        Ok(WORKERS_IF_MISSING as u64),
+        1,
+        64,
+    );
     let workers = keyed(Key::Workers, workers)?;
-    let max_hits = read_number(value_at(table, "max_hits"), Ok(MAX_HITS_IF_MISSING as u64), 1, 100000);
+    let max_hits = read_number(
+        value_at(table, "max_hits"),
+        Ok(MAX_HITS_IF_MISSING as u64),
+        1,
+        100000,
+    );
     let max_hits = keyed(Key::MaxHits, max_hits)?;
     Ok(Running {
         seed,
@@ -53,8 +68,16 @@ pub fn read_planning(table: &Table) -> Result<Planning, SettingsFault>
     ensures ranges { IfOk result IsPlanning }
     ensures refused { IfErr result (RefusedBy (planning_in (table_view table.now))) }
 {
-    let pairs = keyed(Key::Pairs, read_boolean(value_at(table, "pairs"), PAIRS_IF_MISSING))?;
-    let storms = read_number(value_at(table, "storms"), Ok(STORMS_IF_MISSING as u64), 0, 10000);
+    let pairs = keyed(
+        Key::Pairs,
+        read_boolean(value_at(table, "pairs"), PAIRS_IF_MISSING),
+    )?;
+    let storms = read_number(
+        value_at(table, "storms"),
+        Ok(STORMS_IF_MISSING as u64),
+        0,
+        10000,
+    );
     let storms = keyed(Key::Storms, storms)?;
     let rate = read_number(value_at(table, "rate"), Ok(RATE_IF_MISSING as u64), 0, 1000);
     let rate = keyed(Key::Rate, rate)?;

@@ -42,7 +42,11 @@ fn values_that_are_given(rt: HostRuntime) -> Result<(), Fail> {
     let text =
         "target = 'commit'\nvariant = 'two_tries'\nseed = 9223372036854775807\nworkers = 3\nmax_hits = 4\npairs = true\nstorms = 5\nrate = 6\nscenarios = ['a=off', '']\n[commit]\nparticipants = 2\ntransactions = [['yes', 'no']]\n";
     let settings = read(rt.alloc(), text)?;
-    has_numbers(&rt, &settings.campaign, [9223372036854775807, 3, 4, 5, 6, 2]);
+    has_numbers(
+        &rt,
+        &settings.campaign,
+        [9223372036854775807, 3, 4, 5, 6, 2],
+    );
     assert!(rt; settings.campaign.pairs);
     let Choice::Commit(CommitVariant::TwoTries, work) = &settings.choice else {
         return Err(Fail::from("another target"));

@@ -11,7 +11,12 @@ use target_trait::{Out, Target};
 use work_gate::Gate;
 
 /// Seed 7, and else what holds where nothing is given.
-pub fn settings(alloc: Global, workers: u32, pairs: bool, scenarios: Vec<Scenario>) -> CampaignSettings
+pub fn settings(
+    alloc: Global,
+    workers: u32,
+    pairs: bool,
+    scenarios: Vec<Scenario>,
+) -> CampaignSettings
     requires some { 1 ≤ workers }
     requires few { workers ≤ 64 }
     requires listed { length scenarios.items ≤ 1000 }
