@@ -4,9 +4,6 @@ use Rattle.std.proofs.lemmas.Bool.{false_from_ne_true, le-ltb, lt-ltb, true≢fa
 use Rattle.std.proofs.lemmas.Str.{IsUtf8-from_is_utf8, is_utf8-from_IsUtf8}
 use Rattle.std.specs.Str.{IsUtf8, is_utf8}
 use Rattle.campaign_settings.specs.Settings.{Cause, Read, RefusedBy, settings_of, too_long}
-use Rattle.campaign_settings.specs.declared.keys.Key.TheVariants as key
-use Rattle.campaign_settings.specs.declared.keys.KeyFault.TheVariants as fault
-use Rattle.campaign_settings.specs.declared.choice.Choice.{Choice}
 use Rattle.campaign_settings.specs.declared.settings.Settings.{Settings}
 use Rattle.campaign_settings.specs.declared.fault.SettingsFault.{SettingsFault}
 use Rattle.campaign_settings.specs.declared.fault.SettingsFault.TheVariants.{TooLong, NotToml, UnknownKey, Missing, WrongType, OutOfRange, Scenario, Memory}
@@ -19,7 +16,7 @@ use Rattle.campaign_main.specs.declared.exit.Exit.{Exit}
 use Rattle.campaign_main.specs.declared.exit.Exit.TheVariants as exit
 use Rattle.campaign_main.specs.declared.input.ReadFault.{ReadFault}
 use Rattle.campaign_main.specs.declared.input.ReadFault.TheVariants as read
-use Rattle.campaign_main.specs.Commands.{Answer, Refusal, answer_of, bad_scenario, bad_settings, campaign_for, choice_answer, chosen_answer, given_answer, no_plan, not_text, of_text, text_answer}
+use Rattle.campaign_main.specs.Commands.{Answer, Refusal, bad_scenario, bad_settings, campaign_for, choice_answer, given_answer, no_plan, not_text, of_text, text_answer}
 use Rattle.campaign_main.specs.Ends.{EndsAs, FallsShort, IsCutOff, IsEndOf, IsRefused, IsUntouched, IsWritten, Leaves, OnWhole, RefusesWith, Tells, TellsANote, TellsARefusal, TellsAs, TellsBy, TellsNotes, TellsOf, TellsRefusal}
 use Rattle.campaign_main.specs.Exit.{exit_of}
 use Rattle.campaign_main.specs.Minimal.{ReducesToMinimal, TextReducesToMinimal}

@@ -1,5 +1,5 @@
 -- What is noted beside a text, by the order.
-use Rattle.std.proofs.Common.{◌≡◌, ◌<◌, [], ◌∷◌, ℕ, Bool, true, false, List, Option, Some, None, Result, Ok, Err, IfOk, IsErrAnd, length, refl, sym, ap, inl, subst, if◌then◌else◌}
+use Rattle.std.proofs.Common.{◌≡◌, ◌<◌, [], ◌∷◌, ℕ, Bool, true, false, List, Option, Result, Ok, Err, IfOk, IsErrAnd, length, refl, sym, ap, inl, subst, if◌then◌else◌}
 use Rattle.std.specs.Prelude.{nat_lt}
 use Rattle.scenario_values.specs.Scenario.{Entries}
 use Rattle.plan_gen.specs.PlanList.{most_plans}
@@ -18,7 +18,7 @@ use Rattle.campaign_main.specs.declared.exit.Exit.{Exit}
 use Rattle.campaign_main.specs.declared.exit.Exit.TheVariants as exit
 use Rattle.campaign_main.specs.declared.fault.CommandFault.{CommandFault}
 use Rattle.campaign_main.specs.Commands.{Answer, Refusal, choice_answer, explain_answer, given_answer, map_answer, of_few_plans, order_answer, outside_answer, plans_answer, reduce_answer, run_answer, taken, taken_answer, text_answer, too_many_plans, try_answer}
-use Rattle.campaign_main.specs.Ends.{ComesTo, IsNoted, IsTold, IsUntouched, Noted, OnWhole, TellsANote, TellsARefusal, TellsAs, TellsNotes, TellsRefusal, Tells}
+use Rattle.campaign_main.specs.Ends.{ComesTo, IsNoted, IsTold, Noted, OnWhole, TellsANote, TellsARefusal, TellsAs, TellsNotes, TellsRefusal, Tells}
 use Rattle.campaign_main.specs.Exit.{exit_of}
 use Rattle.campaign_main.specs.Notes.{MayNote}
 use Rattle.campaign_main.specs.OwnTarget.{own_given_answer, own_text_answer}

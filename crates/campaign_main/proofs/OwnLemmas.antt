@@ -1,8 +1,8 @@
 -- Answers over a target that the program brings itself, by what the settings' text gives.
-use Rattle.std.proofs.Common.{◌≡◌, Bool, List, Option, Ok, ap, refl, sym, subst, ℕ}
+use Rattle.std.proofs.Common.{◌≡◌, Bool, List, Option, Ok, ap, refl, ℕ}
 use Rattle.campaign_given.specs.Given.{Given}
 use Rattle.campaign_settings.specs.Own.{own_settings_of}
-use Rattle.campaign_settings.specs.Settings.{Read, RefusedBy}
+use Rattle.campaign_settings.specs.Settings.{RefusedBy}
 use Rattle.campaign_settings.specs.declared.fault.SettingsFault.{SettingsFault}
 use Rattle.campaign_settings.specs.declared.fault.SettingsFault.TheVariants.{Memory}
 use Rattle.campaign_core.specs.Headline.{Campaign}

@@ -3,8 +3,7 @@ use Rattle.std.specs.Prelude.{ℕ, Bool, false, [], List, length, Option, Some, 
 use Rattle.std.specs.Str.{is_utf8}
 use Rattle.scenario_values.specs.Scenario.{Entries}
 use Rattle.scenario_grammar.specs.FirstFault.{Fault, reading}
-use Rattle.action_eval.specs.Answers.{Reply, given_of}
-use Rattle.target_trait.specs.Play.{Move}
+use Rattle.action_eval.specs.Answers.{given_of}
 use Rattle.file_replace.specs.Steps.{asks_of as replacing}
 use Rattle.file_replace.specs.Words.{point_names as replace_points, code_text as replace_codes, label as replace_label}
 use Rattle.maildir_target.specs.Steps.{asks_of as delivering}

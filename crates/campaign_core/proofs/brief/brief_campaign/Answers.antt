@@ -1,10 +1,6 @@
-use Rattle.std.proofs.Common.{rules, ◌≡◌, ℕ, List, ap, subst, ◌∙◌, IfErr}
-use Rattle.report.specs.ReportText.{text_of}
-use Rattle.report.specs.BriefText.{brief_lines}
-use Rattle.campaign_core.specs.Findings.{report_of}
+use Rattle.std.proofs.Common.{rules, ◌≡◌, ℕ, List, subst, ◌∙◌, IfErr}
 use Rattle.campaign_core.specs.Headline.{Campaign, campaign_on, brief_report_text}
 use Rattle.campaign_core.specs.CommandTexts.{IsFault}
-use Rattle.result_book.specs.Says.{course_says}
 use Rattle.campaign_core.proofs.Firsts.{brief_is}
 use Rattle.campaign_core.proofs.brief.brief_campaign.Goals as goal
 

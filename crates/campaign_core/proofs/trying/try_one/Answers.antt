@@ -4,8 +4,7 @@ use Rattle.action_eval.specs.Answers.{Reply, given_of}
 use Rattle.target_trait.specs.declared.case.Case.{Case}
 use Rattle.target_trait.specs.Outcomes.{Told, outcome}
 use Rattle.target_trait.specs.Play.{Move}
-use Rattle.campaign_core.specs.Headline.{campaign_on}
-use Rattle.campaign_core.specs.CommandTexts.{try_text, tried, LeavesOnly}
+use Rattle.campaign_core.specs.CommandTexts.{try_text, LeavesOnly}
 use Rattle.campaign_core.proofs.trying.try_one.Goals as goal
 
 -- the text of the run that was made is that of the case's run

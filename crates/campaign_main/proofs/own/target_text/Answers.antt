@@ -1,5 +1,4 @@
 use Rattle.std.proofs.Common.{subst, sym}
-use Rattle.campaign_settings.specs.Settings.{Given, Read}
 use Rattle.campaign_main.specs.Commands.{Answer}
 use Rattle.campaign_main.specs.Ends.{EndsAs, TellsAs}
 use Rattle.campaign_core.specs.Headline.{campaign_on}
