@@ -1,7 +1,8 @@
 //! Campaigns on made-up components, from nothing known to the report.
 
 use crate::plain::{number_of, plain_report, tidied_text, verdict_of};
-use campaign_settings::{Choice, Outside, Settings};
+use campaign_given::{CampaignSettings, Outside};
+use campaign_settings::{Choice, Settings};
 use outside_campaign::{OutsideFault, list_plans, write_asks, write_told};
 use std::alloc::Global;
 use std::fmt::Write;
@@ -24,7 +25,7 @@ fn text_in(out: Out<Vec<u8>>) -> Result<String, Fail> {
     }
 }
 
-fn plans(alloc: Global, outside: &Outside, settings: &Settings) -> Result<String, Fail> {
+fn plans(alloc: Global, outside: &Outside, settings: &CampaignSettings) -> Result<String, Fail> {
     let mut out = Out::new(Vec::new(alloc));
     list_plans(alloc, outside, settings, &mut out)?;
     text_in(out)
@@ -33,7 +34,7 @@ fn plans(alloc: Global, outside: &Outside, settings: &Settings) -> Result<String
 fn asks(
     alloc: Global,
     outside: &Outside,
-    settings: &Settings,
+    settings: &CampaignSettings,
     answers: &str,
 ) -> Result<String, Fail> {
     let mut out = Out::new(Vec::new(alloc));
@@ -45,7 +46,7 @@ fn asks(
 fn told(
     alloc: Global,
     outside: &Outside,
-    settings: &Settings,
+    settings: &CampaignSettings,
     answers: &str,
 ) -> Result<String, Fail> {
     let mut out = Out::new(Vec::new(alloc));
@@ -97,15 +98,15 @@ fn is_the_plain_report(
 fn comes_to_the_plain_report(rt: &impl Abort, alloc: Global, salt: u32) -> Result<(), Fail> {
     let hits = (salt % 3, salt / 3 % 3);
     let settings = settings(alloc, hits.0, hits.1)?;
-    let Some(Choice::Outside(outside)) = &settings.choice else {
+    let Choice::Outside(outside) = &settings.choice else {
         return Err(Fail::from("another target"));
     };
     let mut answers = String::new(alloc);
     for _ in 0..200 {
-        let asked = asks(alloc, outside, &settings, answers.as_str())?;
-        let report = told(alloc, outside, &settings, answers.as_str())?;
+        let asked = asks(alloc, outside, &settings.campaign, answers.as_str())?;
+        let report = told(alloc, outside, &settings.campaign, answers.as_str())?;
         let Some(line) = asked.as_str().lines().next() else {
-            let plans = plans(alloc, outside, &settings)?;
+            let plans = plans(alloc, outside, &settings.campaign)?;
             return is_the_plain_report(rt, alloc, salt, hits, &plans, report.as_str());
         };
         assert_eq!(rt;
@@ -129,11 +130,17 @@ fn campaigns_come_to_the_plain_report(rt: HostRuntime) -> Result<(), Fail> {
 /// What is asked by these answers is refused with the answers' fault, told so.
 fn is_refused(rt: &impl Abort, alloc: Global, answers: &str, line: &str) -> Result<(), Fail> {
     let settings = settings(alloc, 1, 1)?;
-    let Some(Choice::Outside(outside)) = &settings.choice else {
+    let Choice::Outside(outside) = &settings.choice else {
         return Err(Fail::from("another target"));
     };
     let mut out = Out::new(Vec::new(alloc));
-    match write_asks(alloc, outside, &settings, answers.as_bytes(), &mut out) {
+    match write_asks(
+        alloc,
+        outside,
+        &settings.campaign,
+        answers.as_bytes(),
+        &mut out,
+    ) {
         Err(OutsideFault::Answers(fault)) => {
             assert_eq!(rt; format!(in alloc; "{fault}")?.as_str(), line);
             Ok(())

@@ -52,7 +52,7 @@ try_text code_name told = text_of (try_lines code_name told)
 
 -- the outcome of a scenario under a stream number, on what a campaign is given
 abbrev pub tried : Campaign → ℕ → Entries → Told
-tried c stream scenario = outcome c.asks (given_of scenario c.points c.plans.seed stream c.limit)
+tried c stream scenario = outcome c.asks (given_of scenario c.points c.plans.seed stream c.max_hits)
 
 -- ---- one scenario reduced
 

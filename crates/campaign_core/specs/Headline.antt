@@ -8,6 +8,7 @@ use Rattle.target_trait.specs.Outcomes.{verdict_with}
 use Rattle.target_trait.specs.Play.{Move}
 use Rattle.plan_gen.specs.Census.{census_of}
 use Rattle.plan_gen.specs.PlanList.{Asked, plan_list}
+use Rattle.campaign_given.specs.Given.{Given}
 use Rattle.result_book.specs.Verdicts.{verdicts_from, numbered}
 use Rattle.result_book.specs.FirstFailures.{first_failures as first_of_each}
 use Rattle.report.specs.ReportText.{report_lines, text_of}
@@ -16,50 +17,39 @@ use Rattle.report.specs.Reports.{ReportFacts}
 use Rattle.campaign_map.specs.Mapped.{Mapped}
 use Rattle.campaign_map.specs.Map.{map_text}
 use Rattle.campaign_core.specs.Findings.{report_of, ReducesToMinimal}
-use Rattle.campaign_settings.specs.declared.settings.Settings.{Settings}
 
--- what a campaign is given: what its target asks on the workload, the names of the points and of the codes, the target's label, the limit
--- of hits, and what is asked of the list of plans, the seed among it. How many workers there are isn't among it.
+-- what a campaign is given: what its target asks on the workload, the names of the points and of the codes, the target's label, how many
+-- hits of a run are answered, and what is asked of the list of plans, the seed among it. How many workers there are isn't among it.
 pub record Campaign : Type 0 where
   pub asks : List Reply → Move
   pub points : List (List ℕ)
   pub codes : ℕ → List ℕ
   pub label : List ℕ
-  pub limit : ℕ
+  pub max_hits : ℕ
   pub plans : Asked
 
--- what the settings ask of the list of plans
-abbrev pub asked_of : Settings → Asked
-asked_of settings = record {
-  pairs = settings.pairs;
-  storms = settings.storms;
-  rate = settings.rate;
-  listed = settings.scenarios.items;
-  seed = settings.seed;
-}
-
-abbrev pub campaign_of : (List Reply → Move) → List (List ℕ) → (ℕ → List ℕ) → List ℕ → Settings → Campaign
-campaign_of asks points codes label settings = record {
+abbrev pub campaign_of : (List Reply → Move) → List (List ℕ) → (ℕ → List ℕ) → List ℕ → Given → Campaign
+campaign_of asks points codes label given = record {
   asks = asks;
   points = points;
   codes = codes;
   label = label;
-  limit = settings.max_hits;
-  plans = asked_of settings;
+  max_hits = given.max_hits;
+  plans = given.plans;
 }
 
 -- the same by a target's setup, its workload and settings
-abbrev pub campaign_on : {T W : Type 0} → Ghosts T W → T → W → Settings → Campaign
-campaign_on target setup workload settings =
-    campaign_of (target.asks setup workload) target.names target.code_text (target.label_of setup) settings
+abbrev pub campaign_on : {T W : Type 0} → Ghosts T W → T → W → Given → Campaign
+campaign_on target setup workload given =
+    campaign_of (target.asks setup workload) target.names target.code_text (target.label_of setup) given
 
 -- the verdict of a scenario under a stream number
 abbrev pub say : Campaign → ℕ → Entries → Verdict
-say c = verdict_with c.asks c.points c.plans.seed c.limit
+say c = verdict_with c.asks c.points c.plans.seed c.max_hits
 
 -- how often each point is asked without faults
 abbrev pub census : Campaign → List ℕ
-census c = census_of c.asks c.points c.plans.seed c.limit
+census c = census_of c.asks c.points c.plans.seed c.max_hits
 
 -- the list of plans
 abbrev pub plans : Campaign → List Entries

@@ -7,15 +7,15 @@ ghost use Rattle.result_book.specs.FirstFailures.{first_failures};
 ghost use Rattle.report.specs.ReportText.{text_of};
 ghost use Rattle.report.specs.BriefText.{brief_lines};
 ghost use Rattle.campaign_core.specs.Findings.{report_of, ReducesToMinimal};
-ghost use Rattle.campaign_core.specs.inside.Says.{course_says};
+ghost use Rattle.result_book.specs.Says.{course_says};
 ghost use Rattle.campaign_core.specs.Headline.{campaign_on, plans, brief_report_text, first_failure, EachIsMinimal};
 ghost use Rattle.campaign_core.specs.CommandTexts.{IsFault};
 
 use crate::ending::{CampaignFault, Ending};
-use crate::planned::{course_of, planned};
+use crate::planned::planned;
 use crate::results::run_course;
 use crate::running::report_over;
-use campaign_settings::Settings;
+use campaign_given::CampaignSettings;
 use report::{brief_text, write_report};
 use result_book::Course;
 use std::alloc::{AllocError, Global};
@@ -32,24 +32,22 @@ fn brief_over<T: Target + Send, G: Gate, R: Threads + Wait + Sync>(
     target: &T,
     course: &Course<'_, T>,
     census: &[u32],
-    workers: usize,
 ) -> Result<(Vec<u8>, Ending), AllocError>
 where
     T::Workload: Sync,
-    requires workers { 0 < workers }
     requires few { length course.now.plans.now ≤ 65536 }
     requires some { 0 < length course.now.plans.now }
     requires counts { length census.now ≡ length T.names }
     ensures text { IfOk result (λ r. r.0.items ≡ text_of (brief_lines T.names T.code_text (report_of
         (course_says T.Target target.now course.now)
-        (T.label_of target.now) course.now.seed census.now course.now.plans.now) course.now.plans.now)) }
+        (T.label_of target.now) course.now.settings.now.plans.seed census.now course.now.plans.now) course.now.plans.now)) }
     ensures first { IfOk result (λ r. r.1.first ≡ option_map (λ f. f.0)
         (slice_get (first_failures (numbered (verdicts_from (course_says T.Target target.now course.now) 0 course.now.plans.now))) 0)) }
     ensures minimal { OnOk result (All (λ found. ReducesToMinimal (course_says T.Target target.now course.now) found)
-        (report_of (course_says T.Target target.now course.now) (T.label_of target.now) course.now.seed census.now course.now.plans.now).findings) }
+        (report_of (course_says T.Target target.now course.now) (T.label_of target.now) course.now.settings.now.plans.seed census.now course.now.plans.now).findings) }
 {
-    let results = run_course(rt, alloc, gate, target, course, workers)?;
-    let report = report_over(rt, alloc, gate, target, course, census, &results, workers)?;
+    let results = run_course(rt, alloc, gate, target, course)?;
+    let report = report_over(rt, alloc, gate, target, course, census, &results)?;
     let text = brief_text(alloc, target, &report, course.plans)?;
     Ok((text, results.ending()))
 }
@@ -62,7 +60,7 @@ pub fn brief_campaign<T: Target + Send, G: Gate, W: Sink, R: Threads + Wait + Sy
     alloc: Global,
     target: &T,
     workload: &T::Workload,
-    settings: &Settings,
+    settings: &CampaignSettings,
     gate: &G,
     sink: &mut W,
 ) -> Result<Ending, CampaignFault>
@@ -79,10 +77,13 @@ where
         IsFault c (brief_report_text c) (W.told sink.old) (W.told sink.new) (W.has_failed sink.new)) }
 {
     let (census, plans) = planned(alloc, target, workload, settings)?;
-    let course = course_of(workload, &plans, settings);
-    let workers = settings.workers as usize;
+    let course = Course {
+        workload,
+        settings,
+        plans: &plans,
+    };
     let counts = census.counts.as_slice();
-    let (text, ending) = brief_over(rt, alloc, gate, target, &course, counts, workers)?;
+    let (text, ending) = brief_over(rt, alloc, gate, target, &course, counts)?;
     write_report(text.as_slice(), sink)?;
     Ok(ending)
 }

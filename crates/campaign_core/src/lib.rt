@@ -23,7 +23,6 @@ pub use ending::{CampaignFault, Ending};
 pub use laws::reduced_scenarios_are_minimal;
 pub use listing::{plan_list, plan_scenario, plans_text};
 pub use mapping::map_campaign;
-pub use planned::asked_of;
 pub use probe::{fails_with, fault_count};
 pub use reducing::reduce_one;
 pub use running::campaign;

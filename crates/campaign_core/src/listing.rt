@@ -8,7 +8,7 @@ ghost use Rattle.campaign_core.specs.CommandTexts.{plan_line, plan_lines, plans_
 
 use crate::ending::CampaignFault;
 use crate::planned::planned;
-use campaign_settings::Settings;
+use campaign_given::CampaignSettings;
 use plan_gen::PlanList;
 use report::{write_report, write_scenario};
 use scenario_values::Scenario;
@@ -53,7 +53,7 @@ pub fn plan_scenario<T: Target>(
     alloc: Global,
     target: &T,
     workload: &T::Workload,
-    settings: &Settings,
+    settings: &CampaignSettings,
     number: u32,
 ) -> Result<Option<Scenario>, CampaignFault>
     ensures plan { IfOk result (λ plan. plan ≡ slice_get (plans (campaign_on T.Target target.now workload.now settings.now)) number) }
@@ -78,7 +78,7 @@ pub fn plan_list<T: Target, W: Sink>(
     alloc: Global,
     target: &T,
     workload: &T::Workload,
-    settings: &Settings,
+    settings: &CampaignSettings,
     sink: &mut W,
 ) -> Result<(), CampaignFault>
     requires { W.has_failed sink.old ≡ false }

@@ -6,11 +6,12 @@ ghost use Rattle.campaign_core.specs.Headline.{campaign_on, plans, campaign_map_
 ghost use Rattle.campaign_core.specs.CommandTexts.{IsFault};
 
 use crate::ending::{CampaignFault, Ending};
-use crate::planned::{course_of, planned};
+use crate::planned::planned;
 use crate::results::run_course;
+use campaign_given::CampaignSettings;
 use campaign_map::{MapFacts, map_text};
-use campaign_settings::Settings;
 use report::write_report;
+use result_book::Course;
 use std::alloc::Global;
 use std::sync::Wait;
 use std::thread::Threads;
@@ -25,7 +26,7 @@ pub fn map_campaign<T: Target + Send, G: Gate, W: Sink, R: Threads + Wait + Sync
     alloc: Global,
     target: &T,
     workload: &T::Workload,
-    settings: &Settings,
+    settings: &CampaignSettings,
     gate: &G,
     sink: &mut W,
 ) -> Result<Ending, CampaignFault>
@@ -41,9 +42,12 @@ where
         IsFault c (campaign_map_text c) (W.told sink.old) (W.told sink.new) (W.has_failed sink.new)) }
 {
     let (census, plans) = planned(alloc, target, workload, settings)?;
-    let course = course_of(workload, &plans, settings);
-    let workers = settings.workers as usize;
-    let results = run_course(rt, alloc, gate, target, &course, workers)?;
+    let course = Course {
+        workload,
+        settings,
+        plans: &plans,
+    };
+    let results = run_course(rt, alloc, gate, target, &course)?;
     let counts = census.counts.as_slice();
     let verdicts = results.verdicts.as_slice();
     let firsts = results.firsts.as_slice();

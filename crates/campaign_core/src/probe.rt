@@ -1,16 +1,17 @@
 //! Tests of sets of faults, on a target, and reductions by them.
-ghost use Rattle.std.specs.Prelude.{◌≡◌, ◌≤◌, ◌<◌, All, IfOk, vec_len};
+ghost use Rattle.std.specs.Prelude.{◌≡◌, ◌≤◌, All, IfOk, vec_len};
 ghost use Rattle.scenario_values.specs.Scenario.{all_faults};
-ghost use Rattle.target_trait.specs.Outcomes.{verdict_with};
+ghost use Rattle.campaign_given.specs.Given.{verdict_on};
 ghost use Rattle.campaign_core.specs.FaultTest.{fails_with, fault_test};
 ghost use Rattle.campaign_core.specs.Findings.{reduction};
 
+use campaign_given::CampaignSettings;
 use ddmin_parallel::{Probe, Reduction, reduce};
 use scenario_values::{Scenario, are_faults, faults, faults_are_counted, keep};
 use std::alloc::{AllocError, Global};
 use std::sync::Wait;
 use std::thread::Threads;
-use target_trait::{Case, Target, Verdict, run_verdict};
+use target_trait::{Target, Verdict, run_verdict};
 use work_gate::Gate;
 
 /// How many faults a scenario has. An error means that memory was refused.
@@ -28,16 +29,14 @@ pub fn fault_count(alloc: Global, scenario: &Scenario) -> Result<u32, AllocError
 #[derive(Drop)]
 pub struct Failure<'a, T: Target> {
     pub workload: &'a T::Workload,
+    /// Under their seed and limit each test is run.
+    pub settings: &'a CampaignSettings,
     /// What fails.
     pub scenario: &'a Scenario,
     /// How many faults the scenario has.
     pub faults: u32,
-    /// The seed of the random words of each run.
-    pub seed: u64,
     /// The stream number of the random words, that of the run that failed.
     pub stream: u64,
-    /// A run that hits more often than this is unresolved.
-    pub max_hits: u32,
     /// The code of the failure; a run that fails with another code doesn't count.
     pub code: u32,
     ghost counted: { faults ≡ all_faults scenario.now },
@@ -65,8 +64,8 @@ impl<'a, T: Target + Send> Probe for CaseProbe<'a, T>
 where
     T::Workload: Sync,
 {
-    ghost answers = { λ probe set. fault_test (verdict_with (T.asks probe.target probe.failure.now.workload.now) T.names
-        probe.failure.now.seed probe.failure.now.max_hits probe.failure.now.stream)
+    ghost answers = { λ probe set. fault_test (verdict_on (T.asks probe.target probe.failure.now.workload.now) T.names
+        probe.failure.now.settings.now probe.failure.now.stream)
         probe.failure.now.code probe.failure.now.scenario.now set };
 
     /// Runs the scenario with the faults of the set alone, under the failure's seed, stream number and limit. A list that isn't faults
@@ -77,12 +76,8 @@ where
             return Ok(false);
         }
         let kept = keep(self.alloc, failure.scenario, set)?;
-        let case = Case {
-            scenario: &kept,
-            seed: failure.seed,
-            stream: failure.stream,
-            max_hits: failure.max_hits,
-        };
+        let settings = failure.settings;
+        let case = settings.case(&kept, failure.stream);
         let verdict = run_verdict(self.alloc, &mut self.target, failure.workload, &case)?;
         Ok(fails_with(failure.code, verdict))
     }
@@ -120,16 +115,15 @@ pub fn reduced<T: Target + Send, G: Gate, R: Threads + Wait + Sync>(
     gate: &G,
     target: &T,
     failure: &Failure<'_, T>,
-    workers: usize,
 ) -> Result<Reduction, AllocError>
 where
     T::Workload: Sync,
-    requires { 0 < workers }
     ensures { IfOk result (λ r. r ≡ reduction
-        (verdict_with (T.asks target.now failure.now.workload.now) T.names failure.now.seed failure.now.max_hits)
+        (verdict_on (T.asks target.now failure.now.workload.now) T.names failure.now.settings.now)
         failure.now.stream failure.now.code failure.now.scenario.now) }
 {
     let _ = failure.scenario.entries();
-    let hands: Vec<CaseProbe<'_, T>> = probes(alloc, target, failure, workers)?;
+    let settings = failure.settings;
+    let hands: Vec<CaseProbe<'_, T>> = probes(alloc, target, failure, settings.workers())?;
     reduce(rt, alloc, gate, hands, failure.faults)
 }

@@ -1,8 +1,8 @@
 //! A failing scenario, reduced to what it takes to fail.
-ghost use Rattle.std.specs.Prelude.{◌≡◌, ◌++◌, ◌∷◌, [], ◌<◌, true, false, codes, string_bytes, IfOk, IfErr, OnOk};
+ghost use Rattle.std.specs.Prelude.{◌≡◌, ◌++◌, ◌∷◌, [], true, false, codes, string_bytes, IfOk, IfErr, OnOk};
 ghost use Rattle.std.specs.Fmt.{decimal};
 ghost use Rattle.std.specs.Io.KnownBytes.{Appends};
-ghost use Rattle.target_trait.specs.Outcomes.{verdict_with};
+ghost use Rattle.campaign_given.specs.Given.{verdict_on};
 ghost use Rattle.report.specs.ReportText.{scenario_text, text_of};
 ghost use Rattle.campaign_core.specs.FaultTest.{fails_with};
 ghost use Rattle.campaign_core.specs.Findings.{reduction, reduced, IsMinimal};
@@ -13,14 +13,14 @@ ghost use Rattle.campaign_core.specs.inside.Says.{failure_says};
 use crate::ending::CampaignFault;
 use crate::probe::{Failure, fault_count, reduced};
 use crate::written::write_judged;
-use campaign_settings::Settings;
+use campaign_given::CampaignSettings;
 use report::{write_scenario, write_verdict};
 use scenario_values::{Scenario, keep, tidy};
 use std::alloc::{AllocError, Global};
 use std::fmt::Write;
 use std::sync::Wait;
 use std::thread::Threads;
-use target_trait::{Case, Sink, Target, Verdict, run_verdict};
+use target_trait::{Sink, Target, Verdict, run_verdict};
 use work_gate::Gate;
 
 /// The scenario that a failure is reduced to, tidied, and how many sets of faults were tested. An error means that memory was refused.
@@ -30,11 +30,9 @@ pub fn reduced_scenario<T: Target + Send, G: Gate, R: Threads + Wait + Sync>(
     gate: &G,
     target: &T,
     failure: &Failure<'_, T>,
-    workers: usize,
 ) -> Result<(Scenario, u64), AllocError>
 where
     T::Workload: Sync,
-    requires some { 0 < workers }
     requires fails { fails_with failure.now.code (failure_says T.Target target.now failure.now failure.now.stream failure.now.scenario.now) ≡ true }
     ensures scenario { IfOk result (λ r. r.0 ≡ reduced (failure_says T.Target target.now failure.now)
         failure.now.stream failure.now.code failure.now.scenario.now) }
@@ -44,7 +42,7 @@ where
         (reduced (failure_says T.Target target.now failure.now) failure.now.stream failure.now.code failure.now.scenario.now)) }
 {
     let _ = failure.scenario.entries();
-    let reduction = reduced(rt, alloc, gate, target, failure, workers)?;
+    let reduction = reduced(rt, alloc, gate, target, failure)?;
     let kept = keep(alloc, failure.scenario, reduction.kept.as_slice())?;
     Ok((tidy(alloc, &kept)?, reduction.tests))
 }
@@ -54,19 +52,14 @@ fn verdict_of<T: Target>(
     alloc: Global,
     target: &T,
     workload: &T::Workload,
-    settings: &Settings,
+    settings: &CampaignSettings,
     stream: u64,
     scenario: &Scenario,
 ) -> Result<Verdict, AllocError>
     ensures { IfOk result (λ verdict. verdict
-        ≡ verdict_with (T.asks target.now workload.now) T.names settings.now.seed settings.now.max_hits stream scenario.now) }
+        ≡ verdict_on (T.asks target.now workload.now) T.names settings.now stream scenario.now) }
 {
-    let case = Case {
-        scenario,
-        seed: settings.seed,
-        stream,
-        max_hits: settings.max_hits,
-    };
+    let case = settings.case(scenario, stream);
     let mut twin = target.twin()?;
     run_verdict(alloc, &mut twin, workload, &case)
 }
@@ -94,18 +87,16 @@ fn write_reduced<T: Target + Send, G: Gate, R: Threads + Wait + Sync>(
     out: &mut String,
     target: &T,
     failure: &Failure<'_, T>,
-    workers: usize,
 ) -> Result<(), AllocError>
 where
     T::Workload: Sync,
-    requires some { 0 < workers }
     requires fails { fails_with failure.now.code (failure_says T.Target target.now failure.now failure.now.stream failure.now.scenario.now) ≡ true }
     ensures text { OnOk result (string_bytes out.new ≡ string_bytes out.old ++ text_of
         (found_lines (failure_says T.Target target.now failure.now) failure.now.stream failure.now.code failure.now.scenario.now)) }
     ensures minimal { OnOk result (IsMinimal (failure_says T.Target target.now failure.now failure.now.stream) failure.now.code
         (reduced (failure_says T.Target target.now failure.now) failure.now.stream failure.now.code failure.now.scenario.now)) }
 {
-    let (left, tests) = reduced_scenario(rt, alloc, gate, target, failure, workers)?;
+    let (left, tests) = reduced_scenario(rt, alloc, gate, target, failure)?;
     write_left(alloc, out, &left, tests)
 }
 
@@ -116,14 +107,14 @@ fn reduce_text<T: Target + Send, G: Gate, R: Threads + Wait + Sync>(
     gate: &G,
     target: &T,
     workload: &T::Workload,
-    settings: &Settings,
+    settings: &CampaignSettings,
     stream: u64,
     scenario: &Scenario,
     verdict: Verdict,
 ) -> Result<String, AllocError>
 where
     T::Workload: Sync,
-    requires { verdict ≡ verdict_with (T.asks target.now workload.now) T.names settings.now.seed settings.now.max_hits stream scenario.now }
+    requires { verdict ≡ verdict_on (T.asks target.now workload.now) T.names settings.now stream scenario.now }
     ensures text { IfOk result (λ text. string_bytes text ≡ reduce_text (campaign_on T.Target target.now workload.now settings.now) stream scenario.now) }
     ensures minimal { OnOk result (IsReducedToMinimal (campaign_on T.Target target.now workload.now settings.now) stream scenario.now) }
 {
@@ -134,15 +125,13 @@ where
     if let Verdict::Fail(code) = verdict {
         let failure = Failure {
             workload,
+            settings,
             scenario,
             faults: fault_count(alloc, scenario)?,
-            seed: settings.seed,
             stream,
-            max_hits: settings.max_hits,
             code,
         };
-        let workers = settings.workers as usize;
-        write_reduced(rt, alloc, gate, &mut text, target, &failure, workers)?;
+        write_reduced(rt, alloc, gate, &mut text, target, &failure)?;
     }
     Ok(text)
 }
@@ -159,7 +148,7 @@ pub fn reduce_one<T: Target + Send, G: Gate, W: Sink, R: Threads + Wait + Sync>(
     alloc: Global,
     target: &T,
     workload: &T::Workload,
-    settings: &Settings,
+    settings: &CampaignSettings,
     stream: u64,
     scenario: &Scenario,
     gate: &G,

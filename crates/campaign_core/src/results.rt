@@ -1,6 +1,6 @@
 //! What the plans of a campaign come to.
 ghost use Rattle.std.specs.Prelude.{◌≡◌, ◌<◌, ◌≤◌, length, option_map, slice_get, IfOk};
-ghost use Rattle.campaign_core.specs.inside.Says.{course_says};
+ghost use Rattle.result_book.specs.Says.{course_says};
 ghost use Rattle.campaign_core.specs.inside.Results.{AreResults};
 
 use crate::ending::Ending;
@@ -42,15 +42,13 @@ pub fn run_course<T: Target + Send, G: Gate, R: Threads + Wait + Sync>(
     gate: &G,
     target: &T,
     course: &Course<'_, T>,
-    workers: usize,
 ) -> Result<Results, AllocError>
 where
     T::Workload: Sync,
     requires few { length course.now.plans.now ≤ 65536 }
-    requires some { 0 < workers }
     ensures { IfOk result (AreResults (course_says T.Target target.now course.now) course.now.plans.now) }
 {
-    let book = run_plans(rt, alloc, gate, target, course, workers)?;
+    let book = run_plans(rt, alloc, gate, target, course)?;
     full_books_tell_their_verdicts();
     let firsts = book.first_failures(alloc)?;
     let verdicts = book.into_verdicts();

@@ -1,9 +1,10 @@
 //! Runs of a course's plans, row by row, as a job of workers.
 ghost use Rattle.std.specs.Prelude.{◌≡◌, ℕ, List, length};
-ghost use Rattle.target_trait.specs.Outcomes.{verdict_with};
+ghost use Rattle.campaign_given.specs.Given.{verdict_on};
 ghost use Rattle.campaign_core.specs.inside.Rows.{row_limit, row_of};
 
 use crate::rows::row_bounds;
+use campaign_given::CampaignSettings;
 use result_book::{Course, Row, Workspace};
 use scenario_values::Scenario;
 use std::alloc::{AllocError, Global};
@@ -15,9 +16,8 @@ use worker_pool::Job;
 pub struct Setup<T: Target> {
     pub target: T,
     pub workload: T::Workload,
+    pub settings: CampaignSettings,
     pub plans: LinkedList<Scenario>,
-    pub seed: u64,
-    pub max_hits: u32,
 }
 
 /// A target, with the course whose plans it runs, and with a workspace of its own that each run takes over from the one before.
@@ -40,15 +40,14 @@ where
     ghost setup = { λ runner. record {
       target = runner.target;
       workload = runner.course.now.workload.now;
+      settings = runner.course.now.settings.now;
       plans = runner.course.now.plans.now;
-      seed = runner.course.now.seed;
-      max_hits = runner.course.now.max_hits;
     } };
 
     ghost limit = { λ setup. row_limit (length setup.plans) };
 
     ghost answers = { λ setup n row. row ≡ row_of
-        (verdict_with (T.asks setup.target setup.workload) T.names setup.seed setup.max_hits) setup.plans n };
+        (verdict_on (T.asks setup.target setup.workload) T.names setup.settings) setup.plans n };
 
     ghost becomes = { λ _ _ _. Unit {0} };
 

@@ -5,15 +5,15 @@ ghost use Rattle.plan_gen.specs.PlanList.{most_plans};
 ghost use Rattle.campaign_core.specs.Findings.{finding, report_of, IsFailure, ReducesToMinimal};
 ghost use Rattle.campaign_core.specs.Headline.{campaign_on, plans, report_text, first_failure, EachIsMinimal};
 ghost use Rattle.campaign_core.specs.CommandTexts.{IsFault};
-ghost use Rattle.campaign_core.specs.inside.Says.{course_says};
+ghost use Rattle.result_book.specs.Says.{course_says};
 ghost use Rattle.campaign_core.specs.inside.Results.{AreResults};
 
 use crate::ending::{CampaignFault, Ending};
-use crate::planned::{course_of, planned};
+use crate::planned::planned;
 use crate::probe::{Failure, fault_count};
 use crate::reducing::reduced_scenario;
 use crate::results::{Results, run_course};
-use campaign_settings::Settings;
+use campaign_given::CampaignSettings;
 use report::{Finding, Report, text, write_report};
 use result_book::{Course, first_failures_are_the_least};
 use std::alloc::{AllocError, Global};
@@ -31,11 +31,9 @@ fn found<T: Target + Send, G: Gate, R: Threads + Wait + Sync>(
     target: &T,
     course: &Course<'_, T>,
     first: (u32, u32),
-    workers: usize,
 ) -> Result<Finding, AllocError>
 where
     T::Workload: Sync,
-    requires some { 0 < workers }
     requires fails { IsFailure (course_says T.Target target.now course.now) course.now.plans.now first }
     ensures found { IfOk result (λ found. found ≡ finding (course_says T.Target target.now course.now) course.now.plans.now first) }
     ensures minimal { IfOk result (λ found. ReducesToMinimal (course_says T.Target target.now course.now) found) }
@@ -45,14 +43,13 @@ where
     let faults = fault_count(alloc, &scenario)?;
     let failure = Failure {
         workload: course.workload,
+        settings: course.settings,
         scenario: &scenario,
         faults,
-        seed: course.seed,
         stream: u64::from(number),
-        max_hits: course.max_hits,
         code,
     };
-    let (reduced, tests) = reduced_scenario(rt, alloc, gate, target, &failure, workers)?;
+    let (reduced, tests) = reduced_scenario(rt, alloc, gate, target, &failure)?;
     Ok(Finding {
         number,
         code,
@@ -70,18 +67,16 @@ fn findings<T: Target + Send, G: Gate, R: Threads + Wait + Sync>(
     target: &T,
     course: &Course<'_, T>,
     firsts: &[(u32, u32)],
-    workers: usize,
 ) -> Result<Vec<Finding>, AllocError>
 where
     T::Workload: Sync,
-    requires some { 0 < workers }
     requires fail { All (λ first. IsFailure (course_says T.Target target.now course.now) course.now.plans.now first) firsts.now }
     ensures found { IfOk result (λ all. all.items ≡ map (finding (course_says T.Target target.now course.now) course.now.plans.now) firsts.now) }
     ensures minimal { IfOk result (λ all. All (λ found. ReducesToMinimal (course_says T.Target target.now course.now) found) all.items) }
 {
     let mut all = Vec::with_capacity(alloc, firsts.len())?;
     for first in firsts {
-        let found = found(rt, alloc, gate, target, course, *first, workers)?;
+        let found = found(rt, alloc, gate, target, course, *first)?;
         all.push(found)?;
     }
     Ok(all)
@@ -96,24 +91,23 @@ pub fn report_over<'a, T: Target + Send, G: Gate, R: Threads + Wait + Sync>(
     course: &Course<'_, T>,
     census: &'a [u32],
     results: &'a Results,
-    workers: usize,
 ) -> Result<Report<'a>, AllocError>
 where
     T::Workload: Sync,
-    requires workers { 0 < workers }
     requires some { 0 < length course.now.plans.now }
     requires results { AreResults (course_says T.Target target.now course.now) course.now.plans.now results.now }
     ensures report { IfOk result (λ report. report ≡ report_of
         (course_says T.Target target.now course.now)
-        (T.label_of target.now) course.now.seed census.now course.now.plans.now) }
+        (T.label_of target.now) course.now.settings.now.plans.seed census.now course.now.plans.now) }
     ensures minimal { IfOk result (λ report. All (λ found. ReducesToMinimal (course_says T.Target target.now course.now) found) report.findings) }
 {
     first_failures_are_the_least();
     let firsts = results.firsts.as_slice();
-    let findings = findings(rt, alloc, gate, target, course, firsts, workers)?;
+    let findings = findings(rt, alloc, gate, target, course, firsts)?;
+    let settings = course.settings;
     Ok(Report {
         label: target.label(),
-        seed: course.seed,
+        seed: settings.seed,
         clean: results.verdicts[0],
         census,
         verdicts: results.verdicts.as_slice(),
@@ -140,7 +134,7 @@ pub fn campaign<T: Target + Send, G: Gate, W: Sink, R: Threads + Wait + Sync>(
     alloc: Global,
     target: &T,
     workload: &T::Workload,
-    settings: &Settings,
+    settings: &CampaignSettings,
     gate: &G,
     sink: &mut W,
 ) -> Result<Ending, CampaignFault>
@@ -156,11 +150,14 @@ where
         IsFault c (report_text c) (W.told sink.old) (W.told sink.new) (W.has_failed sink.new)) }
 {
     let (census, plans) = planned(alloc, target, workload, settings)?;
-    let course = course_of(workload, &plans, settings);
-    let workers = settings.workers as usize;
-    let results = run_course(rt, alloc, gate, target, &course, workers)?;
+    let course = Course {
+        workload,
+        settings,
+        plans: &plans,
+    };
+    let results = run_course(rt, alloc, gate, target, &course)?;
     let counts = census.counts.as_slice();
-    let report = report_over(rt, alloc, gate, target, &course, counts, &results, workers)?;
+    let report = report_over(rt, alloc, gate, target, &course, counts, &results)?;
     let text = text(alloc, target, &report)?;
     write_report(text.as_slice(), sink)?;
     Ok(results.ending())

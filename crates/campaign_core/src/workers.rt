@@ -2,7 +2,7 @@
 ghost use Rattle.std.specs.Prelude.{◌≡◌, ◌<◌, ◌≤◌, ℕ, length, vec_len, map, Some, All, IfOk, slice_index_or};
 ghost use Rattle.result_book.specs.Verdicts.{verdicts_from};
 ghost use Rattle.worker_pool.specs.Hands.{hand_job, EachOnce};
-ghost use Rattle.campaign_core.specs.inside.Says.{course_says};
+ghost use Rattle.result_book.specs.Says.{course_says};
 
 use crate::rows::{RowGate, row_count};
 use crate::runner::Runner;
@@ -81,17 +81,16 @@ pub fn run_plans<T: Target + Send, G: Gate, R: Threads + Wait + Sync>(
     gate: &G,
     target: &T,
     course: &Course<'_, T>,
-    workers: usize,
 ) -> Result<Book, AllocError>
 where
     T::Workload: Sync,
     requires few { length course.now.plans.now ≤ 65536 }
-    requires some { 0 < workers }
     ensures { IfOk result (λ book. book ≡ map Some (verdicts_from
         (course_says T.Target target.now course.now)
         0 course.now.plans.now)) }
 {
-    let jobs = runners(alloc, target, course, workers)?;
+    let settings = course.settings;
+    let jobs = runners(alloc, target, course, settings.workers())?;
     let plans = course.plans.len() as u32;
     gate.expect(Phase::Plans, plans);
     let rows = answers_of(rt, alloc, &RowGate { gate, plans }, jobs, row_count(plans))?;

@@ -128,17 +128,17 @@ module _ (c : Campaign) (read : Result (ℕ × Entries) Refusal) (t : ℕ × Ent
       let Q : List ℕ → Type 0 = λ n. IsNoted n told told' broken in
       subst P (sym tried-is) (subst Q same h)
 
-  explained-is : taken_answer (explain_answer c) read ≡ Ok (explain_text c.codes c.asks (given_of t.1 c.points c.plans.seed t.0 c.limit), is_fail (tried c t.0 t.1).verdict, notes_of c.points t.1)
+  explained-is : taken_answer (explain_answer c) read ≡ Ok (explain_text c.codes c.asks (given_of t.1 c.points c.plans.seed t.0 c.max_hits), is_fail (tried c t.0 t.1).verdict, notes_of c.points t.1)
   unfolding explain_answer
   explained-is = ap (taken_answer (explain_answer c)) takes
 
-  pub explain-written : (failed found : Bool) → Appends old new (explain_text c.codes c.asks (given_of t.1 c.points c.plans.seed t.0 c.limit)) → failed ≡ false → found ≡ is_fail (tried c t.0 t.1).verdict
+  pub explain-written : (failed found : Bool) → Appends old new (explain_text c.codes c.asks (given_of t.1 c.points c.plans.seed t.0 c.max_hits)) → failed ≡ false → found ≡ is_fail (tried c t.0 t.1).verdict
       → IsWritten (taken_answer (explain_answer c) read) old new failed found
   explain-written failed found written sound is =
       let P : Bool → Type 0 = λ b. IsWritten (taken_answer (explain_answer c) read) old new failed b in
       subst P (sym is) (of_scenario _ _ _ _ explained-is old new failed written sound)
 
-  pub explain-short : (failed : Bool) (f : CampaignFault) → LeavesOnly old new failed (explain_text c.codes c.asks (given_of t.1 c.points c.plans.seed t.0 c.limit)) f
+  pub explain-short : (failed : Bool) (f : CampaignFault) → LeavesOnly old new failed (explain_text c.codes c.asks (given_of t.1 c.points c.plans.seed t.0 c.max_hits)) f
       → FallsShort (taken_answer (explain_answer c) read) old new failed (faults.Campaign f)
   explain-short failed f h = short_of_scenario _ _ _ _ explained-is old new failed f h
 

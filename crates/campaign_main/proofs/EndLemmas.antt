@@ -3,10 +3,7 @@ use Rattle.std.proofs.Common.{◌≡◌, ◌≤◌, ◌<◌, ◌∙◌, ℕ, Boo
 use Rattle.std.proofs.lemmas.Bool.{false_from_ne_true, le-ltb, lt-ltb, true≢false}
 use Rattle.std.proofs.lemmas.Str.{IsUtf8-from_is_utf8, is_utf8-from_IsUtf8}
 use Rattle.std.specs.Str.{IsUtf8, is_utf8}
-use Rattle.campaign_settings.specs.Settings.{Cause, Read, Given, RefusedBy, given_of, settings_of, too_long, wrong}
-use Rattle.campaign_settings.specs.declared.keys.Key.TheVariants as key
-use Rattle.campaign_settings.specs.declared.keys.KeyFault.TheVariants as fault
-use Rattle.campaign_settings.specs.declared.choice.Choice.{Choice}
+use Rattle.campaign_settings.specs.Settings.{Cause, Read, RefusedBy, settings_of, too_long}
 use Rattle.campaign_settings.specs.declared.settings.Settings.{Settings}
 use Rattle.campaign_settings.specs.declared.fault.SettingsFault.{SettingsFault}
 use Rattle.campaign_settings.specs.declared.fault.SettingsFault.TheVariants.{TooLong, NotToml, UnknownKey, Missing, WrongType, OutOfRange, Scenario, Memory}
@@ -19,7 +16,7 @@ use Rattle.campaign_main.specs.declared.exit.Exit.{Exit}
 use Rattle.campaign_main.specs.declared.exit.Exit.TheVariants as exit
 use Rattle.campaign_main.specs.declared.input.ReadFault.{ReadFault}
 use Rattle.campaign_main.specs.declared.input.ReadFault.TheVariants as read
-use Rattle.campaign_main.specs.Commands.{Answer, Refusal, answer_of, bad_scenario, bad_settings, campaign_for, choice_answer, chosen_answer, given_answer, no_plan, not_text, of_text, text_answer}
+use Rattle.campaign_main.specs.Commands.{Answer, Refusal, bad_scenario, bad_settings, campaign_for, choice_answer, given_answer, no_plan, not_text, of_text, text_answer}
 use Rattle.campaign_main.specs.Ends.{EndsAs, FallsShort, IsCutOff, IsEndOf, IsRefused, IsUntouched, IsWritten, Leaves, OnWhole, RefusesWith, Tells, TellsANote, TellsARefusal, TellsAs, TellsBy, TellsNotes, TellsOf, TellsRefusal}
 use Rattle.campaign_main.specs.Exit.{exit_of}
 use Rattle.campaign_main.specs.Minimal.{ReducesToMinimal, TextReducesToMinimal}
@@ -183,7 +180,7 @@ module _ (read : Read Given) (end : Exit) (old new : Option (List ℕ)) (failed 
   unset-cause Memory h m told = memory-apart end (m refl) refused
 
 -- what is answered where it is made of settings, and refuses what they refuse
-module _ (answer : Read Given → Answer) (refuses : (cause : Cause) → answer (Err cause) ≡ Err (bad_settings cause)) (read : Read Given) where
+module _ {S : Type 0} (answer : Read S → Answer) (refuses : (cause : Cause) → answer (Err cause) ≡ Err (bad_settings cause)) (read : Read S) where
   pub settings-tell : (end : Exit) (old new : Option (List ℕ)) (failed : Bool) → end ≡ exit.Refused → (f : SettingsFault) → RefusedBy read f → (f ≡ Memory → end ≡ exit.Memory)
       → RefusesWith (settings_line f) end old new failed → TellsRefusal (answer read) old new failed
   settings-tell end old new failed refused f h m told =
@@ -196,26 +193,15 @@ module _ (order : Order) (text : List ℕ) where
   unfolding text_answer
   cause-unset end old new failed refused f h m told = settings-tell (given_answer order) (λ _. refl) (settings_of text) end old new failed refused f h m told
 
-  module _ (s : Settings) (is : settings_of text ≡ Ok (given_of s)) where
-    pub answer-targetless : s.choice ≡ None → text_answer order text ≡ Err (bad_settings (wrong key.Target fault.Missing))
+  module _ (s : Settings) (is : settings_of text ≡ Ok s) where
+    pub answer-chosen : text_answer order text ≡ choice_answer order s.campaign s.choice
     unfolding text_answer
-    answer-targetless none =
-        let f : Read Given → Answer = given_answer order in
-        let g : Option Choice → Answer = chosen_answer order (given_of s) in
-        ap f is ∙ ap g none
+    answer-chosen = let f : Read Settings → Answer = given_answer order in ap f is
 
-    pub answer-chosen : (choice : Choice) → s.choice ≡ Some choice → text_answer order text ≡ choice_answer order (given_of s) choice
-    unfolding text_answer
-    answer-chosen choice some =
-        let f : Read Given → Answer = given_answer order in
-        let g : Option Choice → Answer = chosen_answer order (given_of s) in
-        ap f is ∙ ap g some
-
-    pub text-minimal : (choice : Choice) → s.choice ≡ Some choice → IfSome (campaign_for (given_of s) choice) (ReducesToMinimal order) → TextReducesToMinimal order text
-    text-minimal choice some minimal =
-        let Q : Option Choice → Type 0 = λ o. IfSome o (λ choice. IfSome (campaign_for (given_of s) choice) (ReducesToMinimal order)) in
-        let P : Read Given → Type 0 = λ r. IfOk r (λ given. IfSome given.choice (λ choice. IfSome (campaign_for given choice) (ReducesToMinimal order))) in
-        subst P (sym is) (subst Q (sym some) minimal)
+    pub text-minimal : IfSome (campaign_for s.campaign s.choice) (ReducesToMinimal order) → TextReducesToMinimal order text
+    text-minimal minimal =
+        let P : Read Settings → Type 0 = λ r. IfOk r (λ s. IfSome (campaign_for s.campaign s.choice) (ReducesToMinimal order)) in
+        subst P (sym is) minimal
 
 -- ---- by the bytes
 

@@ -1,11 +1,13 @@
 -- What is noted beside a text, by the order.
-use Rattle.std.proofs.Common.{◌≡◌, ◌<◌, [], ◌∷◌, ℕ, Bool, true, false, List, Option, Some, None, Result, Ok, Err, IfOk, IsErrAnd, length, refl, sym, ap, inl, subst, if◌then◌else◌}
+use Rattle.std.proofs.Common.{◌≡◌, ◌<◌, [], ◌∷◌, ℕ, Bool, true, false, List, Option, Result, Ok, Err, IfOk, IsErrAnd, length, refl, sym, ap, inl, subst, if◌then◌else◌}
 use Rattle.std.specs.Prelude.{nat_lt}
 use Rattle.scenario_values.specs.Scenario.{Entries}
 use Rattle.plan_gen.specs.PlanList.{most_plans}
 use Rattle.campaign_core.specs.Headline.{Campaign}
 use Rattle.campaign_settings.specs.Own.{own_settings_of}
-use Rattle.campaign_settings.specs.Settings.{Given, Read, settings_of}
+use Rattle.campaign_given.specs.Given.{Given}
+use Rattle.campaign_settings.specs.Settings.{Read, settings_of}
+use Rattle.campaign_settings.specs.declared.settings.Settings.{Settings}
 use Rattle.campaign_settings.specs.declared.choice.Choice.{Choice}
 use Rattle.campaign_settings.specs.declared.choice.Choice.TheVariants as choice
 use Rattle.command_words.specs.declared.words.Form.{Form}
@@ -15,8 +17,8 @@ use Rattle.command_words.specs.declared.words.Which.{Which}
 use Rattle.campaign_main.specs.declared.exit.Exit.{Exit}
 use Rattle.campaign_main.specs.declared.exit.Exit.TheVariants as exit
 use Rattle.campaign_main.specs.declared.fault.CommandFault.{CommandFault}
-use Rattle.campaign_main.specs.Commands.{Answer, Refusal, choice_answer, chosen_answer, explain_answer, given_answer, map_answer, of_few_plans, order_answer, outside_answer, plans_answer, reduce_answer, run_answer, taken, taken_answer, text_answer, too_many_plans, try_answer}
-use Rattle.campaign_main.specs.Ends.{ComesTo, IsNoted, IsTold, IsUntouched, Noted, OnWhole, TellsANote, TellsARefusal, TellsAs, TellsNotes, TellsRefusal, Tells}
+use Rattle.campaign_main.specs.Commands.{Answer, Refusal, choice_answer, explain_answer, given_answer, map_answer, of_few_plans, order_answer, outside_answer, plans_answer, reduce_answer, run_answer, taken, taken_answer, text_answer, too_many_plans, try_answer}
+use Rattle.campaign_main.specs.Ends.{ComesTo, IsNoted, IsTold, Noted, OnWhole, TellsANote, TellsARefusal, TellsAs, TellsNotes, TellsRefusal, Tells}
 use Rattle.campaign_main.specs.Exit.{exit_of}
 use Rattle.campaign_main.specs.Notes.{MayNote}
 use Rattle.campaign_main.specs.OwnTarget.{own_given_answer, own_text_answer}
@@ -109,12 +111,8 @@ may-choice o given (choice.Maildir variant messages) = may-order _ o
 may-choice o given (choice.Commit variant work) = may-order _ o
 may-choice o given (choice.Outside outside) = may-outside o _
 
-may-chosen : (o : Order) (given : Given) (chosen : Option Choice) → NotesFor o (chosen_answer o given chosen)
-may-chosen o given None = tt
-may-chosen o given (Some chosen) = may-choice o given chosen
-
-may-given : (o : Order) (read : Read Given) → NotesFor o (given_answer o read)
-may-given o (Ok given) = may-chosen o given given.choice
+may-given : (o : Order) (read : Read Settings) → NotesFor o (given_answer o read)
+may-given o (Ok s) = may-choice o s.campaign s.choice
 may-given o (Err cause) = tt
 
 pub may-text : (o : Order) (text : List ℕ) → NotesFor o (text_answer o text)

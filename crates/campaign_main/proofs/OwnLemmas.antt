@@ -1,10 +1,10 @@
 -- Answers over a target that the program brings itself, by what the settings' text gives.
-use Rattle.std.proofs.Common.{◌≡◌, Bool, List, Option, Ok, ap, refl, sym, subst, ℕ}
+use Rattle.std.proofs.Common.{◌≡◌, Bool, List, Option, Ok, ap, refl, ℕ}
+use Rattle.campaign_given.specs.Given.{Given}
 use Rattle.campaign_settings.specs.Own.{own_settings_of}
-use Rattle.campaign_settings.specs.Settings.{Given, Read, RefusedBy, given_of}
+use Rattle.campaign_settings.specs.Settings.{RefusedBy}
 use Rattle.campaign_settings.specs.declared.fault.SettingsFault.{SettingsFault}
 use Rattle.campaign_settings.specs.declared.fault.SettingsFault.TheVariants.{Memory}
-use Rattle.campaign_settings.specs.declared.settings.Settings.{Settings}
 use Rattle.campaign_core.specs.Headline.{Campaign}
 use Rattle.command_words.specs.declared.words.Order.{Order}
 use Rattle.campaign_main.specs.declared.exit.Exit.{Exit}
@@ -16,9 +16,9 @@ use Rattle.campaign_main.specs.OwnTarget.{own_given_answer, own_text_answer}
 use Rattle.campaign_main.proofs.EndLemmas.{settings-tell}
 
 module _ (order : Order) (campaign : Given → Campaign) (text : List ℕ) where
-  pub own-answered : (s : Settings) → own_settings_of text ≡ Ok (given_of s) → own_text_answer order campaign text ≡ order_answer order (campaign (given_of s))
+  pub own-answered : (given : Given) → own_settings_of text ≡ Ok given → own_text_answer order campaign text ≡ order_answer order (campaign given)
   unfolding own_text_answer
-  own-answered s is = ap (own_given_answer order campaign) is
+  own-answered given is = ap (own_given_answer order campaign) is
 
   pub own-tells : (end : Exit) (old new : Option (List ℕ)) (failed : Bool) → end ≡ exit.Refused → (f : SettingsFault) → RefusedBy (own_settings_of text) f → (f ≡ Memory → end ≡ exit.Memory)
       → RefusesWith (settings_line f) end old new failed → TellsRefusal (own_text_answer order campaign text) old new failed

@@ -7,8 +7,9 @@ use Rattle.answer_text.specs.declared.fault.AnswersFault.{AnswersFault}
 use Rattle.answer_text.specs.declared.fault.AnswersFault.TheVariants as answers
 use Rattle.std.specs.List.{slice_split}
 use Rattle.std.proofs.lemmas.Bool.{lt-ltb}
-use Rattle.campaign_settings.specs.Description.{Description}
-use Rattle.campaign_settings.specs.Settings.{Cause, Read, Given, RefusedBy, given_of, settings_of, too_long}
+use Rattle.campaign_given.specs.Description.{Description}
+use Rattle.campaign_given.specs.Given.{Given}
+use Rattle.campaign_settings.specs.Settings.{Cause, Read, RefusedBy, settings_of, too_long}
 use Rattle.campaign_settings.specs.declared.fault.SettingsFault.{SettingsFault}
 use Rattle.campaign_settings.specs.declared.fault.SettingsFault.TheVariants as settings
 use Rattle.campaign_settings.specs.declared.settings.Settings.{Settings}
@@ -32,15 +33,15 @@ use Rattle.campaign_main.proofs.EndLemmas.{broken-meaning, if_some, long-meaning
 
 -- ---- by what the lower crate came to
 
-module _ (s : Settings) (d : Description) (answers : List ℕ) (old new : Option (List ℕ)) (failed : Bool) where
-  asks-short : (f : OutsideFault) → AsksFault d s answers old new failed f → FallsShortOf Asks (given_of s, d) answers old new failed f
+module _ (s : Given) (d : Description) (answers : List ℕ) (old new : Option (List ℕ)) (failed : Bool) where
+  asks-short : (f : OutsideFault) → AsksFault d s answers old new failed f → FallsShortOf Asks (s, d) answers old new failed f
   asks-short (outside.Answers f) h = ((h.0, h.1), h.2)
   asks-short (outside.NotAnswered t) h = absurd h
   asks-short (outside.Campaign campaign.TooManyPlans) h = ((h.0, h.1), h.2)
   asks-short (outside.Campaign campaign.Memory) h = h
   asks-short (outside.Campaign (campaign.Write n)) h = (h.0, h.1)
 
-  report-short : (form : Form) (f : OutsideFault) → TextFault (told_text form (given_of s, d)) d s answers old new failed f → FallsShortOf (Report form) (given_of s, d) answers old new failed f
+  report-short : (form : Form) (f : OutsideFault) → TextFault (told_text form (s, d)) d s answers old new failed f → FallsShortOf (Report form) (s, d) answers old new failed f
   report-short form (outside.Answers f) h = ((h.0, h.1), h.2)
   report-short form (outside.NotAnswered t) h = ((h.0, h.1), h.2)
   report-short form (outside.Campaign campaign.TooManyPlans) h = ((h.0, h.1), h.2)
@@ -49,14 +50,14 @@ module _ (s : Settings) (d : Description) (answers : List ℕ) (old new : Option
 
   -- a fault that is passed up
   short-of-up : (question : Question) (result : Result Bool OutsideFault) (f : OutsideFault) → IsErrAnd result (λ e. e ≡ f)
-      → FallsShortOf question (given_of s, d) answers old new failed f → ComesToText question (given_of s, d) answers old new failed result
+      → FallsShortOf question (s, d) answers old new failed f → ComesToText question (s, d) answers old new failed result
   short-of-up question (Ok found) f is short = absurd is
-  short-of-up question (Err e) f is short = let P : OutsideFault → Type 0 = λ x. FallsShortOf question (given_of s, d) answers old new failed x in subst P (sym is) short
+  short-of-up question (Err e) f is short = let P : OutsideFault → Type 0 = λ x. FallsShortOf question (s, d) answers old new failed x in subst P (sym is) short
 
-  pub asks-up : (result : Result Bool OutsideFault) (f : OutsideFault) → IsErrAnd result (λ e. e ≡ f) → AsksFault d s answers old new failed f → ComesToText Asks (given_of s, d) answers old new failed result
+  pub asks-up : (result : Result Bool OutsideFault) (f : OutsideFault) → IsErrAnd result (λ e. e ≡ f) → AsksFault d s answers old new failed f → ComesToText Asks (s, d) answers old new failed result
   asks-up result f is h = short-of-up Asks result f is (asks-short f h)
 
-  pub report-up : (form : Form) (result : Result Bool OutsideFault) (f : OutsideFault) → IsErrAnd result (λ e. e ≡ f) → TextFault (told_text form (given_of s, d)) d s answers old new failed f → ComesToText (Report form) (given_of s, d) answers old new failed result
+  pub report-up : (form : Form) (result : Result Bool OutsideFault) (f : OutsideFault) → IsErrAnd result (λ e. e ≡ f) → TextFault (told_text form (s, d)) d s answers old new failed f → ComesToText (Report form) (s, d) answers old new failed result
   report-up form result f is h = short-of-up (Report form) result f is (report-short form f h)
 
 -- ---- by what a question came to
@@ -195,11 +196,11 @@ tells-question refusal end old new failed told =
 module _ (text : List ℕ) where
   unset-subject : (cause : Cause) → settings_of text ≡ Err cause → text_subject text ≡ Err (bad_settings cause)
   unfolding text_subject
-  unset-subject cause is = let f : Read Given → Result Subject Refusal = given_subject in ap f is
+  unset-subject cause is = let f : Read Settings → Result Subject Refusal = given_subject in ap f is
 
-  pub chosen-is : (s : Settings) → settings_of text ≡ Ok (given_of s) → text_subject text ≡ chosen_subject (given_of s) s.choice
+  pub chosen-is : (s : Settings) → settings_of text ≡ Ok s → text_subject text ≡ chosen_subject s.campaign s.choice
   unfolding text_subject
-  chosen-is s is = let f : Read Given → Result Subject Refusal = given_subject in ap f is
+  chosen-is s is = let f : Read Settings → Result Subject Refusal = given_subject in ap f is
 
   -- settings with a fault, whose line is told
   module _ (question : Question) (end : Exit) (old new : Option (List ℕ)) (failed : Bool) (f : SettingsFault) (by : RefusedBy (settings_of text) f) (memory : f ≡ settings.Memory → end ≡ exit.Memory)

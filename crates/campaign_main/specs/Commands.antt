@@ -3,24 +3,23 @@ use Rattle.std.specs.Prelude.{ℕ, Bool, false, [], List, length, Option, Some, 
 use Rattle.std.specs.Str.{is_utf8}
 use Rattle.scenario_values.specs.Scenario.{Entries}
 use Rattle.scenario_grammar.specs.FirstFault.{Fault, reading}
-use Rattle.action_eval.specs.Answers.{Reply, given_of}
-use Rattle.target_trait.specs.Play.{Move}
+use Rattle.action_eval.specs.Answers.{given_of}
 use Rattle.file_replace.specs.Steps.{asks_of as replacing}
 use Rattle.file_replace.specs.Words.{point_names as replace_points, code_text as replace_codes, label as replace_label}
 use Rattle.maildir_target.specs.Steps.{asks_of as delivering}
 use Rattle.maildir_target.specs.Words.{point_names as maildir_points, code_text as maildir_codes, label as maildir_label}
 use Rattle.commit_target.specs.Steps.{asks_of as committing}
 use Rattle.commit_target.specs.Words.{point_names as commit_points, code_text as commit_codes, label as commit_label}
-use Rattle.plan_gen.specs.PlanList.{Asked, most_plans, plan_list}
+use Rattle.plan_gen.specs.PlanList.{most_plans, plan_list}
 use Rattle.report.specs.ReportText.{text_of}
 use Rattle.answer_text.specs.declared.fault.AnswersFault.{AnswersFault}
-use Rattle.campaign_settings.specs.Description.{Description}
-use Rattle.campaign_settings.specs.Settings.{Given, Cause, Read, settings_of, too_long, wrong}
+use Rattle.campaign_given.specs.Description.{Description}
+use Rattle.campaign_given.specs.Given.{Given}
+use Rattle.campaign_settings.specs.Settings.{Cause, Read, settings_of, too_long}
 use Rattle.campaign_settings.specs.declared.choice.Choice.{Choice}
 use Rattle.campaign_settings.specs.declared.choice.Choice.TheVariants as choice
-use Rattle.campaign_settings.specs.declared.keys.Key.TheVariants as key
-use Rattle.campaign_settings.specs.declared.keys.KeyFault.TheVariants as fault
-use Rattle.campaign_core.specs.Headline.{Campaign, say, plans, report_text, brief_report_text, campaign_map_text, first_failure}
+use Rattle.campaign_settings.specs.declared.settings.Settings.{Settings}
+use Rattle.campaign_core.specs.Headline.{Campaign, campaign_of, say, plans, report_text, brief_report_text, campaign_map_text, first_failure}
 use Rattle.campaign_core.specs.CommandTexts.{plan_lines, plans_text, try_text, tried, reduce_text}
 use Rattle.command_words.specs.declared.words.Form.{Form}
 use Rattle.command_words.specs.declared.words.Form.TheVariants.{Whole, Brief}
@@ -87,7 +86,7 @@ reduce_answer c stream scenario = Ok (reduce_text c stream scenario, is_fail (sa
 -- a scenario's run under a stream number, told hit by hit, whether it fails, and which of its names no point has
 unfoldable pub explain_answer : Campaign → ℕ → Entries → Answer
 explain_answer c stream scenario = Ok (
-  explain_text c.codes c.asks (given_of scenario c.points c.plans.seed stream c.limit),
+  explain_text c.codes c.asks (given_of scenario c.points c.plans.seed stream c.max_hits),
   is_fail (tried c stream scenario).verdict,
   notes_of c.points scenario,
 )
@@ -135,56 +134,31 @@ outside_answer (order.Explain which) plans = Err outside_target
 
 -- ---- by the settings
 
--- what they ask of the list of plans
-abbrev pub asked_by : Given → Asked
-asked_by given = record {
-  pairs = given.pairs;
-  storms = given.storms;
-  rate = given.rate;
-  listed = given.scenarios;
-  seed = given.seed;
-}
-
--- what a campaign is given, by what its target asks, the names of its points and codes, its label, and the settings
-abbrev pub campaign_by : (List Reply → Move) → List (List ℕ) → (ℕ → List ℕ) → List ℕ → Given → Campaign
-campaign_by asks points codes label given = record {
-  asks = asks;
-  points = points;
-  codes = codes;
-  label = label;
-  limit = given.max_hits;
-  plans = asked_by given;
-}
-
--- the same for a bundled target with its workload; a component from outside isn't run here
+-- what a campaign on a bundled target with its workload is given; a component from outside isn't run here
 abbrev pub campaign_for : Given → Choice → Option Campaign
 campaign_for given (choice.Replace variant work) =
-    Some (campaign_by (replacing variant work) replace_points replace_codes (replace_label variant) given)
+    Some (campaign_of (replacing variant work) replace_points replace_codes (replace_label variant) given)
 campaign_for given (choice.Maildir variant messages) =
-    Some (campaign_by (delivering variant messages) maildir_points maildir_codes (maildir_label variant) given)
+    Some (campaign_of (delivering variant messages) maildir_points maildir_codes (maildir_label variant) given)
 campaign_for given (choice.Commit variant work) =
-    Some (campaign_by (committing variant work) commit_points commit_codes (commit_label variant) given)
+    Some (campaign_of (committing variant work) commit_points commit_codes (commit_label variant) given)
 campaign_for given (choice.Outside outside) = None
 
 -- the plans over the points and the counts that the settings tell of a component from outside
 abbrev pub outside_plans : Given → Description → List Entries
-outside_plans given outside = plan_list outside.points outside.hits (asked_by given)
+outside_plans given outside = plan_list outside.points outside.hits given.plans
 
 abbrev pub choice_answer : Order → Given → Choice → Answer
 choice_answer order given (choice.Replace variant work) =
-    order_answer order (campaign_by (replacing variant work) replace_points replace_codes (replace_label variant) given)
+    order_answer order (campaign_of (replacing variant work) replace_points replace_codes (replace_label variant) given)
 choice_answer order given (choice.Maildir variant messages) =
-    order_answer order (campaign_by (delivering variant messages) maildir_points maildir_codes (maildir_label variant) given)
+    order_answer order (campaign_of (delivering variant messages) maildir_points maildir_codes (maildir_label variant) given)
 choice_answer order given (choice.Commit variant work) =
-    order_answer order (campaign_by (committing variant work) commit_points commit_codes (commit_label variant) given)
+    order_answer order (campaign_of (committing variant work) commit_points commit_codes (commit_label variant) given)
 choice_answer order given (choice.Outside outside) = outside_answer order (outside_plans given outside)
 
-abbrev pub chosen_answer : Order → Given → Option Choice → Answer
-chosen_answer order given None = Err (bad_settings (wrong key.Target fault.Missing))
-chosen_answer order given (Some chosen) = choice_answer order given chosen
-
-abbrev pub given_answer : Order → Read Given → Answer
-given_answer order (Ok given) = chosen_answer order given given.choice
+abbrev pub given_answer : Order → Read Settings → Answer
+given_answer order (Ok s) = choice_answer order s.campaign s.choice
 given_answer order (Err cause) = Err (bad_settings cause)
 
 -- the answer to a text of settings

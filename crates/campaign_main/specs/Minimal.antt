@@ -20,4 +20,4 @@ ReducesToMinimal (order.Explain which) c = Unit {0}
 -- by the text of the settings, where it gives settings and they choose a bundled target
 abbrev pub TextReducesToMinimal : Order → List ℕ → Type 0
 TextReducesToMinimal order text =
-    IfOk (settings_of text) (λ given. IfSome given.choice (λ choice. IfSome (campaign_for given choice) (ReducesToMinimal order)))
+    IfOk (settings_of text) (λ s. IfSome (campaign_for s.campaign s.choice) (ReducesToMinimal order))

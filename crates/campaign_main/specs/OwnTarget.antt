@@ -1,18 +1,14 @@
 -- What a command answers to the bytes of its settings, over a target that the program brings itself.
 use Rattle.std.specs.Prelude.{ℕ, List, IfOk, Ok, Err}
-use Rattle.target_trait.specs.declared.target.Target.{Ghosts}
+use Rattle.campaign_given.specs.Given.{Given}
 use Rattle.campaign_settings.specs.Own.{own_settings_of}
-use Rattle.campaign_settings.specs.Settings.{Given, Read}
+use Rattle.campaign_settings.specs.Settings.{Read}
 use Rattle.campaign_core.specs.Headline.{Campaign}
 use Rattle.command_words.specs.declared.words.Order.{Order}
-use Rattle.campaign_main.specs.Commands.{Answer, bad_settings, campaign_by, of_text, order_answer}
+use Rattle.campaign_main.specs.Commands.{Answer, bad_settings, of_text, order_answer}
 use Rattle.campaign_main.specs.Minimal.{ReducesToMinimal}
 
--- what a campaign of the target on a workload is given, by the settings
-abbrev pub own_campaign : {T W : Type 0} → Ghosts T W → T → W → Given → Campaign
-own_campaign target setup workload given =
-    campaign_by (target.asks setup workload) target.names target.code_text (target.label_of setup) given
-
+-- the answer to what a text of settings gives, by what a campaign over the target is given by it
 abbrev pub own_given_answer : Order → (Given → Campaign) → Read Given → Answer
 own_given_answer order campaign (Ok given) = order_answer order (campaign given)
 own_given_answer order campaign (Err cause) = Err (bad_settings cause)

@@ -1,6 +1,6 @@
 -- What is answered to a question on a component that somebody else runs, by the bytes of the settings and of the answers. A sink held `old`
 -- and holds `new`, where it tells its bytes, and says whether it failed.
-use Rattle.std.specs.Prelude.{◌≡◌, ◌≤◌, ◌<◌, ◌⊎◌, ℕ, Bool, true, false, List, [], ◌∷◌, length, Option, Some, None, is_some, option_map, slice_get, Result, Ok, Err}
+use Rattle.std.specs.Prelude.{◌≡◌, ◌≤◌, ◌<◌, ◌⊎◌, ℕ, Bool, true, false, List, [], ◌∷◌, length, Option, is_some, option_map, slice_get, Result, Ok, Err}
 use Rattle.std.specs.Io.KnownBytes.{Appends}
 use Rattle.scenario_values.specs.Scenario.{Entries}
 use Rattle.plan_gen.specs.PlanList.{most_plans}
@@ -11,12 +11,12 @@ use Rattle.report.specs.ReportText.{report_lines, text_of}
 use Rattle.answer_text.specs.Answers.{Answer as Told, Says}
 use Rattle.answer_text.specs.FirstFault.{reading_of}
 use Rattle.answer_text.specs.Known.{AgreesWithText, known_by}
-use Rattle.campaign_settings.specs.Description.{Description}
-use Rattle.campaign_settings.specs.Settings.{Given, Read, settings_of, wrong}
+use Rattle.campaign_given.specs.Description.{Description}
+use Rattle.campaign_given.specs.Given.{Given}
+use Rattle.campaign_settings.specs.Settings.{Read, settings_of}
 use Rattle.campaign_settings.specs.declared.choice.Choice.{Choice}
 use Rattle.campaign_settings.specs.declared.choice.Choice.TheVariants as choice
-use Rattle.campaign_settings.specs.declared.keys.Key.TheVariants as key
-use Rattle.campaign_settings.specs.declared.keys.KeyFault.TheVariants as fault
+use Rattle.campaign_settings.specs.declared.settings.Settings.{Settings}
 use Rattle.campaign_core.specs.Findings.{report_of}
 use Rattle.campaign_core.specs.declared.ending.CampaignFault.TheVariants as campaign
 use Rattle.command_words.specs.declared.words.Form.{Form}
@@ -41,15 +41,14 @@ use Rattle.campaign_main.specs.FaultLines.{refusal_line, unreadable_answers_line
 abbrev pub Subject : Type 0
 Subject = Given × Description
 
-abbrev pub chosen_subject : Given → Option Choice → Result Subject Refusal
-chosen_subject given None = Err (bad_settings (wrong key.Target fault.Missing))
-chosen_subject given (Some (choice.Replace variant work)) = Err bundled_target
-chosen_subject given (Some (choice.Maildir variant messages)) = Err bundled_target
-chosen_subject given (Some (choice.Commit variant work)) = Err bundled_target
-chosen_subject given (Some (choice.Outside outside)) = Ok (given, outside)
+abbrev pub chosen_subject : Given → Choice → Result Subject Refusal
+chosen_subject given (choice.Replace variant work) = Err bundled_target
+chosen_subject given (choice.Maildir variant messages) = Err bundled_target
+chosen_subject given (choice.Commit variant work) = Err bundled_target
+chosen_subject given (choice.Outside outside) = Ok (given, outside)
 
-abbrev pub given_subject : Read Given → Result Subject Refusal
-given_subject (Ok given) = chosen_subject given given.choice
+abbrev pub given_subject : Read Settings → Result Subject Refusal
+given_subject (Ok s) = chosen_subject s.campaign s.choice
 given_subject (Err cause) = Err (bad_settings cause)
 
 -- by a text of settings
@@ -73,9 +72,9 @@ asks_text s answers = text_of (lines_for (untried_of s answers))
 -- the report of a component, in a form
 abbrev pub told_text : Form → Subject → Component → List ℕ
 told_text Whole s component = text_of (report_lines s.1.points (code_name s.1.codes)
-    (report_of (say component) s.1.label s.0.seed s.1.hits (outside_plans s.0 s.1)))
+    (report_of (say component) s.1.label s.0.plans.seed s.1.hits (outside_plans s.0 s.1)))
 told_text Brief s component = text_of (brief_lines s.1.points (code_name s.1.codes)
-    (report_of (say component) s.1.label s.0.seed s.1.hits (outside_plans s.0 s.1)) (outside_plans s.0 s.1))
+    (report_of (say component) s.1.label s.0.plans.seed s.1.hits (outside_plans s.0 s.1)) (outside_plans s.0 s.1))
 
 -- whether a plan fails
 abbrev pub is_found : Subject → Component → Bool

@@ -1,6 +1,5 @@
 //! A command over the target that the settings choose.
 ghost use Rattle.std.specs.Prelude.{◌≡◌, false, IfSome, OnOk};
-ghost use Rattle.campaign_settings.specs.Settings.{given_of};
 ghost use Rattle.campaign_main.specs.Commands.{campaign_for, choice_answer};
 ghost use Rattle.campaign_main.specs.Ends.{ComesTo, Noted};
 ghost use Rattle.campaign_main.specs.Minimal.{ReducesToMinimal};
@@ -8,7 +7,8 @@ ghost use Rattle.campaign_main.specs.Minimal.{ReducesToMinimal};
 use crate::command::command;
 use crate::fault::CommandFault;
 use crate::outside::outside_command;
-use campaign_settings::{Choice, Settings};
+use campaign_given::CampaignSettings;
+use campaign_settings::Choice;
 use command_words::Order;
 use commit_target::Commit;
 use file_replace::Replace;
@@ -26,17 +26,17 @@ pub fn chosen_command<W: Sink, E: Sink, H: Threads + Wait + Sync, G: Gate>(
     order: &Order,
     gate: &G,
     choice: &Choice,
-    settings: &Settings,
+    settings: &CampaignSettings,
     output: &mut W,
     faults: &mut E,
 ) -> Result<bool, CommandFault>
     requires output { W.has_failed output.old ≡ false }
     requires faults { E.has_failed faults.old ≡ false }
-    ensures text { ComesTo (choice_answer order.now (given_of settings.now) choice.now) (W.told output.old) (W.told output.new)
+    ensures text { ComesTo (choice_answer order.now settings.now choice.now) (W.told output.old) (W.told output.new)
         (W.has_failed output.new) result }
-    ensures noted { Noted (choice_answer order.now (given_of settings.now) choice.now)
+    ensures noted { Noted (choice_answer order.now settings.now choice.now)
         (E.told faults.old) (E.told faults.new) (E.has_failed faults.new) result }
-    ensures minimal { OnOk result (IfSome (campaign_for (given_of settings.now) choice.now) (ReducesToMinimal order.now)) }
+    ensures minimal { OnOk result (IfSome (campaign_for settings.now choice.now) (ReducesToMinimal order.now)) }
 {
     match choice {
         Choice::Replace(variant, work) => {

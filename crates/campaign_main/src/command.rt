@@ -17,7 +17,7 @@ use campaign_core::{
     CampaignFault, Ending, brief_campaign, campaign, map_campaign, plan_list, plan_scenario,
     reduce_one, try_one,
 };
-use campaign_settings::Settings;
+use campaign_given::CampaignSettings;
 use command_words::{Form, Order, Which};
 use run_explained::explain_one;
 use scenario_grammar::{Scenario, parse};
@@ -34,7 +34,7 @@ fn report_plans<T: Target + Send, W: Sink, H: Threads + Wait + Sync, G: Gate>(
     gate: &G,
     target: &T,
     workload: &T::Workload,
-    settings: &Settings,
+    settings: &CampaignSettings,
     form: Form,
     output: &mut W,
 ) -> Result<Ending, CampaignFault>
@@ -63,7 +63,7 @@ fn run_plans<T: Target + Send, W: Sink, H: Threads + Wait + Sync, G: Gate>(
     gate: &G,
     target: &T,
     workload: &T::Workload,
-    settings: &Settings,
+    settings: &CampaignSettings,
     form: Form,
     output: &mut W,
 ) -> Result<bool, CommandFault>
@@ -85,7 +85,7 @@ fn map_plans<T: Target + Send, W: Sink, H: Threads + Wait + Sync, G: Gate>(
     gate: &G,
     target: &T,
     workload: &T::Workload,
-    settings: &Settings,
+    settings: &CampaignSettings,
     output: &mut W,
 ) -> Result<bool, CommandFault>
 where
@@ -103,7 +103,7 @@ fn list_plans<T: Target, W: Sink>(
     alloc: Global,
     target: &T,
     workload: &T::Workload,
-    settings: &Settings,
+    settings: &CampaignSettings,
     output: &mut W,
 ) -> Result<bool, CommandFault>
     requires { W.has_failed output.old ≡ false }
@@ -119,7 +119,7 @@ fn take_scenario<T: Target>(
     alloc: Global,
     target: &T,
     workload: &T::Workload,
-    settings: &Settings,
+    settings: &CampaignSettings,
     which: &Which,
 ) -> Result<(u64, Scenario), CommandFault>
     ensures ok { IfOk result (λ t. taken (campaign_on T.Target target.now workload.now settings.now) which.now ≡ Ok t) }
@@ -142,7 +142,7 @@ fn take_noted<T: Target>(
     alloc: Global,
     target: &T,
     workload: &T::Workload,
-    settings: &Settings,
+    settings: &CampaignSettings,
     which: &Which,
 ) -> Result<(u64, Scenario, String), CommandFault>
     ensures ok { IfOk result (λ t. taken (campaign_on T.Target target.now workload.now settings.now) which.now ≡ Ok (t.0, t.1)) }
@@ -159,7 +159,7 @@ fn try_which<T: Target, W: Sink, E: Sink>(
     alloc: Global,
     target: &mut T,
     workload: &T::Workload,
-    settings: &Settings,
+    settings: &CampaignSettings,
     which: &Which,
     output: &mut W,
     faults: &mut E,
@@ -172,11 +172,7 @@ fn try_which<T: Target, W: Sink, E: Sink>(
         Noted (taken_answer (try_answer c) (taken c which.now)) (E.told faults.old) (E.told faults.new) (E.has_failed faults.new) result }
 {
     let (stream, scenario, notes) = take_noted(alloc, target, workload, settings, which)?;
-    let seed = settings.seed;
-    let max_hits = settings.max_hits;
-    let verdict = try_one(
-        alloc, target, workload, seed, stream, max_hits, &scenario, output,
-    )?;
+    let verdict = try_one(alloc, target, workload, settings, stream, &scenario, output)?;
     note(notes.as_str(), faults);
     Ok(is_fail(verdict))
 }
@@ -186,7 +182,7 @@ fn explain_which<T: Target, W: Sink, E: Sink>(
     alloc: Global,
     target: &mut T,
     workload: &T::Workload,
-    settings: &Settings,
+    settings: &CampaignSettings,
     which: &Which,
     output: &mut W,
     faults: &mut E,
@@ -199,11 +195,7 @@ fn explain_which<T: Target, W: Sink, E: Sink>(
         Noted (taken_answer (explain_answer c) (taken c which.now)) (E.told faults.old) (E.told faults.new) (E.has_failed faults.new) result }
 {
     let (stream, scenario, notes) = take_noted(alloc, target, workload, settings, which)?;
-    let seed = settings.seed;
-    let max_hits = settings.max_hits;
-    let verdict = explain_one(
-        alloc, target, workload, seed, stream, max_hits, &scenario, output,
-    )?;
+    let verdict = explain_one(alloc, target, workload, settings, stream, &scenario, output)?;
     note(notes.as_str(), faults);
     Ok(is_fail(verdict))
 }
@@ -215,7 +207,7 @@ fn reduce_which<T: Target + Send, W: Sink, H: Threads + Wait + Sync, G: Gate>(
     gate: &G,
     target: &T,
     workload: &T::Workload,
-    settings: &Settings,
+    settings: &CampaignSettings,
     which: &Which,
     output: &mut W,
 ) -> Result<bool, CommandFault>
@@ -245,7 +237,7 @@ pub fn command<T: Target + Send, W: Sink, E: Sink, H: Threads + Wait + Sync, G: 
     gate: &G,
     target: &mut T,
     workload: &T::Workload,
-    settings: &Settings,
+    settings: &CampaignSettings,
     output: &mut W,
     faults: &mut E,
 ) -> Result<bool, CommandFault>

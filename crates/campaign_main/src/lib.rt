@@ -18,9 +18,8 @@ mod refusals;
 pub use campaign_core::{
     CampaignFault, Ending, campaign, plan_list, plan_scenario, reduce_one, try_one,
 };
-pub use campaign_settings::{
-    Choice, Key, LIMIT, Outside, Place, Settings, SettingsFault, TargetName,
-};
+pub use campaign_given::{CampaignSettings, Outside};
+pub use campaign_settings::{Choice, Key, LIMIT, Place, Settings, SettingsFault, TargetName};
 pub use command_words::{Form, Line, Order, Question, VERSION, Which, WordsFault, read_words};
 pub use commit_target::{Transactions, Variant as CommitVariant, Vote, Votes};
 pub use exit::{Exit, status};

@@ -1,11 +1,10 @@
 //! A command on a component that somebody else runs.
 ghost use Rattle.std.specs.Prelude.{◌≡◌, false};
-ghost use Rattle.campaign_settings.specs.Settings.{given_of};
 ghost use Rattle.campaign_main.specs.Commands.{outside_answer, outside_plans};
 ghost use Rattle.campaign_main.specs.Ends.{ComesTo};
 
 use crate::fault::CommandFault;
-use campaign_settings::{Outside, Settings};
+use campaign_given::{CampaignSettings, Outside};
 use command_words::Order;
 use outside_campaign::list_plans;
 use std::alloc::Global;
@@ -15,11 +14,11 @@ use target_trait::Sink;
 fn list<W: Sink>(
     alloc: Global,
     outside: &Outside,
-    settings: &Settings,
+    settings: &CampaignSettings,
     output: &mut W,
 ) -> Result<bool, CommandFault>
     requires { W.has_failed output.old ≡ false }
-    ensures { ComesTo (outside_answer Order.Plans (outside_plans (given_of settings.now) outside.now)) (W.told output.old) (W.told output.new)
+    ensures { ComesTo (outside_answer Order.Plans (outside_plans settings.now outside.now)) (W.told output.old) (W.told output.new)
         (W.has_failed output.new) result }
 {
     list_plans(alloc, outside, settings, output)?;
@@ -32,11 +31,11 @@ pub fn outside_command<W: Sink>(
     alloc: Global,
     order: &Order,
     outside: &Outside,
-    settings: &Settings,
+    settings: &CampaignSettings,
     output: &mut W,
 ) -> Result<bool, CommandFault>
     requires { W.has_failed output.old ≡ false }
-    ensures { ComesTo (outside_answer order.now (outside_plans (given_of settings.now) outside.now)) (W.told output.old) (W.told output.new)
+    ensures { ComesTo (outside_answer order.now (outside_plans settings.now outside.now)) (W.told output.old) (W.told output.new)
         (W.has_failed output.new) result }
 {
     match order {

@@ -4,12 +4,13 @@ ghost use Rattle.campaign_core.specs.Headline.{campaign_on};
 ghost use Rattle.campaign_main.specs.Commands.{order_answer};
 ghost use Rattle.campaign_main.specs.Ends.{EndsAs, IsRefused, Leaves, OnWhole, Tells, TellsAs, TellsNotes};
 ghost use Rattle.campaign_main.specs.Minimal.{ReducesToMinimal};
-ghost use Rattle.campaign_main.specs.OwnTarget.{OwnReducesToMinimal, own_answer, own_campaign, own_text_answer};
+ghost use Rattle.campaign_main.specs.OwnTarget.{OwnReducesToMinimal, own_answer, own_text_answer};
 
 use crate::command::command;
 use crate::exit::{Exit, exit_of};
 use crate::input::read_all;
 use crate::lines::{no_memory, unanswered, unlawful, unread, unset};
+use campaign_given::CampaignSettings;
 use campaign_settings::Settings;
 use command_words::Order;
 use std::alloc::{AllocError, Global};
@@ -28,7 +29,7 @@ fn target_command<T: Target + Send, W: Sink, E: Sink, H: Threads + Wait + Sync, 
     gate: &G,
     target: &mut T,
     workload: &T::Workload,
-    settings: &Settings,
+    settings: &CampaignSettings,
     output: &mut W,
     faults: &mut E,
 ) -> Exit
@@ -71,11 +72,11 @@ where
     T::Workload: Sync,
     requires output { W.has_failed output.old ≡ false }
     requires faults { E.has_failed faults.old ≡ false }
-    ensures end { EndsAs result (own_text_answer order.now (own_campaign T.Target target.old workload.now) text.now) (W.told output.old)
+    ensures end { EndsAs result (own_text_answer order.now (campaign_on T.Target target.old workload.now) text.now) (W.told output.old)
         (W.told output.new) (W.has_failed output.new) }
-    ensures told { TellsAs result (own_text_answer order.now (own_campaign T.Target target.old workload.now) text.now)
+    ensures told { TellsAs result (own_text_answer order.now (campaign_on T.Target target.old workload.now) text.now)
         (E.told faults.old) (E.told faults.new) (E.has_failed faults.new) }
-    ensures minimal { OnWhole result (OwnReducesToMinimal order.now (own_campaign T.Target target.old workload.now) text.now) }
+    ensures minimal { OnWhole result (OwnReducesToMinimal order.now (campaign_on T.Target target.old workload.now) text.now) }
 {
     match Settings::read_own(alloc, text) {
         Ok(settings) => target_command(
@@ -119,14 +120,14 @@ where
     requires output { W.has_failed output.old ≡ false }
     requires faults { E.has_failed faults.old ≡ false }
     ensures end { IfSome (R.remaining reader.old) (λ bytes. EndsAs result
-        (own_answer order.now (own_campaign T.Target target.old workload.now) bytes) (W.told output.old) (W.told output.new) (W.has_failed output.new)) }
+        (own_answer order.now (campaign_on T.Target target.old workload.now) bytes) (W.told output.old) (W.told output.new) (W.has_failed output.new)) }
     ensures noted { OnWhole result (IfSome (R.remaining reader.old) (λ bytes.
-        TellsNotes (own_answer order.now (own_campaign T.Target target.old workload.now) bytes) (E.told faults.old) (E.told faults.new)
+        TellsNotes (own_answer order.now (campaign_on T.Target target.old workload.now) bytes) (E.told faults.old) (E.told faults.new)
         (E.has_failed faults.new))) }
     ensures cause { result ≡ Exit.Refused → IfSome (R.remaining reader.old)
-        (λ bytes. IsRefused (own_answer order.now (own_campaign T.Target target.old workload.now) bytes) (E.told faults.old) (E.told faults.new)
+        (λ bytes. IsRefused (own_answer order.now (campaign_on T.Target target.old workload.now) bytes) (E.told faults.old) (E.told faults.new)
         (E.has_failed faults.new)) }
-    ensures minimal { OnWhole result (IfSome (R.remaining reader.old) (OwnReducesToMinimal order.now (own_campaign T.Target target.old workload.now))) }
+    ensures minimal { OnWhole result (IfSome (R.remaining reader.old) (OwnReducesToMinimal order.now (campaign_on T.Target target.old workload.now))) }
     ensures output { Leaves result (W.told output.old) (W.told output.new) (W.has_failed output.new) }
     ensures told { Tells order.now result (E.told faults.old) (E.told faults.new) (E.has_failed faults.new) }
 {

@@ -1,6 +1,5 @@
 //! What the program does, over any reader and any sinks.
 ghost use Rattle.std.specs.Prelude.{◌≡◌, false, IfSome};
-ghost use Rattle.campaign_settings.specs.Settings.{given_of};
 ghost use Rattle.campaign_main.specs.Commands.{answer_of, campaign_for, choice_answer, text_answer};
 ghost use Rattle.campaign_main.specs.Ends.{EndsAs, IsRefused, Leaves, OnWhole, Tells, TellsAs, TellsNotes};
 ghost use Rattle.campaign_main.specs.Minimal.{ReducesToMinimal, TextReducesToMinimal};
@@ -9,7 +8,8 @@ use crate::chosen::chosen_command;
 use crate::exit::{Exit, exit_of};
 use crate::input::read_all;
 use crate::lines::{unanswered, unread, unset};
-use campaign_settings::{Choice, Key, Settings, SettingsFault};
+use campaign_given::CampaignSettings;
+use campaign_settings::{Choice, Settings};
 use command_words::Order;
 use std::alloc::Global;
 use std::io::Read;
@@ -25,16 +25,16 @@ fn perform_chosen<W: Sink, E: Sink, H: Threads + Wait + Sync, G: Gate>(
     order: &Order,
     gate: &G,
     choice: &Choice,
-    settings: &Settings,
+    settings: &CampaignSettings,
     output: &mut W,
     faults: &mut E,
 ) -> Exit
     requires output { W.has_failed output.old ≡ false }
     requires faults { E.has_failed faults.old ≡ false }
-    ensures end { EndsAs result (choice_answer order.now (given_of settings.now) choice.now) (W.told output.old) (W.told output.new) (W.has_failed output.new) }
-    ensures told { TellsAs result (choice_answer order.now (given_of settings.now) choice.now)
+    ensures end { EndsAs result (choice_answer order.now settings.now choice.now) (W.told output.old) (W.told output.new) (W.has_failed output.new) }
+    ensures told { TellsAs result (choice_answer order.now settings.now choice.now)
         (E.told faults.old) (E.told faults.new) (E.has_failed faults.new) }
-    ensures minimal { OnWhole result (IfSome (campaign_for (given_of settings.now) choice.now) (ReducesToMinimal order.now)) }
+    ensures minimal { OnWhole result (IfSome (campaign_for settings.now choice.now) (ReducesToMinimal order.now)) }
 {
     match chosen_command(rt, alloc, order, gate, choice, settings, output, faults) {
         Ok(found) => exit_of(found),
@@ -59,13 +59,18 @@ fn perform_text<W: Sink, E: Sink, H: Threads + Wait + Sync, G: Gate>(
         (E.told faults.old) (E.told faults.new) (E.has_failed faults.new) }
     ensures minimal { OnWhole result (TextReducesToMinimal order.now text.now) }
 {
-    let settings = match Settings::read(alloc, text) {
-        Ok(settings) => settings,
-        Err(fault) => return unset(alloc, &fault, faults),
-    };
-    match &settings.choice {
-        Some(choice) => perform_chosen(rt, alloc, order, gate, choice, &settings, output, faults),
-        None => unset(alloc, &SettingsFault::Missing(Key::Target), faults),
+    match Settings::read(alloc, text) {
+        Ok(settings) => perform_chosen(
+            rt,
+            alloc,
+            order,
+            gate,
+            &settings.choice,
+            &settings.campaign,
+            output,
+            faults,
+        ),
+        Err(fault) => unset(alloc, &fault, faults),
     }
 }
 

@@ -1,6 +1,5 @@
 //! Questions on a component that somebody else runs, over any readers and any sinks.
 ghost use Rattle.std.specs.Prelude.{◌≡◌, false, IfSome, Ok, Some};
-ghost use Rattle.campaign_settings.specs.Settings.{given_of};
 ghost use Rattle.campaign_main.specs.Ends.{Leaves, TellsBy};
 ghost use Rattle.campaign_main.specs.Questions.{ComesToText, EndsAnswered, EndsQuestion, IsNotAnswered, TellsOfQuestion, TellsWhy, chosen_subject, subject_of, text_subject};
 
@@ -8,7 +7,8 @@ use crate::exit::{Exit, exit_of};
 use crate::input::{read_all, read_bytes};
 use crate::lines::{bundled, unread, unread_answers, unset, untold};
 use answer_text::LIMIT;
-use campaign_settings::{Choice, Key, Outside, Settings, SettingsFault};
+use campaign_given::{CampaignSettings, Outside};
+use campaign_settings::{Choice, Settings};
 use command_words::{Form, Question};
 use outside_campaign::{OutsideFault, write_asks, write_brief, write_told};
 use std::alloc::Global;
@@ -19,12 +19,12 @@ use target_trait::Sink;
 fn write_asked<W: Sink>(
     alloc: Global,
     outside: &Outside,
-    settings: &Settings,
+    settings: &CampaignSettings,
     answers: &[u8],
     output: &mut W,
 ) -> Result<bool, OutsideFault>
     requires { W.has_failed output.old ≡ false }
-    ensures { ComesToText Question.Asks (given_of settings.now, outside.now) answers.now (W.told output.old) (W.told output.new)
+    ensures { ComesToText Question.Asks (settings.now, outside.now) answers.now (W.told output.old) (W.told output.new)
         (W.has_failed output.new) result }
 {
     write_asks(alloc, outside, settings, answers, output)?;
@@ -35,12 +35,12 @@ fn write_asked<W: Sink>(
 fn write_reported<W: Sink>(
     alloc: Global,
     outside: &Outside,
-    settings: &Settings,
+    settings: &CampaignSettings,
     answers: &[u8],
     output: &mut W,
 ) -> Result<bool, OutsideFault>
     requires { W.has_failed output.old ≡ false }
-    ensures { ComesToText (Question.Report Form.Whole) (given_of settings.now, outside.now) answers.now (W.told output.old) (W.told output.new)
+    ensures { ComesToText (Question.Report Form.Whole) (settings.now, outside.now) answers.now (W.told output.old) (W.told output.new)
         (W.has_failed output.new) result }
 {
     let ending = write_told(alloc, outside, settings, answers, output)?;
@@ -51,12 +51,12 @@ fn write_reported<W: Sink>(
 fn write_brief_reported<W: Sink>(
     alloc: Global,
     outside: &Outside,
-    settings: &Settings,
+    settings: &CampaignSettings,
     answers: &[u8],
     output: &mut W,
 ) -> Result<bool, OutsideFault>
     requires { W.has_failed output.old ≡ false }
-    ensures { ComesToText (Question.Report Form.Brief) (given_of settings.now, outside.now) answers.now (W.told output.old) (W.told output.new)
+    ensures { ComesToText (Question.Report Form.Brief) (settings.now, outside.now) answers.now (W.told output.old) (W.told output.new)
         (W.has_failed output.new) result }
 {
     let told = write_brief(alloc, outside, settings, answers, output)?;
@@ -68,12 +68,12 @@ fn write_answer<W: Sink>(
     alloc: Global,
     question: &Question,
     outside: &Outside,
-    settings: &Settings,
+    settings: &CampaignSettings,
     answers: &[u8],
     output: &mut W,
 ) -> Result<bool, OutsideFault>
     requires { W.has_failed output.old ≡ false }
-    ensures { ComesToText question.now (given_of settings.now, outside.now) answers.now (W.told output.old) (W.told output.new)
+    ensures { ComesToText question.now (settings.now, outside.now) answers.now (W.told output.old) (W.told output.new)
         (W.has_failed output.new) result }
 {
     match question {
@@ -90,16 +90,16 @@ fn answer_by<W: Sink, E: Sink>(
     alloc: Global,
     question: &Question,
     outside: &Outside,
-    settings: &Settings,
+    settings: &CampaignSettings,
     answers: &[u8],
     output: &mut W,
     faults: &mut E,
 ) -> Exit
     requires output { W.has_failed output.old ≡ false }
     requires faults { E.has_failed faults.old ≡ false }
-    ensures end { EndsAnswered question.now (given_of settings.now, outside.now) answers.now result (W.told output.old) (W.told output.new)
+    ensures end { EndsAnswered question.now (settings.now, outside.now) answers.now result (W.told output.old) (W.told output.new)
         (W.has_failed output.new) }
-    ensures told { TellsBy (TellsWhy question.now (Ok (given_of settings.now, outside.now)) answers.now (E.told faults.old) (E.told faults.new)
+    ensures told { TellsBy (TellsWhy question.now (Ok (settings.now, outside.now)) answers.now (E.told faults.old) (E.told faults.new)
         (E.has_failed faults.new))
         result (E.told faults.old) (E.told faults.new) (E.has_failed faults.new) }
 {
@@ -114,17 +114,17 @@ fn answer_on<A: Read, W: Sink, E: Sink>(
     alloc: Global,
     question: &Question,
     outside: &Outside,
-    settings: &Settings,
+    settings: &CampaignSettings,
     answers: &mut A,
     output: &mut W,
     faults: &mut E,
 ) -> Exit
     requires output { W.has_failed output.old ≡ false }
     requires faults { E.has_failed faults.old ≡ false }
-    ensures end { IfSome (A.remaining answers.old) (λ bytes. EndsAnswered question.now (given_of settings.now, outside.now) bytes result
+    ensures end { IfSome (A.remaining answers.old) (λ bytes. EndsAnswered question.now (settings.now, outside.now) bytes result
         (W.told output.old) (W.told output.new) (W.has_failed output.new)) }
     ensures cause { result ≡ Exit.Refused → IfSome (A.remaining answers.old)
-        (λ bytes. IsNotAnswered question.now (Ok (given_of settings.now, outside.now)) bytes (E.told faults.old) (E.told faults.new)
+        (λ bytes. IsNotAnswered question.now (Ok (settings.now, outside.now)) bytes (E.told faults.old) (E.told faults.new)
         (E.has_failed faults.new)) }
     ensures output { Leaves result (W.told output.old) (W.told output.new) (W.has_failed output.new) }
     ensures told { TellsOfQuestion result (E.told faults.old) (E.told faults.new) (E.has_failed faults.new) }
@@ -148,7 +148,7 @@ fn answer_choice<A: Read, W: Sink, E: Sink>(
     alloc: Global,
     question: &Question,
     choice: &Choice,
-    settings: &Settings,
+    settings: &CampaignSettings,
     answers: &mut A,
     output: &mut W,
     faults: &mut E,
@@ -156,9 +156,9 @@ fn answer_choice<A: Read, W: Sink, E: Sink>(
     requires output { W.has_failed output.old ≡ false }
     requires faults { E.has_failed faults.old ≡ false }
     ensures end { IfSome (A.remaining answers.old) (λ bytes. EndsQuestion question.now
-        (chosen_subject (given_of settings.now) (Some choice.now)) bytes result (W.told output.old) (W.told output.new) (W.has_failed output.new)) }
+        (chosen_subject settings.now choice.now) bytes result (W.told output.old) (W.told output.new) (W.has_failed output.new)) }
     ensures cause { result ≡ Exit.Refused → IfSome (A.remaining answers.old)
-        (λ bytes. IsNotAnswered question.now (chosen_subject (given_of settings.now) (Some choice.now)) bytes (E.told faults.old) (E.told faults.new)
+        (λ bytes. IsNotAnswered question.now (chosen_subject settings.now choice.now) bytes (E.told faults.old) (E.told faults.new)
         (E.has_failed faults.new)) }
     ensures output { Leaves result (W.told output.old) (W.told output.new) (W.has_failed output.new) }
     ensures told { TellsOfQuestion result (E.told faults.old) (E.told faults.new) (E.has_failed faults.new) }
@@ -189,13 +189,17 @@ fn answer_text<A: Read, W: Sink, E: Sink>(
     ensures output { Leaves result (W.told output.old) (W.told output.new) (W.has_failed output.new) }
     ensures told { TellsOfQuestion result (E.told faults.old) (E.told faults.new) (E.has_failed faults.new) }
 {
-    let settings = match Settings::read(alloc, text) {
-        Ok(settings) => settings,
-        Err(fault) => return unset(alloc, &fault, faults),
-    };
-    match &settings.choice {
-        Some(choice) => answer_choice(alloc, question, choice, &settings, answers, output, faults),
-        None => unset(alloc, &SettingsFault::Missing(Key::Target), faults),
+    match Settings::read(alloc, text) {
+        Ok(settings) => answer_choice(
+            alloc,
+            question,
+            &settings.choice,
+            &settings.campaign,
+            answers,
+            output,
+            faults,
+        ),
+        Err(fault) => unset(alloc, &fault, faults),
     }
 }
 

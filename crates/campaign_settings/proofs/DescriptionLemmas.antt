@@ -7,7 +7,7 @@ use Rattle.toml.specs.Data.{Data, Items, as_integer}
 use Rattle.scenario_grammar.proofs.CutLaws.{not_false}
 use Rattle.scenario_values.specs.Scenario.{is_name}
 use Rattle.action_eval.specs.Catalogue.{HasDistinct, IsCatalogue}
-use Rattle.campaign_settings.specs.Description.{AreCodes, are_codes, are_distinct, are_points, has_control, is_code, is_label, is_point}
+use Rattle.campaign_given.specs.Description.{AreCodes, are_codes, are_distinct, are_points, has_control, is_code, is_label, is_point}
 use Rattle.campaign_settings.specs.Keys.{Text}
 use Rattle.campaign_settings.specs.Lists.{all_in}
 use Rattle.campaign_settings.specs.Outside.{count_of}

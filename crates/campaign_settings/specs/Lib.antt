@@ -1,7 +1,6 @@
 pub mod Keys
 pub mod Values
 pub mod Lists
-pub mod Description
 pub mod Outside
 pub mod Settings
 pub mod Own

@@ -5,7 +5,7 @@ use Rattle.toml.specs.Data.{Data, as_array, as_integer, as_str}
 use Rattle.scenario_values.specs.declared.term.Term.{Term}
 use Rattle.scenario_values.specs.Printed.{printed}
 use Rattle.scenario_values.specs.Scenario.{Entries}
-use Rattle.campaign_settings.specs.Description.{has_control, is_label}
+use Rattle.campaign_given.specs.Description.{has_control, is_label}
 use Rattle.campaign_settings.specs.Keys.{Text}
 use Rattle.campaign_settings.specs.Lists.{all_in, texts_in}
 use Rattle.campaign_settings.specs.Values.{in_ranges, ranged, typed}

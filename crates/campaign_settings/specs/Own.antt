@@ -1,8 +1,9 @@
 -- What the settings' text means to a program that brings its own target: it has no key that tells of a target.
-use Rattle.std.specs.Prelude.{None, Ok, codes}
+use Rattle.std.specs.Prelude.{Ok, codes}
 use Rattle.toml.specs.Data.{Members, get_member}
+use Rattle.campaign_given.specs.Given.{Given}
 use Rattle.campaign_settings.specs.Keys.{Text}
-use Rattle.campaign_settings.specs.Settings.{Given, Read, after, known_in, of_toml, planning_in, running_in, spelled_at}
+use Rattle.campaign_settings.specs.Settings.{Read, after, campaign_of, known_in, members_of, planning_in, running_in, spelled_at}
 use Rattle.campaign_settings.specs.declared.keys.Place.TheVariants.{Own}
 
 -- the settings, or their first fault in the order in which faults are looked for
@@ -12,17 +13,8 @@ own_settings_in ms =
     after (running_in ms) (λ running.
     after (planning_in ms) (λ planning.
     after (spelled_at (get_member (codes "scenarios") ms)) (λ scenarios.
-    Ok (record {
-      choice = None;
-      seed = running.seed;
-      workers = running.workers;
-      max_hits = running.max_hits;
-      pairs = planning.pairs;
-      storms = planning.storms;
-      rate = planning.rate;
-      scenarios = scenarios;
-    })))))
+    Ok (campaign_of running planning scenarios)))))
 
 -- a text's settings, or its first fault
 abbrev pub own_settings_of : Text → Read Given
-own_settings_of text = of_toml own_settings_in text
+own_settings_of text = after (members_of text) own_settings_in

@@ -1,5 +1,5 @@
 -- What the settings' text means: one definition, with the order in which its faults are looked for.
-use Rattle.std.specs.Prelude.{◌≡◌, ◌+◌, ◌≤◌, ℕ, Bool, false, List, [], ◌∷◌, length, Option, Some, None, Result, Ok, Err, codes, nat_lt, string_bytes, if◌then◌else◌}
+use Rattle.std.specs.Prelude.{◌≡◌, ◌+◌, ◌≤◌, ℕ, List, [], ◌∷◌, length, Option, Some, None, Result, Ok, Err, codes, nat_lt, string_bytes, if◌then◌else◌}
 use Rattle.std.specs.Cmp.Lexicographic.{slice_cmp}
 use Rattle.std.specs.List.{list_all}
 use Rattle.std.specs.Ordering.{match_ordering, nat_cmp}
@@ -7,13 +7,14 @@ use Rattle.toml.specs.Data.{Data, Members, get_member, member, no_members}
 use Rattle.toml.specs.Parse.{parse_document}
 use Rattle.scenario_grammar.specs.FirstFault.{Fault, reading}
 use Rattle.scenario_values.specs.Scenario.{Entries}
+use Rattle.campaign_given.specs.Given.{Given, defaults}
 use Rattle.file_replace.specs.declared.variant.Variant.{Variant as ReplaceVariant}
 use Rattle.maildir_target.specs.declared.variant.Variant.{Variant as MaildirVariant}
 use Rattle.commit_target.specs.declared.variant.Variant.{Variant as CommitVariant}
 use Rattle.campaign_settings.specs.Keys.{Text, is_known, target_name}
 use Rattle.campaign_settings.specs.Values.{boolean_at, number_at, lists_at, setup_at, table_at, target_at, text_at, texts_at}
 use Rattle.campaign_settings.specs.Lists.{chunks_of, wishes_of}
-use Rattle.campaign_settings.specs.Description.{are_codes, are_points}
+use Rattle.campaign_given.specs.Description.{are_codes, are_points}
 use Rattle.campaign_settings.specs.Outside.{can_be_handed, counts_at, label_at, names_at}
 use Rattle.campaign_settings.specs.declared.keys.Key.{Key}
 use Rattle.campaign_settings.specs.declared.keys.Key.TheVariants as key
@@ -33,29 +34,6 @@ use Rattle.campaign_settings.specs.declared.fault.SettingsFault.{SettingsFault}
 use Rattle.campaign_settings.specs.declared.fault.SettingsFault.TheVariants.{TooLong, NotToml, UnknownKey, Missing, WrongType, OutOfRange, Scenario, Memory}
 
 -- ---- what a text gives, or why it gives nothing
-
-pub record Given : Type 0 where
-  pub choice : Option Choice
-  pub seed : ℕ
-  pub workers : ℕ
-  pub max_hits : ℕ
-  pub pairs : Bool
-  pub storms : ℕ
-  pub rate : ℕ
-  pub scenarios : List Entries
-
--- what holds where nothing else is given
-abbrev pub defaults : Given
-defaults = record {
-  choice = None;
-  seed = 0;
-  workers = 1;
-  max_hits = 1000;
-  pairs = false;
-  storms = 0;
-  rate = 100;
-  scenarios = [];
-}
 
 pub data Cause : Type 0 where
   too_long : Cause
@@ -175,7 +153,7 @@ choice_in t s ms =
 -- how runs are made. Of a target from outside `workers` and `max_hits` are unknown keys: they are 1 and 1000 then, and mean nothing.
 abbrev pub running_in : Members → Read Running
 running_in ms =
-    after (keyed key.Seed (number_at (Ok defaults.seed) 0 9223372036854775807 (get_member (codes "seed") ms))) (λ seed.
+    after (keyed key.Seed (number_at (Ok defaults.plans.seed) 0 9223372036854775807 (get_member (codes "seed") ms))) (λ seed.
     after (keyed key.Workers (number_at (Ok defaults.workers) 1 64 (get_member (codes "workers") ms))) (λ workers.
     after (keyed key.MaxHits (number_at (Ok defaults.max_hits) 1 100000 (get_member (codes "max_hits") ms))) (λ max_hits.
     Ok (record { seed = seed; workers = workers; max_hits = max_hits }))))
@@ -183,9 +161,9 @@ running_in ms =
 -- which plans are made, besides those of one fault
 abbrev pub planning_in : Members → Read Planning
 planning_in ms =
-    after (keyed key.Pairs (boolean_at defaults.pairs (get_member (codes "pairs") ms))) (λ pairs.
-    after (keyed key.Storms (number_at (Ok defaults.storms) 0 10000 (get_member (codes "storms") ms))) (λ storms.
-    after (keyed key.Rate (number_at (Ok defaults.rate) 0 1000 (get_member (codes "rate") ms))) (λ rate.
+    after (keyed key.Pairs (boolean_at defaults.plans.pairs (get_member (codes "pairs") ms))) (λ pairs.
+    after (keyed key.Storms (number_at (Ok defaults.plans.storms) 0 10000 (get_member (codes "storms") ms))) (λ storms.
+    after (keyed key.Rate (number_at (Ok defaults.plans.rate) 0 1000 (get_member (codes "rate") ms))) (λ rate.
     Ok (record { pairs = pairs; storms = storms; rate = rate }))))
 
 -- the ranges of these numbers
@@ -200,58 +178,51 @@ pub record IsPlanning (p : Planning) : Type 0 where
   pub storms : p.storms ≤ 10000
   pub rate : p.rate ≤ 1000
 
+-- what a campaign is given, by these numbers and the listed scenarios
+abbrev pub campaign_of : Running → Planning → List Entries → Given
+campaign_of running planning scenarios = record {
+  workers = running.workers;
+  max_hits = running.max_hits;
+  plans = record {
+    pairs = planning.pairs;
+    storms = planning.storms;
+    rate = planning.rate;
+    listed = scenarios;
+    seed = running.seed;
+  };
+}
+
 -- ---- the whole
 
 -- the settings of a target, or their first fault in the order in which faults are looked for
-abbrev pub settings_for : TargetName → Members → Read Given
+abbrev pub settings_for : TargetName → Members → Read Settings
 settings_for t ms =
     after (keyed key.Variant (setup_at t (get_member (codes "variant") ms))) (λ s.
     after (running_in ms) (λ running.
     after (planning_in ms) (λ planning.
     after (scenarios_at s (get_member (codes "scenarios") ms)) (λ scenarios.
     after (choice_in t s ms) (λ choice.
-    Ok (record {
-      choice = Some choice;
-      seed = running.seed;
-      workers = running.workers;
-      max_hits = running.max_hits;
-      pairs = planning.pairs;
-      storms = planning.storms;
-      rate = planning.rate;
-      scenarios = scenarios;
-    }))))))
+    Ok (record { choice = choice; campaign = campaign_of running planning scenarios }))))))
 
 -- the same of the target that is named, after the unknown keys
-abbrev pub settings_in : Members → Read Given
+abbrev pub settings_in : Members → Read Settings
 settings_in ms =
     after (known_in (top_of (target_at (get_member (codes "target") ms))) ms) (λ _.
     after (keyed key.Target (target_at (get_member (codes "target") ms))) (λ t. settings_for t ms))
 
--- what a text of TOML means, by what its members do
-abbrev pub of_members : (Members → Read Given) → Option Members → Read Given
-of_members meaning None = Err not_toml
-of_members meaning (Some ms) = meaning ms
+-- the members of a text of TOML
+abbrev pub parsed : Option Members → Read Members
+parsed None = Err not_toml
+parsed (Some ms) = Ok ms
 
-abbrev pub of_toml : (Members → Read Given) → Text → Read Given
-of_toml meaning text = if nat_lt 1048576 (length text) then Err too_long else of_members meaning (parse_document text)
+abbrev pub members_of : Text → Read Members
+members_of text = if nat_lt 1048576 (length text) then Err too_long else parsed (parse_document text)
 
 -- a text's settings, or its first fault
-abbrev pub settings_of : Text → Read Given
-settings_of text = of_toml settings_in text
+abbrev pub settings_of : Text → Read Settings
+settings_of text = after (members_of text) settings_in
 
--- ---- what the program has
-
-abbrev pub given_of : Settings → Given
-given_of s = record {
-  choice = s.choice;
-  seed = s.seed;
-  workers = s.workers;
-  max_hits = s.max_hits;
-  pairs = s.pairs;
-  storms = s.storms;
-  rate = s.rate;
-  scenarios = s.scenarios.items;
-}
+-- ---- refusals
 
 -- the refusal is what is refused, or want of memory
 abbrev pub RefusedBy : {X : Type 0} → Read X → SettingsFault → Type 0

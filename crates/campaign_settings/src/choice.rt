@@ -1,4 +1,4 @@
-use crate::outside::Outside;
+use campaign_given::Outside;
 use commit_target::Transactions;
 use file_replace::Replacements;
 use maildir_target::Messages;

@@ -2,14 +2,12 @@
 #![tactic(auto)]
 
 mod choice;
-mod defaults;
 mod described;
 mod fault;
 mod keys;
 mod lists;
 mod names;
 mod numbers;
-mod outside;
 mod reading;
 mod scenarios;
 mod settings;
@@ -19,6 +17,5 @@ mod values;
 pub use choice::Choice;
 pub use fault::SettingsFault;
 pub use keys::{Key, Place, TargetName};
-pub use outside::Outside;
 pub use reading::LIMIT;
 pub use settings::Settings;

@@ -2,7 +2,7 @@
 ghost use Rattle.std.specs.Prelude.{◌≡◌};
 ghost use Rattle.std.specs.List.{list_all, list_any};
 ghost use Rattle.std.specs.Str.{bytes_eq};
-ghost use Rattle.campaign_settings.specs.Description.{are_codes, are_distinct, are_points, has_control, is_code, is_label, is_point};
+ghost use Rattle.campaign_given.specs.Description.{are_codes, are_distinct, are_points, has_control, is_code, is_label, is_point};
 
 use scenario_grammar::{Text, is_name};
 

@@ -1,13 +1,17 @@
 //! The numbers of the settings, by what they are for.
-ghost use Rattle.std.specs.Prelude.{◌≡◌, Ok, IfOk, IfErr};
+ghost use Rattle.std.specs.Prelude.{◌≡◌, ◌≤◌, Ok, IfOk, IfErr, length};
 ghost use Rattle.toml.specs.View.{table_view};
-ghost use Rattle.campaign_settings.specs.Settings.{IsPlanning, IsRunning, RefusedBy, planning_in, running_in};
+ghost use Rattle.campaign_settings.specs.Settings.{IsPlanning, IsRunning, RefusedBy, campaign_of, planning_in, running_in};
 
-use crate::defaults::{MAX_HITS, PAIRS, RATE, SEED, STORMS, WORKERS};
 use crate::fault::SettingsFault;
 use crate::keys::Key;
 use crate::tables::keyed;
 use crate::values::{read_boolean, read_number, value_at};
+use campaign_given::{
+    CampaignSettings, MAX_HITS_IF_MISSING, PAIRS_IF_MISSING, RATE_IF_MISSING, SEED_IF_MISSING,
+    STORMS_IF_MISSING, WORKERS_IF_MISSING,
+};
+use scenario_grammar::Scenario;
 use toml::Table;
 
 // How runs are made.
@@ -31,11 +35,26 @@ pub fn read_running(table: &Table) -> Result<Running, SettingsFault>
     ensures ranges { IfOk result IsRunning }
     ensures refused { IfErr result (RefusedBy (running_in (table_view table.now))) }
 {
-    let seed = read_number(value_at(table, "seed"), Ok(SEED), 0, 9223372036854775807);
+    let seed = read_number(
+        value_at(table, "seed"),
+        Ok(SEED_IF_MISSING),
+        0,
+        9223372036854775807,
+    );
     let seed = keyed(Key::Seed, seed)?;
-    let workers = read_number(value_at(table, "workers"), Ok(WORKERS as u64), 1, 64);
+    let workers = read_number(
+        value_at(table, "workers"),
+        Ok(WORKERS_IF_MISSING as u64),
+        1,
+        64,
+    );
     let workers = keyed(Key::Workers, workers)?;
-    let max_hits = read_number(value_at(table, "max_hits"), Ok(MAX_HITS as u64), 1, 100000);
+    let max_hits = read_number(
+        value_at(table, "max_hits"),
+        Ok(MAX_HITS_IF_MISSING as u64),
+        1,
+        100000,
+    );
     let max_hits = keyed(Key::MaxHits, max_hits)?;
     Ok(Running {
         seed,
@@ -49,14 +68,44 @@ pub fn read_planning(table: &Table) -> Result<Planning, SettingsFault>
     ensures ranges { IfOk result IsPlanning }
     ensures refused { IfErr result (RefusedBy (planning_in (table_view table.now))) }
 {
-    let pairs = keyed(Key::Pairs, read_boolean(value_at(table, "pairs"), PAIRS))?;
-    let storms = read_number(value_at(table, "storms"), Ok(STORMS as u64), 0, 10000);
+    let pairs = keyed(
+        Key::Pairs,
+        read_boolean(value_at(table, "pairs"), PAIRS_IF_MISSING),
+    )?;
+    let storms = read_number(
+        value_at(table, "storms"),
+        Ok(STORMS_IF_MISSING as u64),
+        0,
+        10000,
+    );
     let storms = keyed(Key::Storms, storms)?;
-    let rate = read_number(value_at(table, "rate"), Ok(RATE as u64), 0, 1000);
+    let rate = read_number(value_at(table, "rate"), Ok(RATE_IF_MISSING as u64), 0, 1000);
     let rate = keyed(Key::Rate, rate)?;
     Ok(Planning {
         pairs,
         storms: storms as u32,
         rate: rate as u32,
     })
+}
+
+// The settings of a campaign, by these numbers and its listed scenarios.
+pub fn campaign_of(
+    running: Running,
+    planning: Planning,
+    scenarios: Vec<Scenario>,
+) -> CampaignSettings
+    requires running { IsRunning running }
+    requires planning { IsPlanning planning }
+    requires few { length scenarios.items ≤ 1000 }
+    ensures { result ≡ campaign_of running planning scenarios.items }
+{
+    CampaignSettings {
+        seed: running.seed,
+        workers: running.workers,
+        max_hits: running.max_hits,
+        pairs: planning.pairs,
+        storms: planning.storms,
+        rate: planning.rate,
+        scenarios,
+    }
 }

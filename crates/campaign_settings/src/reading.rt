@@ -1,17 +1,17 @@
 //! Settings read from TOML text.
 ghost use Rattle.std.specs.Prelude.{◌≡◌, Ok, IfOk, IfErr};
-ghost use Rattle.toml.specs.Data.{Members};
 ghost use Rattle.toml.specs.View.{table_view};
-ghost use Rattle.campaign_settings.specs.Settings.{Given, Read, RefusedBy, given_of, of_toml, settings_for, settings_in, settings_of};
+ghost use Rattle.campaign_settings.specs.Settings.{RefusedBy, members_of, settings_for, settings_in, settings_of};
 ghost use Rattle.campaign_settings.specs.Own.{own_settings_in, own_settings_of};
 
 use crate::fault::SettingsFault;
 use crate::keys::{Key, Place, TargetName};
-use crate::numbers::{read_planning, read_running};
+use crate::numbers::{campaign_of, read_planning, read_running};
 use crate::scenarios::{read_listed, read_scenarios};
 use crate::settings::Settings;
 use crate::tables::{keyed, read_choice, refuse_unknown};
 use crate::values::{read_setup, read_target, value_at};
+use campaign_given::CampaignSettings;
 use std::alloc::Global;
 use toml::Table;
 
@@ -19,22 +19,21 @@ use toml::Table;
 pub const LIMIT: usize = 1048576;
 
 impl Settings {
-    /// The settings that a text of TOML gives; `choice` is then the target that it names. `Err` is the first fault of the text, in
-    /// this order: too long, no TOML, an unknown key at the top, each key as [`Key`] lists them, and in the target's table its
-    /// unknown key before its keys; or that memory ran out.
+    /// The settings that a text of TOML gives. `Err` is the first fault of the text, in this order: too long, no TOML, an unknown key at the
+    /// top, each key as [`Key`] lists them, and in the target's table its unknown key before its keys; or that memory ran out.
     pub fn read(alloc: Global, text: &str) -> Result<Settings, SettingsFault>
-        ensures ok { IfOk result (λ settings. settings_of text.now ≡ Ok (given_of settings)) }
+        ensures ok { IfOk result (λ settings. settings_of text.now ≡ Ok settings) }
         ensures refused { IfErr result (RefusedBy (settings_of text.now)) }
     {
         let table = read_toml(alloc, text)?;
         read_members(alloc, &table)
     }
 
-    /// The settings that a text of TOML gives to a program that brings its own target; `choice` is then `None`, and the keys are those of
-    /// a bundled target but `target`, `variant` and the target's table. `Err` is the first fault of the text, in this order: too long, no
-    /// TOML, an unknown key, each key as [`Key`] lists them; or that memory ran out.
-    pub fn read_own(alloc: Global, text: &str) -> Result<Settings, SettingsFault>
-        ensures ok { IfOk result (λ settings. own_settings_of text.now ≡ Ok (given_of settings)) }
+    /// The settings that a text of TOML gives to a program that brings its own target: the keys are those of a bundled target but `target`,
+    /// `variant` and the target's table. `Err` is the first fault of the text, in this order: too long, no TOML, an unknown key, each key as
+    /// [`Key`] lists them; or that memory ran out.
+    pub fn read_own(alloc: Global, text: &str) -> Result<CampaignSettings, SettingsFault>
+        ensures ok { IfOk result (λ settings. own_settings_of text.now ≡ Ok settings) }
         ensures refused { IfErr result (RefusedBy (own_settings_of text.now)) }
     {
         let table = read_toml(alloc, text)?;
@@ -44,8 +43,8 @@ impl Settings {
 
 // The table of a text.
 fn read_toml(alloc: Global, text: &str) -> Result<Table, SettingsFault>
-    ensures ok { (meaning : Members → Read Given) → IfOk result (λ table. of_toml meaning text.now ≡ meaning (table_view table)) }
-    ensures refused { (meaning : Members → Read Given) → IfErr result (RefusedBy (of_toml meaning text.now)) }
+    ensures ok { IfOk result (λ table. members_of text.now ≡ Ok (table_view table)) }
+    ensures refused { IfErr result (RefusedBy (members_of text.now)) }
 {
     if text.len() > LIMIT {
         return Err(SettingsFault::TooLong);
@@ -58,7 +57,7 @@ fn read_toml(alloc: Global, text: &str) -> Result<Table, SettingsFault>
 }
 
 fn read_members(alloc: Global, table: &Table) -> Result<Settings, SettingsFault>
-    ensures ok { IfOk result (λ settings. settings_in (table_view table.now) ≡ Ok (given_of settings)) }
+    ensures ok { IfOk result (λ settings. settings_in (table_view table.now) ≡ Ok settings) }
     ensures refused { IfErr result (RefusedBy (settings_in (table_view table.now))) }
 {
     let target = read_target(value_at(table, "target"));
@@ -67,29 +66,20 @@ fn read_members(alloc: Global, table: &Table) -> Result<Settings, SettingsFault>
     read_for(alloc, target, table)
 }
 
-fn read_own_members(alloc: Global, table: &Table) -> Result<Settings, SettingsFault>
-    ensures ok { IfOk result (λ settings. own_settings_in (table_view table.now) ≡ Ok (given_of settings)) }
+fn read_own_members(alloc: Global, table: &Table) -> Result<CampaignSettings, SettingsFault>
+    ensures ok { IfOk result (λ settings. own_settings_in (table_view table.now) ≡ Ok settings) }
     ensures refused { IfErr result (RefusedBy (own_settings_in (table_view table.now))) }
 {
     refuse_unknown(alloc, Place::Own, table)?;
     let running = read_running(table)?;
     let planning = read_planning(table)?;
     let scenarios = read_listed(alloc, value_at(table, "scenarios"))?;
-    Ok(Settings {
-        choice: None,
-        seed: running.seed,
-        workers: running.workers,
-        max_hits: running.max_hits,
-        pairs: planning.pairs,
-        storms: planning.storms,
-        rate: planning.rate,
-        scenarios,
-    })
+    Ok(campaign_of(running, planning, scenarios))
 }
 
 // The settings of this target.
 fn read_for(alloc: Global, target: TargetName, table: &Table) -> Result<Settings, SettingsFault>
-    ensures ok { IfOk result (λ settings. settings_for target (table_view table.now) ≡ Ok (given_of settings)) }
+    ensures ok { IfOk result (λ settings. settings_for target (table_view table.now) ≡ Ok settings) }
     ensures refused { IfErr result (RefusedBy (settings_for target (table_view table.now))) }
 {
     let setup = keyed(Key::Variant, read_setup(target, value_at(table, "variant")))?;
@@ -98,13 +88,7 @@ fn read_for(alloc: Global, target: TargetName, table: &Table) -> Result<Settings
     let scenarios = read_scenarios(alloc, setup, value_at(table, "scenarios"))?;
     let choice = read_choice(alloc, target, setup, table)?;
     Ok(Settings {
-        choice: Some(choice),
-        seed: running.seed,
-        workers: running.workers,
-        max_hits: running.max_hits,
-        pairs: planning.pairs,
-        storms: planning.storms,
-        rate: planning.rate,
-        scenarios,
+        choice,
+        campaign: campaign_of(running, planning, scenarios),
     })
 }

@@ -50,7 +50,7 @@ fn play(
         "target = 'replace'\nvariant = '{variant}'\nreplace = {{ {table} }}\n"
     )?;
     let settings = read(alloc, text.as_str())?;
-    let Some(Choice::Replace(variant, work)) = &settings.choice else {
+    let Choice::Replace(variant, work) = &settings.choice else {
         return Err(Fail::from("another target"));
     };
     let scenario = parse(alloc, scenario)?;

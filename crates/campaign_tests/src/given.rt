@@ -1,6 +1,6 @@
 //! The values that settings give.
 
-use campaign_main::{Choice, CommitVariant, ReplaceVariant, Settings};
+use campaign_main::{CampaignSettings, Choice, CommitVariant, ReplaceVariant, Settings};
 use std::alloc::Global;
 use std::process::Abort;
 use std::test::Fail;
@@ -11,7 +11,7 @@ pub fn read(alloc: Global, text: &str) -> Result<Settings, Fail> {
 }
 
 /// The settings have these numbers: seed, workers, most hits, storms, rate, and how many scenarios are listed.
-fn has_numbers(rt: &impl Abort, settings: &Settings, numbers: [u64; 6]) {
+fn has_numbers(rt: &impl Abort, settings: &CampaignSettings, numbers: [u64; 6]) {
     let found = [
         settings.seed,
         u64::from(settings.workers),
@@ -27,9 +27,9 @@ fn has_numbers(rt: &impl Abort, settings: &Settings, numbers: [u64; 6]) {
 fn values_if_missing(rt: HostRuntime) -> Result<(), Fail> {
     let text = "target = 'replace'\n[replace]\nold = 'old'\nreplacements = [['ne', 'w'], []]\n";
     let settings = read(rt.alloc(), text)?;
-    has_numbers(&rt, &settings, [0, 1, 1000, 0, 100, 0]);
-    assert!(rt; !settings.pairs);
-    let Some(Choice::Replace(ReplaceVariant::Sound, work)) = &settings.choice else {
+    has_numbers(&rt, &settings.campaign, [0, 1, 1000, 0, 100, 0]);
+    assert!(rt; !settings.campaign.pairs);
+    let Choice::Replace(ReplaceVariant::Sound, work) = &settings.choice else {
         return Err(Fail::from("another target"));
     };
     assert_eq!(rt; work.old().as_str(), "old");
@@ -42,9 +42,13 @@ fn values_that_are_given(rt: HostRuntime) -> Result<(), Fail> {
     let text =
         "target = 'commit'\nvariant = 'two_tries'\nseed = 9223372036854775807\nworkers = 3\nmax_hits = 4\npairs = true\nstorms = 5\nrate = 6\nscenarios = ['a=off', '']\n[commit]\nparticipants = 2\ntransactions = [['yes', 'no']]\n";
     let settings = read(rt.alloc(), text)?;
-    has_numbers(&rt, &settings, [9223372036854775807, 3, 4, 5, 6, 2]);
-    assert!(rt; settings.pairs);
-    let Some(Choice::Commit(CommitVariant::TwoTries, work)) = &settings.choice else {
+    has_numbers(
+        &rt,
+        &settings.campaign,
+        [9223372036854775807, 3, 4, 5, 6, 2],
+    );
+    assert!(rt; settings.campaign.pairs);
+    let Choice::Commit(CommitVariant::TwoTries, work) = &settings.choice else {
         return Err(Fail::from("another target"));
     };
     assert_eq!(rt; work.participants(), 2);
@@ -58,7 +62,7 @@ fn gives_old(rt: &impl Abort, alloc: Global, value: &str, old: &str) -> Result<(
         "target = 'replace'\n[replace]\nold = {value}\nreplacements = []\n"
     )?;
     let settings = read(alloc, text.as_str())?;
-    let Some(Choice::Replace(_, work)) = &settings.choice else {
+    let Choice::Replace(_, work) = &settings.choice else {
         return Err(Fail::from("another target"));
     };
     assert_eq!(rt; work.old().as_str(), old);

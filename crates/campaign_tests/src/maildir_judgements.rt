@@ -45,7 +45,7 @@ fn mail_is_judged_after_a_power_cut(rt: HostRuntime) -> Result<(), Fail> {
     let alloc = rt.alloc();
     let text = "target = 'maildir'\n[maildir]\nmessages = [['ab'], ['cd']]\n";
     let settings = read(alloc, text)?;
-    let Some(Choice::Maildir(_, two)) = &settings.choice else {
+    let Choice::Maildir(_, two) = &settings.choice else {
         return Err(Fail::from("another target"));
     };
     for (delivered, lasts, acknowledged, judgement) in ROWS {

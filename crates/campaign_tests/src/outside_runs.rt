@@ -5,7 +5,7 @@ use crate::always_broken::AlwaysBroken;
 use crate::running::{reported, settings};
 use crate::three_codes::ThreeCodes;
 use campaign_core::try_one;
-use campaign_settings::Settings;
+use campaign_given::CampaignSettings;
 use scenario_grammar::{Scenario, parse};
 use std::alloc::Global;
 use std::process::Abort;
@@ -20,7 +20,7 @@ fn reports<T: Target<Workload = ()> + Send, H: Threads + Wait + Sync + Abort>(
     rt: &H,
     alloc: Global,
     target: &T,
-    settings: &Settings,
+    settings: &CampaignSettings,
     first: u32,
     report: &str,
 ) -> Result<(), Fail> {
@@ -33,11 +33,11 @@ fn reports<T: Target<Workload = ()> + Send, H: Threads + Wait + Sync + Abort>(
 }
 
 /// Every limit at an end of its range.
-fn narrow(alloc: Global, workers: u32) -> Settings
+fn narrow(alloc: Global, workers: u32) -> CampaignSettings
     requires some { 1 ≤ workers }
     requires few { workers ≤ 64 }
 {
-    let mut settings = Settings::new(alloc);
+    let mut settings = CampaignSettings::new(alloc);
     settings.seed = 9223372036854775807;
     settings.workers = workers;
     settings.max_hits = 1;

@@ -2,7 +2,7 @@
 ghost use Rattle.std.specs.Prelude.{◌≤◌, length};
 
 use campaign_core::{CampaignFault, campaign};
-use campaign_settings::Settings;
+use campaign_given::CampaignSettings;
 use scenario_grammar::Scenario;
 use std::alloc::Global;
 use std::sync::Wait;
@@ -11,12 +11,17 @@ use target_trait::{Out, Target};
 use work_gate::Gate;
 
 /// Seed 7, and else what holds where nothing is given.
-pub fn settings(alloc: Global, workers: u32, pairs: bool, scenarios: Vec<Scenario>) -> Settings
+pub fn settings(
+    alloc: Global,
+    workers: u32,
+    pairs: bool,
+    scenarios: Vec<Scenario>,
+) -> CampaignSettings
     requires some { 1 ≤ workers }
     requires few { workers ≤ 64 }
     requires listed { length scenarios.items ≤ 1000 }
 {
-    let mut settings = Settings::new(alloc);
+    let mut settings = CampaignSettings::new(alloc);
     settings.seed = 7;
     settings.workers = workers;
     settings.pairs = pairs;
@@ -31,7 +36,7 @@ pub fn reported<T: Target + Send, G: Gate, R: Threads + Wait + Sync>(
     gate: &G,
     target: &T,
     workload: &T::Workload,
-    settings: &Settings,
+    settings: &CampaignSettings,
 ) -> Result<(Vec<u8>, Option<u32>), CampaignFault>
 where
     T::Workload: Sync,

@@ -18,8 +18,8 @@ use Rattle.report.specs.ReportText.{text_of}
 use Rattle.answer_text.specs.Known.{KnownVerdicts, known_by, Agrees, AgreesWithText}
 use Rattle.answer_text.specs.Answers.{Answer, Says}
 use Rattle.answer_text.proofs.Agreement.{agrees_by, some_agrees}
-use Rattle.campaign_settings.specs.Description.{Description}
-use Rattle.campaign_settings.specs.declared.settings.Settings.{Settings}
+use Rattle.campaign_given.specs.Description.{Description}
+use Rattle.campaign_given.specs.Given.{Given}
 use Rattle.campaign_core.specs.Findings.{finding}
 use Rattle.outside_campaign.specs.Outside.{Component, say}
 use Rattle.outside_campaign.specs.Asked.{open_plans, open_cards, plan_verdicts, known_failures, lines_for}
@@ -81,16 +81,16 @@ told_all known plans failures findings (NotAnswered t) fe h w = (w.0, none_open 
 pub agrees_with_known : (names : List (List ℕ)) (text : List ℕ) (known : KnownVerdicts) (component : Component) → known ≡ known_by names text → AgreesWithText names text component → Agrees component known
 agrees_with_known names text known component is agrees = subst (Agrees component) (sym is) (agrees_by names text component agrees)
 
-report_in_is : (form : Form) (outside : Description) (settings : Settings) (component : Component)
-    → text_in form outside settings.seed (verdicts_from (say component) 0 (plans_of outside settings)) (map (finding (say component) (plans_of outside settings)) (first_failures (numbered (verdicts_from (say component) 0 (plans_of outside settings))))) (plans_of outside settings)
+report_in_is : (form : Form) (outside : Description) (settings : Given) (component : Component)
+    → text_in form outside settings.plans.seed (verdicts_from (say component) 0 (plans_of outside settings)) (map (finding (say component) (plans_of outside settings)) (first_failures (numbered (verdicts_from (say component) 0 (plans_of outside settings))))) (plans_of outside settings)
     ≡ report_in form outside settings component
 report_in_is Whole outside settings component = refl
 report_in_is Brief outside settings component = refl
 
-pub report_is : (form : Form) (outside : Description) (settings : Settings) (component : Component) (plans : List Entries) (verdicts : List Verdict) (findings : List FindingFacts) → plans ≡ plans_of outside settings → AreOf component plans verdicts findings
-    → text_in form outside settings.seed verdicts findings plans ≡ report_in form outside settings component
+pub report_is : (form : Form) (outside : Description) (settings : Given) (component : Component) (plans : List Entries) (verdicts : List Verdict) (findings : List FindingFacts) → plans ≡ plans_of outside settings → AreOf component plans verdicts findings
+    → text_in form outside settings.plans.seed verdicts findings plans ≡ report_in form outside settings component
 report_is form outside settings component plans verdicts findings is of =
-    let text : List Verdict → List FindingFacts → List Entries → List ℕ = text_in form outside settings.seed in
+    let text : List Verdict → List FindingFacts → List Entries → List ℕ = text_in form outside settings.plans.seed in
     let whole : List Entries → List ℕ = λ ps. text (verdicts_from (say component) 0 ps) (map (finding (say component) ps) (first_failures (numbered (verdicts_from (say component) 0 ps)))) ps in
     ap (λ (vs : List Verdict). text vs findings plans) of.verdicts_are
     ∙ ap (λ (fs : List FindingFacts). text (verdicts_from (say component) 0 plans) fs plans) of.findings_are
@@ -100,20 +100,20 @@ first_of : (f : ℕ × ℕ → FindingFacts) (fs : List (ℕ × ℕ)) → ((x : 
 first_of f [] own = refl
 first_of f (x ∷ fs) own = ap (λ (n : ℕ). Some n) (own x)
 
-pub first_is : (outside : Description) (settings : Settings) (component : Component) (plans : List Entries) (verdicts : List Verdict) (findings : List FindingFacts) → plans ≡ plans_of outside settings → AreOf component plans verdicts findings
+pub first_is : (outside : Description) (settings : Given) (component : Component) (plans : List Entries) (verdicts : List Verdict) (findings : List FindingFacts) → plans ≡ plans_of outside settings → AreOf component plans verdicts findings
     → option_map (λ f. f.number) (slice_get findings 0) ≡ first_failure outside settings component
 first_is outside settings component plans verdicts findings is of =
     ap (λ (fs : List FindingFacts). option_map (λ f. f.number) (slice_get fs 0)) of.findings_are
     ∙ first_of (finding (say component) plans) (first_failures (numbered (verdicts_from (say component) 0 plans))) (λ x. refl)
     ∙ ap (λ (ps : List Entries). option_map (λ x. x.0) (slice_get (first_failures (numbered (verdicts_from (say component) 0 ps))) 0)) is
 
-pub untried_is : (outside : Description) (settings : Settings) (answers : List ℕ) (known : KnownVerdicts) (plans : List Entries) → known ≡ known_by outside.codes answers → plans ≡ plans_of outside settings → untried known plans ≡ untried_by outside settings answers
+pub untried_is : (outside : Description) (settings : Given) (answers : List ℕ) (known : KnownVerdicts) (plans : List Entries) → known ≡ known_by outside.codes answers → plans ≡ plans_of outside settings → untried known plans ≡ untried_by outside settings answers
 untried_is outside settings answers known plans e is = ap (λ (k : KnownVerdicts). untried k plans) e ∙ ap (untried (known_by outside.codes answers)) is
 
 -- ---- faults
 
 -- a write that failed, of the bytes that are asked
-pub asks_cut : {X : Type 0} (outside : Description) (settings : Settings) (answers : List ℕ) (old new : Option (List ℕ)) (failed : Bool) (known : KnownVerdicts) (plans : List Entries) (bytes : List ℕ) (n : ℕ) (result : Result X OutsideFault)
+pub asks_cut : {X : Type 0} (outside : Description) (settings : Given) (answers : List ℕ) (old new : Option (List ℕ)) (failed : Bool) (known : KnownVerdicts) (plans : List Entries) (bytes : List ℕ) (n : ℕ) (result : Result X OutsideFault)
     → IsErrAnd result (λ f. f ≡ refusal.Campaign (campaign.Write n)) → known ≡ known_by outside.codes answers → plans ≡ plans_of outside settings → bytes ≡ text_of (lines_for (untried known plans))
     → Appends old new (take n bytes) → n < length bytes → failed ≡ true → length (plans_of outside settings) ≤ most_plans → IfErr result (AsksFault outside settings answers old new failed)
 asks_cut outside settings answers old new failed known plans bytes n (Ok x) is k p b wrote less bad few = tt
@@ -124,14 +124,14 @@ asks_cut outside settings answers old new failed known plans bytes n (Err f) is 
     subst P (sym is) (subst Q whole (wrote, less), bad, few)
 
 -- what is told is the report of each component that agrees
-pub report_told : (form : Form) (outside : Description) (settings : Settings) (answers : List ℕ) (known : KnownVerdicts) (plans : List Entries) (verdicts : List Verdict) (findings : List FindingFacts) (bytes : List ℕ)
+pub report_told : (form : Form) (outside : Description) (settings : Given) (answers : List ℕ) (known : KnownVerdicts) (plans : List Entries) (verdicts : List Verdict) (findings : List FindingFacts) (bytes : List ℕ)
     → known ≡ known_by outside.codes answers → plans ≡ plans_of outside settings → ((component : Component) → Agrees component known → AreOf component plans verdicts findings)
-    → bytes ≡ text_in form outside settings.seed verdicts findings plans
+    → bytes ≡ text_in form outside settings.plans.seed verdicts findings plans
     → (component : Component) → AgreesWithText outside.codes answers component → bytes ≡ report_in form outside settings component
 report_told form outside settings answers known plans verdicts findings bytes k p own b component agrees =
     b ∙ report_is form outside settings component plans verdicts findings p (own component (agrees_with_known outside.codes answers known component k agrees))
 
-pub first_told : (outside : Description) (settings : Settings) (answers : List ℕ) (known : KnownVerdicts) (plans : List Entries) (verdicts : List Verdict) (findings : List FindingFacts) (first : Option ℕ)
+pub first_told : (outside : Description) (settings : Given) (answers : List ℕ) (known : KnownVerdicts) (plans : List Entries) (verdicts : List Verdict) (findings : List FindingFacts) (first : Option ℕ)
     → known ≡ known_by outside.codes answers → plans ≡ plans_of outside settings → ((component : Component) → Agrees component known → AreOf component plans verdicts findings)
     → first ≡ option_map (λ f. f.number) (slice_get findings 0) → (component : Component) → AgreesWithText outside.codes answers component → first ≡ first_failure outside settings component
 first_told outside settings answers known plans verdicts findings first k p own is component agrees =

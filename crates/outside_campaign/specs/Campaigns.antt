@@ -10,11 +10,10 @@ use Rattle.report.specs.BriefText.{brief_lines}
 use Rattle.report.specs.ReportText.{report_lines, text_of}
 use Rattle.answer_text.specs.FirstFault.{reading_of}
 use Rattle.answer_text.specs.Known.{KnownVerdicts, known_by, AgreesWithText}
-use Rattle.campaign_settings.specs.Description.{Description}
-use Rattle.campaign_settings.specs.declared.settings.Settings.{Settings}
+use Rattle.campaign_given.specs.Description.{Description}
+use Rattle.campaign_given.specs.Given.{Given}
 use Rattle.campaign_core.specs.CommandTexts.{plan_lines}
 use Rattle.campaign_core.specs.Findings.{report_of}
-use Rattle.campaign_core.specs.Headline.{asked_of}
 use Rattle.campaign_core.specs.declared.ending.CampaignFault.{CampaignFault}
 use Rattle.campaign_core.specs.declared.ending.CampaignFault.TheVariants as campaign
 use Rattle.outside_campaign.specs.Outside.{Component, say}
@@ -23,30 +22,30 @@ use Rattle.outside_campaign.specs.declared.refusal.OutsideFault.{OutsideFault}
 use Rattle.outside_campaign.specs.declared.refusal.OutsideFault.TheVariants as refusal
 
 -- the list of plans, over the points and the counts of the settings
-abbrev pub plans : Description → Settings → List Entries
-plans outside settings = plan_list outside.points outside.hits (asked_of settings)
+abbrev pub plans : Description → Given → List Entries
+plans outside given = plan_list outside.points outside.hits given.plans
 
-abbrev pub plans_text : Description → Settings → List ℕ
-plans_text outside settings = text_of (plan_lines 0 (plans outside settings))
+abbrev pub plans_text : Description → Given → List ℕ
+plans_text outside given = text_of (plan_lines 0 (plans outside given))
 
 -- the name of a code, which is empty where there is no such code
 abbrev pub code_name : List (List ℕ) → ℕ → List ℕ
 code_name codes number = slice_index_or codes number []
 
 -- the report's text, for a component
-abbrev pub report_text : Description → Settings → Component → List ℕ
-report_text outside settings component = text_of (report_lines outside.points (code_name outside.codes)
-    (report_of (say component) outside.label settings.seed outside.hits (plans outside settings)))
+abbrev pub report_text : Description → Given → Component → List ℕ
+report_text outside given component = text_of (report_lines outside.points (code_name outside.codes)
+    (report_of (say component) outside.label given.plans.seed outside.hits (plans outside given)))
 
 -- the same of the brief report
-abbrev pub brief_report_text : Description → Settings → Component → List ℕ
-brief_report_text outside settings component = text_of (brief_lines outside.points (code_name outside.codes)
-    (report_of (say component) outside.label settings.seed outside.hits (plans outside settings)) (plans outside settings))
+abbrev pub brief_report_text : Description → Given → Component → List ℕ
+brief_report_text outside given component = text_of (brief_lines outside.points (code_name outside.codes)
+    (report_of (say component) outside.label given.plans.seed outside.hits (plans outside given)) (plans outside given))
 
 -- the least number of a plan that fails
-abbrev pub first_failure : Description → Settings → Component → Option ℕ
-first_failure outside settings component =
-    option_map (λ first. first.0) (slice_get (first_failures (numbered (verdicts_from (say component) 0 (plans outside settings)))) 0)
+abbrev pub first_failure : Description → Given → Component → Option ℕ
+first_failure outside given component =
+    option_map (λ first. first.0) (slice_get (first_failures (numbered (verdicts_from (say component) 0 (plans outside given)))) 0)
 
 -- what is still to be tried, of these plans: the open candidates of the reductions of what is known to fail, each as the first of its
 -- code; then the plans that aren't answered
@@ -54,11 +53,11 @@ abbrev pub untried : KnownVerdicts → List Entries → List Entries
 untried known plans = to_try known plans (known_failures known plans)
 
 -- the same by the settings and a text of answers
-abbrev pub untried_by : Description → Settings → List ℕ → List Entries
-untried_by outside settings answers = untried (known_by outside.codes answers) (plans outside settings)
+abbrev pub untried_by : Description → Given → List ℕ → List Entries
+untried_by outside given answers = untried (known_by outside.codes answers) (plans outside given)
 
-abbrev pub asks_text : Description → Settings → List ℕ → List ℕ
-asks_text outside settings answers = text_of (lines_for (untried_by outside settings answers))
+abbrev pub asks_text : Description → Given → List ℕ → List ℕ
+asks_text outside given answers = text_of (lines_for (untried_by outside given answers))
 
 -- ---- faults. A sink held `old` and holds `new`, where it tells its bytes.
 
@@ -74,28 +73,28 @@ IsUnwritten plans Cut old new failed campaign.Memory = (new ≡ old) × (failed 
 IsUnwritten plans Cut old new failed (campaign.Write n) = Cut n × (failed ≡ true) × (length plans ≤ most_plans)
 
 -- why what is to be tried wasn't written: the answers' first fault, or a fault as of the list of plans
-abbrev pub AsksFault : Description → Settings → List ℕ → Option (List ℕ) → Option (List ℕ) → Bool → OutsideFault → Type 0
-AsksFault outside settings answers old new failed (refusal.Answers fault) =
+abbrev pub AsksFault : Description → Given → List ℕ → Option (List ℕ) → Option (List ℕ) → Bool → OutsideFault → Type 0
+AsksFault outside given answers old new failed (refusal.Answers fault) =
     (new ≡ old) × (failed ≡ false) × (reading_of outside.codes answers ≡ Err fault)
-AsksFault outside settings answers old new failed (refusal.NotAnswered t) = ⊥
-AsksFault outside settings answers old new failed (refusal.Campaign fault) =
-    IsUnwritten (plans outside settings) (IsCut old new (asks_text outside settings answers)) old new failed fault
+AsksFault outside given answers old new failed (refusal.NotAnswered t) = ⊥
+AsksFault outside given answers old new failed (refusal.Campaign fault) =
+    IsUnwritten (plans outside given) (IsCut old new (asks_text outside given answers)) old new failed fault
 
 -- the same of a text on a component, for each that agrees with the answers; and it isn't written where something is to be tried, of which
 -- this is the first
-abbrev pub TextFault : (Component → List ℕ) → Description → Settings → List ℕ → Option (List ℕ) → Option (List ℕ) → Bool → OutsideFault → Type 0
-TextFault text outside settings answers old new failed (refusal.Answers fault) =
+abbrev pub TextFault : (Component → List ℕ) → Description → Given → List ℕ → Option (List ℕ) → Option (List ℕ) → Bool → OutsideFault → Type 0
+TextFault text outside given answers old new failed (refusal.Answers fault) =
     (new ≡ old) × (failed ≡ false) × (reading_of outside.codes answers ≡ Err fault)
-TextFault text outside settings answers old new failed (refusal.NotAnswered t) =
-    (new ≡ old) × (failed ≡ false) × ((more : List Entries) × (untried_by outside settings answers ≡ t ∷ more))
-TextFault text outside settings answers old new failed (refusal.Campaign fault) =
-    IsUnwritten (plans outside settings)
+TextFault text outside given answers old new failed (refusal.NotAnswered t) =
+    (new ≡ old) × (failed ≡ false) × ((more : List Entries) × (untried_by outside given answers ≡ t ∷ more))
+TextFault text outside given answers old new failed (refusal.Campaign fault) =
+    IsUnwritten (plans outside given)
     (λ n. (component : Component) → AgreesWithText outside.codes answers component → IsCut old new (text component) n)
     old new failed fault
 
 -- of the report, and of the brief one
-abbrev pub ReportFault : Description → Settings → List ℕ → Option (List ℕ) → Option (List ℕ) → Bool → OutsideFault → Type 0
-ReportFault outside settings = TextFault (report_text outside settings) outside settings
+abbrev pub ReportFault : Description → Given → List ℕ → Option (List ℕ) → Option (List ℕ) → Bool → OutsideFault → Type 0
+ReportFault outside given = TextFault (report_text outside given) outside given
 
-abbrev pub BriefFault : Description → Settings → List ℕ → Option (List ℕ) → Option (List ℕ) → Bool → OutsideFault → Type 0
-BriefFault outside settings = TextFault (brief_report_text outside settings) outside settings
+abbrev pub BriefFault : Description → Given → List ℕ → Option (List ℕ) → Option (List ℕ) → Bool → OutsideFault → Type 0
+BriefFault outside given = TextFault (brief_report_text outside given) outside given

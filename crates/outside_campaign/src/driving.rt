@@ -9,7 +9,7 @@ use crate::asking::asks_text;
 use crate::planned::{borrowed, planned};
 use crate::refusal::OutsideFault;
 use answer_text::read;
-use campaign_settings::{Outside, Settings};
+use campaign_given::{CampaignSettings, Outside};
 use report::write_report;
 use std::alloc::Global;
 use target_trait::Sink;
@@ -25,7 +25,7 @@ use target_trait::Sink;
 pub fn write_asks<W: Sink>(
     alloc: Global,
     outside: &Outside,
-    settings: &Settings,
+    settings: &CampaignSettings,
     answers: &[u8],
     sink: &mut W,
 ) -> Result<(), OutsideFault>

@@ -5,8 +5,8 @@ ghost use Rattle.action_eval.specs.Answers.{texts};
 ghost use Rattle.plan_gen.specs.PlanList.{most_plans};
 ghost use Rattle.outside_campaign.specs.Campaigns.{plans, plans_text, IsCut, IsUnwritten};
 
-use campaign_core::{CampaignFault, asked_of, plans_text};
-use campaign_settings::{Outside, Settings};
+use campaign_core::{CampaignFault, plans_text};
+use campaign_given::{CampaignSettings, Outside};
 use plan_gen::{Census, PlanFault, PlanList, plans};
 use report::write_report;
 use scenario_values::Text;
@@ -29,7 +29,7 @@ pub fn planned<'a>(
     alloc: Global,
     points: &'a [&'a str],
     outside: &Outside,
-    settings: &'a Settings,
+    settings: &'a CampaignSettings,
 ) -> Result<PlanList<'a>, PlanFault>
     requires { texts points.now ≡ outside.now.points }
     ensures plans { IfOk result (λ r. r ≡ plans outside.now settings.now) }
@@ -40,7 +40,7 @@ pub fn planned<'a>(
     let Ok(counts) = Vec::from_slice(alloc, outside.hits.as_slice()) else {
         return Err(PlanFault::Memory);
     };
-    plans(alloc, &Census { counts }, points, &asked_of(settings))
+    plans(alloc, &Census { counts }, points, &settings.plan_settings())
 }
 
 /// Writes the list of plans of a campaign on a component that somebody else runs, a line for each: its number and its scenario.
@@ -51,7 +51,7 @@ pub fn planned<'a>(
 pub fn list_plans<W: Sink>(
     alloc: Global,
     outside: &Outside,
-    settings: &Settings,
+    settings: &CampaignSettings,
     sink: &mut W,
 ) -> Result<(), CampaignFault>
     requires { W.has_failed sink.old ≡ false }

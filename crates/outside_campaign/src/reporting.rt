@@ -13,7 +13,7 @@ use crate::results::{Results, results_known};
 use crate::telling::{Form, first_number, told_text};
 use answer_text::read;
 use campaign_core::Ending;
-use campaign_settings::{Outside, Settings};
+use campaign_given::{CampaignSettings, Outside};
 use report::write_report;
 use std::alloc::Global;
 use target_trait::Sink;
@@ -23,7 +23,7 @@ fn told(
     alloc: Global,
     form: Form,
     outside: &Outside,
-    settings: &Settings,
+    settings: &CampaignSettings,
     answers: &[u8],
 ) -> Result<(Vec<u8>, Option<u32>), OutsideFault>
     ensures text { IfOk result (λ r. (component : Component) → AgreesWithText outside.now.codes answers.now component
@@ -62,7 +62,7 @@ fn write_in<W: Sink>(
     alloc: Global,
     form: Form,
     outside: &Outside,
-    settings: &Settings,
+    settings: &CampaignSettings,
     answers: &[u8],
     sink: &mut W,
 ) -> Result<Ending, OutsideFault>
@@ -94,7 +94,7 @@ fn write_in<W: Sink>(
 pub fn write_told<W: Sink>(
     alloc: Global,
     outside: &Outside,
-    settings: &Settings,
+    settings: &CampaignSettings,
     answers: &[u8],
     sink: &mut W,
 ) -> Result<Ending, OutsideFault>
@@ -119,7 +119,7 @@ pub fn write_told<W: Sink>(
 pub fn write_brief<W: Sink>(
     alloc: Global,
     outside: &Outside,
-    settings: &Settings,
+    settings: &CampaignSettings,
     answers: &[u8],
     sink: &mut W,
 ) -> Result<Ending, OutsideFault>

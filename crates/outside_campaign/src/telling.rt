@@ -2,7 +2,7 @@
 ghost use Rattle.std.specs.Prelude.{◌≡◌, ◌<◌, length, IfOk, option_map, slice_get};
 ghost use Rattle.outside_campaign.specs.inside.Results.{text_in};
 
-use campaign_settings::Outside;
+use campaign_given::Outside;
 use plan_gen::PlanList;
 use report::{Finding, Names, Report, brief_text, text};
 use std::alloc::{AllocError, Global};

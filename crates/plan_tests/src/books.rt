@@ -2,6 +2,7 @@
 
 use crate::one_step::OneStep;
 use crate::scenarios::{plans, scenarios};
+use campaign_given::CampaignSettings;
 use plan_gen::PlanList;
 use result_book::{Book, Course, Numbered, PutFault, Row, Workspace, put_all};
 use std::alloc::Global;
@@ -12,12 +13,18 @@ use target_trait::Verdict;
 /// The code of the target's only failure.
 const REFUSED: u32 = 4;
 
-fn course<'a>(plans: &'a PlanList<'a>) -> Course<'a, OneStep> {
+/// The runs of these plans have seed 7, and at most 1000 of their hits are answered.
+fn settings(alloc: Global) -> CampaignSettings {
+    let mut settings = CampaignSettings::new(alloc);
+    settings.seed = 7;
+    settings
+}
+
+fn course<'a>(settings: &'a CampaignSettings, plans: &'a PlanList<'a>) -> Course<'a, OneStep> {
     Course {
         workload: &(),
+        settings,
         plans,
-        seed: 7,
-        max_hits: 1000,
     }
 }
 
@@ -96,8 +103,9 @@ fn a_book_takes_each_result_of_its_course_once(rt: HostRuntime) -> Result<(), Fa
     let scenarios = scenarios(alloc, 18, &[])?;
     let plans = plans(alloc, &scenarios)?;
     assert_eq!(rt; plans.len(), 19);
-    let longer = course(&plans);
-    let mut book = book(&rt, alloc, &course(&shorter))?;
+    let settings = settings(alloc);
+    let longer = course(&settings, &plans);
+    let mut book = book(&rt, alloc, &course(&settings, &shorter))?;
     for (number, want) in [(3, "put"), (3, "twice"), (12, "stranger")] {
         assert_eq!(rt; put(&rt, alloc, &mut book, &longer, number)?, want);
     }
@@ -115,7 +123,8 @@ fn the_first_failure_of_a_code_is_told_once(rt: HostRuntime) -> Result<(), Fail>
     let alloc = rt.alloc();
     let scenarios = scenarios(alloc, 18, &[9, 10, 11])?;
     let plans = plans(alloc, &scenarios)?;
-    let course = course(&plans);
+    let settings = settings(alloc);
+    let course = course(&settings, &plans);
     let mut book = book(&rt, alloc, &course)?;
     for number in (0..19).rev() {
         assert_eq!(rt; put(&rt, alloc, &mut book, &course, number)?, "put");
@@ -144,7 +153,8 @@ fn results_of_workers_are_put_by_their_numbers(rt: HostRuntime) -> Result<(), Fa
     let alloc = rt.alloc();
     let scenarios = scenarios(alloc, 3, &[0, 2])?;
     let plans = plans(alloc, &scenarios)?;
-    let course = course(&plans);
+    let settings = settings(alloc);
+    let course = course(&settings, &plans);
     let mut book = book(&rt, alloc, &course)?;
     assert_eq!(rt; put(&rt, alloc, &mut book, &course, 3)?, "put");
     tells(&rt, alloc, &book, &[(3, REFUSED)])?;
@@ -164,7 +174,8 @@ fn a_row_gives_its_last_result_first(rt: HostRuntime) -> Result<(), Fail> {
     let alloc = rt.alloc();
     let scenarios = scenarios(alloc, 3, &[0, 2])?;
     let plans = plans(alloc, &scenarios)?;
-    let course = course(&plans);
+    let settings = settings(alloc);
+    let course = course(&settings, &plans);
     let mut row = row(&rt, alloc, &course, 1, 3)?;
     for want in [(2, Verdict::Pass), (1, Verdict::Fail(REFUSED))] {
         let last = row.pop().map(|pair| (pair.number(), pair.verdict()));

@@ -1,4 +1,5 @@
 pub mod Verdicts
+pub mod Says
 pub mod FirstFailure
 pub mod FirstFailures
 pub mod Slots

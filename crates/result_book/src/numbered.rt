@@ -1,6 +1,6 @@
 //! A plan's number and verdict.
 ghost use Rattle.std.specs.Prelude.{◌≡◌, ℕ, ◌<◌, List, [], length, IfOk, slice_index_or};
-ghost use Rattle.target_trait.specs.Outcomes.{verdict_with};
+ghost use Rattle.result_book.specs.Says.{course_says};
 
 use crate::course::Course;
 use crate::workspace::Workspace;
@@ -9,7 +9,7 @@ use plan_gen::{Plan, Rigger};
 use std::alloc::{AllocError, Global};
 use std::marker::Model;
 use std::mem;
-use target_trait::{Case, Target, Verdict, run_session, run_verdict};
+use target_trait::{Target, Verdict, run_session, run_verdict};
 
 /// The verdict of the run of this number under what is rigged, in a room that is left again for the next run. Want of memory may give it
 /// back to the system.
@@ -22,17 +22,17 @@ fn rigged_verdict<T: Target>(
     number: u32,
 ) -> Result<Verdict, AllocError>
     requires { rigging.now.names ≡ T.names }
-    ensures ok { IfOk result (λ verdict. verdict ≡ verdict_with (T.asks target.old course.now.workload.now) T.names
-        course.now.seed course.now.max_hits number rigging.now.scenario) }
+    ensures ok { IfOk result (λ verdict. verdict ≡ course_says T.Target target.old course.now number rigging.now.scenario) }
     ensures setup { target.new ≡ target.old }
 {
+    let settings = course.settings;
     let left = mem::replace(room, Room::new(alloc));
     let mut session = Session::over_in(
         left,
         rigging,
-        course.seed,
+        settings.seed,
         u64::from(number),
-        course.max_hits,
+        settings.max_hits,
     )?;
     let verdict = run_session(target, course.workload, &mut session)?;
     *room = session.into_room();
@@ -47,17 +47,12 @@ fn written_verdict<T: Target>(
     plan: &Plan<'_>,
     number: u32,
 ) -> Result<Verdict, AllocError>
-    ensures ok { IfOk result (λ verdict. verdict ≡ verdict_with (T.asks target.old course.now.workload.now) T.names
-        course.now.seed course.now.max_hits number plan.now) }
+    ensures ok { IfOk result (λ verdict. verdict ≡ course_says T.Target target.old course.now number plan.now) }
     ensures setup { target.new ≡ target.old }
 {
     let scenario = plan.scenario(alloc)?;
-    let case = Case {
-        scenario: &scenario,
-        seed: course.seed,
-        stream: u64::from(number),
-        max_hits: course.max_hits,
-    };
+    let settings = course.settings;
+    let case = settings.case(&scenario, u64::from(number));
     let verdict = run_verdict(alloc, target, course.workload, &case)?;
     Ok(verdict)
 }
@@ -74,8 +69,7 @@ pub(crate) fn verdict_of<T: Target>(
     requires within { number < length course.now.plans.now }
     requires plans { rigger.now.plans ≡ course.now.plans.now }
     requires names { rigger.now.names ≡ T.names }
-    ensures ok { IfOk result (λ verdict. verdict ≡ verdict_with (T.asks target.old course.now.workload.now) T.names
-        course.now.seed course.now.max_hits number (slice_index_or course.now.plans.now number [])) }
+    ensures ok { IfOk result (λ verdict. verdict ≡ course_says T.Target target.old course.now number (slice_index_or course.now.plans.now number [])) }
     ensures setup { target.new ≡ target.old }
 {
     let Workspace {
@@ -94,8 +88,8 @@ pub(crate) fn verdict_of<T: Target>(
 
 /// The number of a plan of a course, with its verdict.
 ///
-/// Only `run`, `run_over` and `Row::pop` make one, so the verdict is always that of the plan of this number, under the stream of this number, for some setup of
-/// the target: the type keeps that. Whoever is handed one, on whatever thread it was made, needs no further promise.
+/// Only `run` and `Row::pop` make one, so the verdict is always that of the plan of this number, under the stream of this number, for some
+/// setup of the target: the type keeps that. Whoever is handed one, on whatever thread it was made, needs no further promise.
 #[derive(Drop)]
 pub struct Numbered<'a, T: Target> {
     pub(crate) course: &'a Course<'a, T>,
@@ -109,12 +103,11 @@ impl<'a, T: Target> Model for Numbered<'a, T> {
     ghost Value = { Pair };
 
     ghost use Rattle.std.specs.Prelude.{◌≡◌, ℕ, ◌<◌, length, slice_index_or, []};
-    ghost use Rattle.target_trait.specs.Outcomes.{verdict_with};
+    ghost use Rattle.result_book.specs.Says.{course_says};
 
     ghost view = { λ n. record { number = n.number; verdict = n.verdict } };
 
-    ghost invariant = { λ n. (setup : T) × (n.verdict ≡ verdict_with (T.asks setup n.course.now.workload.now) T.names
-        n.course.now.seed n.course.now.max_hits n.number (slice_index_or n.course.now.plans.now n.number [])) };
+    ghost invariant = { λ n. (setup : T) × (n.verdict ≡ course_says T.Target setup n.course.now n.number (slice_index_or n.course.now.plans.now n.number [])) };
 }
 
 impl<'a, T: Target> Numbered<'a, T> {
@@ -130,34 +123,13 @@ impl<'a, T: Target> Numbered<'a, T> {
         requires { number < length course.now.plans.now }
         ensures ok { IfOk result (λ pair. pair ≡ record {
           number = number;
-          verdict = verdict_with (T.asks target.old course.now.workload.now) T.names
-              course.now.seed course.now.max_hits number (slice_index_or course.now.plans.now number []);
+          verdict = course_says T.Target target.old course.now number (slice_index_or course.now.plans.now number []);
         }) }
         ensures setup { target.new ≡ target.old }
     {
         let mut workspace = Workspace::new(alloc);
-        Numbered::run_over(alloc, target, &mut workspace, course, number)
-    }
-
-    /// The same as `run`, in a workspace that serves run after run: it keeps the memory that it has taken. Whatever it holds before makes no
-    /// difference.
-    pub fn run_over(
-        alloc: Global,
-        target: &mut T,
-        workspace: &mut Workspace,
-        course: &'a Course<'a, T>,
-        number: u32,
-    ) -> Result<Self, AllocError>
-        requires { number < length course.now.plans.now }
-        ensures ok { IfOk result (λ pair. pair ≡ record {
-          number = number;
-          verdict = verdict_with (T.asks target.old course.now.workload.now) T.names
-              course.now.seed course.now.max_hits number (slice_index_or course.now.plans.now number []);
-        }) }
-        ensures setup { target.new ≡ target.old }
-    {
         let rigger = course.plans.rigger(T::catalogue());
-        let verdict = verdict_of(alloc, target, &rigger, workspace, course, number)?;
+        let verdict = verdict_of(alloc, target, &rigger, &mut workspace, course, number)?;
         Ok(Numbered {
             course,
             number,

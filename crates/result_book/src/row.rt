@@ -1,6 +1,6 @@
 //! Verdicts of plans that stand one after another.
 ghost use Rattle.std.specs.Prelude.{◌≡◌, ◌≤◌, [], length, IfOk, MatchOption, slice_range};
-ghost use Rattle.target_trait.specs.Outcomes.{verdict_with};
+ghost use Rattle.result_book.specs.Says.{course_says};
 ghost use Rattle.result_book.specs.Rows.{IsLast};
 ghost use Rattle.result_book.specs.Verdicts.{verdicts_from};
 
@@ -28,20 +28,19 @@ impl<'a, T: Target> Model for Row<'a, T> {
     ghost Value = { Stretch };
 
     ghost use Rattle.std.specs.Prelude.{◌+◌, ◌<◌, ◌^◌, length};
-    ghost use Rattle.target_trait.specs.Outcomes.{verdict_with};
+    ghost use Rattle.result_book.specs.Says.{course_says};
     ghost use Rattle.result_book.specs.Rows.{AreSaid};
 
     ghost view = { λ r. record { first = r.first; verdicts = r.verdicts.items } };
 
     ghost invariant = { λ r. (r.first + length r.verdicts.items < 2 ^ 32)
-        × ((setup : T) × AreSaid
-        (verdict_with (T.asks setup r.course.now.workload.now) T.names r.course.now.seed r.course.now.max_hits)
-        r.course.now.plans.now r.first r.verdicts.items) };
+        × ((setup : T) × AreSaid (course_says T.Target setup r.course.now) r.course.now.plans.now r.first r.verdicts.items) };
 }
 
 impl<'a, T: Target> Row<'a, T> {
-    /// Runs the plans from this number on, before `end`, in their order, in a workspace as `Numbered::run_over` does. An error means that
-    /// memory was refused. The target keeps its setup, after an error too.
+    /// Runs the plans from this number on, before `end`, in their order, in a workspace that serves run after run: it keeps the
+    /// memory that it has taken, and whatever it holds before makes no difference. An error means that memory was refused. The target keeps
+    /// its setup, after an error too.
     pub fn run_over(
         alloc: Global,
         target: &mut T,
@@ -53,9 +52,7 @@ impl<'a, T: Target> Row<'a, T> {
         requires within { (first ≤ end) × (end ≤ length course.now.plans.now) }
         ensures ok { IfOk result (λ row. row ≡ record {
           first = first;
-          verdicts = verdicts_from
-              (verdict_with (T.asks target.old course.now.workload.now) T.names course.now.seed course.now.max_hits)
-              first (slice_range course.now.plans.now first end);
+          verdicts = verdicts_from (course_says T.Target target.old course.now) first (slice_range course.now.plans.now first end);
         }) }
         ensures setup { target.new ≡ target.old }
     {

@@ -8,42 +8,37 @@ ghost use Rattle.run_explained.specs.Explained.{explain_text};
 
 use crate::telling::explain;
 use campaign_core::{CampaignFault, write_judged};
+use campaign_given::CampaignSettings;
 use scenario_values::Scenario;
 use std::alloc::Global;
-use target_trait::{Case, Sink, Target, Verdict};
+use target_trait::{Sink, Target, Verdict};
 
 /// Runs the scenario on the target, and writes the lines of `explain`: the verdict, each hit, what stopped the run, and the faults that never
 /// acted.
 ///
-/// The seed and the stream number are those of the run's words: a plan of a campaign runs under its own number. After `max_hits` answered
-/// hits the run is stopped and unresolved. Nothing is written before the text stands whole: for want of memory the sink is unchanged and
+/// The seed of the settings and the stream number are those of the run's words: a plan of a campaign runs under its own number. After the
+/// settings' `max_hits` answered hits the run is stopped and unresolved. Nothing is written before the text stands whole: for want of memory the sink is unchanged and
 /// hasn't failed. A failed write tells how many bytes of the text, fewer than all, went out. The target keeps its setup in every case.
 pub fn explain_one<T: Target, W: Sink>(
     alloc: Global,
     target: &mut T,
     workload: &T::Workload,
-    seed: u64,
+    settings: &CampaignSettings,
     stream: u64,
-    max_hits: u32,
     scenario: &Scenario,
     sink: &mut W,
 ) -> Result<Verdict, CampaignFault>
     requires { W.has_failed sink.old ≡ false }
     ensures verdict { IfOk result (λ verdict. verdict
-        ≡ (outcome (T.asks target.old workload.now) (given_of scenario.now T.names seed stream max_hits)).verdict) }
+        ≡ (outcome (T.asks target.old workload.now) (given_of scenario.now T.names settings.now.plans.seed stream settings.now.max_hits)).verdict) }
     ensures text { OnOk result (Appends (W.told sink.old) (W.told sink.new)
-        (explain_text T.code_text (T.asks target.old workload.now) (given_of scenario.now T.names seed stream max_hits))) }
+        (explain_text T.code_text (T.asks target.old workload.now) (given_of scenario.now T.names settings.now.plans.seed stream settings.now.max_hits))) }
     ensures sound { OnOk result (W.has_failed sink.new ≡ false) }
     ensures fault { IfErr result (LeavesOnly (W.told sink.old) (W.told sink.new) (W.has_failed sink.new)
-        (explain_text T.code_text (T.asks target.old workload.now) (given_of scenario.now T.names seed stream max_hits))) }
+        (explain_text T.code_text (T.asks target.old workload.now) (given_of scenario.now T.names settings.now.plans.seed stream settings.now.max_hits))) }
     ensures setup { target.new ≡ target.old }
 {
-    let case = Case {
-        scenario,
-        seed,
-        stream,
-        max_hits,
-    };
+    let case = settings.case(scenario, stream);
     let told = explain(alloc, target, workload, &case)?;
     write_judged(told.verdict, told.text.as_str(), sink)
 }

@@ -2,6 +2,7 @@
 ghost use Rattle.std.specs.Prelude.{◌^◌, ⊤};
 
 use crate::adding::{Setup, have_performed};
+use campaign_given::CampaignSettings;
 use file_replace::{Replace, Replacements, Variant};
 use plan_gen::{PlanList, PlanSettings, by_census, plans};
 use result_book::{Course, Numbered};
@@ -62,13 +63,11 @@ fn plans_of(alloc: Global, work: &Replacements) -> Result<PlanList<'static>, Fai
     Ok(plans(alloc, &census, Replace::catalogue(), &settings)?)
 }
 
-fn course_of<'a>(workload: &'a Replacements, plans: &'a PlanList<'a>) -> Course<'a, Replace> {
-    Course {
-        workload,
-        plans,
-        seed: 7,
-        max_hits: 1000,
-    }
+/// The runs of these plans have seed 7, and at most 1000 of their hits are answered.
+fn settings(alloc: Global) -> CampaignSettings {
+    let mut settings = CampaignSettings::new(alloc);
+    settings.seed = 7;
+    settings
 }
 
 /// Three hands, each with a target of its own.
@@ -163,5 +162,11 @@ fn three_hands_twice_on_the_small_workload(rt: HostRuntime) -> Result<(), Fail> 
     let work = small_workload(alloc)?;
     let plans = plans_of(alloc, &work)?;
     assert_eq!(rt; plans.len(), 19);
-    are_run(&rt, alloc, &course_of(&work, &plans))
+    let settings = settings(alloc);
+    let course = Course {
+        workload: &work,
+        settings: &settings,
+        plans: &plans,
+    };
+    are_run(&rt, alloc, &course)
 }

@@ -8,14 +8,14 @@ use Rattle.result_book.specs.FirstFailures.{first_failures}
 use Rattle.report.specs.Reports.{FindingFacts, ReportFacts}
 use Rattle.answer_text.specs.Known.{KnownVerdicts, Agrees}
 use Rattle.campaign_core.specs.Findings.{finding}
-use Rattle.campaign_settings.specs.Description.{Description}
+use Rattle.campaign_given.specs.Description.{Description}
 use Rattle.outside_campaign.specs.Outside.{Component, say}
 use Rattle.outside_campaign.specs.inside.Verdicts.{AreVerdicts}
 use Rattle.plan_gen.specs.PlanList.{most_plans}
 use Rattle.report.specs.BriefText.{brief_lines}
 use Rattle.report.specs.ReportText.{report_lines, text_of}
 use Rattle.answer_text.specs.FirstFault.{reading_of}
-use Rattle.campaign_settings.specs.declared.settings.Settings.{Settings}
+use Rattle.campaign_given.specs.Given.{Given}
 use Rattle.campaign_core.specs.declared.ending.CampaignFault.TheVariants as campaign
 use Rattle.outside_campaign.specs.Campaigns.{plans, code_name, report_text, brief_report_text, untried, untried_by}
 use Rattle.outside_campaign.specs.declared.refusal.OutsideFault.{OutsideFault}
@@ -67,12 +67,12 @@ text_in Brief outside seed verdicts findings plans =
     text_of (brief_lines outside.points (code_name outside.codes) (facts_of outside seed verdicts findings) plans)
 
 -- the same of a component
-abbrev pub report_in : Form → Description → Settings → Component → List ℕ
+abbrev pub report_in : Form → Description → Given → Component → List ℕ
 report_in Whole = report_text
 report_in Brief = brief_report_text
 
 -- why there is no such text: the answers' first fault, the first scenario that is still to be tried, too many plans, or want of memory
-abbrev pub IsUntold : Description → Settings → List ℕ → OutsideFault → Type 0
+abbrev pub IsUntold : Description → Given → List ℕ → OutsideFault → Type 0
 IsUntold outside settings answers (refusal.Answers fault) = reading_of outside.codes answers ≡ Err fault
 IsUntold outside settings answers (refusal.NotAnswered t) = (more : List Entries) × (untried_by outside settings answers ≡ t ∷ more)
 IsUntold outside settings answers (refusal.Campaign campaign.TooManyPlans) = most_plans < length (plans outside settings)

@@ -1,8 +1,4 @@
-use Rattle.std.proofs.Common.{rules, ◌≡◌, ℕ, List, ap, subst, ◌∙◌, IfErr}
-use Rattle.report.specs.ReportText.{text_of}
-use Rattle.report.specs.BriefText.{brief_lines}
-use Rattle.campaign_core.specs.Findings.{report_of}
-use Rattle.campaign_core.specs.inside.Says.{course_says}
+use Rattle.std.proofs.Common.{rules, ◌≡◌, ℕ, List, subst, ◌∙◌, IfErr}
 use Rattle.campaign_core.specs.Headline.{Campaign, campaign_on, brief_report_text}
 use Rattle.campaign_core.specs.CommandTexts.{IsFault}
 use Rattle.campaign_core.proofs.Firsts.{brief_is}
@@ -12,10 +8,8 @@ pub returns-in_err-write_report-clause-fault : goal.returns-in_err-write_report-
 returns-in_err-write_report-clause-fault g c =
     let k : Campaign = campaign_on g.T.Target c.args.target.now c.args.workload.now c.args.settings.now in
     let counts = c.as_slice-counts.result.now in
-    let told = c.in_ok-text.ensures.text ∙ ap (λ course. text_of (brief_lines k.points k.codes (report_of
-    (course_says g.T.Target c.args.target.now course) k.label course.seed counts course.plans.now) course.plans.now)) c.course_of-course.ensures in
     let text : c.as_slice.result.now ≡ brief_report_text k =
-    c.as_slice.ensures.value ∙ brief_is k c.in_ok-text.text.items counts c.in_ok-census.plans told
+    c.as_slice.ensures.value ∙ brief_is k c.in_ok-text.text.items counts c.in_ok-census.plans c.in_ok-text.ensures.text
     (c.as_slice-counts.ensures.value ∙ c.in_ok-census.ensures.census) c.in_ok-census.ensures.plans in
     subst (λ (t : List ℕ). IfErr c.from_residual-in_err-write_report.result
     (IsFault k t (g.W.Sink.told c.args.sink.now) (g.W.Sink.told c.write_report.new.sink) (g.W.Sink.has_failed c.write_report.new.sink))) text (search rules)

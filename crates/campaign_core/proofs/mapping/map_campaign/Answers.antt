@@ -23,7 +23,6 @@ map_text-requires-clause-few g c =
 pub returns-clause-first : goal.returns-clause-first
 returns-clause-first g c =
     let settings = c.args.settings.now in
-    let say : ℕ → Entries → Verdict = verdict_with (g.T.Target.asks c.args.target.now c.args.workload.now) g.T.Target.names settings.seed settings.max_hits in
-    let results = rw c.course_of-course.ensures at c.in_ok-results.ensures in
-    first_is say c.in_ok-census.plans _ c.in_ok-results.results.firsts.items c.ending.result.first c.ending.ensures results.1
+    let say : ℕ → Entries → Verdict = verdict_with (g.T.Target.asks c.args.target.now c.args.workload.now) g.T.Target.names settings.plans.seed settings.max_hits in
+    first_is say c.in_ok-census.plans _ c.in_ok-results.results.firsts.items c.ending.result.first c.ending.ensures c.in_ok-results.ensures.1
     c.in_ok-census.ensures.plans

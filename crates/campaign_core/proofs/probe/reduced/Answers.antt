@@ -1,7 +1,7 @@
 use Rattle.std.proofs.Common.{◌≡◌, ◌<◌, length, arith}
 use Rattle.std.proofs.lemmas.Result.{IfOk-weaker}
 use Rattle.scenario_values.specs.Scenario.{all_faults}
-use Rattle.target_trait.specs.Outcomes.{verdict_with}
+use Rattle.campaign_core.specs.inside.Says.{failure_says}
 use Rattle.campaign_core.specs.FaultTest.{fault_test}
 use Rattle.campaign_core.specs.Findings.{reduction}
 use Rattle.campaign_core.proofs.Gathered.{by_first}
@@ -11,10 +11,10 @@ pub returns : goal.returns
 returns g c =
     let hands = c.in_ok-hands.hands.items in
     let f = c.args.failure.now in
-    let some : 0 < length hands = omega (arith, c.in_ok-hands.ensures.many, c.in_ok-hands.hands.ok.0, c.requires) in
+    let some : 0 < length hands = omega (arith, c.in_ok-hands.ensures.many, c.in_ok-hands.hands.ok.0, c.workers.ensures.some) in
     IfOk-weaker c.reduce.result _ (λ r. r
-    ≡ reduction (verdict_with (g.T.Target.asks c.args.target.now f.workload.now) g.T.Target.names f.seed f.max_hits) f.stream f.code f.scenario.now)
+    ≡ reduction (failure_says g.T.Target c.args.target.now f) f.stream f.code f.scenario.now)
     (λ r is. by_first hands c.args.target.now f (λ p. p.target) (λ p. p.failure.now)
-    (λ t s. fault_test (verdict_with (g.T.Target.asks t s.workload.now) g.T.Target.names s.seed s.max_hits s.stream) s.code s.scenario.now)
+    (λ t s. fault_test (failure_says g.T.Target t s s.stream) s.code s.scenario.now)
     (all_faults f.scenario.now) f.faults r some c.in_ok-hands.ensures.same f.counted is)
     c.reduce.ensures

@@ -2,7 +2,7 @@ use Rattle.std.proofs.Common.{◌≡◌, ℕ, ap, ◌∙◌}
 use Rattle.scenario_values.specs.Scenario.{Entries, all_faults}
 use Rattle.scenario_values.specs.Keep.{are_faults}
 use Rattle.target_trait.specs.declared.judgement.Verdict.{Verdict}
-use Rattle.target_trait.specs.Outcomes.{verdict_with}
+use Rattle.campaign_core.specs.inside.Says.{failure_says}
 use Rattle.ddmin_parallel.specs.Ddmin.{Reduced}
 use Rattle.ddmin_parallel.proofs.Minimal.{minimal}
 use Rattle.campaign_core.specs.FaultTest.{fault_test}
@@ -13,7 +13,7 @@ use Rattle.campaign_core.proofs.reducing.reduced_scenario.Goals as goal
 pub keep-requires : goal.keep-requires
 keep-requires g c =
     let f = c.args.failure.now in
-    let say : ℕ → Entries → Verdict = verdict_with (g.T.Target.asks c.args.target.now f.workload.now) g.T.Target.names f.seed f.max_hits in
+    let say : ℕ → Entries → Verdict = failure_says g.T.Target c.args.target.now f in
     let s : Entries = f.scenario.now in
     let red : Reduced = reduction say f.stream f.code s in
     let set : c.as_slice.result.now ≡ red.kept = c.as_slice.ensures.value ∙ ap (λ (x : Reduced). x.kept) (c.reduction.view_is ∙ c.in_ok-reduction.ensures) in
@@ -23,5 +23,5 @@ keep-requires g c =
 pub returns-clause-minimal : goal.returns-clause-minimal
 returns-clause-minimal g c =
     let f = c.args.failure.now in
-    reduced_minimal (g.T.Target.asks c.args.target.now f.workload.now) g.T.Target.names f.seed f.max_hits f.stream f.code f.scenario.now
+    reduced_minimal (g.T.Target.asks c.args.target.now f.workload.now) g.T.Target.names f.settings.now.plans.seed f.settings.now.max_hits f.stream f.code f.scenario.now
     c.entries.ensures.limits.distinct_names c.requires.fails

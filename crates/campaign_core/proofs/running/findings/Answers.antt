@@ -3,7 +3,7 @@ use Rattle.std.proofs.lemmas.List.{map-append, take_more}
 use Rattle.std.proofs.lemmas.List.Elements.{All-push}
 use Rattle.scenario_values.specs.Scenario.{Entries}
 use Rattle.target_trait.specs.declared.judgement.Verdict.{Verdict}
-use Rattle.target_trait.specs.Outcomes.{verdict_with}
+use Rattle.result_book.specs.Says.{course_says}
 use Rattle.report.specs.Reports.{FindingFacts}
 use Rattle.campaign_core.specs.Findings.{finding, ReducesToMinimal}
 use Rattle.campaign_core.proofs.running.findings.Goals as goal
@@ -19,7 +19,7 @@ more f fs i all new x lt added so_far is =
 pub loop-first-preserved : goal.loop-first-preserved
 loop-first-preserved g c =
     let course = c.args.course.now in
-    let say : ℕ → Entries → Verdict = verdict_with (g.T.Target.asks c.args.target.now course.workload.now) g.T.Target.names course.seed course.max_hits in
+    let say : ℕ → Entries → Verdict = course_says g.T.Target c.args.target.now course in
     let all : List FindingFacts = c.loop-first.all.items in
     record {
       found =

@@ -1,7 +1,7 @@
 use Rattle.std.proofs.Common.{◌≡◌, ℕ, [], get_or, ap, sym, subst, ◌∙◌}
 use Rattle.scenario_values.specs.Scenario.{Entries}
 use Rattle.target_trait.specs.declared.judgement.Verdict.{Verdict}
-use Rattle.target_trait.specs.Outcomes.{verdict_with}
+use Rattle.result_book.specs.Says.{course_says}
 use Rattle.campaign_core.specs.FaultTest.{fails_with}
 use Rattle.campaign_core.specs.Findings.{IsMinimal}
 use Rattle.campaign_core.proofs.Firsts.{failure_fails, found_is}
@@ -10,7 +10,7 @@ use Rattle.campaign_core.proofs.running.found.Goals as goal
 pub reduced_scenario-requires-clause-fails : goal.reduced_scenario-requires-clause-fails
 reduced_scenario-requires-clause-fails g c κs within =
     let course = c.args.course.now in
-    let say : ℕ → Entries → Verdict = verdict_with (g.T.Target.asks c.args.target.now course.workload.now) g.T.Target.names course.seed course.max_hits in
+    let say : ℕ → Entries → Verdict = course_says g.T.Target c.args.target.now course in
     let number = c.args.first.0 in
     let code = c.args.first.1 in
     let read : c.in_ok-scenario.scenario ≡ get_or course.plans.now number [] = c.in_ok-scenario.ensures ∙ c.plan.ensures in
@@ -20,7 +20,7 @@ reduced_scenario-requires-clause-fails g c κs within =
 pub returns-clause-found : goal.returns-clause-found
 returns-clause-found g c =
     let course = c.args.course.now in
-    let say : ℕ → Entries → Verdict = verdict_with (g.T.Target.asks c.args.target.now course.workload.now) g.T.Target.names course.seed course.max_hits in
+    let say : ℕ → Entries → Verdict = course_says g.T.Target c.args.target.now course in
     let number = c.args.first.0 in
     let read : c.in_ok-scenario.scenario ≡ get_or course.plans.now number [] = c.in_ok-scenario.ensures ∙ c.plan.ensures in
     found_is say course.plans.now number c.args.first.1 c.in_ok-reduced.tests c.from.result c.in_ok-scenario.scenario c.in_ok-reduced.reduced
@@ -29,7 +29,7 @@ returns-clause-found g c =
 pub returns-clause-minimal : goal.returns-clause-minimal
 returns-clause-minimal g c =
     let course = c.args.course.now in
-    let say : ℕ → Entries → Verdict = verdict_with (g.T.Target.asks c.args.target.now course.workload.now) g.T.Target.names course.seed course.max_hits in
+    let say : ℕ → Entries → Verdict = course_says g.T.Target c.args.target.now course in
     let code = c.args.first.1 in
     let left : Entries = c.in_ok-reduced.reduced in
     let own : IsMinimal (say c.from.result) code left =

@@ -1,7 +1,7 @@
 use Rattle.std.proofs.Common.{◌≡◌, ◌<◌, ℕ, List, nat_eq, length, vec_len, ap, sym, subst, ◌∙◌, arith}
 use Rattle.scenario_values.specs.Scenario.{Entries}
 use Rattle.target_trait.specs.declared.judgement.Verdict.{Verdict}
-use Rattle.target_trait.specs.Outcomes.{verdict_with}
+use Rattle.result_book.specs.Says.{course_says}
 use Rattle.result_book.specs.Rows.{enter_lists}
 use Rattle.result_book.proofs.RowLemmas.{book_is}
 use Rattle.campaign_core.specs.inside.Rows.{row_count, row_of}
@@ -15,11 +15,11 @@ returns g c =
     let plans : List Entries = course.plans.now in
     let jobs = c.in_ok-jobs.jobs.items in
     let ls = c.in_ok-rows.rows.items in
-    let say : ℕ → Entries → Verdict = verdict_with (g.T.Target.asks c.args.target.now course.workload.now) g.T.Target.names course.seed course.max_hits in
+    let say : ℕ → Entries → Verdict = course_says g.T.Target c.args.target.now course in
     let same_len : length ls ≡ length jobs = omega (arith, c.in_ok-rows.ensures.many, c.in_ok-rows.rows.ok.0, c.in_ok-jobs.jobs.ok.0) in
     c.put_all.ensures ∙ ap (λ s. enter_lists s ls) c.in_ok-book.ensures
     ∙ book_is say plans (row_of say plans) ls
-    (all_own jobs ls c.args.target.now course (λ r. r.target) (λ r. r.course.now) (λ t s n. row_of (verdict_with (g.T.Target.asks t s.workload.now) g.T.Target.names s.seed s.max_hits) s.plans.now n) same_len c.in_ok-jobs.ensures.same (λ k j l lt. c.in_ok-rows.ensures.right k j l (let low : k < vec_len c.in_ok-jobs.jobs = omega (arith, c.in_ok-jobs.jobs.ok.0) in low)))
+    (all_own jobs ls c.args.target.now course (λ r. r.target) (λ r. r.course.now) (λ t s n. row_of (course_says g.T.Target t s) s.plans.now n) same_len c.in_ok-jobs.ensures.same (λ k j l lt. c.in_ok-rows.ensures.right k j l (let low : k < vec_len c.in_ok-jobs.jobs = omega (arith, c.in_ok-jobs.jobs.ok.0) in low)))
     (λ n. rows_said say plans n)
     (λ m lt. let found = row_reaches say plans m lt in
     (found.0, (found.1.1, found.1.2, subst (λ n. 0 < n) (sym (c.in_ok-rows.ensures.once (λ y. nat_eq y found.0))) (below_some found.0 c.row_count.result (subst (λ n. found.0 < n) (sym (c.row_count.ensures ∙ ap row_count c.len-plans.ensures.many)) found.1.0)))))

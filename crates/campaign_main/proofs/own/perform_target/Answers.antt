@@ -2,7 +2,7 @@ use Rattle.std.proofs.Common.{List, ℕ, Err, ap, inl, subst}
 use Rattle.campaign_main.specs.declared.exit.Exit.{Exit}
 use Rattle.campaign_main.specs.Commands.{Answer}
 use Rattle.campaign_main.specs.Ends.{EndsAs, IsRefused, TellsAs, TellsNotes}
-use Rattle.campaign_main.specs.OwnTarget.{OwnReducesToMinimal, own_answer, own_campaign, own_text_answer}
+use Rattle.campaign_main.specs.OwnTarget.{OwnReducesToMinimal, own_answer, campaign_on, own_text_answer}
 use Rattle.campaign_main.proofs.EndLemmas.{cause-unread, read-answer, read-whole, refuses-whole, tells-unread, whole-map}
 use Rattle.campaign_main.proofs.NoteLemmas.{may-own, some-tells, told-notes}
 use Rattle.campaign_main.proofs.own.perform_target.Goals as goal
@@ -12,7 +12,7 @@ unfolding own_answer
 returns-in-Ok-clause-end g c =
     let W = g.W.Sink in
     let new = c.target_text.new.output in
-    let meaning = own_text_answer c.args.order.now (own_campaign g.T.Target c.args.target.now c.args.workload.now) in
+    let meaning = own_text_answer c.args.order.now (campaign_on g.T.Target c.args.target.now c.args.workload.now) in
     let P : Answer → Type 0 = λ a. EndsAs c.target_text.result a (W.told c.args.output.now) (W.told new) (W.has_failed new) in
     read-answer meaning _ _ _ P c.as_str.ensures.value c.in-Ok.ensures.ok c.in-Ok.ensures.limit c.as_str.utf8 c.target_text.ensures.end
 
@@ -24,7 +24,7 @@ returns-in-Ok-clause-cause g c =
     let old = E.told c.args.faults.now in
     let new = E.told c.target_text.new.faults in
     let failed = E.has_failed c.target_text.new.faults in
-    let meaning = own_text_answer c.args.order.now (own_campaign g.T.Target c.args.target.now c.args.workload.now) in
+    let meaning = own_text_answer c.args.order.now (campaign_on g.T.Target c.args.target.now c.args.workload.now) in
     let P : Answer → Type 0 = λ a. IsRefused a old new failed in
     let Q : Exit → Type 0 = λ e. TellsAs e (meaning c.as_str.result.now) old new failed in
     read-answer meaning _ _ _ P c.as_str.ensures.value c.in-Ok.ensures.ok c.in-Ok.ensures.limit c.as_str.utf8 (inl (subst Q refused c.target_text.ensures.told))
@@ -33,7 +33,7 @@ pub returns-in-Err-clause-cause : goal.returns-in-Err-clause-cause
 unfolding own_answer
 returns-in-Err-clause-cause g c =
     λ refused.
-    let meaning = own_text_answer c.args.order.now (own_campaign g.T.Target c.args.target.now c.args.workload.now) in
+    let meaning = own_text_answer c.args.order.now (campaign_on g.T.Target c.args.target.now c.args.workload.now) in
     cause-unread meaning _ _ _ _ _ c.in-Err.fault (λ e. c.in-Err.ensures.too_long (ap (λ f. Err f) e)) (λ e. c.in-Err.ensures.not_text (ap (λ f. Err f) e))
     c.unread.ensures.end c.unread.ensures.memory refused
 
@@ -42,11 +42,11 @@ returns-in-Err-clause-told g c = tells-unread c.args.order.now c.in-Err.fault c.
 
 pub returns-in-Ok-clause-minimal : goal.returns-in-Ok-clause-minimal
 returns-in-Ok-clause-minimal g c =
-    let P : List ℕ → Type 0 = OwnReducesToMinimal c.args.order.now (own_campaign g.T.Target c.args.target.now c.args.workload.now) in
+    let P : List ℕ → Type 0 = OwnReducesToMinimal c.args.order.now (campaign_on g.T.Target c.args.target.now c.args.workload.now) in
     whole-map c.target_text.result _ _ (λ h. read-whole _ _ _ P c.as_str.ensures.value c.in-Ok.ensures.ok h) c.target_text.ensures.minimal
 
 pub returns-in-Ok-clause-told : goal.returns-in-Ok-clause-told
-returns-in-Ok-clause-told g c = some-tells _ _ _ c.args.order.now _ c.target_text.result (may-own c.args.order.now (own_campaign g.T.Target c.args.target.now c.args.workload.now) c.as_str.result.now) c.target_text.ensures.told
+returns-in-Ok-clause-told g c = some-tells _ _ _ c.args.order.now _ c.target_text.result (may-own c.args.order.now (campaign_on g.T.Target c.args.target.now c.args.workload.now) c.as_str.result.now) c.target_text.ensures.told
 
 pub returns-in-Ok-clause-noted : goal.returns-in-Ok-clause-noted
 unfolding own_answer
@@ -55,7 +55,7 @@ returns-in-Ok-clause-noted g c =
     let old = E.told c.args.faults.now in
     let new = E.told c.target_text.new.faults in
     let failed = E.has_failed c.target_text.new.faults in
-    let meaning = (own_text_answer c.args.order.now (own_campaign g.T.Target c.args.target.now c.args.workload.now)) in
+    let meaning = (own_text_answer c.args.order.now (campaign_on g.T.Target c.args.target.now c.args.workload.now)) in
     let P : Answer → Type 0 = λ a. TellsNotes a old new failed in
     whole-map c.target_text.result _ _
     (λ h. read-answer meaning _ _ _ P c.as_str.ensures.value c.in-Ok.ensures.ok c.in-Ok.ensures.limit c.as_str.utf8 h)

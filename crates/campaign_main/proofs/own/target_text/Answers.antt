@@ -1,8 +1,7 @@
 use Rattle.std.proofs.Common.{subst, sym}
-use Rattle.campaign_settings.specs.Settings.{Given, Read}
 use Rattle.campaign_main.specs.Commands.{Answer}
 use Rattle.campaign_main.specs.Ends.{EndsAs, TellsAs}
-use Rattle.campaign_main.specs.OwnTarget.{own_campaign}
+use Rattle.campaign_core.specs.Headline.{campaign_on}
 use Rattle.campaign_main.proofs.EndLemmas.{tells-of}
 use Rattle.campaign_main.proofs.OwnLemmas.{own-answered, own-tells}
 use Rattle.campaign_main.proofs.own.target_text.Goals as goal
@@ -12,7 +11,7 @@ returns-in-Ok-clause-end g c =
     let W = g.W.Sink in
     let new = c.target_command.new.output in
     let P : Answer → Type 0 = λ a. EndsAs c.target_command.result a (W.told c.args.output.now) (W.told new) (W.has_failed new) in
-    subst P (sym (own-answered _ (own_campaign g.T.Target c.args.target.now c.args.workload.now) _ c.in-Ok.settings c.in-Ok.ensures.ok)) c.target_command.ensures.end
+    subst P (sym (own-answered _ (campaign_on g.T.Target c.args.target.now c.args.workload.now) _ c.in-Ok.settings c.in-Ok.ensures.ok)) c.target_command.ensures.end
 
 pub returns-in-Ok-clause-told : goal.returns-in-Ok-clause-told
 returns-in-Ok-clause-told g c =
@@ -21,9 +20,9 @@ returns-in-Ok-clause-told g c =
     let new = E.told c.target_command.new.faults in
     let failed = E.has_failed c.target_command.new.faults in
     let P : Answer → Type 0 = λ a. TellsAs c.target_command.result a old new failed in
-    subst P (sym (own-answered _ (own_campaign g.T.Target c.args.target.now c.args.workload.now) _ c.in-Ok.settings c.in-Ok.ensures.ok)) c.target_command.ensures.told
+    subst P (sym (own-answered _ (campaign_on g.T.Target c.args.target.now c.args.workload.now) _ c.in-Ok.settings c.in-Ok.ensures.ok)) c.target_command.ensures.told
 
 pub returns-in-Err-clause-told : goal.returns-in-Err-clause-told
 returns-in-Err-clause-told g c =
     tells-of _ _ _ _ _ _ _ c.unset.ensures.end
-    (λ refused. own-tells _ (own_campaign g.T.Target c.args.target.now c.args.workload.now) _ _ _ _ _ refused c.in-Err.fault c.in-Err.ensures.refused c.unset.ensures.memory c.unset.ensures.end)
+    (λ refused. own-tells _ (campaign_on g.T.Target c.args.target.now c.args.workload.now) _ _ _ _ _ refused c.in-Err.fault c.in-Err.ensures.refused c.unset.ensures.memory c.unset.ensures.end)

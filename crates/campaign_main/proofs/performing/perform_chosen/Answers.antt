@@ -1,5 +1,4 @@
 use Rattle.std.proofs.Common.{subst, sym}
-use Rattle.campaign_settings.specs.Settings.{given_of}
 use Rattle.campaign_main.specs.declared.exit.Exit.{Exit}
 use Rattle.campaign_main.specs.Commands.{choice_answer}
 use Rattle.campaign_main.specs.Ends.{TellsAs}
@@ -13,7 +12,7 @@ returns-in-Ok-clause-told g c =
     let old = E.told c.args.faults.now in
     let new = E.told c.chosen_command.new.faults in
     let failed = E.has_failed c.chosen_command.new.faults in
-    let answer = choice_answer c.args.order.now (given_of c.args.settings.now) c.args.choice.now in
+    let answer = choice_answer c.args.order.now c.args.settings.now c.args.choice.now in
     let P : Exit → Type 0 = λ e. TellsAs e answer old new failed in
     subst P (sym c.exit_of.ensures) (found-notes old new failed answer c.in-Ok.found c.in-Ok.ensures.noted)
 

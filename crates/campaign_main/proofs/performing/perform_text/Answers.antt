@@ -1,7 +1,7 @@
 use Rattle.std.proofs.Common.{subst, sym}
 use Rattle.campaign_main.specs.Commands.{Answer}
 use Rattle.campaign_main.specs.Ends.{EndsAs, TellsAs}
-use Rattle.campaign_main.proofs.EndLemmas.{answer-chosen, answer-targetless, cause-unset, tells-of, tells-refusal}
+use Rattle.campaign_main.proofs.EndLemmas.{answer-chosen, cause-unset, tells-of}
 use Rattle.campaign_main.proofs.performing.perform_text.Goals as goal
 
 pub returns-in-Err-clause-told : goal.returns-in-Err-clause-told
@@ -9,23 +9,18 @@ returns-in-Err-clause-told g c =
     tells-of _ _ _ _ _ _ _ c.unset.ensures.end
     (λ refused. cause-unset _ _ _ _ _ _ refused c.in-Err.fault c.in-Err.ensures.refused c.unset.ensures.memory c.unset.ensures.end)
 
-pub returns-in-Some-clause-end : goal.returns-in-Some-clause-end
-returns-in-Some-clause-end g c =
+pub returns-in-Ok-clause-end : goal.returns-in-Ok-clause-end
+returns-in-Ok-clause-end g c =
     let W = g.W.Sink in
     let new = c.perform_chosen.new.output in
     let P : Answer → Type 0 = λ a. EndsAs c.perform_chosen.result a (W.told c.args.output.now) (W.told new) (W.has_failed new) in
-    subst P (sym (answer-chosen _ _ c.in-Ok.settings c.in-Ok.ensures.ok c.in-Some.choice c.in-Some.is)) c.perform_chosen.ensures.end
+    subst P (sym (answer-chosen _ _ c.in-Ok.settings c.in-Ok.ensures.ok)) c.perform_chosen.ensures.end
 
-pub returns-in-Some-clause-told : goal.returns-in-Some-clause-told
-returns-in-Some-clause-told g c =
+pub returns-in-Ok-clause-told : goal.returns-in-Ok-clause-told
+returns-in-Ok-clause-told g c =
     let E = g.E.Sink in
     let old = E.told c.args.faults.now in
     let new = E.told c.perform_chosen.new.faults in
     let failed = E.has_failed c.perform_chosen.new.faults in
     let P : Answer → Type 0 = λ a. TellsAs c.perform_chosen.result a old new failed in
-    subst P (sym (answer-chosen _ _ c.in-Ok.settings c.in-Ok.ensures.ok c.in-Some.choice c.in-Some.is)) c.perform_chosen.ensures.told
-
-pub returns-clause-told : goal.returns-clause-told
-returns-clause-told g c =
-    tells-of _ _ _ _ _ _ _ c.unset-in-None.ensures.end
-    (λ refused. tells-refusal _ _ _ _ _ _ (answer-targetless _ _ c.in-Ok.settings c.in-Ok.ensures.ok c.in-None.is) refused c.unset-in-None.ensures.end)
+    subst P (sym (answer-chosen _ _ c.in-Ok.settings c.in-Ok.ensures.ok)) c.perform_chosen.ensures.told

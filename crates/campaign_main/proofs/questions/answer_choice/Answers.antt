@@ -1,5 +1,4 @@
-use Rattle.std.proofs.Common.{◌≡◌, Err, Result, Some, ap, inl, inr}
-use Rattle.campaign_settings.specs.Settings.{given_of}
+use Rattle.std.proofs.Common.{◌≡◌, Err, Result, ap, inl, inr}
 use Rattle.campaign_settings.specs.declared.choice.Choice.{Choice}
 use Rattle.campaign_main.specs.Commands.{Refusal, bundled_target}
 use Rattle.campaign_main.specs.Questions.{Subject, chosen_subject}
@@ -13,7 +12,7 @@ returns-in-Replace-clause-told g c = tells-question bundled_target c.bundled.res
 pub returns-in-Replace-clause-cause : goal.returns-in-Replace-clause-cause
 returns-in-Replace-clause-cause g c =
     λ refused.
-    let f : Choice → Result Subject Refusal = λ ch. chosen_subject (given_of c.args.settings.now) (Some ch) in
+    let f : Choice → Result Subject Refusal = λ ch. chosen_subject c.args.settings.now ch in
     let is : f c.args.choice.now ≡ Err bundled_target = elim c.in-Replace.is [
       | inl replace ↦ ap f replace.2
       | inr other ↦ elim other [ inl maildir ↦ ap f maildir.2 | inr commit ↦ ap f commit.2 ]

@@ -1,5 +1,4 @@
 use Rattle.std.proofs.Common.{Err, List, Ok, ap, inl, ℕ}
-use Rattle.campaign_settings.specs.Settings.{given_of}
 use Rattle.campaign_main.specs.Questions.{EndsAnswered, IsNotAnswered}
 use Rattle.campaign_main.proofs.EndLemmas.{read-whole}
 use Rattle.campaign_main.proofs.QuestionLemmas.{answered-leaves, cause-unread-answers, for-any, refused-question, refused-why, some-why, unread-answers-tells}
@@ -9,7 +8,7 @@ pub returns-in-Ok-clause-end : goal.returns-in-Ok-clause-end
 returns-in-Ok-clause-end g c =
     let W = g.W.Sink in
     let new = c.answer_by.new.output in
-    let P : List ℕ → Type 0 = λ b. EndsAnswered c.args.question.now (given_of c.args.settings.now, c.args.outside.now) b c.answer_by.result (W.told c.args.output.now) (W.told new) (W.has_failed new) in
+    let P : List ℕ → Type 0 = λ b. EndsAnswered c.args.question.now (c.args.settings.now, c.args.outside.now) b c.answer_by.result (W.told c.args.output.now) (W.told new) (W.has_failed new) in
     read-whole _ _ _ P c.as_slice.ensures.value c.in-Ok.ensures.ok c.answer_by.ensures.end
 
 pub returns-in-Ok-clause-cause : goal.returns-in-Ok-clause-cause
@@ -17,18 +16,18 @@ returns-in-Ok-clause-cause g c =
     λ refused.
     let E = g.E.Sink in
     let new = c.answer_by.new.faults in
-    let P : List ℕ → Type 0 = λ b. IsNotAnswered c.args.question.now (Ok (given_of c.args.settings.now, c.args.outside.now)) b (E.told c.args.faults.now) (E.told new) (E.has_failed new) in
+    let P : List ℕ → Type 0 = λ b. IsNotAnswered c.args.question.now (Ok (c.args.settings.now, c.args.outside.now)) b (E.told c.args.faults.now) (E.told new) (E.has_failed new) in
     read-whole _ _ _ P c.as_slice.ensures.value c.in-Ok.ensures.ok (inl (refused-why _ _ _ _ _ refused c.answer_by.ensures.told))
 
 pub returns-in-Ok-clause-output : goal.returns-in-Ok-clause-output
 returns-in-Ok-clause-output g c = answered-leaves _ _ _ _ _ _ c.answer_by.result c.answer_by.ensures.end
 
 pub returns-in-Ok-clause-told : goal.returns-in-Ok-clause-told
-returns-in-Ok-clause-told g c = some-why c.args.question.now (Ok (given_of c.args.settings.now, c.args.outside.now)) c.as_slice.result.now c.answer_by.result _ _ _ c.answer_by.ensures.told
+returns-in-Ok-clause-told g c = some-why c.args.question.now (Ok (c.args.settings.now, c.args.outside.now)) c.as_slice.result.now c.answer_by.result _ _ _ c.answer_by.ensures.told
 
 pub returns-in-Err-clause-end : goal.returns-in-Err-clause-end
 returns-in-Err-clause-end g c =
-    for-any _ _ (λ b. refused-question c.args.question.now (Ok (given_of c.args.settings.now, c.args.outside.now)) b _ c.unread_answers.result _ _ _ _ _ c.unread_answers.ensures.end c.requires.output)
+    for-any _ _ (λ b. refused-question c.args.question.now (Ok (c.args.settings.now, c.args.outside.now)) b _ c.unread_answers.result _ _ _ _ _ c.unread_answers.ensures.end c.requires.output)
 
 pub returns-in-Err-clause-cause : goal.returns-in-Err-clause-cause
 returns-in-Err-clause-cause g c =

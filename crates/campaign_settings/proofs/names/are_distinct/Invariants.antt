@@ -1,5 +1,5 @@
 use Rattle.std.proofs.Common.{◌≡◌, drop}
-use Rattle.campaign_settings.specs.Description.{are_distinct}
+use Rattle.campaign_given.specs.Description.{are_distinct}
 use Rattle.campaign_settings.proofs.names.are_distinct.Given as goal
 
 abbrev pub invariant-loop-i : goal.invariant-loop-i

@@ -1,7 +1,7 @@
 use Rattle.std.proofs.Common.{◌≡◌, List, ℕ, ap, subst, ◌∙◌}
 use Rattle.answer_text.specs.Answers.{Answer, Says}
 use Rattle.answer_text.specs.Known.{verdict_in, known_by}
-use Rattle.campaign_settings.specs.Description.{Description}
+use Rattle.campaign_given.specs.Description.{Description}
 use Rattle.outside_campaign.proofs.ResultLemmas.{asks_cut}
 use Rattle.outside_campaign.proofs.driving.write_asks.Goals as goal
 

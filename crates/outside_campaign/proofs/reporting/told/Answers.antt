@@ -4,7 +4,8 @@ use Rattle.target_trait.specs.declared.judgement.Verdict.{Verdict}
 use Rattle.scenario_values.specs.Scenario.{Entries}
 use Rattle.report.specs.Reports.{FindingFacts}
 use Rattle.answer_text.specs.Known.{verdict_in, known_by}
-use Rattle.campaign_settings.specs.Description.{Description}
+use Rattle.campaign_given.specs.Description.{Description}
+use Rattle.campaign_given.specs.Given.{Given}
 use Rattle.outside_campaign.specs.inside.Results.{text_in}
 use Rattle.outside_campaign.proofs.ResultLemmas.{report_told, first_told, verdicts_each, some_component}
 use Rattle.outside_campaign.proofs.reporting.told.Goals as goal
@@ -26,9 +27,10 @@ returns-clause-text c =
     let h = rw c.in-Told.is at c.in_ok-scenario.ensures in
     let codes : c.as_slice.result.now ≡ c.args.outside.now.codes = c.as_slice.ensures.value ∙ ap (λ (d : Description). d.codes) c.outside.view_is in
     let known : verdict_in c.in_ok-known.known ≡ known_by c.args.outside.now.codes c.args.answers.now = c.in_ok-known.ensures.known ∙ ap (λ (names : List (List ℕ)). known_by names c.args.answers.now) codes in
-    let text : List Verdict → List ℕ = λ vs. text_in c.args.form c.args.outside.now c.args.settings.now.seed vs c.in-Told.findings.items c.in_ok-plans.plans in
+    let text : ℕ → List Verdict → List ℕ = λ seed vs. text_in c.args.form c.args.outside.now seed vs c.in-Told.findings.items c.in_ok-plans.plans in
     report_told c.args.form c.args.outside.now c.args.settings.now c.args.answers.now (verdict_in c.in_ok-known.known) c.in_ok-plans.plans c.in-Told.verdicts.items c.in-Told.findings.items c.in_ok-text-in-Told.text.items
-    known c.in_ok-plans.ensures.plans h.1 (c.in_ok-text-in-Told.ensures ∙ ap text c.as_slice-verdicts.ensures.value)
+    known c.in_ok-plans.ensures.plans h.1 (c.in_ok-text-in-Told.ensures ∙ ap (text c.settings.inside.seed) c.as_slice-verdicts.ensures.value
+    ∙ ap (λ (s : Given). text s.plans.seed c.in-Told.verdicts.items) c.settings.view_is)
 
 pub returns-clause-first : goal.returns-clause-first
 returns-clause-first c =

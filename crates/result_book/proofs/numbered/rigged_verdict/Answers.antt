@@ -1,6 +1,7 @@
 use Rattle.std.proofs.Common.{ap, sym, ◌∙◌}
 use Rattle.action_eval.specs.Answers.{Run, start}
 use Rattle.target_trait.specs.Outcomes.{verdict_with}
+use Rattle.campaign_given.specs.Given.{Given as Settled}
 use Rattle.result_book.proofs.numbered.rigged_verdict.Goals as goal
 
 pub run_session-requires-clause-new : goal.run_session-requires-clause-new
@@ -12,7 +13,9 @@ run_session-requires-clause-points g c = ap (λ (r : Run). r.given.catalogue) c.
 pub returns-clause-ok : goal.returns-clause-ok
 returns-clause-ok g c =
     let course = c.args.course.now in
+    let settings = course.settings.now in
     let asks = g.T.Target.asks c.args.target.now course.workload.now in
     c.in_ok-verdict.ensures.ok
     ∙ ap (λ (r : Run). verdict_with asks g.T.Target.names r.given.seed r.given.limit r.given.stream r.given.scenario) c.in_ok-session.ensures
-    ∙ ap (λ n. verdict_with asks g.T.Target.names course.seed course.max_hits n c.args.rigging.now.scenario) c.from.ensures
+    ∙ ap (λ (s : Settled). verdict_with asks g.T.Target.names s.plans.seed s.max_hits c.from.result c.args.rigging.now.scenario) c.settings.view_is
+    ∙ ap (λ n. verdict_with asks g.T.Target.names settings.plans.seed settings.max_hits n c.args.rigging.now.scenario) c.from.ensures

@@ -1,7 +1,7 @@
 use Rattle.std.proofs.Common.{◌≡◌, ℕ, ◌≤◌, ◌+◌, length, List, [], ◌∷◌, ◌++◌, get_or, ap, sym, ◌∙◌, subst, arith}
 use Rattle.scenario_values.specs.Scenario.{Entries}
 use Rattle.target_trait.specs.declared.judgement.Verdict.{Verdict}
-use Rattle.target_trait.specs.Outcomes.{verdict_with}
+use Rattle.result_book.specs.Says.{course_says}
 use Rattle.result_book.specs.Rows.{AreSaid}
 use Rattle.result_book.proofs.RowLemmas.{row_more, row_said, row_length}
 use Rattle.result_book.proofs.row.Row.run_over.Goals as goal
@@ -11,7 +11,7 @@ loop-number-preserved g c =
     let course = c.args.course.now in
     let plans : List Entries = course.plans.now in
     let n = c.loop-number.number in
-    let say_of : g.row.T.Denot → ℕ → Entries → Verdict = λ setup. verdict_with (g.T.Target.asks setup course.workload.now) g.T.Target.names course.seed course.max_hits in
+    let say_of : g.row.T.Denot → ℕ → Entries → Verdict = λ setup. course_says g.T.Target setup course in
     let say = say_of c.args.target.now in
     let so_far = c.loop-number.verdicts.items in
     record {
@@ -28,7 +28,7 @@ invariant_of-result g c =
     let plans : List Entries = course.plans.now in
     let first = c.args.first in
     let n = c.loop-number.number in
-    let say = verdict_with (g.T.Target.asks c.args.target.now course.workload.now) g.T.Target.names course.seed course.max_hits in
+    let say = course_says g.T.Target c.args.target.now course in
     let up : first ≤ n = omega arith in
     let fits : n ≤ length plans = omega arith in
     let ends : first + length c.loop-number.verdicts.items ≡ n = ap (λ vs. first + length vs) c.loop-number.invariant.verdicts ∙ row_length say plans first n up fits in

@@ -1,6 +1,6 @@
 use Rattle.std.proofs.Common.{◌≡◌}
 use Rattle.std.specs.List.{slice_range}
-use Rattle.target_trait.specs.Outcomes.{verdict_with}
+use Rattle.result_book.specs.Says.{course_says}
 use Rattle.result_book.specs.Verdicts.{verdicts_from}
 use Rattle.result_book.proofs.row.Row.run_over.Given as goal
 
@@ -8,6 +8,6 @@ abbrev pub invariant-loop-number : goal.invariant-loop-number
 invariant-loop-number g l = record {
   setup : l.target ≡ l.fn.target;
   verdicts : l.verdicts.items ≡ verdicts_from
-      (verdict_with (g.T.Target.asks l.fn.target l.course.workload.now) g.T.Target.names l.course.seed l.course.max_hits)
+      (course_says g.T.Target l.fn.target l.course)
       l.first (slice_range l.course.plans.now l.first l.number);
 }

@@ -1,7 +1,9 @@
-use scenario_grammar::Text;
+//! A component that somebody else runs.
+
+use scenario_values::Text;
 use std::marker::Model;
 
-/// A component that somebody else runs, as the settings tell of it. No text has an ASCII control character.
+/// A component that somebody else runs, as settings tell of it. No text has an ASCII control character.
 #[derive(Drop)]
 pub struct Outside {
     /// What the component is, in up to 200 bytes.
@@ -15,7 +17,7 @@ pub struct Outside {
 }
 
 impl Model for Outside {
-    ghost use Rattle.campaign_settings.specs.Description.{Description, IsDescription};
+    ghost use Rattle.campaign_given.specs.Description.{Description, IsDescription};
 
     ghost Value = { Description };
 

@@ -1,5 +1,5 @@
 use Rattle.std.proofs.Common.{ap}
-use Rattle.result_book.proofs.numbered.Numbered.run_over.Goals as goal
+use Rattle.result_book.proofs.numbered.Numbered.run.Goals as goal
 
 pub invariant_of-result : goal.invariant_of-result
 invariant_of-result g c = (c.args.target.now, c.in_ok-verdict.ensures.ok)

@@ -1,0 +1,37 @@
+-- What a campaign is given by its settings.
+use Rattle.std.specs.Prelude.{ℕ, ◌≤◌, false, List, [], length}
+use Rattle.scenario_values.specs.Scenario.{Entries}
+use Rattle.action_eval.specs.Answers.{Reply}
+use Rattle.target_trait.specs.declared.judgement.Verdict.{Verdict}
+use Rattle.target_trait.specs.Outcomes.{verdict_with}
+use Rattle.target_trait.specs.Play.{Move}
+use Rattle.plan_gen.specs.PlanList.{Asked}
+
+-- how many workers there are, how many hits of a run are answered, and what is asked of the list of plans, the seed of every draw among it
+pub record Given : Type 0 where
+  pub workers : ℕ
+  pub max_hits : ℕ
+  pub plans : Asked
+
+-- what holds where nothing else is given
+abbrev pub defaults : Given
+defaults = record {
+  workers = 1;
+  max_hits = 1000;
+  plans = record { pairs = false; storms = 0; rate = 100; listed = []; seed = 0 };
+}
+
+-- the ranges
+pub record IsGiven (g : Given) : Type 0 where
+  pub seed : g.plans.seed ≤ 9223372036854775807
+  pub some_workers : 1 ≤ g.workers
+  pub few_workers : g.workers ≤ 64
+  pub some_hits : 1 ≤ g.max_hits
+  pub few_hits : g.max_hits ≤ 100000
+  pub few_storms : g.plans.storms ≤ 10000
+  pub rate : g.plans.rate ≤ 1000
+  pub few_listed : length g.plans.listed ≤ 1000
+
+-- the verdict of a scenario under a stream number, of what is asked over the names of the points
+abbrev pub verdict_on : (List Reply → Move) → List (List ℕ) → Given → ℕ → Entries → Verdict
+verdict_on asks names given = verdict_with asks names given.plans.seed given.max_hits

@@ -1,0 +1,11 @@
+//! What a campaign is given by its settings, whatever it runs; and what a component is that somebody else runs.
+#![tactic(auto)]
+
+mod outside;
+mod settings;
+
+pub use outside::Outside;
+pub use settings::{
+    CampaignSettings, MAX_HITS_IF_MISSING, PAIRS_IF_MISSING, RATE_IF_MISSING, SEED_IF_MISSING,
+    STORMS_IF_MISSING, WORKERS_IF_MISSING,
+};

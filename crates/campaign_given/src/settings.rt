@@ -1,0 +1,124 @@
+//! The settings of a campaign.
+ghost use Rattle.std.specs.Prelude.{◌≡◌, ◌≤◌, ◌<◌, length};
+ghost use Rattle.campaign_given.specs.Given.{defaults, IsGiven};
+
+use plan_gen::PlanSettings;
+use scenario_values::Scenario;
+use std::alloc::Global;
+use std::marker::Model;
+use target_trait::Case;
+
+/// The seed where none is given.
+pub const SEED_IF_MISSING: u64 = 0;
+
+/// How many workers there are where nothing is given.
+pub const WORKERS_IF_MISSING: u32 = 1;
+
+/// How many hits of a run are answered where nothing is given.
+pub const MAX_HITS_IF_MISSING: u32 = 1000;
+
+/// Whether there is a plan for each two sites where nothing is given.
+pub const PAIRS_IF_MISSING: bool = false;
+
+/// How many storms there are where nothing is given.
+pub const STORMS_IF_MISSING: u32 = 0;
+
+/// How many of a thousand sites a storm takes where nothing is given.
+pub const RATE_IF_MISSING: u32 = 100;
+
+/// Which plans a campaign has, and how they are run. Each value keeps the ranges that stand at its fields.
+#[derive(Drop)]
+pub struct CampaignSettings {
+    /// The seed of every draw, 0 to 9223372036854775807, which is the greatest integer of TOML.
+    pub seed: u64,
+    /// How many workers there are, 1 to 64. Of a component that somebody else runs this and `max_hits` mean nothing: they are 1 and 1000.
+    pub workers: u32,
+    /// How many hits of a run are answered, 1 to 100000. A run that hits more often is unresolved.
+    pub max_hits: u32,
+    /// Whether there is a plan for each two sites.
+    pub pairs: bool,
+    /// How many plans are drawn, 0 to 10000.
+    pub storms: u32,
+    /// How many of a thousand sites such a plan takes, 0 to 1000.
+    pub rate: u32,
+    /// The scenarios that are tried besides, up to 1000.
+    pub scenarios: Vec<Scenario>,
+    ghost seed_high: { seed ≤ 9223372036854775807 },
+    ghost workers_low: { 1 ≤ workers },
+    ghost workers_high: { workers ≤ 64 },
+    ghost hits_low: { 1 ≤ max_hits },
+    ghost hits_high: { max_hits ≤ 100000 },
+    ghost storms_high: { storms ≤ 10000 },
+    ghost rate_high: { rate ≤ 1000 },
+    ghost few_scenarios: { length scenarios.items ≤ 1000 },
+}
+
+impl Model for CampaignSettings {
+    ghost use Rattle.campaign_given.specs.Given.{Given};
+
+    ghost Value = { Given };
+
+    ghost view = { λ s. record {
+      workers = s.workers;
+      max_hits = s.max_hits;
+      plans = record { pairs = s.pairs; storms = s.storms; rate = s.rate; listed = s.scenarios.items; seed = s.seed };
+    } };
+}
+
+impl CampaignSettings {
+    /// What holds where nothing is given: seed 0, one worker, at most 1000 hits, no pairs, no storms, 100 of a thousand sites for a storm, and
+    /// no listed scenarios. A program that brings a target of its own sets from here what differs.
+    pub fn new(alloc: Global) -> Self
+        ensures { result ≡ defaults }
+    {
+        CampaignSettings {
+            seed: SEED_IF_MISSING,
+            workers: WORKERS_IF_MISSING,
+            max_hits: MAX_HITS_IF_MISSING,
+            pairs: PAIRS_IF_MISSING,
+            storms: STORMS_IF_MISSING,
+            rate: RATE_IF_MISSING,
+            scenarios: Vec::new(alloc),
+        }
+    }
+
+    /// How many workers there are.
+    pub fn workers(&self) -> usize
+        ensures many { result ≡ self.now.workers }
+        ensures some { 0 < result }
+        ensures few { result ≤ 64 }
+    {
+        self.workers as usize
+    }
+
+    /// What is asked of the list of plans.
+    pub fn plan_settings(&self) -> PlanSettings<'_>
+        ensures asked { result ≡ self.now.plans }
+        ensures ranges { IsGiven self.now }
+    {
+        PlanSettings {
+            pairs: self.pairs,
+            storms: self.storms,
+            rate: self.rate,
+            listed: self.scenarios.as_slice(),
+            seed: self.seed,
+        }
+    }
+
+    /// The case of a scenario under a stream number.
+    pub fn case<'a>(&self, scenario: &'a Scenario, stream: u64) -> Case<'a>
+        ensures { result ≡ record {
+          scenario = scenario.entry;
+          seed = self.now.plans.seed;
+          stream = stream;
+          max_hits = self.now.max_hits;
+        } }
+    {
+        Case {
+            scenario,
+            seed: self.seed,
+            stream,
+            max_hits: self.max_hits,
+        }
+    }
+}
