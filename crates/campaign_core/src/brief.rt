@@ -44,7 +44,8 @@ where
     ensures first { IfOk result (λ r. r.1.first ≡ option_map (λ f. f.0)
         (slice_get (first_failures (numbered (verdicts_from (course_says T.Target target.now course.now) 0 course.now.plans.now))) 0)) }
     ensures minimal { OnOk result (All (λ found. ReducesToMinimal (course_says T.Target target.now course.now) found)
-        (report_of (course_says T.Target target.now course.now) (T.label_of target.now) course.now.settings.now.plans.seed census.now course.now.plans.now).findings) }
+        (report_of (course_says T.Target target.now course.now) (T.label_of target.now)
+        course.now.settings.now.plans.seed census.now course.now.plans.now).findings) }
 {
     let results = run_course(rt, alloc, gate, target, course)?;
     let report = report_over(rt, alloc, gate, target, course, census, &results)?;

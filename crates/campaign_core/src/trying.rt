@@ -35,8 +35,9 @@ fn try_text<N: Names>(alloc: Global, names: &N, outcome: &Outcome) -> Result<Str
 /// simulated milliseconds and the number of notes.
 ///
 /// The seed of the settings and the stream number are those of the run's words: a plan of a campaign runs under its own number. After the
-/// settings' `max_hits` answered hits the run is stopped and unresolved. Nothing is written before the text stands whole: for want of memory the sink is unchanged and
-/// hasn't failed. A failed write tells how many bytes of the text, fewer than all, went out. The target keeps its setup in every case.
+/// settings' `max_hits` answered hits the run is stopped and unresolved. Nothing is written before the text stands whole: for want of memory
+/// the sink is unchanged and hasn't failed. A failed write tells how many bytes of the text, fewer than all, went out. The target keeps its
+/// setup in every case.
 pub fn try_one<T: Target, W: Sink>(
     alloc: Global,
     target: &mut T,

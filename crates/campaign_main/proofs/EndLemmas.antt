@@ -165,7 +165,7 @@ found-tells refusal true old failed sound = (refl, sound)
 -- ---- by what the settings' text gives
 
 -- a refusal of settings is the line of a cause
-module _ (read : Read Given) (end : Exit) (old new : Option (List ℕ)) (failed : Bool) (refused : end ≡ exit.Refused) where
+module _ {S : Type 0} (read : Read S) (end : Exit) (old new : Option (List ℕ)) (failed : Bool) (refused : end ≡ exit.Refused) where
   abbrev pub HasCause : Type 0
   HasCause = (cause : Cause) × (read ≡ Err cause) × RefusesWith (refusal_line (bad_settings cause)) end old new failed
 

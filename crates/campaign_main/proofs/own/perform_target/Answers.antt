@@ -2,7 +2,8 @@ use Rattle.std.proofs.Common.{List, ℕ, Err, ap, inl, subst}
 use Rattle.campaign_main.specs.declared.exit.Exit.{Exit}
 use Rattle.campaign_main.specs.Commands.{Answer}
 use Rattle.campaign_main.specs.Ends.{EndsAs, IsRefused, TellsAs, TellsNotes}
-use Rattle.campaign_main.specs.OwnTarget.{OwnReducesToMinimal, own_answer, campaign_on, own_text_answer}
+use Rattle.campaign_main.specs.OwnTarget.{OwnReducesToMinimal, own_answer, own_text_answer}
+use Rattle.campaign_core.specs.Headline.{campaign_on}
 use Rattle.campaign_main.proofs.EndLemmas.{cause-unread, read-answer, read-whole, refuses-whole, tells-unread, whole-map}
 use Rattle.campaign_main.proofs.NoteLemmas.{may-own, some-tells, told-notes}
 use Rattle.campaign_main.proofs.own.perform_target.Goals as goal
