@@ -182,14 +182,14 @@ fn a_finding_is_reduced_under_its_own_stream(rt: HostRuntime) -> Result<(), Fail
 fn a_broken_target_is_found_by_one_try(rt: HostRuntime) -> Result<(), Fail> {
     let alloc = rt.alloc();
     let scenario = parse(alloc, "broken::point=return")?;
+    let settings = settings(alloc, 1, false, Vec::new(alloc));
     let mut sink = Out::new(Vec::new(alloc));
     let verdict = try_one(
         alloc,
         &mut AlwaysBroken,
         &(),
-        7,
+        &settings,
         0,
-        1000,
         &scenario,
         &mut sink,
     );
