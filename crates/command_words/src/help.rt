@@ -16,6 +16,7 @@ Examples:
   paklour run my.toml             the verdict of each plan, and what the first failures come down to
   paklour run < my.toml           settings from standard input
   paklour run --brief my.toml     no line for a verdict that passes, and scenarios beside the others
+  paklour run --strict my.toml    the same report; what it doesn't show is told on standard error
   paklour run --progress my.toml  the same report; meanwhile `plans 12 of 65025` on standard error";
 
 /// How a campaign is drawn.
@@ -50,6 +51,12 @@ pub const SCENARIO: &str = "The scenario, as 'POINT=TERM->TERM;POINT=TERM'";
 
 pub const BRIEF: &str =
     "Count the verdicts that pass, and write the scenario beside each other verdict";
+
+pub const STRICT: &str =
+    "Tell on standard error what makes the report say less than it seems to, and end with 5 then";
+
+pub const RECHECK: &str =
+    "Run each plan that fails once more first, and refuse a target that says something else then";
 
 pub const PROGRESS: &str = "Show on standard error, in one line, how far plans or a reduction are";
 
@@ -97,7 +104,7 @@ known; its exit status is 0. `report` writes the report, or that a scenario is `
 Example:
   paklour asks my.toml < answers | xargs -r -d '\\n' -n 1 ./try.sh >> answers
   paklour report my.toml < answers
-  paklour report --brief my.toml < answers
+  paklour report --brief --strict my.toml < answers
 with settings as
   target = \"outside\"
   seed = 7
@@ -155,4 +162,6 @@ Exit status:
   2  the words, the settings, a scenario, the answers or the number of plans is refused, or the
      settings or the answers can't be read
   3  memory is refused
-  4  a write failed";
+  4  a write failed
+  5  with --strict: no verdict is fail, and something was told on standard error: an unresolved run,
+     a point that no run reaches or that has no hits, a name that no point has, storms of rate 0";
