@@ -25,7 +25,7 @@ use Rattle.campaign_main.specs.declared.input.ReadFault.{ReadFault}
 use Rattle.campaign_main.specs.declared.input.ReadFault.TheVariants as read
 use Rattle.campaign_main.specs.Commands.{Refusal, bad_answers, bad_settings, not_answered, not_text, too_many_plans}
 use Rattle.campaign_main.specs.Ends.{IsUntouched, Leaves, RefusesWith, TellsBy}
-use Rattle.campaign_main.specs.Exit.{exit_of}
+use Rattle.campaign_main.specs.Exit.{concluded, exit_of}
 use Rattle.campaign_main.specs.FaultLines.{answers_read_line, read_fault_line, refusal_line, settings_line, unreadable_answers_line, unreadable_line}
 use Rattle.campaign_main.specs.Questions.{ComesToText, EndsAnswered, EndsQuestion, FallsShortOf, IsAnswered, IsEndOfQuestion, IsNotAnswered, IsPart, RefusesQuestion, Subject, TellsOfQuestion, TellsWhy, chosen_subject, given_subject, subject_of, text_subject, told_text}
 use Rattle.campaign_main.proofs.EndLemmas.{broken-meaning, if_some, long-meaning, memory-apart, read-meaning, tells-by, text-meaning, unset-cause}
@@ -63,7 +63,7 @@ module _ (s : Settings) (d : Description) (answers : List ℕ) (old new : Option
 
 module _ (question : Question) (s : Subject) (answers : List ℕ) where
   module _ (old new : Option (List ℕ)) (failed : Bool) where
-    pub answered-ends : (found : Bool) → IsAnswered question s answers old new failed found → EndsAnswered question s answers (exit_of found) old new failed
+    pub answered-ends : (found : Bool) → IsAnswered question s answers old new failed found → EndsAnswered question s answers (exit_of (concluded found false)) old new failed
     answered-ends false h = h
     answered-ends true h = h
 
@@ -78,6 +78,7 @@ module _ (question : Question) (s : Subject) (answers : List ℕ) where
     pub answered-leaves : (end : Exit) → EndsAnswered question s answers end old new failed → Leaves end old new failed
     answered-leaves exit.Kept h = answered-sound question false h
     answered-leaves exit.Found h = answered-sound question true h
+    answered-leaves exit.Doubted h = absurd h
     answered-leaves exit.Refused h = h
     answered-leaves exit.Memory h = h
     answered-leaves (exit.Write n) h = part-broken question n h
@@ -86,6 +87,7 @@ module _ (question : Question) (s : Subject) (answers : List ℕ) where
       pub refused-ends : (text : List ℕ) (end : Exit) → IsUntouched old new failed → RefusesWith text end line line' broken → EndsAnswered question s answers end old new failed
       refused-ends text exit.Kept h is = absurd is
       refused-ends text exit.Found h is = absurd is
+      refused-ends text exit.Doubted h is = absurd is
       refused-ends text exit.Refused h is = h
       refused-ends text exit.Memory h is = h
       refused-ends text (exit.Write n) h is = absurd is
@@ -115,6 +117,7 @@ pub some-why : (question : Question) (read : Result Subject Refusal) (answers : 
     → TellsBy (TellsWhy question read answers old new failed) end old new failed → TellsOfQuestion end old new failed
 some-why question read answers exit.Kept old new failed told = told
 some-why question read answers exit.Found old new failed told = told
+some-why question read answers exit.Doubted old new failed told = told
 some-why question read answers exit.Refused old new failed told = inl (told.0, told.2)
 some-why question read answers exit.Memory old new failed told = told
 some-why question read answers (exit.Write n) old new failed told = told
@@ -127,6 +130,7 @@ pub refused-question : (question : Question) (read : Result Subject Refusal) (an
     → RefusesWith line end old new failed → broken ≡ false → EndsQuestion question read answers end output output broken
 refused-question question read answers line exit.Kept old new failed output broken told sound = absurd told
 refused-question question read answers line exit.Found old new failed output broken told sound = absurd told
+refused-question question read answers line exit.Doubted old new failed output broken told sound = absurd told
 refused-question question (Ok s) answers line exit.Refused old new failed output broken told sound = (refl, sound)
 refused-question question (Err r) answers line exit.Refused old new failed output broken told sound = (refl, sound)
 refused-question question (Ok s) answers line exit.Memory old new failed output broken told sound = (refl, sound)

@@ -29,7 +29,7 @@ use Rattle.outside_campaign.specs.Campaigns.{IsCut, code_name, untried}
 use Rattle.outside_campaign.specs.declared.refusal.OutsideFault.{OutsideFault}
 use Rattle.outside_campaign.specs.declared.refusal.OutsideFault.TheVariants as outside
 use Rattle.campaign_main.specs.declared.exit.Exit.{Exit}
-use Rattle.campaign_main.specs.declared.exit.Exit.TheVariants.{Kept, Found, Refused, Memory, Write}
+use Rattle.campaign_main.specs.declared.exit.Exit.TheVariants.{Kept, Found, Refused, Memory, Write, Doubted}
 use Rattle.campaign_main.specs.declared.fault.CommandFault.TheVariants as command
 use Rattle.campaign_main.specs.Commands.{Refusal, bad_answers, bad_settings, bundled_target, not_answered, of_text, outside_plans, too_many_plans}
 use Rattle.campaign_main.specs.Ends.{IsEndOf, IsTold, IsUntouched, RefusesWith, TellsBy}
@@ -115,6 +115,7 @@ IsPart (Report form) s answers old new failed n =
 abbrev pub EndsAnswered : Question → Subject → List ℕ → Exit → Option (List ℕ) → Option (List ℕ) → Bool → Type 0
 EndsAnswered question s answers Kept old new failed = IsAnswered question s answers old new failed false
 EndsAnswered question s answers Found old new failed = IsAnswered question s answers old new failed true
+EndsAnswered question s answers Doubted old new failed = ⊥
 EndsAnswered question s answers Refused old new failed = IsUntouched old new failed
 EndsAnswered question s answers Memory old new failed = IsUntouched old new failed
 EndsAnswered question s answers (Write written) old new failed = IsPart question s answers old new failed written

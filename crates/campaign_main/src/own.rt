@@ -50,7 +50,7 @@ where
     match command(
         rt, alloc, order, gate, target, workload, settings, output, faults,
     ) {
-        Ok(found) => exit_of(found),
+        Ok(conclusion) => exit_of(conclusion),
         Err(fault) => unanswered(alloc, &fault, faults),
     }
 }

@@ -37,7 +37,7 @@ fn perform_chosen<W: Sink, E: Sink, H: Threads + Wait + Sync, G: Gate>(
     ensures minimal { OnWhole result (IfSome (campaign_for (given_of settings.now) choice.now) (ReducesToMinimal order.now)) }
 {
     match chosen_command(rt, alloc, order, gate, choice, settings, output, faults) {
-        Ok(found) => exit_of(found),
+        Ok(conclusion) => exit_of(conclusion),
         Err(fault) => unanswered(alloc, &fault, faults),
     }
 }

@@ -4,7 +4,7 @@ ghost use Rattle.campaign_settings.specs.Settings.{given_of};
 ghost use Rattle.campaign_main.specs.Ends.{Leaves, TellsBy};
 ghost use Rattle.campaign_main.specs.Questions.{ComesToText, EndsAnswered, EndsQuestion, IsNotAnswered, TellsOfQuestion, TellsWhy, chosen_subject, subject_of, text_subject};
 
-use crate::exit::{Exit, exit_of};
+use crate::exit::{Exit, concluded, exit_of};
 use crate::input::{read_all, read_bytes};
 use crate::lines::{bundled, unread, unread_answers, unset, untold};
 use answer_text::LIMIT;
@@ -104,7 +104,7 @@ fn answer_by<W: Sink, E: Sink>(
         result (E.told faults.old) (E.told faults.new) (E.has_failed faults.new) }
 {
     match write_answer(alloc, question, outside, settings, answers, output) {
-        Ok(found) => exit_of(found),
+        Ok(found) => exit_of(concluded(found, false)),
         Err(fault) => untold(alloc, &fault, faults),
     }
 }

@@ -94,9 +94,9 @@ rechecked_app app = with_rule app recheck_rule
 abbrev pub question_app : Text → App
 question_app name = with_rule (new_app name) needed_file_rule
 
--- the one of these that writes a report, whole or in brief, on which it may be strict
+-- the one of these that writes a report, whole or in brief
 abbrev pub question_report_app : Text → App
-question_report_app name = with_rule (with_rule (with_rule (new_app name) brief_rule) strict_rule) needed_file_rule
+question_report_app name = with_rule (with_rule (new_app name) brief_rule) needed_file_rule
 
 abbrev pub with_commands : App → List Shape → App
 with_commands app [] = app
@@ -191,7 +191,7 @@ IsOrder name v (order.Explain which) = (name ≡ codes "explain") × IsWhich v w
 -- the question that a command's name and its values give
 abbrev pub IsQuestion : Text → Values → Question → Type 0
 IsQuestion name v Asks = name ≡ codes "asks"
-IsQuestion name v (Report form strict) = (name ≡ codes "report") × (form ≡ form_of v) × (strict ≡ is_set v.strict)
+IsQuestion name v (Report form) = (name ≡ codes "report") × (form ≡ form_of v)
 
 -- the order of no command is Run, with the whole report, on the settings that come from standard input, and nothing more is shown
 abbrev pub IsRun : Line → Type 0

@@ -104,7 +104,7 @@ known; its exit status is 0. `report` writes the report, or that a scenario is `
 Example:
   paklour asks my.toml < answers | xargs -r -d '\\n' -n 1 ./try.sh >> answers
   paklour report my.toml < answers
-  paklour report --brief --strict my.toml < answers
+  paklour report --brief my.toml < answers
 with settings as
   target = \"outside\"
   seed = 7
@@ -164,4 +164,4 @@ Exit status:
   3  memory is refused
   4  a write failed
   5  with --strict: no verdict is fail, and something was told on standard error: an unresolved run,
-     a point that no run reaches or that has no hits, a name that no point has, storms of rate 0";
+     no hits without faults, a point that no run reaches, a name that no point has, storms of rate 0";

@@ -61,8 +61,8 @@ pub enum Order {
 pub enum Question {
     /// Which scenarios are still to be tried.
     Asks,
-    /// The campaign's report. Where `strict` is set, what makes it say less than it seems to is told beside it.
-    Report { form: Form, strict: bool },
+    /// The campaign's report.
+    Report(Form),
 }
 
 /// What the words ask for.
@@ -275,7 +275,6 @@ fn question_report_command<'a>(
         .about(about)
         .after_help(help::ANSWERS)
         .arg(flag_arg(alloc, "brief", help::BRIEF))?
-        .arg(flag_arg(alloc, "strict", help::STRICT))?
         .arg(needed_file_arg(alloc))
 }
 
@@ -406,10 +405,7 @@ fn question_of<'a>(name: &str, own: &ArgMatches<'a>) -> Option<Question>
 {
     match name {
         "asks" => Some(Question::Asks),
-        "report" => Some(Question::Report {
-            form: form_of(own),
-            strict: is_set(own, "strict"),
-        }),
+        "report" => Some(Question::Report(form_of(own))),
         _ => None,
     }
 }
