@@ -14,10 +14,10 @@ use campaign_core::CampaignFault;
 use campaign_settings::SettingsFault;
 use itoa::Buffer;
 use outside_campaign::OutsideFault;
-use report::{WriteFault, write_report, write_scenario};
+use report::{Names, WriteFault, write_report, write_scenario, write_verdict};
 use scenario_grammar::{Scenario, ScenarioFault};
 use std::alloc::{AllocError, Global};
-use target_laws::BrokenLaw;
+use target_laws::{BrokenLaw, ChangedVerdict};
 use target_trait::Sink;
 
 /// Writes a line, or as much of it as the sink takes.
@@ -63,6 +63,33 @@ pub fn unlawful<E: Sink>(alloc: Global, law: BrokenLaw, faults: &mut E) -> Exit
     requires { E.has_failed faults.old ≡ false }
 {
     refused_by(format!(in alloc; "target: {law}\n"), faults)
+}
+
+/// The line for a plan whose verdict isn't the same twice.
+fn unsteady_line<N: Names>(
+    alloc: Global,
+    names: &N,
+    changed: ChangedVerdict,
+) -> Result<String, AllocError> {
+    let plan = changed.plan;
+    let mut line = format!(in alloc; "target: plan {plan}: ")?;
+    write_verdict(&mut line, names, changed.first)?;
+    line.push_str(", then ")?;
+    write_verdict(&mut line, names, changed.second)?;
+    line.push_str("\n")?;
+    Ok(line)
+}
+
+/// Ends as refused with the line of a plan whose verdict isn't the same twice.
+pub fn unsteady<N: Names, E: Sink>(
+    alloc: Global,
+    names: &N,
+    changed: ChangedVerdict,
+    faults: &mut E,
+) -> Exit
+    requires { E.has_failed faults.old ≡ false }
+{
+    refused_by(unsteady_line(alloc, names, changed), faults)
 }
 
 /// Ends as refused with a line, or for want of the memory that it takes.

@@ -1,6 +1,6 @@
 //! What is noted beside a command's text: names of scenarios that no point of a target has, and what makes a report say less than it seems
 //! to.
-ghost use Rattle.std.specs.Prelude.{◌≡◌, ◌<◌, ◌++◌, [], All, codes, length, nat_lt, string_bytes, IfErr, IfOk, IsErrOf, OnOk};
+ghost use Rattle.std.specs.Prelude.{◌≡◌, ◌<◌, ◌++◌, [], All, None, codes, length, nat_lt, string_bytes, IfErr, IfOk, IsErrOf, OnOk};
 ghost use Rattle.std.specs.Fmt.{decimal};
 ghost use Rattle.action_eval.specs.Answers.{texts};
 ghost use Rattle.plan_gen.specs.PlanList.{most_plans};
@@ -19,6 +19,7 @@ use scenario_grammar::Scenario;
 use scenario_values::build;
 use std::alloc::{AllocError, Global};
 use std::fmt::Write;
+use target_laws::{ChangedVerdict, changed_verdict};
 use target_trait::{Case, Target, Verdict, run_verdict};
 
 /// What makes a report say less than it seems to.
@@ -217,6 +218,26 @@ fn planned<'a, T: Target>(
         Ok(plans) => Ok((census, plans)),
         Err(fault) => Err(fault),
     }
+}
+
+/// The first plan that fails and says something else when it is run once more. The caller's target isn't touched. Of a proved target there
+/// is none. Where there are too many plans none is run.
+pub fn recheck<T: Target>(
+    alloc: Global,
+    target: &T,
+    workload: &T::Workload,
+    settings: &Settings,
+) -> Result<Option<ChangedVerdict>, AllocError>
+    ensures { IfOk result (λ changed. changed ≡ None) }
+{
+    let mut twin = target.twin()?;
+    let (_, plans) = match planned(alloc, &mut twin, workload, settings) {
+        Ok(planned) => planned,
+        Err(PlanFault::TooManyPlans) => return Ok(None),
+        Err(PlanFault::Memory) => return Err(AllocError),
+    };
+    let seed = settings.seed;
+    changed_verdict(alloc, target, workload, &plans, seed, settings.max_hits)
 }
 
 /// Whether the run without faults is unresolved.

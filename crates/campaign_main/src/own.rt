@@ -9,7 +9,8 @@ ghost use Rattle.campaign_main.specs.OwnTarget.{OwnReducesToMinimal, own_answer,
 use crate::command::command;
 use crate::exit::{Exit, exit_of};
 use crate::input::read_all;
-use crate::lines::{no_memory, unanswered, unlawful, unread, unset};
+use crate::lines::{no_memory, unanswered, unlawful, unread, unset, unsteady};
+use crate::notes::recheck;
 use campaign_settings::Settings;
 use command_words::Order;
 use std::alloc::{AllocError, Global};
@@ -46,6 +47,13 @@ where
         Ok(None) => {}
         Ok(Some(law)) => return unlawful(alloc, law, faults),
         Err(AllocError) => return no_memory(faults),
+    }
+    if matches!(order, Order::Run { recheck: true, .. }) {
+        match recheck(alloc, target, workload, settings) {
+            Ok(None) => {}
+            Ok(Some(changed)) => return unsteady(alloc, target, changed, faults),
+            Err(AllocError) => return no_memory(faults),
+        }
     }
     match command(
         rt, alloc, order, gate, target, workload, settings, output, faults,
@@ -92,7 +100,8 @@ where
 /// each key has its default.
 ///
 /// A target that isn't proved is looked at first: where it breaks a law of [`target_laws::broken_law`] the command is refused with a line
-/// that names it, `target: asks after a halt`.
+/// that names it, `target: asks after a halt`. Where the order is to run with `recheck`, each plan that fails is run once more then, and where
+/// that says something else, the command is refused with the plan and both verdicts: `target: plan 12: fail lost, then pass`.
 ///
 /// What the answer tells, and for which readers and sinks the contract says which text, which fault and which reduced scenarios, is told
 /// at [`crate::perform`].

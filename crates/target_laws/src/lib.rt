@@ -3,6 +3,8 @@
 
 mod broken;
 mod catalogue;
+mod recheck;
 mod trial;
 
 pub use broken::{BrokenLaw, broken_law};
+pub use recheck::{ChangedVerdict, changed_verdict};
