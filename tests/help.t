@@ -18,8 +18,8 @@ No line of it is longer than 100 letters, as has just been seen. It says what ea
   
   Options:
         --brief     Count the verdicts that pass, and write the scenario beside each other verdict
-        --strict    Tell on standard error what makes the report say less than it seems to, and end with 5 then
-        --recheck   Run each plan that fails once more first, and refuse a target that says something else then
+        --strict    Tell on standard error what the report doesn't show, and end with 5 then
+        --recheck   Run each failing plan once more first, and refuse a target that says otherwise
         --progress  Show on standard error, in one line, how far plans or a reduction are
     -h, --help      Print help
   

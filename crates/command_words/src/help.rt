@@ -53,10 +53,10 @@ pub const BRIEF: &str =
     "Count the verdicts that pass, and write the scenario beside each other verdict";
 
 pub const STRICT: &str =
-    "Tell on standard error what makes the report say less than it seems to, and end with 5 then";
+    "Tell on standard error what the report doesn't show, and end with 5 then";
 
 pub const RECHECK: &str =
-    "Run each plan that fails once more first, and refuse a target that says something else then";
+    "Run each failing plan once more first, and refuse a target that says otherwise";
 
 pub const PROGRESS: &str = "Show on standard error, in one line, how far plans or a reduction are";
 
