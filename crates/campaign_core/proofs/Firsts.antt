@@ -1,5 +1,5 @@
 -- The first failures, and what a report says of them.
-use Rattle.std.proofs.Common.{◌≡◌, ℕ, zero, suc, ◌+◌, ◌<◌, true, Bool, Option, option_map, slice_get, List, [], ◌∷◌, length, get_or, map, All, refl, sym, ap}
+use Rattle.std.proofs.Common.{◌≡◌, ℕ, zero, suc, ◌+◌, ◌<◌, true, Bool, Option, option_map, slice_get, List, [], ◌∷◌, length, get_or, map, All, refl, sym, ap, None}
 use Rattle.std.proofs.Common.{◌∙◌, arith, eq-eqb, zero-add, add-zero}
 use Rattle.std.proofs.lemmas.List.Elements.{All-map}
 use Rattle.scenario_values.specs.Scenario.{Entries, DistinctNames}
@@ -73,11 +73,11 @@ pub report_is : (say : ℕ → Entries → Verdict) (label : List ℕ) (seed : �
     (name : List ℕ) (same_seed : ℕ) (clean : Verdict) (counts : List ℕ) (vs : List Verdict) (told : List FindingFacts)
     → name ≡ label → same_seed ≡ seed → clean ≡ get_or vs 0 verdict.Unresolved → counts ≡ census → vs ≡ verdicts_from say 0 plans
     → told ≡ map (finding say plans) (first_failures (numbered (verdicts_from say 0 plans)))
-    → (let r : ReportFacts = record { label = name; seed = same_seed; clean = clean; census = counts; verdicts = vs; findings = told } in r)
+    → (let r : ReportFacts = record { label = name; seed = same_seed; clean = clean; census = counts; verdicts = vs; findings = told; growth = None } in r)
     ≡ report_of say label seed census plans
 report_is say label seed census plans name s clean counts vs told same_name same_seed same_clean same_counts same same_told =
     let made : List ℕ → ℕ → Verdict → List ℕ → List Verdict → List FindingFacts → ReportFacts =
-    λ n s c k v f. record { label = n; seed = s; clean = c; census = k; verdicts = v; findings = f } in
+    λ n s c k v f. record { label = n; seed = s; clean = c; census = k; verdicts = v; findings = f; growth = None } in
     ap (λ n. made n s clean counts vs told) same_name ∙ ap (λ z. made label z clean counts vs told) same_seed
     ∙ ap (λ c. made label seed c counts vs told) same_clean ∙ ap (λ k. made label seed (get_or vs 0 verdict.Unresolved) k vs told) same_counts
     ∙ ap (λ v. made label seed (get_or v 0 verdict.Unresolved) census v told) same

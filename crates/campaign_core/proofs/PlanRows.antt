@@ -5,7 +5,8 @@ use Rattle.scenario_values.specs.Scenario.{Entries}
 use Rattle.target_trait.specs.declared.judgement.Verdict.{Verdict}
 use Rattle.result_book.specs.Rows.{AreSaid}
 use Rattle.result_book.proofs.RowLemmas.{row_length, row_said}
-use Rattle.campaign_core.specs.inside.Rows.{row_count, row_of, row_start}
+use Rattle.plan_rows.specs.Rows.{row_count, row_start}
+use Rattle.campaign_core.specs.inside.Rows.{row_of}
 
 -- the number stands in a row, where rows have one size
 abbrev InRow : (plans size m : ℕ) → Type 0

@@ -1,6 +1,6 @@
 -- What a report tells of a list of plans: a map and recursions on lists. Which verdict a stream number and a scenario have, the first
 -- argument says.
-use Rattle.std.specs.Prelude.{◌≡◌, ◌<◌, ℕ, true, List, [], length, map, slice_index_or}
+use Rattle.std.specs.Prelude.{◌≡◌, ◌<◌, ℕ, true, List, [], length, map, slice_index_or, None}
 use Rattle.std.specs.List.{range_with_len}
 use Rattle.scenario_values.specs.Scenario.{Entries, all_faults}
 use Rattle.scenario_values.specs.Keep.{kept}
@@ -46,6 +46,7 @@ report_of say label seed census plans = record {
   census = census;
   verdicts = verdicts_from say 0 plans;
   findings = map (finding say plans) (first_failures (numbered (verdicts_from say 0 plans)));
+  growth = None;
 }
 
 -- a scenario fails with this code, and no single fault can be left out of it: it fails with all its faults, and without any one of

@@ -11,7 +11,6 @@ mod planned;
 mod probe;
 mod reducing;
 mod results;
-mod rows;
 mod runner;
 mod running;
 mod trying;

@@ -112,6 +112,7 @@ where
         census,
         verdicts: results.verdicts.as_slice(),
         findings,
+        growth: None,
     })
 }
 

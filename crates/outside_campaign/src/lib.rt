@@ -18,6 +18,6 @@ pub use laws::{
     nothing_is_asked_where_nothing_is_to_be_tried, reductions_come_to_what_is_asked,
     what_is_asked_is_unanswered,
 };
-pub use planned::list_plans;
+pub use planned::{borrowed, list_plans, planned as outside_plans};
 pub use refusal::OutsideFault;
 pub use reporting::{write_brief, write_told};

@@ -46,12 +46,12 @@ impl<'a> Names for Words<'a> {
 }
 
 /// The text of the report with these verdicts and findings on these plans. An error means that memory was refused.
-pub fn told_text(
+pub fn told_text<'a>(
     alloc: Global,
     form: Form,
-    outside: &Outside,
+    outside: &'a Outside,
     seed: u64,
-    verdicts: &[Verdict],
+    verdicts: &'a [Verdict],
     findings: Vec<Finding>,
     plans: &PlanList<'_>,
 ) -> Result<Vec<u8>, AllocError>
@@ -66,6 +66,7 @@ pub fn told_text(
         census: outside.hits.as_slice(),
         verdicts,
         findings,
+        growth: None,
     };
     let words = Words { outside };
     match form {

@@ -1,5 +1,5 @@
 -- What answers come to; the contracts cite it.
-use Rattle.std.specs.Prelude.{◌≡◌, ◌<◌, ℕ, List, [], ◌∷◌, Err, length, map, slice_index_or}
+use Rattle.std.specs.Prelude.{◌≡◌, ◌<◌, ℕ, List, [], ◌∷◌, Err, length, map, slice_index_or, None}
 use Rattle.scenario_values.specs.Scenario.{Entries}
 use Rattle.target_trait.specs.declared.judgement.Verdict.{Verdict}
 use Rattle.target_trait.specs.declared.judgement.Verdict.TheVariants as verdict
@@ -57,6 +57,7 @@ facts_of outside seed verdicts findings = record {
   census = outside.hits;
   verdicts = verdicts;
   findings = findings;
+  growth = None;
 }
 
 -- the text of a report in this form, by the results of these plans

@@ -4,7 +4,8 @@ use Rattle.target_trait.specs.declared.judgement.Verdict.{Verdict}
 use Rattle.result_book.specs.Says.{course_says}
 use Rattle.result_book.specs.Rows.{enter_lists}
 use Rattle.result_book.proofs.RowLemmas.{book_is}
-use Rattle.campaign_core.specs.inside.Rows.{row_count, row_of}
+use Rattle.plan_rows.specs.Rows.{row_count}
+use Rattle.campaign_core.specs.inside.Rows.{row_of}
 use Rattle.campaign_core.proofs.Gathered.{all_own, below_some}
 use Rattle.campaign_core.proofs.PlanRows.{row_reaches, rows_said}
 use Rattle.campaign_core.proofs.workers.run_plans.Goals as goal

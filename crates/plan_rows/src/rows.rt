@@ -1,6 +1,6 @@
 //! Rows of plans: what one ticket of the pool stands for.
-ghost use Rattle.std.specs.Prelude.{◌≡◌, ◌+◌};
-ghost use Rattle.campaign_core.specs.inside.Rows.{row_count, row_size, row_start};
+ghost use Rattle.std.specs.Prelude.{◌≡◌, ◌+◌, ◌≤◌};
+ghost use Rattle.plan_rows.specs.Rows.{row_count, row_size, row_start};
 
 use work_gate::{Gate, Phase};
 
@@ -25,10 +25,11 @@ pub fn row_count(plans: u32) -> u32
     plans.div_ceil(row_size(plans))
 }
 
-/// The number of the plan with which a row begins, and of that before which it ends. A row past the last one has no plan.
+/// With which of so many plans a row begins, from 0 on, and before which it ends. A row past the last one has no plan.
 pub fn row_bounds(plans: u32, row: u32) -> (u32, u32)
     ensures first { result.0 ≡ row_start plans row }
     ensures end { result.1 ≡ row_start plans (row + 1) }
+    ensures within { (result.0 ≤ result.1) × (result.1 ≤ plans) }
 {
     let size = row_size(plans);
     let first = row.saturating_mul(size).min(plans);
@@ -40,6 +41,8 @@ pub fn row_bounds(plans: u32, row: u32) -> (u32, u32)
 #[derive(Drop)]
 pub struct RowGate<'a, G: Gate> {
     pub gate: &'a G,
+    /// The number of the first plan.
+    pub first: u32,
     /// How many plans there are.
     pub plans: u32,
 }
@@ -50,7 +53,8 @@ impl<'a, G: Gate> Gate for RowGate<'a, G> {
             Phase::Plans => {
                 let (first, end) = row_bounds(self.plans, number);
                 for plan in first..end {
-                    self.gate.arrive(Phase::Plans, plan);
+                    self.gate
+                        .arrive(Phase::Plans, self.first.saturating_add(plan));
                 }
             }
             Phase::Cards => self.gate.arrive(Phase::Cards, number),

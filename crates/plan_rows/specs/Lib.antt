@@ -1,0 +1,3 @@
+pub mod Rows
+pub mod Ordered
+pub mod inside
