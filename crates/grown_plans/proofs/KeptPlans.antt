@@ -4,7 +4,11 @@ use Rattle.std.specs.Prelude.{Result, Ok, Err, OnOk, is_ok, Bool, true, false, c
 use Rattle.std.specs.List.{AllByRecursion}
 use Rattle.std.proofs.lemmas.List.{append-nil, length-append, get_or_append_left, get_or-append-add}
 use Rattle.action_eval.specs.declared.rig.Rig.{Rig}
-use Rattle.grown_plans.specs.Kept.{Grew, GrewFrom, plan_of, plans_from}
+use Rattle.action_eval.specs.declared.rig.Kind.TheVariants.{OnwardReturn}
+use Rattle.action_eval.specs.Rigging.{rig}
+use Rattle.grown_plans.specs.GrownPlans.{is_once_return}
+use Rattle.grown_plans.specs.AskedPoints.{is_last_return, from_then_on}
+use Rattle.grown_plans.specs.Kept.{Grew, GrewFrom, grew, plan_of, plans_from}
 use Rattle.grown_plans.specs.inside.Numbered.{AreBefore}
 
 abbrev one_more : List (List Rig) → Grew → List (List Rig)
@@ -131,3 +135,40 @@ pub at_the_first : (now : List (List Rig)) (gs : List Grew) (n : ℕ) (faults wh
     → faults ++ get_or now n [] ≡ whole → faults ≡ whole
 at_the_first now gs n faults whole is zeroth rest =
     sym (append-nil faults) ∙ ap (λ l. faults ++ l) (sym (first_is_empty gs) ∙ ap (λ (ps : List (List Rig)). get_or ps 0 []) is ∙ ap (λ k. get_or now k []) (sym zeroth)) ∙ rest
+
+-- ---- a plan and the child that is kept for it
+
+pub kept_as : (now : List (List Rig)) (gs : List Grew) (n : ℕ) (child : Grew) → plans_from ([] ∷ []) gs ≡ now → AreBefore 1 gs → n < length now → 0 < n
+    → child ≡ get_or gs (n - 1) child → (get_or now n [] ≡ child.fault ∷ get_or now child.parent []) × (child.parent < length now)
+kept_as now gs n child is before lt some read =
+    let many : length now ≡ 1 + length gs = ap length (sym is) ∙ from_length ([] ∷ []) gs in
+    let low = parent_before 1 gs (n - 1) child before (omega (arith, many, lt, some)) in
+    let mine : child.parent ≡ (get_or gs (n - 1) child).parent = ap (λ (g : Grew). g.parent) read in (
+      ap (λ (ps : List (List Rig)). get_or ps n []) (sym is)
+          ∙ grew_as gs n child before some (omega (arith, many, lt))
+          ∙ ap (λ (g : Grew). g.fault ∷ get_or (plans_from ([] ∷ []) gs) g.parent []) (sym read)
+          ∙ ap (λ (ps : List (List Rig)). child.fault ∷ get_or ps child.parent []) is,
+      omega (arith, low, mine, lt, some),
+    )
+
+no_return : (r : Rig) → is_once_return r.kind ≡ false → (plan rest : List Rig) → plan ≡ r ∷ rest → is_last_return plan ≡ false
+no_return r other plan rest is = ap is_last_return is ∙ other
+
+pub no_return_last : (now : List (List Rig)) (gs : List Grew) (n : ℕ) (child : Grew) (fault : Rig) → plans_from ([] ∷ []) gs ≡ now → AreBefore 1 gs → n < length now → 0 < n
+    → child ≡ get_or gs (n - 1) child → fault ≡ child.fault → is_once_return fault.kind ≡ false → is_last_return (get_or now n []) ≡ false
+no_return_last now gs n child fault is before lt some read at other =
+    no_return child.fault (ap (λ (f : Rig). is_once_return f.kind) (sym at) ∙ other) (get_or now n []) (get_or now child.parent []) (kept_as now gs n child is before lt some read).0
+
+pub return_last : (now : List (List Rig)) (gs : List Grew) (n : ℕ) (child new : Grew) (fault : Rig) → plans_from ([] ∷ []) gs ≡ now → AreBefore 1 gs → n < length now → 0 < n
+    → child ≡ get_or gs (n - 1) child → fault ≡ child.fault → is_once_return fault.kind ≡ true → new ≡ grew child.parent (rig child.fault.site OnwardReturn)
+    → (is_last_return (get_or now n []) ≡ true) × (new.parent < length now) × (plan_of now new ≡ from_then_on (get_or now n []))
+return_last now gs n child new fault is before lt some read at same kept =
+    let found = kept_as now gs n child is before lt some read in (
+      ap is_last_return found.0 ∙ ap (λ (f : Rig). is_once_return f.kind) (sym at) ∙ same,
+      subst (λ (g : Grew). g.parent < length now) (sym kept) found.1,
+      ap (plan_of now) kept ∙ ap from_then_on (sym found.0),
+    )
+
+pub no_return_first : (now : List (List Rig)) (gs : List Grew) (n : ℕ) → plans_from ([] ∷ []) gs ≡ now → n ≡ 0 → is_last_return (get_or now n []) ≡ false
+no_return_first now gs n is zeroth =
+    ap (λ (p : List Rig). is_last_return p) (ap (λ k. get_or now k []) zeroth ∙ ap (λ (ps : List (List Rig)). get_or ps 0 []) (sym is) ∙ first_is_empty gs)

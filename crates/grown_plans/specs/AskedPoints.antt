@@ -40,17 +40,23 @@ is_point_of (r ∷ rs) p = p == r.site.point
 abbrev pub is_asked_again : List Rig → List ℕ → Bool
 is_asked_again plan asked = list_any (λ s. is_point_of plan s.point) (sites_past plan (sites_from [] asked))
 
+abbrev pub is_last_return : List Rig → Bool
+is_last_return [] = false
+is_last_return (r ∷ rs) = is_once_return r.kind
+
 abbrev pub goes_onward : List Rig → List ℕ → Bool
-goes_onward [] asked = false
-goes_onward (r ∷ rs) asked = is_once_return r.kind && is_asked_again (r ∷ rs) asked
+goes_onward plan asked = is_last_return plan && is_asked_again plan asked
 
 -- the plan with its last fault from then on
 abbrev pub from_then_on : List Rig → List Rig
 from_then_on [] = []
 from_then_on (r ∷ rs) = rig r.site OnwardReturn ∷ rs
 
+abbrev pub onward_if : Bool → List Rig → List (List Rig)
+onward_if goes plan = if goes then from_then_on plan ∷ [] else []
+
 abbrev pub onward_by : List Rig → List ℕ → List (List Rig)
-onward_by plan asked = if goes_onward plan asked then from_then_on plan ∷ [] else []
+onward_by plan asked = onward_if (goes_onward plan asked) plan
 
 abbrev pub GoesOnwardByAsked : Subject → List Rig → Type 0
 GoesOnwardByAsked t plan = (seed stream : ℕ) → onward_of t plan ≡ onward_by plan (outcome t.asks (given_for t plan seed stream)).asked

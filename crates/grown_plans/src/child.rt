@@ -1,6 +1,7 @@
 //! Plans that grew, in few bytes each.
 ghost use Rattle.std.specs.Prelude.{◌≡◌, ◌<◌, ◌^◌};
 ghost use Rattle.action_eval.specs.Rigging.{rig};
+ghost use Rattle.action_eval.specs.declared.rig.Kind.TheVariants.{OnwardReturn};
 ghost use Rattle.grown_plans.specs.Kept.{grew};
 
 use action_eval::{Kind, Rig, Site};
@@ -68,6 +69,16 @@ impl Child {
                 hit: self.hit,
             },
             kind: self.kind,
+        }
+    }
+
+    /// The same with its fault from then on.
+    pub(crate) fn from_then_on(self) -> Self
+        ensures { result ≡ grew self.parent (rig self.fault.site OnwardReturn) }
+    {
+        Child {
+            kind: Kind::OnwardReturn,
+            ..self
         }
     }
 }

@@ -1,10 +1,11 @@
 //! A list of plans that grow.
-ghost use Rattle.std.specs.Prelude.{◌≡◌, ◌<◌, ◌++◌, ◌∷◌, [], length, map, slice_index_or, IfOk, OnOk, OnErr};
+ghost use Rattle.std.specs.Prelude.{◌≡◌, ◌<◌, ◌++◌, ◌∷◌, [], true, false, length, map, slice_index_or, OnOk, OnErr, MatchOption};
 ghost use Rattle.action_eval.specs.declared.rig.Rig.{Rig};
+ghost use Rattle.grown_plans.specs.AskedPoints.{from_then_on, is_last_return};
 ghost use Rattle.grown_plans.specs.Kept.{GrewFrom, plan_of};
 
 use crate::child::Child;
-use action_eval::Rig;
+use action_eval::{Kind, Rig};
 use std::alloc::{AllocError, Global};
 use std::marker::Model;
 
@@ -70,5 +71,23 @@ impl GrownPlans {
             number = child.parent();
         }
         Ok(())
+    }
+
+    /// The plan of this number with its last fault from then on, as it is kept. None where that fault isn't a return, or there is none.
+    pub fn from_then_on(&self, number: usize) -> Option<Child>
+        requires { number < length self.now }
+        ensures { MatchOption result (is_last_return (slice_index_or self.now number []) ≡ false)
+            (λ child. (is_last_return (slice_index_or self.now number []) ≡ true) × (child.parent < length self.now)
+            × (plan_of self.now child ≡ from_then_on (slice_index_or self.now number []))) }
+    {
+        let children = &self.children;
+        if number == 0 {
+            return None;
+        }
+        let child = children[number - 1];
+        match child.fault().kind {
+            Kind::OnceReturn => Some(child.from_then_on()),
+            Kind::OnwardReturn | Kind::OncePanic => None,
+        }
     }
 }

@@ -1,2 +1,6 @@
 pub mod Numbers
+pub mod Overs
+pub mod Lesser
+pub mod Growing
+pub mod RowParts
 pub mod LevelRuns

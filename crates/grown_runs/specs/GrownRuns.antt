@@ -1,42 +1,71 @@
 -- What runs of grown plans come to, of plans whose numbers stand one after another.
-use Rattle.std.specs.Prelude.{ℕ, List, [], map, slice_index_or}
-use Rattle.std.specs.List.{flat_map, range_with_len}
+use Rattle.std.specs.Prelude.{◌≡◌, ℕ, ◌==◌, ◌&&◌, ◌<◌, not, if◌then◌else◌, Bool, true, false, List, [], ◌∷◌, Option, None, Some, map, length, slice_index_or}
+use Rattle.std.specs.List.{flat_map, list_all, range_with_len}
 use Rattle.action_eval.specs.declared.rig.Rig.{Rig}
+use Rattle.action_eval.specs.Answers.{given_of}
+use Rattle.action_eval.specs.Rigging.{rigging}
 use Rattle.target_trait.specs.Outcomes.{Told, outcome}
 use Rattle.target_trait.specs.declared.judgement.Verdict.{Verdict}
-use Rattle.target_trait.specs.declared.target.Target.{Ghosts}
-use Rattle.grown_plans.specs.GrownPlans.{Subject, usual_subject, given_for}
+use Rattle.target_trait.specs.declared.judgement.Verdict.TheVariants as verdict
+use Rattle.plan_gen.specs.LoopRuns.{times}
+use Rattle.grown_plans.specs.GrownPlans.{Subject, rigs_of, most}
+use Rattle.grown_plans.specs.AskedPoints.{onward_by}
 use Rattle.grown_plans.specs.Kept.{Grew, kept_children}
-use Rattle.grown_runs.specs.declared.course.GrownCourse.{GrownCourse}
+use Rattle.grown_plans.specs.Promises.{lesser}
 
--- what is run: a subject under a seed, and plans by their numbers
-pub record Runs : Type 0 where
-  pub subject : Subject
-  pub seed : ℕ
-  pub plans : List (List Rig)
+-- what so many plans give, one after another, from a number on: each by its number and its faults
+abbrev pub over : {A : Type 0} → (ℕ → List Rig → List A) → List (List Rig) → ℕ → ℕ → List A
+over gives plans first count = flat_map (λ n. gives n (slice_index_or plans n [])) (range_with_len first count)
 
--- these plans, on a target
-abbrev pub runs_for : {T W : Type 0} → Ghosts T W → T → W → ℕ → ℕ → List (List Rig) → Runs
-runs_for target setup workload seed max_hits plans = record {
-  subject = usual_subject (target.asks setup workload) target.names max_hits;
-  seed = seed;
-  plans = plans;
-}
+-- the run of rigged hits, and of a plan, under a seed and a stream number
+abbrev pub told_of_rigs : Subject → ℕ → ℕ → List Rig → Told
+told_of_rigs t seed stream rigs = outcome t.asks (given_of (rigging t.names rigs) t.names seed stream t.limit)
 
--- those of a course
-abbrev pub runs_on : {T W : Type 0} → Ghosts T W → T → GrownCourse T W → Runs
-runs_on target setup course = runs_for target setup course.workload.now course.seed course.max_hits course.plans.now
+abbrev pub told : Subject → ℕ → ℕ → List Rig → Told
+told t seed n plan = told_of_rigs t seed n (rigs_of plan)
 
-abbrev pub plan_at : Runs → ℕ → List Rig
-plan_at r n = slice_index_or r.plans n []
+-- a plan's verdict, with its number as the stream number
+abbrev pub verdict_at : Subject → ℕ → ℕ → List Rig → List Verdict
+verdict_at t seed n plan = (told t seed n plan).verdict ∷ []
 
--- a plan's run, with its number as the stream number
-abbrev pub told : Runs → ℕ → Told
-told r n = outcome r.subject.asks (given_for r.subject (plan_at r n) r.seed n)
+-- its children, as they are kept
+abbrev pub children_at : Subject → ℕ → ℕ → List Rig → List Grew
+children_at t seed n plan = kept_children n plan (told t seed n plan).asked
 
--- of so many plans, from one on
-abbrev pub verdicts_of : Runs → ℕ → ℕ → List Verdict
-verdicts_of r first count = map (λ n. (told r n).verdict) (range_with_len first count)
+-- the plan from then on, where its run hits its last fault's point once more
+abbrev pub onward_at : Subject → ℕ → ℕ → List Rig → List (List Rig)
+onward_at t seed n plan = onward_by plan (told t seed n plan).asked
 
-abbrev pub children_of : Runs → ℕ → ℕ → List Grew
-children_of r first count = flat_map (λ n. kept_children n (plan_at r n) (told r n).asked) (range_with_len first count)
+-- how often its run hits a point
+abbrev pub hits_at : Subject → ℕ → ℕ → ℕ → List Rig → List ℕ
+hits_at t seed point n plan = times point (told t seed n plan).asked ∷ []
+
+-- each count is the most hits of its point that a run has
+abbrev pub AreMost : Subject → ℕ → List (List Rig) → ℕ → ℕ → List ℕ → Type 0
+AreMost t seed plans first count counts =
+    (p : ℕ) → p < length counts → slice_index_or counts p 0 ≡ most (over (hits_at t seed p) plans first count)
+
+-- ---- causes
+
+abbrev pub fails_with : ℕ → Verdict → Bool
+fails_with code verdict.Pass = false
+fails_with code (verdict.Fail other) = other == code
+fails_with code verdict.Unresolved = false
+
+-- no list of rigged hits with one left out fails with the code
+abbrev pub is_least : Subject → ℕ → ℕ → ℕ → List Rig → Bool
+is_least t seed stream code rigs = list_all (λ less. not (fails_with code (told_of_rigs t seed stream less).verdict)) (lesser rigs)
+
+-- a plan that fails, as a cause by its number and its code: without any one of its faults it doesn't fail with the code
+abbrev pub cause_by : Subject → ℕ → ℕ → List Rig → Verdict → List (ℕ × ℕ)
+cause_by t seed n rigs verdict.Pass = []
+cause_by t seed n rigs (verdict.Fail code) = if is_least t seed n code rigs then (n, code) ∷ [] else []
+cause_by t seed n rigs verdict.Unresolved = []
+
+-- what is kept of one, where it is one
+abbrev pub causes_by : ℕ → Option ℕ → List (ℕ × ℕ)
+causes_by n None = []
+causes_by n (Some code) = (n, code) ∷ []
+
+abbrev pub cause_at : Subject → ℕ → ℕ → List Rig → List (ℕ × ℕ)
+cause_at t seed n plan = cause_by t seed n (rigs_of plan) (told t seed n plan).verdict

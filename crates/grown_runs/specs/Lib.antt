@@ -1,1 +1,3 @@
 pub mod GrownRuns
+pub mod Grown
+pub mod inside

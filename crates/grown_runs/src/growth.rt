@@ -1,27 +1,32 @@
 //! What runs of plans one after another come to.
-ghost use Rattle.std.specs.Prelude.{◌≡◌, ℕ, ◌+◌, ◌-◌, ◌<◌, ◌≤◌, ◌^◌, ◌++◌, ◌∷◌, [], length, map, slice_index_or, IfOk, OnOk};
-ghost use Rattle.action_eval.specs.Rigging.{CanBeRigged};
-ghost use Rattle.grown_plans.specs.GrownPlans.{rigs_of, usual_subject};
-ghost use Rattle.grown_plans.specs.Kept.{kept_children};
-ghost use Rattle.grown_runs.specs.GrownRuns.{runs_on, told, plan_at, verdicts_of, children_of};
+ghost use Rattle.std.specs.Prelude.{◌≡◌, ℕ, ◌+◌, ◌-◌, ◌*◌, ◌<◌, ◌≤◌, ◌^◌, ◌++◌, ◌&&◌, [], List, length, map, max, slice_index_or, replicate, IfOk, OnOk};
+ghost use Rattle.action_eval.specs.declared.rig.Rig.{Rig};
+ghost use Rattle.grown_plans.specs.AskedPoints.{is_last_return, onward_if};
+ghost use Rattle.grown_plans.specs.GrownPlans.{Subject};
+ghost use Rattle.grown_plans.specs.Kept.{GrewFrom, plan_of};
+ghost use Rattle.grown_runs.specs.declared.course.Part.{Part};
+ghost use Rattle.grown_runs.specs.GrownRuns.{causes_by};
+ghost use Rattle.grown_runs.specs.inside.Growths.{if_inner, if_last, IsGrowth, IsGrowthOn};
 
-use crate::course::GrownCourse;
-use crate::run::run_asked;
-use action_eval::{Rig, Rigging, Room, Session};
-use grown_plans::{Child, add_children, rigs_of};
+use crate::causes::{Ran, cause_of};
+use crate::course::{GrownCourse, Part};
+use crate::kept::Growth;
+use crate::stage::Stage;
+use action_eval::Rig;
+use grown_plans::{Child, GrownPlans, add_children, rigs_of};
 use std::alloc::{AllocError, Global};
-use std::mem;
-use target_trait::{Target, Verdict};
+use target_trait::Target;
 
 /// What a worker's plans are run in, one after another, without memory of their own. Whatever it holds before a plan makes no difference to
 /// the plan.
 #[derive(Drop)]
 pub struct Workspace {
+    stage: Stage,
     faults: Vec<Rig>,
     ordered: Vec<Rig>,
     rigs: Vec<Rig>,
-    rigging: Rigging<'static>,
-    room: Room,
+    less: Vec<Rig>,
+    children: Vec<Child>,
     counts: Vec<u32>,
 }
 
@@ -29,28 +34,76 @@ impl Workspace {
     /// A workspace that has taken no memory yet.
     pub fn new(alloc: Global) -> Self {
         Workspace {
+            stage: Stage::new(alloc),
             faults: Vec::new(alloc),
             ordered: Vec::new(alloc),
             rigs: Vec::new(alloc),
-            rigging: Rigging::new(alloc),
-            room: Room::new(alloc),
+            less: Vec::new(alloc),
+            children: Vec::new(alloc),
             counts: Vec::new(alloc),
         }
     }
 }
 
-/// What plans came to that were run one after another.
-#[derive(Drop)]
-pub struct Growth {
-    /// Their verdicts.
-    pub verdicts: Vec<Verdict>,
-    /// Their children, in the order of the plans and of the hits of each.
-    pub children: Vec<Child>,
+/// Raises each of these counts to that which stands at its place.
+pub fn raise(hits: &mut Vec<u32>, counts: &[u32])
+    requires { length hits.old.items ≤ length counts.now }
+    ensures many { length hits.new.items ≡ length hits.old.items }
+    ensures most { (p : ℕ) → p < length hits.old.items
+        → slice_index_or hits.new.items p 0 ≡ max (slice_index_or hits.old.items p 0) (slice_index_or counts.now p 0) }
+{
+    for point in 0..hits.len() {
+        hits[point] = hits[point].max(counts[point]);
+    }
 }
 
-/// Runs the plan of this number, and adds its verdict and its children.
+/// Keeps the children of a level that isn't the last one.
+fn keep_children(part: Part, kept: &mut Vec<Child>, children: &[Child]) -> Result<(), AllocError>
+    ensures { OnOk result (kept.new.items ≡ kept.old.items ++ if_inner part children.now) }
+{
+    if part == Part::Inner {
+        kept.extend_from_slice(children)?;
+    }
+    Ok(())
+}
+
+/// Keeps a plan of the last level from then on, where its last fault is a return whose point its run hits again.
+fn keep_onward(
+    part: Part,
+    onward: &mut Vec<Child>,
+    plans: &GrownPlans,
+    number: usize,
+    is_again: bool,
+) -> Result<(), AllocError>
+    requires { number < length plans.now }
+    ensures ok { OnOk result (map (plan_of plans.now) onward.new.items ≡ map (plan_of plans.now) onward.old.items
+        ++ if_last part (onward_if (is_last_return (slice_index_or plans.now number []) && is_again) (slice_index_or plans.now number []))) }
+    ensures from { GrewFrom (length plans.now) onward.old.items → GrewFrom (length plans.now) onward.new.items }
+{
+    if part == Part::Last && is_again {
+        if let Some(child) = plans.from_then_on(number) {
+            onward.push(child)?;
+        }
+    }
+    Ok(())
+}
+
+/// Keeps a cause.
+fn keep_cause(
+    causes: &mut Vec<(u32, u32)>,
+    number: u32,
+    cause: Option<u32>,
+) -> Result<(), AllocError>
+    ensures { OnOk result (causes.new.items ≡ causes.old.items ++ causes_by number cause) }
+{
+    if let Some(code) = cause {
+        causes.push((number, code))?;
+    }
+    Ok(())
+}
+
+/// Runs the plan of this number, and adds what it comes to. The target keeps its setup, after an error too.
 fn run_one<T: Target>(
-    alloc: Global,
     target: &mut T,
     course: &GrownCourse<'_, T>,
     workspace: &mut Workspace,
@@ -58,40 +111,76 @@ fn run_one<T: Target>(
     number: usize,
 ) -> Result<(), AllocError>
     requires within { number < length course.now.plans.now }
-    requires few { number < 2 ^ 16 }
-    requires rigs { CanBeRigged (rigs_of (slice_index_or course.now.plans.now number [])) }
-    ensures verdict { OnOk result (growth.new.verdicts.items
-        ≡ growth.old.verdicts.items ++ (told (runs_on T.Target target.old course.now) number).verdict ∷ []) }
-    ensures children { OnOk result (growth.new.children.items
-        ≡ growth.old.children.items ++ kept_children number (slice_index_or course.now.plans.now number [])
-        (told (runs_on T.Target target.old course.now) number).asked) }
+    requires room { length growth.old.verdicts.items < 2 ^ 16 }
+    requires hits { length growth.old.hits.items ≡ length T.names }
+    ensures grown { OnOk result ((first count : ℕ) → first + count ≡ number → IsGrowthOn T.Target target.old course.now first count growth.old
+        → IsGrowthOn T.Target target.old course.now first (count + 1) growth.new) }
+    ensures many { OnOk result (length growth.new.verdicts.items ≡ length growth.old.verdicts.items + 1) }
+    ensures hits { length growth.new.hits.items ≡ length growth.old.hits.items }
     ensures setup { target.new ≡ target.old }
 {
     let Workspace {
+        stage,
         faults,
         ordered,
         rigs,
-        rigging,
-        room,
+        less,
+        children,
         counts,
     } = workspace;
     course.plans.faults_of(number, faults)?;
     rigs_of(rigs, ordered, faults.as_slice())?;
-    rigging.load(T::catalogue(), rigs.as_slice())?;
-    let left = mem::replace(room, Room::new(alloc));
-    let stream = number as u64;
-    let mut session = Session::over_in(left, rigging, course.seed, stream, course.max_hits)?;
-    let verdict = run_asked(target, course.workload, &mut session)?;
+    let rigs = rigs.as_slice();
+    let verdict = stage.run(target, course, rigs, number as u64)?;
+    children.clear();
+    let asked = stage.asked.as_slice();
+    let is_again = add_children(children, counts, number, faults.as_slice(), asked)?;
     growth.verdicts.push(verdict)?;
-    let children = &mut growth.children;
-    add_children(children, counts, number, faults.as_slice(), session.trace())?;
-    *room = session.into_room();
+    growth.child_count += children.len() as u64;
+    raise(&mut growth.hits, counts.as_slice());
+    keep_children(course.part, &mut growth.children, children.as_slice())?;
+    keep_onward(
+        course.part,
+        &mut growth.onward,
+        course.plans,
+        number,
+        is_again,
+    )?;
+    let number = number as u32;
+    let ran = Ran {
+        rigs,
+        number,
+        verdict,
+    };
+    let cause = cause_of(stage, less, target, course, &ran)?;
+    keep_cause(&mut growth.causes, number, cause)?;
     Ok(())
 }
 
 impl Growth {
-    /// Runs the plans from this number on, before `end`, in their order. An error means that memory was refused. The target keeps its setup,
-    /// after an error too.
+    /// What no plan comes to, over so many points.
+    pub fn none(alloc: Global, points: usize) -> Result<Self, AllocError>
+        ensures verdicts { IfOk result (λ growth. growth.verdicts.items ≡ []) }
+        ensures children { IfOk result (λ growth. growth.children.items ≡ []) }
+        ensures many { IfOk result (λ growth. growth.child_count ≡ 0) }
+        ensures onward { IfOk result (λ growth. growth.onward.items ≡ []) }
+        ensures causes { IfOk result (λ growth. growth.causes.items ≡ []) }
+        ensures hits { IfOk result (λ growth. growth.hits.items ≡ replicate points 0) }
+    {
+        let mut hits = Vec::new(alloc);
+        hits.resize(points, 0)?;
+        Ok(Growth {
+            verdicts: Vec::new(alloc),
+            children: Vec::new(alloc),
+            child_count: 0,
+            onward: Vec::new(alloc),
+            causes: Vec::new(alloc),
+            hits,
+        })
+    }
+
+    /// Runs the plans of a course from this number on, before `end`, in their order. An error means that memory was refused. The target keeps
+    /// its setup, after an error too.
     pub fn run_over<T: Target>(
         alloc: Global,
         target: &mut T,
@@ -101,19 +190,32 @@ impl Growth {
         end: usize,
     ) -> Result<Self, AllocError>
         requires within { (first ≤ end) × (end ≤ length course.now.plans.now) }
-        requires few { length course.now.plans.now ≤ 2 ^ 16 }
-        requires rigs { (n : ℕ) → n < length course.now.plans.now → CanBeRigged (rigs_of (slice_index_or course.now.plans.now n [])) }
-        ensures verdicts { IfOk result (λ growth. growth.verdicts.items ≡ verdicts_of (runs_on T.Target target.old course.now) first (end - first)) }
-        ensures children { IfOk result (λ growth. growth.children.items ≡ children_of (runs_on T.Target target.old course.now) first (end - first)) }
+        ensures grown { IfOk result (λ growth. IsGrowthOn T.Target target.old course.now first (end - first) growth) }
         ensures setup { target.new ≡ target.old }
     {
-        let mut growth = Growth {
-            verdicts: Vec::with_capacity(alloc, end - first)?,
-            children: Vec::new(alloc),
-        };
+        let mut growth = Growth::none(alloc, T::catalogue().len())?;
         for number in first..end {
-            run_one(alloc, target, course, workspace, &mut growth, number)?;
+            run_one(target, course, workspace, &mut growth, number)?;
         }
         Ok(growth)
+    }
+
+    /// Adds what the plans after these came to. An error means that memory was refused.
+    pub fn absorb(&mut self, further: Growth) -> Result<(), AllocError>
+        requires room { length self.old.verdicts.items + length further.verdicts.items ≤ 2 ^ 16 }
+        requires hits { length self.old.hits.items ≤ length further.hits.items }
+        ensures grown { OnOk result ((t : Subject) (seed : ℕ) (part : Part) (plans : List (List Rig)) (first count more : ℕ)
+            → IsGrowth t seed part plans first count self.old → IsGrowth t seed part plans (first + count) more further
+            → IsGrowth t seed part plans first (count + more) self.new) }
+    {
+        self.verdicts
+            .extend_from_slice(further.verdicts.as_slice())?;
+        self.child_count += further.child_count;
+        self.children
+            .extend_from_slice(further.children.as_slice())?;
+        self.onward.extend_from_slice(further.onward.as_slice())?;
+        self.causes.extend_from_slice(further.causes.as_slice())?;
+        raise(&mut self.hits, further.hits.as_slice());
+        Ok(())
     }
 }

@@ -1,11 +1,14 @@
 //! Runs of plans that grow: their verdicts, and what grows from them.
 #![tactic(auto)]
 
+mod causes;
 mod course;
+mod grower;
 mod growth;
+mod kept;
 mod levels;
 mod run;
+mod stage;
 
-pub use course::GrownCourse;
-pub use growth::{Growth, Workspace};
-pub use levels::{GrowFault, Grown, Limits, grow};
+pub use course::Limits;
+pub use levels::{GrowFault, Grown, grow};

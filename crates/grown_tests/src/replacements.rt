@@ -1,81 +1,125 @@
-//! How the small workload grows, a file of `old` that is replaced once, by the chunks `ne` and `w`: the numbers of plans and the failures
-//! that the specification lists, worked out there by hand.
+//! How the small workload grows, a file of `old` that is replaced once, by the chunks `ne` and `w`.
 ghost use Rattle.std.specs.Prelude.{◌≤◌};
 
-use file_replace::{Replace, Variant};
-use grown_runs::{Grown, Limits, grow};
+use crate::growing::{Wanted, first_with, grown_on, have_grown, to_depth};
+use file_replace::{Replace, TORN, Variant};
+use grown_runs::{GrowFault, Grown, Limits};
 use std::alloc::Global;
 use std::process::Abort;
+use std::sync::Wait;
 use std::test::Fail;
+use std::thread::Threads;
 use target_checks::small_workload;
-use target_trait::Verdict;
+use target_trait::Target;
 
-/// The plans of a variant, up to so many faults.
-fn grown_by(alloc: Global, variant: Variant, depth: u32) -> Result<Grown, Fail>
-    requires { depth ≤ 64 }
-{
+fn grown_by<R: Threads + Wait + Sync>(
+    rt: &R,
+    alloc: Global,
+    variant: Variant,
+    limits: Limits,
+) -> Result<Result<Grown, GrowFault>, Fail> {
     let workload = small_workload(alloc)?;
-    let mut target = Replace::new(alloc, variant);
-    let limits = Limits {
-        seed: 7,
-        max_hits: 2000,
-        depth,
-    };
-    match grow(alloc, &mut target, &workload, limits) {
+    let target = Replace::new(alloc, variant);
+    Ok(grown_on(rt, alloc, &target, &workload, limits))
+}
+
+fn grown<R: Threads + Wait + Sync + Abort>(
+    rt: &R,
+    alloc: Global,
+    variant: Variant,
+    limits: Limits,
+) -> Result<Grown, Fail> {
+    match grown_by(rt, alloc, variant, limits)? {
         Ok(grown) => Ok(grown),
         Err(_) => Err(Fail::from("plans that don't grow")),
     }
 }
 
-/// So many plans stand before the last level, and so many there are.
-fn are_sizes(rt: &impl Abort, grown: &Grown, last: usize, all: usize) {
-    assert_eq!(rt; grown.last, last);
-    assert_eq!(rt; grown.verdicts.len(), last);
-    assert_eq!(rt; grown.plans.len(), all);
-}
-
-/// Just these plans fail, of those before the last level.
-fn are_failures(
-    rt: &impl Abort,
-    alloc: Global,
-    grown: &Grown,
-    numbers: &[usize],
-) -> Result<(), Fail> {
-    let mut failing = Vec::new(alloc);
-    for (number, verdict) in grown.verdicts.as_slice().iter().enumerate() {
-        if let Verdict::Fail(_) = verdict {
-            failing.push(number)?;
-        }
+#[test]
+fn sound_plans_grow_to_two_faults_and_no_further(rt: HostRuntime) -> Result<(), Fail> {
+    let alloc = rt.alloc();
+    for workers in [1, 4] {
+        let once = grown(&rt, alloc, Variant::Sound, to_depth(1, workers))?;
+        let wanted = Wanted {
+            levels: &[1, 12],
+            onward: 0,
+            beyond: 8,
+            causes: &[],
+        };
+        have_grown(&rt, &once, &wanted);
+        let whole = grown(&rt, alloc, Variant::Sound, to_depth(2, workers))?;
+        let wanted = Wanted {
+            levels: &[1, 12, 8],
+            onward: 0,
+            beyond: 0,
+            causes: &[],
+        };
+        have_grown(&rt, &whole, &wanted);
+        assert_eq!(&rt; first_with(&whole, TORN), None);
     }
-    assert_eq!(rt; failing.as_slice(), numbers);
     Ok(())
 }
 
 #[test]
-fn sound_plans_grow_to_two_faults_and_no_further(rt: HostRuntime) -> Result<(), Fail> {
+fn only_a_fault_leads_to_the_clean_up(rt: HostRuntime) -> Result<(), Fail> {
     let alloc = rt.alloc();
-    are_sizes(&rt, &grown_by(alloc, Variant::Sound, 0)?, 0, 1);
-    are_sizes(&rt, &grown_by(alloc, Variant::Sound, 1)?, 1, 13);
-    are_sizes(&rt, &grown_by(alloc, Variant::Sound, 2)?, 13, 21);
-    let whole = grown_by(alloc, Variant::Sound, 3)?;
-    are_sizes(&rt, &whole, 21, 21);
-    are_failures(&rt, alloc, &whole, &[])
+    let once = grown(&rt, alloc, Variant::Sound, to_depth(1, 1))?;
+    let unlink = Replace::catalogue()
+        .iter()
+        .position(|name| *name == "replace::unlink");
+    let none = grown(&rt, alloc, Variant::Sound, to_depth(0, 1))?;
+    assert_eq!(&rt;
+        none.outcomes.hits.get(unlink.unwrap_or(64)).copied(),
+        Some(0)
+    );
+    assert_eq!(&rt;
+        once.outcomes.hits.get(unlink.unwrap_or(64)).copied(),
+        Some(1)
+    );
+    assert_eq!(&rt; once.outcomes.hits.len(), Replace::catalogue().len());
+    Ok(())
 }
 
 #[test]
 fn a_late_sync_fails_by_a_return_and_by_a_panic(rt: HostRuntime) -> Result<(), Fail> {
     let alloc = rt.alloc();
-    let grown = grown_by(alloc, Variant::LateSync, 3)?;
-    are_sizes(&rt, &grown, 19, 19);
-    are_failures(&rt, alloc, &grown, &[11, 12])
+    for workers in [1, 4] {
+        let whole = grown(&rt, alloc, Variant::LateSync, to_depth(2, workers))?;
+        let wanted = Wanted {
+            levels: &[1, 12, 6],
+            onward: 0,
+            beyond: 0,
+            causes: &[(11, TORN), (12, TORN)],
+        };
+        have_grown(&rt, &whole, &wanted);
+        assert_eq!(&rt; first_with(&whole, TORN), Some(11));
+    }
+    Ok(())
 }
 
 #[test]
 fn an_ignored_sync_grows_wider(rt: HostRuntime) -> Result<(), Fail> {
     let alloc = rt.alloc();
-    are_sizes(&rt, &grown_by(alloc, Variant::IgnoreSync, 1)?, 1, 13);
-    are_sizes(&rt, &grown_by(alloc, Variant::IgnoreSync, 2)?, 13, 23);
-    // the third level has two plans
-    are_sizes(&rt, &grown_by(alloc, Variant::IgnoreSync, 3)?, 23, 25);
+    let once = grown(&rt, alloc, Variant::IgnoreSync, to_depth(1, 2))?;
+    assert_eq!(&rt; once.levels.as_slice(), [1, 12].as_slice());
+    assert_eq!(&rt; once.beyond, 10);
+    assert_eq!(&rt; first_with(&once, TORN), Some(7));
+    let twice = grown(&rt, alloc, Variant::IgnoreSync, to_depth(2, 2))?;
+    assert_eq!(&rt; twice.levels.as_slice(), [1, 12, 10].as_slice());
+    assert_eq!(&rt; twice.beyond, 2);
+    assert_eq!(&rt; first_with(&twice, TORN), Some(7));
+    Ok(())
+}
+
+#[test]
+fn a_level_that_is_too_large_is_refused(rt: HostRuntime) -> Result<(), Fail> {
+    let alloc = rt.alloc();
+    let mut limits = to_depth(2, 1);
+    limits.most_plans = 21;
+    let fits = grown_by(&rt, alloc, Variant::Sound, limits)?;
+    assert!(&rt; fits.is_ok());
+    limits.most_plans = 20;
+    let over = grown_by(&rt, alloc, Variant::Sound, limits)?;
+    assert_eq!(&rt; over.err(), Some(GrowFault::TooManyPlans));
     Ok(())
 }

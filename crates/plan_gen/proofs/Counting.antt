@@ -2,9 +2,8 @@
 use Rattle.std.proofs.Common.{◌≡◌, ℕ, zero, suc, ◌+◌, ◌-◌, ◌*◌, ◌/◌, ◌<◌, ◌≤◌, Bool, true, false, cond, List, [], ◌∷◌, ◌++◌, map, length, get_or, length-append, refl, ap, sym, ◌∙◌, arith}
 use Rattle.std.specs.List.{flat_map, range_with_len}
 use Rattle.std.proofs.lemmas.Grind.{flat_map-append}
-use Rattle.scenario_values.specs.Scenario.{Entries}
 use Rattle.action_eval.specs.declared.rig.Site.{Site}
-use Rattle.plan_gen.specs.PlanList.{Asked, pairs_of, site_plans, pair_plans, pair_part, storm_part, plans_over, plan_list, storm}
+use Rattle.plan_gen.specs.PlanList.{Asked, pairs_of, site_plans, pair_plans, pair_part, storm_part, plans_over, plan_list, further_list, storm}
 use Rattle.plan_gen.specs.Census.{sites_at, sites_from, sites_of}
 use Rattle.plan_gen.specs.Counts.{total_of, pairs_count, plan_count}
 use Rattle.action_eval.specs.Rigging.{rigging}
@@ -74,6 +73,16 @@ over_length names asked sites =
 pub plans_length : (names : List (List ℕ)) (counts : List ℕ) (asked : Asked) → length (plan_list names counts asked) ≡ plan_count (total_of counts) asked
 unfolding plan_list
 plans_length names counts asked = over_length names asked (sites_of counts) ∙ ap (λ n. plan_count n asked) (sites_length 0 counts)
+
+further_length : (names : List (List ℕ)) (counts : List ℕ) (asked : Asked) → length (further_list names counts asked) ≡ asked.storms + length asked.listed
+further_length names counts asked =
+    length-append (storm_part names asked.seed asked.rate asked.storms (sites_of counts)) asked.listed
+    ∙ ap (λ n. n + length asked.listed) (storm_part_length names asked.seed asked.rate asked.storms (sites_of counts))
+
+-- and what stands behind others
+pub further_judged : (names : List (List ℕ)) (counts : List ℕ) (asked : Asked) (before storms listed : ℕ) → storms ≡ asked.storms → listed ≡ length asked.listed
+    → before + storms + listed ≡ before + length (further_list names counts asked)
+further_judged names counts asked before storms listed a b = omega (arith, a, b, further_length names counts asked)
 
 -- the pairs of one site more
 pub pairs_next : {B : Type 0} (of : Site × Site → List B) (old new : List B) (a : Site) (sites rest part : List Site) (whole : List B) → sites ≡ a ∷ rest → part ≡ rest → new ≡ old ++ flat_map (λ b. of (a, b)) part → old ++ flat_map of (pairs_of sites) ≡ whole → new ++ flat_map of (pairs_of rest) ≡ whole

@@ -1,5 +1,5 @@
 -- What a list keeps of its plans stands for its plans.
-use Rattle.std.proofs.Common.{◌≡◌, ℕ, Bool, true, false, cond, List, [], ◌∷◌, ◌++◌, ◌+◌, map, length, length-append, refl, ap, sym, ◌∙◌}
+use Rattle.std.proofs.Common.{◌≡◌, ℕ, Bool, true, false, cond, List, [], ◌∷◌, ◌++◌, ◌+◌, map, length, length-append, refl, ap, ◌∙◌}
 use Rattle.std.proofs.lemmas.List.{map-append}
 use Rattle.std.specs.List.{flat_map, range_with_len}
 use Rattle.action_eval.specs.declared.rig.Site.{Site}
@@ -7,7 +7,7 @@ use Rattle.scenario_values.specs.Scenario.{Entries}
 use Rattle.plan_gen.specs.declared.drawing.Source.{Source}
 use Rattle.plan_gen.specs.declared.drawing.Source.TheVariants.{Empty, Storm}
 use Rattle.plan_gen.specs.Census.{sites_of}
-use Rattle.plan_gen.specs.PlanList.{Asked, pairs_of, site_plans, pair_plans, pair_part, storm_part, plans_over, plan_list}
+use Rattle.plan_gen.specs.PlanList.{Asked, pairs_of, site_plans, pair_plans, pair_part, storm_part, plans_over, plan_list, further_list}
 use Rattle.plan_gen.proofs.Lists.{map_length}
 use Rattle.plan_gen.specs.inside.Drawn.{Shared, drawn, plans_of, site_sources, pair_sources, sources_of}
 
@@ -54,6 +54,17 @@ list_kept names asked counts sites d sources seed rate listed there is s r kept 
     ∙ ap (λ l. l ++ listed) (sources_kept (shared names sites asked.seed asked.rate) asked sites)
     ∙ ap (λ l. plans_over names (record asked { listed = l }) sites) more
     ∙ ap (plans_over names asked) there
+
+-- the same of storms and listed scenarios alone
+pub further_kept : (names : List (List ℕ)) (asked : Asked) (counts : List ℕ) (sites : List Site) (d : Shared) (sources : List Source) (seed rate : ℕ) (listed : List Entries)
+    → sites ≡ sites_of counts → d ≡ record { names = names; sites = sites; seed = seed; rate = rate } → seed ≡ asked.seed → rate ≡ asked.rate
+    → sources ≡ map Storm (range_with_len 0 asked.storms) → listed ≡ asked.listed → plans_of d sources listed ≡ further_list names counts asked
+further_kept names asked counts sites d sources seed rate listed there is s r kept more =
+    ap (λ (e : Shared). plans_of e sources listed) (is ∙ ap (λ k. shared names sites k rate) s ∙ ap (λ k. shared names sites asked.seed k) r)
+    ∙ ap (λ (l : List Source). plans_of (shared names sites asked.seed asked.rate) l listed) kept
+    ∙ ap (λ l. l ++ listed) (map_twice (drawn (shared names sites asked.seed asked.rate)) Storm (range_with_len 0 asked.storms))
+    ∙ ap (λ l. storm_part names asked.seed asked.rate asked.storms sites ++ l) more
+    ∙ ap (λ ss. storm_part names asked.seed asked.rate asked.storms ss ++ asked.listed) there
 
 -- and as many as its parts
 pub kept_length : (d : Shared) (sources : List Source) (listed : List Entries) → length (plans_of d sources listed) ≡ length sources + length listed

@@ -1,5 +1,6 @@
 -- Scenarios of rigged hits, put in entry by entry.
 use Rattle.std.proofs.Common.{◌≡◌, ℕ, ◌+◌, ◌<◌, Bool, true, false, not, List, [], ◌∷◌, ◌++◌, length, drop, get_or, Bor, refl, ap, sym, ◌∙◌, arith}
+use Rattle.std.proofs.lemmas.List.{get_or-map}
 use Rattle.std.proofs.lemmas.Slice.Eq.{bytes_eq-Decides}
 use Rattle.std.specs.Str.{bytes_eq}
 use Rattle.indexmap.specs.IndexMap.{insert_all}
@@ -42,6 +43,19 @@ rigging_nothing names rs none = ap (rigging names) none ∙ no_entries 0 names
 isnt_not : (b : Bool) → false ≡ not b → b ≡ true
 isnt_not true e = refl
 isnt_not false e = e
+
+isnt_other : (b : Bool) → true ≡ not b → b ≡ true → ⊥
+isnt_other true e h = cc
+isnt_other false e h = cc
+
+-- catalogues with different names at i differ
+pub names_differ : (own other : List (Bor (List ℕ))) (i : ℕ) (d e : Bor (List ℕ)) → i < length own → length own ≡ length other
+    → true ≡ not (bytes_eq (get_or own i d).now (get_or other i e).now) → texts own ≡ texts other → ⊥
+names_differ own other i d e h many test same =
+    let f = λ (n : Bor (List ℕ)). n.now in
+    let here : (get_or own i d).now ≡ (get_or other i e).now =
+    sym (get_or-map f own i d [] h) ∙ ap (λ (l : List (List ℕ)). get_or l i []) same ∙ get_or-map f other i e [] (omega (arith, h, many)) in
+    isnt_other _ test ((bytes_eq-Decides (get_or own i d).now (get_or other i e).now).1 here)
 
 -- where two catalogues have the same name at i, and the same ones after it, they have the same ones from i on
 pub same_from : (own other : List (Bor (List ℕ))) (i : ℕ) (d e : Bor (List ℕ)) → i < length own → length own ≡ length other → false ≡ not (bytes_eq (get_or own i d).now (get_or other i e).now) → texts (drop (i + 1) own) ≡ texts (drop (i + 1) other)

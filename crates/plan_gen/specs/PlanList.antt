@@ -78,6 +78,10 @@ plans_over names asked sites =
     ([] ∷ []) ++ flat_map (site_plans names) sites ++ pair_part names asked.pairs sites ++ storm_part names asked.seed asked.rate asked.storms sites
     ++ asked.listed
 
+-- what stands at the end of the list, by itself: the storms and the listed scenarios
+abbrev pub further_list : List (List ℕ) → List ℕ → Asked → List Entries
+further_list names counts asked = storm_part names asked.seed asked.rate asked.storms (sites_of counts) ++ asked.listed
+
 -- the list of plans, by the counts of a census
 unfoldable pub plan_list : List (List ℕ) → List ℕ → Asked → List Entries
 plan_list names counts asked = plans_over names asked (sites_of counts)

@@ -1,5 +1,5 @@
 //! How many plans there are.
-ghost use Rattle.std.specs.Prelude.{◌≡◌, ◌<◌, ◌≤◌, ◌+◌, ◌*◌, IfSome, IfNone, if◌then◌else◌};
+ghost use Rattle.std.specs.Prelude.{◌≡◌, true, false, ◌<◌, ◌≤◌, ◌+◌, ◌*◌, IfSome, IfNone, if◌then◌else◌};
 ghost use Rattle.plan_gen.specs.Counts.{pairs_count};
 ghost use Rattle.plan_gen.specs.PlanList.{most_plans};
 
@@ -35,4 +35,16 @@ pub fn plan_count(sites: u64, pairs: bool, storms: u32, listed: usize) -> Option
         return None;
     }
     Some(made + listed as u64)
+}
+
+/// Whether so many storms and listed scenarios are few enough behind so many other plans. Nothing wraps.
+pub fn are_few(before: usize, storms: u32, listed: usize) -> bool
+    ensures few { result ≡ true → before + storms + listed ≤ most_plans }
+    ensures many { result ≡ false → most_plans < before + storms + listed }
+{
+    let most = MOST_PLANS as usize;
+    if before > most || listed > most - before {
+        return false;
+    }
+    storms as usize <= most - before - listed
 }

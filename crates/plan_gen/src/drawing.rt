@@ -7,6 +7,7 @@ ghost use Rattle.action_eval.specs.Rigging.{rig, rigged_as};
 ghost use Rattle.plan_gen.specs.PlanList.{most_plans};
 ghost use Rattle.plan_gen.specs.inside.Drawn.{drawn};
 
+use crate::names::have_same_names;
 use crate::packed::PackedSite;
 use crate::rigging::{empty_scenario, scenario_of};
 use crate::storms::storm;
@@ -36,21 +37,6 @@ fn two_rigs(first: PackedSite, second: PackedSite, kind: Kind) -> [Rig; 2]
     ensures { result ≡ rig first OnceReturn ∷ rig second kind ∷ [] }
 {
     [first.rig(Kind::OnceReturn), second.rig(kind)]
-}
-
-/// Whether two catalogues have the same names.
-fn are_same(own: &[&str], other: &[&str]) -> bool
-    ensures { result ≡ true → texts own.now ≡ texts other.now }
-{
-    if own.len() != other.len() {
-        return false;
-    }
-    for point in 0..own.len() {
-        if own[point] != other[point] {
-            return false;
-        }
-    }
-    true
 }
 
 /// What all plans of a list share: the points, their sites, and the seed and rate of storms. Whoever runs a storm draws its rigged hits, by
@@ -95,7 +81,7 @@ impl<'a> Drawing<'a> {
     pub fn is_over(&self, catalogue: &[&str]) -> bool
         ensures { result ≡ true → self.now.names ≡ texts catalogue.now }
     {
-        are_same(self.catalogue, catalogue)
+        have_same_names(self.catalogue, catalogue)
     }
 
     /// Rigs the hits of a plan over a catalogue of the same names. Those of a storm are drawn in place of what stood in the list. An error

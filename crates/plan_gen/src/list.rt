@@ -53,7 +53,8 @@ impl<'a> Model for PlanList<'a> {
 }
 
 impl<'a> PlanList<'a> {
-    fn new(drawing: Drawing<'a>, sources: Vec<Source>, listed: &'a [Scenario]) -> Self
+    /// The list of these plans.
+    pub(crate) fn new(drawing: Drawing<'a>, sources: Vec<Source>, listed: &'a [Scenario]) -> Self
         requires { length sources.items + length listed.now ≤ most_plans }
         ensures { result ≡ plans_of drawing.entry sources.items listed.now }
     {

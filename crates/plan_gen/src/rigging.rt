@@ -56,7 +56,8 @@ fn rigged_entries(
     Ok(to)
 }
 
-/// The scenario of rigged hits.
+/// Makes the scenario of rigged hits of the points of a catalogue: at most 64 of them, in ascending order as those of a list's plans are. An
+/// error means that memory was refused.
 pub fn scenario_of(alloc: Global, catalogue: &[&str], rigs: &[Rig]) -> Result<Scenario, AllocError>
     requires lawful { IsCatalogue (texts catalogue.now) }
     requires few { length rigs.now ≤ most_rigs }

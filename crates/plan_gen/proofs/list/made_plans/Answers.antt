@@ -1,4 +1,4 @@
-use Rattle.std.proofs.Common.{◌≡◌, ◌∙◌, ap, length, arith, List, refl, sym}
+use Rattle.std.proofs.Common.{◌∙◌, ap, length, arith, List, sym}
 use Rattle.scenario_values.specs.Scenario.{Entries}
 use Rattle.action_eval.specs.Answers.{texts}
 use Rattle.action_eval.specs.declared.rig.Site.{Site}

@@ -1,6 +1,6 @@
 use Rattle.std.proofs.Common.{◌≡◌, drop}
 use Rattle.action_eval.specs.Answers.{texts}
-use Rattle.plan_gen.proofs.drawing.are_same.Given as goal
+use Rattle.plan_gen.proofs.names.have_same_names.Given as goal
 
 -- from the names that are left being the same it follows that all are
 abbrev pub invariant-loop-point : goal.invariant-loop-point

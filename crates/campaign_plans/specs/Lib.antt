@@ -1,0 +1,2 @@
+pub mod GrownScenarios
+pub mod inside

@@ -1,0 +1,226 @@
+-- What is kept of runs, one after another.
+use Rattle.std.proofs.Common.{◌≡◌, ℕ, zero, suc, ◌+◌, ◌-◌, ◌*◌, ◌<◌, ◌≤◌, ◌==◌, ◌&&◌, Bool, true, false, cond, max, replicate, List, [], ◌∷◌, ◌++◌, map, length, get_or, refl, ap, sym, ◌∙◌, subst, arith}
+use Rattle.std.proofs.lemmas.List.{length-append, append-nil, map-append}
+use Rattle.action_eval.specs.declared.rig.Rig.{Rig}
+use Rattle.target_trait.specs.declared.judgement.Verdict.{Verdict}
+use Rattle.plan_gen.specs.LoopRuns.{times}
+use Rattle.grown_plans.specs.GrownPlans.{Subject, most}
+use Rattle.std.specs.List.{flat_map}
+use Rattle.action_eval.specs.declared.rig.Site.{Site}
+use Rattle.grown_plans.specs.AskedPoints.{sites_from, sites_after, sites_past}
+use Rattle.grown_plans.specs.Kept.{Grew, GrewFrom, plan_of, kept_at, kept_children}
+use Rattle.grown_plans.proofs.Members.{all_append}
+use Rattle.grown_runs.specs.declared.course.Part.{Part}
+use Rattle.grown_runs.specs.declared.course.Part.TheVariants.{Inner, Last, Onward}
+use Rattle.grown_runs.specs.declared.kept.Growth.{Growth}
+use Rattle.grown_runs.specs.declared.levels.Outcomes.{Outcomes}
+use Rattle.grown_runs.specs.GrownRuns.{over, told, verdict_at, children_at, onward_at, hits_at, cause_at, AreMost}
+use Rattle.grown_runs.specs.inside.Growths.{if_inner, if_last, IsGrowth}
+use Rattle.grown_runs.specs.inside.Levels.{AreTold}
+use Rattle.grown_runs.proofs.Overs.{over_parts, over_next, over_more, most_parts, most_single}
+
+inner_next : {A : Type 0} (part : Part) (f : ℕ → List Rig → List A) (plans : List (List Rig)) (first count n : ℕ) (old new : List A) → first + count ≡ n
+    → old ≡ if_inner part (over f plans first count) → new ≡ old ++ if_inner part (f n (get_or plans n [])) → new ≡ if_inner part (over f plans first (count + 1))
+inner_next Inner f plans first count n old new at so_far added = over_next f plans first count n old new (f n (get_or plans n [])) at so_far refl added
+inner_next Last f plans first count n old new at so_far added = added ∙ append-nil old ∙ so_far
+inner_next Onward f plans first count n old new at so_far added = added ∙ append-nil old ∙ so_far
+
+last_next : {A : Type 0} (part : Part) (f : ℕ → List Rig → List A) (plans : List (List Rig)) (first count n : ℕ) (old new : List A) → first + count ≡ n
+    → old ≡ if_last part (over f plans first count) → new ≡ old ++ if_last part (f n (get_or plans n [])) → new ≡ if_last part (over f plans first (count + 1))
+last_next Last f plans first count n old new at so_far added = over_next f plans first count n old new (f n (get_or plans n [])) at so_far refl added
+last_next Inner f plans first count n old new at so_far added = added ∙ append-nil old ∙ so_far
+last_next Onward f plans first count n old new at so_far added = added ∙ append-nil old ∙ so_far
+
+most_next : (t : Subject) (seed : ℕ) (plans : List (List Rig)) (first count n p was now : ℕ) → first + count ≡ n → was ≡ most (over (hits_at t seed p) plans first count)
+    → now ≡ max was (times p (told t seed n (get_or plans n [])).asked) → now ≡ most (over (hits_at t seed p) plans first (count + 1))
+most_next t seed plans first count n p was now at so_far raised =
+    let one : List ℕ = hits_at t seed p n (get_or plans n []) in
+    let whole = over_next (hits_at t seed p) plans first count n (over (hits_at t seed p) plans first count) (over (hits_at t seed p) plans first count ++ one) one at refl refl refl in
+    let parts = most_parts (over (hits_at t seed p) plans first count) one in
+    let single = most_single (times p (told t seed n (get_or plans n [])).asked) in
+    raised ∙ ap (λ k. max k (times p (told t seed n (get_or plans n [])).asked)) so_far
+    ∙ ap (λ k. max (most (over (hits_at t seed p) plans first count)) k) (sym single) ∙ sym parts ∙ ap most whole
+
+inner_nil : {A : Type 0} (part : Part) → [] ≡ if_inner {A = A} part []
+inner_nil Inner = refl
+inner_nil Last = refl
+inner_nil Onward = refl
+
+last_nil : {A : Type 0} (part : Part) → [] ≡ if_last {A = A} part []
+last_nil Inner = refl
+last_nil Last = refl
+last_nil Onward = refl
+
+-- one plan more
+pub growth_next : (t : Subject) (seed : ℕ) (part : Part) (plans : List (List Rig)) (first count n : ℕ) (old new : Growth) → first + count ≡ n
+    → IsGrowth t seed part plans first count old
+    → new.verdicts.items ≡ old.verdicts.items ++ verdict_at t seed n (get_or plans n [])
+    → new.children.items ≡ old.children.items ++ if_inner part (children_at t seed n (get_or plans n []))
+    → new.child_count ≡ old.child_count + length (children_at t seed n (get_or plans n []))
+    → map (plan_of plans) new.onward.items ≡ map (plan_of plans) old.onward.items ++ if_last part (onward_at t seed n (get_or plans n []))
+    → GrewFrom (length plans) new.onward.items
+    → new.causes.items ≡ old.causes.items ++ cause_at t seed n (get_or plans n [])
+    → length new.hits.items ≡ length old.hits.items
+    → ((p : ℕ) → p < length old.hits.items → get_or new.hits.items p 0 ≡ max (get_or old.hits.items p 0) (times p (told t seed n (get_or plans n [])).asked))
+    → IsGrowth t seed part plans first (count + 1) new
+growth_next t seed part plans first count n old new at was verdicts children many onward from causes hits most =
+    record {
+      verdicts = over_next (verdict_at t seed) plans first count n old.verdicts.items new.verdicts.items _ at was.verdicts refl verdicts;
+      children = inner_next part (children_at t seed) plans first count n old.children.items new.children.items at was.children children;
+      many =
+          let one : List Grew = children_at t seed n (get_or plans n []) in
+          let before : List Grew = over (children_at t seed) plans first count in
+          let whole = ap length (over_next (children_at t seed) plans first count n before (before ++ one) one at refl refl refl) in
+          let long = length-append before one in
+          let so_far = was.many in
+          omega (arith, many, whole, long, so_far);
+      onward = last_next part (onward_at t seed) plans first count n (map (plan_of plans) old.onward.items) (map (plan_of plans) new.onward.items) at was.onward onward;
+      from = from;
+      causes = over_next (cause_at t seed) plans first count n old.causes.items new.causes.items _ at was.causes refl causes;
+      hits = hits ∙ was.hits;
+      most = λ p lt.
+          let low : p < length old.hits.items = omega (arith, lt, hits) in
+          most_next t seed plans first count n p (get_or old.hits.items p 0) (get_or new.hits.items p 0) at (was.most p low) (most p low);
+    }
+
+-- ---- two parts of a list
+
+inner_more : {A : Type 0} (part : Part) (f : ℕ → List Rig → List A) (plans : List (List Rig)) (first count more : ℕ) (old new further : List A)
+    → old ≡ if_inner part (over f plans first count) → further ≡ if_inner part (over f plans (first + count) more) → new ≡ old ++ further
+    → new ≡ if_inner part (over f plans first (count + more))
+inner_more Inner f plans first count more old new further so_far then_these added = over_more f plans first count more old new further so_far then_these added
+inner_more Last f plans first count more old new further so_far then_these added = added ∙ ap (λ l. l ++ further) so_far ∙ then_these
+inner_more Onward f plans first count more old new further so_far then_these added = added ∙ ap (λ l. l ++ further) so_far ∙ then_these
+
+last_more : {A : Type 0} (part : Part) (f : ℕ → List Rig → List A) (plans : List (List Rig)) (first count more : ℕ) (old new further : List A)
+    → old ≡ if_last part (over f plans first count) → further ≡ if_last part (over f plans (first + count) more) → new ≡ old ++ further
+    → new ≡ if_last part (over f plans first (count + more))
+last_more Last f plans first count more old new further so_far then_these added = over_more f plans first count more old new further so_far then_these added
+last_more Inner f plans first count more old new further so_far then_these added = added ∙ ap (λ l. l ++ further) so_far ∙ then_these
+last_more Onward f plans first count more old new further so_far then_these added = added ∙ ap (λ l. l ++ further) so_far ∙ then_these
+
+pub most_more : (t : Subject) (seed : ℕ) (plans : List (List Rig)) (first count more p was further now : ℕ) → was ≡ most (over (hits_at t seed p) plans first count)
+    → further ≡ most (over (hits_at t seed p) plans (first + count) more) → now ≡ max was further → now ≡ most (over (hits_at t seed p) plans first (count + more))
+most_more t seed plans first count more p was further now so_far then_these raised =
+    raised ∙ ap (λ k. max k further) so_far ∙ ap (λ k. max (most (over (hits_at t seed p) plans first count)) k) then_these
+    ∙ sym (most_parts (over (hits_at t seed p) plans first count) (over (hits_at t seed p) plans (first + count) more))
+    ∙ ap most (sym (over_parts (hits_at t seed p) plans first count more))
+
+pub growth_joined : (t : Subject) (seed : ℕ) (part : Part) (plans : List (List Rig)) (first count more : ℕ) (old further new : Growth)
+    → IsGrowth t seed part plans first count old → IsGrowth t seed part plans (first + count) more further
+    → new.verdicts.items ≡ old.verdicts.items ++ further.verdicts.items
+    → new.children.items ≡ old.children.items ++ further.children.items
+    → new.child_count ≡ old.child_count + further.child_count
+    → new.onward.items ≡ old.onward.items ++ further.onward.items
+    → new.causes.items ≡ old.causes.items ++ further.causes.items
+    → length new.hits.items ≡ length old.hits.items
+    → ((p : ℕ) → p < length old.hits.items → get_or new.hits.items p 0 ≡ max (get_or old.hits.items p 0) (get_or further.hits.items p 0))
+    → IsGrowth t seed part plans first (count + more) new
+growth_joined t seed part plans first count more old further new was then_these verdicts children many onward causes hits most =
+    record {
+      verdicts = over_more (verdict_at t seed) plans first count more old.verdicts.items new.verdicts.items further.verdicts.items was.verdicts then_these.verdicts verdicts;
+      children = inner_more part (children_at t seed) plans first count more old.children.items new.children.items further.children.items was.children then_these.children children;
+      many =
+          let whole = ap length (over_parts (children_at t seed) plans first count more) in
+          let long = length-append (over (children_at t seed) plans first count) (over (children_at t seed) plans (first + count) more) in
+          let a = was.many in
+          let b = then_these.many in
+          omega (arith, many, whole, long, a, b);
+      onward =
+          last_more part (onward_at t seed) plans first count more (map (plan_of plans) old.onward.items) (map (plan_of plans) new.onward.items) (map (plan_of plans) further.onward.items)
+          was.onward then_these.onward (ap (map (plan_of plans)) onward ∙ map-append (plan_of plans) old.onward.items further.onward.items);
+      from = subst (GrewFrom (length plans)) (sym onward) (all_append (λ (g : Grew). g.parent < length plans) old.onward.items further.onward.items was.from then_these.from);
+      causes = over_more (cause_at t seed) plans first count more old.causes.items new.causes.items further.causes.items was.causes then_these.causes causes;
+      hits = hits ∙ was.hits;
+      most = λ p lt.
+          let low : p < length old.hits.items = omega (arith, lt, hits) in
+          let same_one = was.hits in
+          let same_two = then_these.hits in
+          most_more t seed plans first count more p (get_or old.hits.items p 0) (get_or further.hits.items p 0) (get_or new.hits.items p 0) (was.most p low)
+          (then_these.most p (omega (arith, low, same_one, same_two))) (most p low);
+    }
+
+pub told_joined : (t : Subject) (seed : ℕ) (part : Part) (plans : List (List Rig)) (count more : ℕ) (old new : Outcomes) (further : Growth)
+    → AreTold t seed plans count old → IsGrowth t seed part plans count more further
+    → new.verdicts.items ≡ old.verdicts.items ++ further.verdicts.items
+    → new.causes.items ≡ old.causes.items ++ further.causes.items
+    → length new.hits.items ≡ length old.hits.items
+    → ((p : ℕ) → p < length old.hits.items → get_or new.hits.items p 0 ≡ max (get_or old.hits.items p 0) (get_or further.hits.items p 0))
+    → AreTold t seed plans (count + more) new
+told_joined t seed part plans count more old new further was then_these verdicts causes hits raised =
+    let zeroth : count ≡ 0 + count = omega arith in
+    record {
+      verdicts =
+          over_more (verdict_at t seed) plans 0 count more old.verdicts.items new.verdicts.items further.verdicts.items was.verdicts
+          (then_these.verdicts ∙ ap (λ k. over (verdict_at t seed) plans k more) zeroth) verdicts;
+      causes =
+          over_more (cause_at t seed) plans 0 count more old.causes.items new.causes.items further.causes.items was.causes
+          (then_these.causes ∙ ap (λ k. over (cause_at t seed) plans k more) zeroth) causes;
+      hits = hits ∙ was.hits;
+      most = λ p lt.
+          let low : p < length old.hits.items = omega (arith, lt, hits) in
+          let same_one = was.hits in
+          let same_two = then_these.hits in
+          most_more t seed plans 0 count more p (get_or old.hits.items p 0) (get_or further.hits.items p 0) (get_or new.hits.items p 0) (was.most p low)
+          (then_these.most p (omega (arith, low, same_one, same_two)) ∙ ap (λ k. most (over (hits_at t seed p) plans k more)) zeroth) (raised p low);
+    }
+
+pub growth_none : (t : Subject) (seed : ℕ) (part : Part) (plans : List (List Rig)) (first : ℕ) (g : Growth) → g.verdicts.items ≡ [] → g.children.items ≡ []
+    → g.child_count ≡ 0 → g.onward.items ≡ [] → g.causes.items ≡ [] → length g.hits.items ≡ length t.names → ((p : ℕ) → get_or g.hits.items p 0 ≡ 0)
+    → IsGrowth t seed part plans first 0 g
+growth_none t seed part plans first g verdicts children many onward causes hits zeros =
+    record {
+      verdicts = verdicts;
+      children = children ∙ inner_nil part;
+      many = many;
+      onward = ap (map (plan_of plans)) onward ∙ last_nil part;
+      from = subst (GrewFrom (length plans)) (sym onward) tt;
+      causes = causes;
+      hits = hits;
+      most = λ p lt. zeros p;
+    }
+
+-- ---- how many children there are
+
+sites_few : (before asked : List ℕ) → length (sites_from before asked) ≡ length asked
+sites_few before [] = refl
+sites_few before (p ∷ ps) = ap (λ n. suc n) (sites_few (before ++ p ∷ []) ps)
+
+after_few : (s : Site) (xs : List Site) → length (sites_after s xs) ≤ length xs
+after_few s [] = omega arith
+after_few s (x ∷ xs) = after_either ((x.point == s.point) && (x.hit == s.hit)) s xs (after_few s xs)
+  where
+    after_either : (b : Bool) (s : Site) (xs : List Site) → length (sites_after s xs) ≤ length xs → length (cond b xs (sites_after s xs)) ≤ suc (length xs)
+    after_either true s xs le = omega arith
+    after_either false s xs le = omega (arith, le)
+
+past_few : (plan : List Rig) (xs : List Site) → length (sites_past plan xs) ≤ length xs
+past_few [] xs = omega arith
+past_few (r ∷ rs) xs = after_few r.site xs
+
+kept_twice : (n : ℕ) (xs : List Site) → length (flat_map (kept_at n) xs) ≡ 2 * length xs
+kept_twice n [] = omega arith
+kept_twice n (x ∷ xs) = let rest = kept_twice n xs in omega (arith, rest)
+
+pub kept_few : (n : ℕ) (plan : List Rig) (asked : List ℕ) → length (kept_children n plan asked) ≤ 2 * length asked
+kept_few n plan asked =
+    let sites = sites_from [] asked in
+    let few = past_few plan sites in
+    let all = sites_few [] asked in
+    let twice = kept_twice n (sites_past plan sites) in
+    omega (arith, few, all, twice)
+
+-- ---- as many verdicts as plans
+
+verdicts_many : (t : Subject) (seed : ℕ) (plans : List (List Rig)) (first count : ℕ) → length (over (verdict_at t seed) plans first count) ≡ count
+verdicts_many t seed plans first zero = refl
+verdicts_many t seed plans first (suc count) = ap (λ n. suc n) (verdicts_many t seed plans (first + 1) count)
+
+pub growth_many : (t : Subject) (seed : ℕ) (part : Part) (plans : List (List Rig)) (first count : ℕ) (g : Growth) → IsGrowth t seed part plans first count g
+    → length g.verdicts.items ≡ count
+growth_many t seed part plans first count g is = ap length is.verdicts ∙ verdicts_many t seed plans first count
+
+pub zeros : (n p : ℕ) → get_or {A = ℕ} (replicate n 0) p 0 ≡ 0
+zeros zero p = refl
+zeros (suc n) zero = refl
+zeros (suc n) (suc p) = zeros n p

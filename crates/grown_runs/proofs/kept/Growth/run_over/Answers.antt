@@ -1,0 +1,52 @@
+use Rattle.std.proofs.Common.{◌≡◌, ℕ, ◌+◌, ◌-◌, ◌≤◌, ◌<◌, length, replicate, get_or, ap, sym, subst, ◌∙◌, arith, refl}
+use Rattle.std.proofs.lemmas.List.{length-replicate, length-map}
+use Rattle.grown_runs.specs.inside.Growths.{IsGrowth, IsGrowthOn, subject_on}
+use Rattle.grown_runs.proofs.Growing.{growth_none, growth_many, zeros}
+use Rattle.grown_runs.proofs.kept.Growth.run_over.Goals as goal
+
+pub loop-number-init : goal.loop-number-init
+loop-number-init g c =
+    let course = c.args.course.now in
+    let none = c.in_ok-growth.ensures in
+    record {
+      setup = refl;
+      grown =
+          subst (λ (k : ℕ). IsGrowth (subject_on g.T.Target c.args.target.now course) course.limits.seed course.part course.plans.now c.args.first k c.in_ok-growth.growth)
+          (let e : 0 ≡ c.args.first - c.args.first = omega arith in e)
+          (growth_none (subject_on g.T.Target c.args.target.now course) course.limits.seed course.part course.plans.now c.args.first c.in_ok-growth.growth none.verdicts none.children none.many none.onward none.causes
+          (ap length none.hits ∙ length-replicate (length c.catalogue.result.now) 0
+          ∙ sym (ap length (sym c.catalogue.ensures) ∙ length-map c.catalogue.result.now (λ n. n.now)))
+          (λ p. ap (λ hs. get_or hs p 0) none.hits ∙ zeros _ p));
+    }
+
+pub run_one-requires-clause-room : goal.run_one-requires-clause-room
+run_one-requires-clause-room g c =
+    let course = c.args.course.now in
+    let many = growth_many (subject_on g.T.Target c.args.target.now course) course.limits.seed course.part course.plans.now c.args.first (c.loop-number.number - c.args.first) c.loop-number.growth c.loop-number.invariant.grown in
+    let few = course.few in
+    omega (arith, many, few, c.loop-number-test.true, c.requires.within.1)
+
+pub run_one-requires-clause-hits : goal.run_one-requires-clause-hits
+run_one-requires-clause-hits g c = c.loop-number.invariant.grown.hits
+
+pub loop-number-preserved : goal.loop-number-preserved
+loop-number-preserved g c =
+    let course = c.args.course.now in
+    let n = c.loop-number.number in
+    let first = c.args.first in
+    let inv = c.loop-number.invariant in
+    let low = c.loop-number.auto.number in
+    record {
+      setup = c.run_one.ensures.setup ∙ inv.setup;
+      grown =
+          subst (λ (k : ℕ). IsGrowth (subject_on g.T.Target c.args.target.now course) course.limits.seed course.part course.plans.now first k c.run_one.new.growth)
+          (let e : n - first + 1 ≡ n + 1 - first = omega (arith, low) in e)
+          (subst (λ s. IsGrowthOn g.T.Target s course first (n - first) c.loop-number.growth → IsGrowthOn g.T.Target s course first (n - first + 1) c.run_one.new.growth) inv.setup
+          (c.in_ok-run_one.ensures.grown first (n - first) (omega (arith, low))) inv.grown);
+    }
+
+pub returns-clause-grown : goal.returns-clause-grown
+returns-clause-grown g c =
+    let course = c.args.course.now in
+    subst (λ (k : ℕ). IsGrowth (subject_on g.T.Target c.args.target.now course) course.limits.seed course.part course.plans.now c.args.first k c.loop-number.growth)
+    (let e : c.loop-number.number - c.args.first ≡ c.args.end - c.args.first = omega (arith, c.loop-number-test.false, c.loop-number.auto.number-end, c.requires.within.0) in e) c.loop-number.invariant.grown

@@ -1,0 +1,14 @@
+use Rattle.std.proofs.Common.{◌++◌, ap, ◌∙◌, max, get_or}
+use Rattle.grown_runs.proofs.Growing.{told_joined}
+use Rattle.grown_runs.proofs.levels.Outcomes.note.Goals as goal
+
+pub returns : goal.returns
+returns c = record {
+  told = λ t seed part plans count more was then_these.
+      told_joined t seed part plans count more _ _ _ was then_these
+      (c.in_ok-extend_from_slice.ensures.items ∙ ap (λ l. c.args.self.now.verdicts.items ++ l) c.as_slice.ensures.value)
+      (c.in_ok-extend_from_slice-2.ensures.items ∙ ap (λ l. c.args.self.now.causes.items ++ l) c.as_slice-2.ensures.value)
+      c.raise.ensures.many
+      (λ p lt. c.raise.ensures.most p lt ∙ ap (λ hs. max (get_or c.args.self.now.hits.items p 0) (get_or hs p 0)) c.as_slice-3.ensures.value);
+  many = c.raise.ensures.many;
+}

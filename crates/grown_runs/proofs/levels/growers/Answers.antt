@@ -1,0 +1,10 @@
+use Rattle.std.proofs.Common.{refl, length, ap, ◌+◌, ◌∙◌}
+use Rattle.std.proofs.lemmas.List.{length_push}
+use Rattle.grown_runs.proofs.Overs.{same_push}
+use Rattle.grown_runs.proofs.levels.growers.Goals as goal
+
+pub loop-preserved : goal.loop-preserved
+loop-preserved g c =
+    let long = ap length c.in_ok-push.ensures.items in
+    let so_far = c.loop.invariant.0 in
+    (long ∙ length_push c.loop.all.items _ ∙ ap (λ n. n + 1) so_far, same_push c.loop.all.items c.push.new.self.items _ c.args.target.now c.args.course.now (λ r. r.target) (λ r. r.course.now) c.in_ok-push.ensures.items c.loop.invariant.1 c.in_ok-target.ensures refl)

@@ -1,0 +1,87 @@
+//! Whether a failing plan is a cause.
+ghost use Rattle.std.specs.Prelude.{◌≡◌, ◌<◌, ◌++◌, ◌+◌, length, slice_range, IfOk, OnOk};
+ghost use Rattle.action_eval.specs.Rigging.{CanBeRigged};
+ghost use Rattle.grown_runs.specs.GrownRuns.{fails_with, is_least, cause_by, causes_by};
+ghost use Rattle.grown_runs.specs.inside.Growths.{subject_on};
+
+use crate::course::GrownCourse;
+use crate::stage::Stage;
+use action_eval::Rig;
+use std::alloc::AllocError;
+use target_trait::{Target, Verdict};
+
+/// Whether a verdict is a failure with this code.
+fn is_failure(verdict: Verdict, code: u32) -> bool
+    ensures { result ≡ fails_with code verdict }
+{
+    match verdict {
+        Verdict::Fail(other) => other == code,
+        Verdict::Pass | Verdict::Unresolved => false,
+    }
+}
+
+/// Puts all of these but one in place of what stood in a list.
+fn leave_out(less: &mut Vec<Rig>, rigs: &[Rig], left_out: usize) -> Result<(), AllocError>
+    requires { left_out < length rigs.now }
+    ensures { OnOk result (less.new.items ≡ slice_range rigs.now 0 left_out ++ slice_range rigs.now (left_out + 1) (length rigs.now)) }
+{
+    less.clear();
+    less.extend_from_slice(&rigs[..left_out])?;
+    less.extend_from_slice(&rigs[left_out + 1..])
+}
+
+/// A run that was made: its rigged hits, its number, which is its stream number, and its verdict.
+#[derive(Drop)]
+pub struct Ran<'a> {
+    pub rigs: &'a [Rig],
+    pub number: u32,
+    pub verdict: Verdict,
+}
+
+/// Whether rigged hits don't fail with a code where any one of them is left out.
+fn is_cause<T: Target>(
+    stage: &mut Stage,
+    less: &mut Vec<Rig>,
+    target: &mut T,
+    course: &GrownCourse<'_, T>,
+    ran: &Ran<'_>,
+    code: u32,
+) -> Result<bool, AllocError>
+    requires { CanBeRigged ran.now.rigs.now }
+    ensures least { IfOk result (λ is_cause. is_cause
+        ≡ is_least (subject_on T.Target target.old course.now) course.now.limits.seed ran.now.number code ran.now.rigs.now) }
+    ensures setup { target.new ≡ target.old }
+{
+    for left_out in 0..ran.rigs.len() {
+        leave_out(less, ran.rigs, left_out)?;
+        let verdict = stage.run(target, course, less.as_slice(), u64::from(ran.number))?;
+        if is_failure(verdict, code) {
+            return Ok(false);
+        }
+    }
+    Ok(true)
+}
+
+/// The code of a run that is a cause: it fails, and where any one of its rigged hits is left out it doesn't fail with this code. `less` is a
+/// list to work in. An error means that memory was refused. The target keeps its setup, after an error too.
+pub fn cause_of<T: Target>(
+    stage: &mut Stage,
+    less: &mut Vec<Rig>,
+    target: &mut T,
+    course: &GrownCourse<'_, T>,
+    ran: &Ran<'_>,
+) -> Result<Option<u32>, AllocError>
+    requires { CanBeRigged ran.now.rigs.now }
+    ensures cause { IfOk result (λ cause. causes_by ran.now.number cause
+        ≡ cause_by (subject_on T.Target target.old course.now) course.now.limits.seed ran.now.number ran.now.rigs.now ran.now.verdict) }
+    ensures setup { target.new ≡ target.old }
+{
+    let Verdict::Fail(code) = ran.verdict else {
+        return Ok(None);
+    };
+    if is_cause(stage, less, target, course, ran, code)? {
+        Ok(Some(code))
+    } else {
+        Ok(None)
+    }
+}

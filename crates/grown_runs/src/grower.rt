@@ -1,0 +1,76 @@
+//! Runs of a part's plans, row by row, as a job of workers.
+ghost use Rattle.std.specs.Prelude.{◌≡◌, ℕ, ◌+◌, ◌-◌, List, length};
+ghost use Rattle.grown_plans.specs.GrownPlans.{usual_subject};
+ghost use Rattle.plan_rows.specs.Rows.{row_count, row_start};
+ghost use Rattle.grown_runs.specs.inside.Growths.{IsGrowth};
+
+use crate::course::{GrownCourse, Part};
+use crate::growth::Workspace;
+use crate::kept::Growth;
+use action_eval::Rig;
+use plan_rows::row_bounds;
+use std::alloc::{AllocError, Global};
+use std::collections::LinkedList;
+use target_trait::Target;
+use worker_pool::Job;
+
+/// What a grower's answers depend on. No value is made.
+pub struct Setup<T: Target> {
+    pub target: T,
+    pub workload: T::Workload,
+    pub seed: u64,
+    pub max_hits: u32,
+    pub part: Part,
+    pub first: usize,
+    pub end: usize,
+    pub plans: LinkedList<LinkedList<Rig>>,
+}
+
+/// A target, with the course whose plans it runs, and with a workspace of its own that each run takes over from the one before.
+#[derive(Drop)]
+pub struct Grower<'a, T: Target> {
+    pub target: T,
+    pub course: &'a GrownCourse<'a, T>,
+    pub workspace: Workspace,
+    pub alloc: Global,
+}
+
+impl<'a, T: Target + Send> Job for Grower<'a, T>
+where
+    T::Workload: Sync,
+{
+    type Answer = Growth;
+
+    type Setup = Setup<T>;
+
+    ghost setup = { λ grower. record {
+      target = grower.target;
+      workload = grower.course.now.workload.now;
+      seed = grower.course.now.limits.seed;
+      max_hits = grower.course.now.limits.max_hits;
+      part = grower.course.now.part;
+      first = grower.course.now.first;
+      end = grower.course.now.end;
+      plans = grower.course.now.plans.now;
+    } };
+
+    ghost limit = { λ s. row_count (s.end - s.first) };
+
+    ghost answers = { λ s row growth. IsGrowth (usual_subject (T.asks s.target s.workload) T.names s.max_hits) s.seed s.part s.plans
+        (s.first + row_start (s.end - s.first) row) (row_start (s.end - s.first) (row + 1) - row_start (s.end - s.first) row) growth };
+
+    ghost becomes = { λ _ _ _. Unit {0} };
+
+    fn perform(&mut self, number: u32) -> Result<Growth, AllocError> {
+        let course = self.course;
+        let (first, end) = row_bounds((course.end - course.first) as u32, number);
+        Growth::run_over(
+            self.alloc,
+            &mut self.target,
+            &mut self.workspace,
+            course,
+            course.first + first as usize,
+            course.first + end as usize,
+        )
+    }
+}

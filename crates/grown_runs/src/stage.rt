@@ -1,0 +1,68 @@
+//! One run of rigged hits, with the points that it asked.
+ghost use Rattle.std.specs.Prelude.{◌≡◌, ◌<◌, ◌^◌, length, IfOk, OnOk};
+ghost use Rattle.action_eval.specs.Rigging.{CanBeRigged};
+ghost use Rattle.grown_runs.specs.GrownRuns.{told_of_rigs};
+ghost use Rattle.grown_runs.specs.inside.Growths.{subject_on};
+
+use crate::course::GrownCourse;
+use crate::run::run_asked;
+use action_eval::{Rig, Rigging, Room, Session};
+use std::alloc::{AllocError, Global};
+use std::mem;
+use target_trait::{Target, Verdict};
+
+/// Where runs are made, one after another, without memory of their own. Whatever it holds before a run makes no difference to the run.
+#[derive(Drop)]
+pub struct Stage {
+    rigging: Rigging<'static>,
+    room: Room,
+    /// The points that the last run asked.
+    pub asked: Vec<u32>,
+    alloc: Global,
+}
+
+impl Stage {
+    /// A stage that has taken no memory yet.
+    pub fn new(alloc: Global) -> Self {
+        Stage {
+            rigging: Rigging::new(alloc),
+            room: Room::new(alloc),
+            asked: Vec::new(alloc),
+            alloc,
+        }
+    }
+
+    /// The verdict of the run of these rigged hits under a stream number. An error means that memory was refused. The target keeps its setup,
+    /// after an error too.
+    pub fn run<T: Target>(
+        &mut self,
+        target: &mut T,
+        course: &GrownCourse<'_, T>,
+        rigs: &[Rig],
+        stream: u64,
+    ) -> Result<Verdict, AllocError>
+        requires { CanBeRigged rigs.now }
+        ensures verdict { IfOk result (λ verdict. verdict
+            ≡ (told_of_rigs (subject_on T.Target target.old course.now) course.now.limits.seed stream rigs.now).verdict) }
+        ensures asked { OnOk result (self.new.asked.items
+            ≡ (told_of_rigs (subject_on T.Target target.old course.now) course.now.limits.seed stream rigs.now).asked) }
+        ensures few { OnOk result (length self.new.asked.items < 2 ^ 32) }
+        ensures setup { target.new ≡ target.old }
+    {
+        self.rigging.load(T::catalogue(), rigs)?;
+        let room = mem::replace(&mut self.room, Room::new(self.alloc));
+        let limits = course.limits;
+        let mut session = Session::over_in(
+            room,
+            &self.rigging,
+            limits.seed,
+            stream,
+            limits.max_hits,
+        )?;
+        let verdict = run_asked(target, course.workload, &mut session)?;
+        self.asked.clear();
+        self.asked.extend_from_slice(session.trace())?;
+        self.room = session.into_room();
+        Ok(verdict)
+    }
+}

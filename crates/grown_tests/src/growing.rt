@@ -1,0 +1,73 @@
+//! How a target's plans grow, and what is wanted of that.
+ghost use Rattle.std.specs.Prelude.{◌≤◌};
+
+use grown_runs::{GrowFault, Grown, Limits, grow};
+use std::alloc::Global;
+use std::process::Abort;
+use std::sync::Wait;
+use std::test::Fail;
+use std::thread::Threads;
+use target_trait::{Target, Verdict};
+use work_gate::FreeGate;
+
+/// What plans of a depth come to that grew on so many workers, at most so many of them.
+pub fn grown_on<T: Target + Send, R: Threads + Wait + Sync>(
+    rt: &R,
+    alloc: Global,
+    target: &T,
+    workload: &T::Workload,
+    limits: Limits,
+) -> Result<Grown, GrowFault>
+where
+    T::Workload: Sync,
+{
+    grow(rt, alloc, &FreeGate, target, workload, limits)
+}
+
+/// A depth, with room for all plans.
+pub fn to_depth(depth: u32, workers: u32) -> Limits
+    requires { (depth ≤ 64) × (1 ≤ workers) }
+{
+    Limits {
+        seed: 7,
+        max_hits: 2000,
+        depth,
+        most_plans: 65536,
+        workers,
+    }
+}
+
+/// What is wanted of plans that grew.
+#[derive(Drop)]
+pub struct Wanted<'a> {
+    /// How many plans each level has.
+    pub levels: &'a [u32],
+    pub onward: u32,
+    pub beyond: u64,
+    /// The numbers of the causes, with their codes.
+    pub causes: &'a [(u32, u32)],
+}
+
+/// They grew as is wanted; there are as many plans, and verdicts, as that makes.
+pub fn have_grown(rt: &impl Abort, grown: &Grown, wanted: &Wanted<'_>) {
+    assert_eq!(rt; grown.levels.as_slice(), wanted.levels);
+    assert_eq!(rt; grown.onward, wanted.onward);
+    assert_eq!(rt; grown.beyond, wanted.beyond);
+    assert_eq!(rt; grown.outcomes.causes.as_slice(), wanted.causes);
+    let mut plans = wanted.onward as usize;
+    for level in wanted.levels {
+        plans = plans.saturating_add(*level as usize);
+    }
+    assert_eq!(rt; grown.plans.len(), plans);
+    assert_eq!(rt; grown.outcomes.verdicts.len(), plans);
+}
+
+/// The number and the code of the first plan that fails with this code.
+pub fn first_with(grown: &Grown, code: u32) -> Option<usize> {
+    grown
+        .outcomes
+        .verdicts
+        .as_slice()
+        .iter()
+        .position(|verdict| *verdict == Verdict::Fail(code))
+}

@@ -1,6 +1,0 @@
-use Rattle.plan_gen.proofs.Rigged.{same_from}
-use Rattle.plan_gen.proofs.drawing.are_same.Goals as goal
-
-pub loop-point-preserved : goal.loop-point-preserved
-loop-point-preserved c = λ rest.
-    c.loop-point.invariant (same_from c.args.own.now c.args.other.now c.loop-point.point _ _ c.loop-point-test.true c.if-own-other.false c.if-ne.ensures rest)
