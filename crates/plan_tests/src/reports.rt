@@ -74,6 +74,7 @@ fn tells_each_finding_in_order(rt: HostRuntime) -> Result<(), Fail> {
         census: &[0, 1, 2, 1, 1, 1, 0],
         verdicts: &verdicts,
         findings: findings(rt.alloc())?,
+        growth: None,
     };
     let names = Replace::new(rt.alloc(), Variant::Sound);
     let text = text(rt.alloc(), &names, &report)?;

@@ -73,6 +73,7 @@ pub five_pieces : (o a b c d e : List ℕ) → ((o ++ (a ++ (b ++ (c ++ d)))) ++
 five_pieces o a b c d e = simp append_assoc
 
 -- the lists of lines of a brief report, from the last on
-pub joined_lines : (head census told found : List (List ℕ)) (plans counts : List ℕ)
-    → head ++ (census ++ (plans ∷ (counts ∷ (told ++ found)))) ≡ head ++ census ++ plans ∷ counts ∷ [] ++ told ++ found
-joined_lines head census told found plans counts = sym (simp append_assoc)
+pub joined_lines : (head census growth told found causes : List (List ℕ)) (plans counts : List ℕ)
+    → (head ++ census ++ growth ++ plans ∷ []) ++ (counts ∷ (told ++ (found ++ causes)))
+    ≡ head ++ census ++ growth ++ plans ∷ counts ∷ [] ++ told ++ found ++ causes
+joined_lines head census growth told found causes plans counts = sym (simp append_assoc)

@@ -1,9 +1,9 @@
 -- Lines that a loop writes.
-use Rattle.std.proofs.Common.{◌≡◌, ℕ, ◌+◌, ◌<◌, List, ◌∷◌, ◌++◌, drop, length, get_or, ap, sym, ◌∙◌, append_assoc, add-one, drop-cons}
+use Rattle.std.proofs.Common.{◌≡◌, ℕ, ◌+◌, ◌<◌, List, ◌∷◌, ◌++◌, drop, length, get_or, map, ap, sym, ◌∙◌, append_assoc, add-one, drop-cons}
 use Rattle.std.specs.List.{flat_map}
 use Rattle.std.proofs.lemmas.List.Concat.{flat_map-append}
 use Rattle.report.specs.Reports.{FindingFacts}
-use Rattle.report.specs.ReportText.{census_line, census_lines, finding_lines, ended, text_of}
+use Rattle.report.specs.ReportText.{census_line, census_lines, reached_line, reached_lines, finding_lines, ended, text_of}
 
 pub goes_on : {A : Type 0} (old new here rest whole : List A) → old ++ (here ++ rest) ≡ whole → new ≡ old ++ here → new ++ rest ≡ whole
 goes_on old new here rest whole h e = ap (λ r. r ++ rest) e ∙ append_assoc old here rest ∙ h
@@ -17,6 +17,21 @@ census_next old new name n names rest counts left whole a b added h =
     goes_on old new (ended (census_line name n)) (text_of (census_lines rest left)) whole
     (ap (λ (l : List ℕ). old ++ text_of (census_lines (name ∷ rest) l)) (sym b) ∙ ap (λ (l : List (List ℕ)). old ++ text_of (census_lines l counts)) (sym a)
     ∙ h) added
+
+pub reached_next : (old new : List ℕ) (name : List ℕ) (n : ℕ) (names rest : List (List ℕ)) (counts left whole : List ℕ) → names ≡ name ∷ rest → counts ≡ n ∷ left
+    → new ≡ old ++ ended (reached_line name n) → old ++ text_of (reached_lines names counts) ≡ whole → new ++ text_of (reached_lines rest left) ≡ whole
+reached_next old new name n names rest counts left whole a b added h =
+    goes_on old new (ended (reached_line name n)) (text_of (reached_lines rest left)) whole
+    (ap (λ (l : List ℕ). old ++ text_of (reached_lines (name ∷ rest) l)) (sym b) ∙ ap (λ (l : List (List ℕ)). old ++ text_of (reached_lines l counts)) (sym a)
+    ∙ h) added
+
+-- the line of the next element is written
+pub line_next : {A : Type 0} (f : A → List ℕ) (old new whole : List ℕ) (i : ℕ) (xs : List A) (x : A) → i < length xs → x ≡ get_or xs i x
+    → new ≡ old ++ ended (f x)
+    → old ++ text_of (map f (drop i xs)) ≡ whole → new ++ text_of (map f (drop (i + 1) xs)) ≡ whole
+line_next {A} f old new whole i xs x lt is added h =
+    goes_on old new (ended (f x)) (text_of (map f (drop (i + 1) xs))) whole
+    (ap (λ (l : List A). old ++ text_of (map f l)) (sym (next_of xs i x lt ∙ ap (λ (y : A). y ∷ drop (i + 1) xs) (sym is))) ∙ h) added
 
 pub finding_next : (code_name : ℕ → List ℕ) (old new whole : List ℕ) (i : ℕ) (fs : List FindingFacts) (f : FindingFacts) → i < length fs → f ≡ get_or fs i f
     → new ≡ old ++ text_of (finding_lines code_name f)

@@ -5,7 +5,7 @@ use Rattle.scenario_values.specs.Scenario.{Entries}
 use Rattle.target_trait.specs.declared.judgement.Verdict.{Verdict}
 use Rattle.target_trait.specs.declared.judgement.Verdict.TheVariants as verdict
 use Rattle.report.specs.Reports.{FindingFacts, ReportFacts}
-use Rattle.report.specs.ReportText.{verdict_text, scenario_text, head_lines, census_lines, count_line, findings_lines}
+use Rattle.report.specs.ReportText.{verdict_text, scenario_text, head_lines, census_lines, growth_lines, count_line, findings_lines, causes_lines}
 
 abbrev pub is_pass : Verdict → Bool
 is_pass verdict.Pass = true
@@ -57,6 +57,8 @@ abbrev pub brief_lines : List (List ℕ) → (ℕ → List ℕ) → ReportFacts 
 brief_lines names code_name report plans =
     head_lines code_name report
     ++ census_lines names report.census
+    ++ growth_lines names report.growth
     ++ count_line report.verdicts ∷ counts_line code_name report.verdicts report.findings ∷ []
     ++ told_lines code_name 0 report.verdicts plans
     ++ findings_lines code_name report.findings
+    ++ causes_lines code_name report.growth

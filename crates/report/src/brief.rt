@@ -1,10 +1,10 @@
 //! The lines of a brief report.
-ghost use Rattle.std.specs.Prelude.{◌≡◌, ◌++◌, ◌∷◌, [], length, string_bytes, codes, count_by, flat_map, IfOk, OnOk};
+ghost use Rattle.std.specs.Prelude.{◌≡◌, ◌++◌, ◌∷◌, [], length, string_bytes, codes, count_by, flat_map, IfOk, IfSome, OnOk};
 ghost use Rattle.report.specs.ReportText.{ended, text_of};
 ghost use Rattle.report.specs.BriefText.{is_pass, is_unresolved, is_fail_with, code_count, counts_line, told_line, told_line_of, told_lines, brief_lines};
 
 use crate::facts::{Finding, Report};
-use crate::lines::{write_census, write_count, write_findings, write_head, write_scenario};
+use crate::lines::{write_end, write_front, write_scenario};
 use crate::names::Names;
 use crate::verdicts::write_verdict;
 use plan_gen::{Plan, PlanList};
@@ -144,8 +144,8 @@ fn write_all_told<N: Names>(
 /// The text of a brief report over these plans, each line with its line feed, by these names of points and codes: one line of counts in
 /// place of the verdicts that pass, and its scenario beside each other verdict. The rest is as in the whole report.
 ///
-/// The census has to have a count for each of the points, and there has to be a verdict for each plan. An error means that memory was
-/// refused.
+/// The census has to have a count for each of the points, and so has what is reached, of a campaign that has a depth; and there has to be a
+/// verdict for each plan. An error means that memory was refused.
 pub fn brief_text<N: Names>(
     alloc: Global,
     names: &N,
@@ -153,15 +153,14 @@ pub fn brief_text<N: Names>(
     plans: &PlanList<'_>,
 ) -> Result<Vec<u8>, AllocError>
     requires counts { length report.now.census ≡ length (N.points names.now) }
+    requires reached { IfSome report.now.growth (λ growth. length growth.reached ≡ length (N.points names.now)) }
     requires verdicts { length report.now.verdicts ≡ length plans.now }
     ensures { IfOk result (λ text. text.items ≡ text_of (brief_lines (N.points names.now) (N.code_text names.now) report.now plans.now)) }
 {
     let mut out = String::new(alloc);
-    write_head(&mut out, names, report.label, report.seed, report.clean)?;
-    write_census(&mut out, names, report.census)?;
-    write_count(&mut out, report.verdicts.len())?;
+    write_front(&mut out, names, report)?;
     write_counts(&mut out, names, report.verdicts, &report.findings)?;
     write_all_told(alloc, &mut out, names, report.verdicts, plans)?;
-    write_findings(alloc, &mut out, names, &report.findings)?;
+    write_end(alloc, &mut out, names, report)?;
     Ok(out.into_bytes())
 }

@@ -33,6 +33,57 @@ impl Model for Finding {
     } };
 }
 
+/// A grown plan that fails with a code, and without any one of its faults doesn't.
+#[derive(Drop)]
+pub struct Cause {
+    /// The number of the plan.
+    pub number: u32,
+    /// The target's code for what was broken.
+    pub code: u32,
+    /// The plan's scenario.
+    pub scenario: Scenario,
+}
+
+impl Model for Cause {
+    ghost use Rattle.report.specs.Reports.{CauseFacts};
+
+    ghost Value = { CauseFacts };
+
+    ghost view = { λ c. record { number = c.number; code = c.code; scenario = c.scenario } };
+}
+
+/// How a campaign with a depth grew: what its report tells beside the rest.
+#[derive(Drop)]
+pub struct Growth<'a> {
+    /// The depth: how many faults a plan of the levels has at most, from 1 to 64.
+    pub depth: u32,
+    /// How many plans each level has, from level 0 to that of the depth.
+    pub levels: &'a [u32],
+    /// How many plans of the last level there are once more with their last fault from then on.
+    pub onward: u32,
+    /// How many plans the level after the last one would have.
+    pub beyond: u64,
+    /// The most hits that a run of these plans has of each point, in the order of the target's catalogue.
+    pub reached: &'a [u32],
+    /// The causes, in the order of the plans' numbers; empty where there is none.
+    pub causes: Vec<Cause>,
+}
+
+impl<'a> Model for Growth<'a> {
+    ghost use Rattle.report.specs.Reports.{GrowthFacts};
+
+    ghost Value = { GrowthFacts };
+
+    ghost view = { λ g. record {
+      depth = g.depth;
+      levels = g.levels.now;
+      onward = g.onward;
+      beyond = g.beyond;
+      reached = g.reached.now;
+      causes = g.causes.items;
+    } };
+}
+
 /// What a report tells. How many workers ran the plans isn't in it.
 #[derive(Drop)]
 pub struct Report<'a> {
@@ -48,6 +99,8 @@ pub struct Report<'a> {
     pub verdicts: &'a [Verdict],
     /// The first failure of each code that a plan fails with, in the order of the plans' numbers; empty where no plan fails.
     pub findings: Vec<Finding>,
+    /// How the campaign grew, of one with a depth.
+    pub growth: Option<Growth<'a>>,
 }
 
 impl<'a> Model for Report<'a> {
@@ -62,5 +115,6 @@ impl<'a> Model for Report<'a> {
       census = r.census.now;
       verdicts = r.verdicts.now;
       findings = r.findings.items;
+      growth = r.growth;
     } };
 }

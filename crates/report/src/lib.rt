@@ -3,13 +3,14 @@
 
 mod brief;
 mod facts;
+mod growing;
 mod lines;
 mod names;
 mod verdicts;
 mod writing;
 
 pub use brief::brief_text;
-pub use facts::{Finding, Report};
+pub use facts::{Cause, Finding, Growth, Report};
 pub use lines::{text, write_scenario};
 pub use names::Names;
 pub use verdicts::write_verdict;

@@ -1,13 +1,14 @@
 //! The lines of a report.
-ghost use Rattle.std.specs.Prelude.{◌≡◌, ◌+◌, ◌-◌, ◌*◌, ◌%◌, ◌^◌, ◌<◌, ◌++◌, ◌∷◌, [], length, string_bytes, codes, IfOk, OnOk};
+ghost use Rattle.std.specs.Prelude.{◌≡◌, ◌+◌, ◌-◌, ◌*◌, ◌%◌, ◌^◌, ◌<◌, ◌++◌, ◌∷◌, [], length, string_bytes, codes, IfOk, IfSome, OnOk};
 ghost use Rattle.std.specs.Fmt.{decimal};
 ghost use Rattle.std.specs.List.{list_all};
-ghost use Rattle.report.specs.ReportText.{verdict_text, scenario_text, census_line, census_lines, count_line, verdict_line, verdict_lines};
+ghost use Rattle.report.specs.ReportText.{verdict_text, scenario_text, head_lines, census_line, census_lines, growth_lines, count_line, verdict_line};
 ghost use Rattle.report.specs.BriefText.{is_pass};
 ghost use Rattle.report.specs.inside.Tens.{tens_of, ten_passed};
-ghost use Rattle.report.specs.ReportText.{finding_lines, findings_lines, report_lines, ended, text_of};
+ghost use Rattle.report.specs.ReportText.{verdict_lines, finding_lines, findings_lines, causes_lines, report_lines, ended, text_of};
 
 use crate::facts::{Finding, Report};
+use crate::growing::{write_causes, write_growth};
 use crate::names::Names;
 use crate::verdicts::write_verdict;
 use itoa::Buffer;
@@ -20,7 +21,10 @@ use target_trait::Verdict;
 /// The bytes of the line of a verdict that passes, the line of most plans, with five digits and a few to spare.
 const LINE_ROOM: usize = 20;
 
-pub(crate) fn write_head<N: Names>(
+/// The bytes of the line of a cause with two faults, about.
+const CAUSE_ROOM: usize = 80;
+
+fn write_head<N: Names>(
     out: &mut String,
     names: &N,
     label: &str,
@@ -41,11 +45,7 @@ fn write_point(out: &mut String, name: &str, count: u32) -> Result<(), AllocErro
     writeln!(out, "census {name} {count}")
 }
 
-pub(crate) fn write_census<N: Names>(
-    out: &mut String,
-    names: &N,
-    counts: &[u32],
-) -> Result<(), AllocError>
+fn write_census<N: Names>(out: &mut String, names: &N, counts: &[u32]) -> Result<(), AllocError>
     requires { length counts.now ≡ length (N.points names.now) }
     ensures { OnOk result (string_bytes out.new ≡ string_bytes out.old ++ text_of (census_lines (N.points names.now) counts.now)) }
 {
@@ -226,7 +226,7 @@ fn write_finding<N: Names>(
     writeln!(out, "\ntests {tests}")
 }
 
-pub(crate) fn write_findings<N: Names>(
+fn write_findings<N: Names>(
     alloc: Global,
     out: &mut String,
     names: &N,
@@ -243,29 +243,69 @@ pub(crate) fn write_findings<N: Names>(
     Ok(())
 }
 
-pub(crate) fn write_count(out: &mut String, plans: usize) -> Result<(), AllocError>
+fn write_count(out: &mut String, plans: usize) -> Result<(), AllocError>
     ensures { OnOk result (string_bytes out.new ≡ string_bytes out.old ++ ended (codes "plans " ++ decimal plans)) }
 {
     writeln!(out, "plans {plans}")
 }
 
+/// The lines before those of the plans.
+pub(crate) fn write_front<N: Names>(
+    out: &mut String,
+    names: &N,
+    report: &Report<'_>,
+) -> Result<(), AllocError>
+    requires counts { length report.now.census ≡ length (N.points names.now) }
+    requires reached { IfSome report.now.growth (λ growth. length growth.reached ≡ length (N.points names.now)) }
+    ensures { OnOk result (string_bytes out.new ≡ string_bytes out.old ++ text_of (head_lines (N.code_text names.now) report.now
+        ++ census_lines (N.points names.now) report.now.census
+        ++ growth_lines (N.points names.now) report.now.growth
+        ++ count_line report.now.verdicts ∷ [])) }
+{
+    write_head(out, names, report.label, report.seed, report.clean)?;
+    write_census(out, names, report.census)?;
+    write_growth(out, names, &report.growth)?;
+    write_count(out, report.verdicts.len())
+}
+
+/// The lines after those of the plans.
+pub(crate) fn write_end<N: Names>(
+    alloc: Global,
+    out: &mut String,
+    names: &N,
+    report: &Report<'_>,
+) -> Result<(), AllocError>
+    ensures { OnOk result (string_bytes out.new ≡ string_bytes out.old ++ text_of (findings_lines (N.code_text names.now) report.now.findings
+        ++ causes_lines (N.code_text names.now) report.now.growth)) }
+{
+    write_findings(alloc, out, names, &report.findings)?;
+    write_causes(alloc, out, names, &report.growth)
+}
+
+/// About how many bytes the lines of the plans and causes take.
+fn room(report: &Report<'_>) -> usize {
+    let plans = report.verdicts.len().saturating_mul(LINE_ROOM);
+    match &report.growth {
+        None => plans,
+        Some(growth) => plans.saturating_add(growth.causes.len().saturating_mul(CAUSE_ROOM)),
+    }
+}
+
 /// The text of a report, each line with its line feed, by these names of points and codes. The census has to have a count for each of the
-/// points.
+/// points, and so has what is reached, of a campaign that has a depth.
 ///
 /// An error means that memory was refused.
 pub fn text<N: Names>(alloc: Global, names: &N, report: &Report<'_>) -> Result<Vec<u8>, AllocError>
-    requires { length report.now.census ≡ length (N.points names.now) }
+    requires counts { length report.now.census ≡ length (N.points names.now) }
+    requires reached { IfSome report.now.growth (λ growth. length growth.reached ≡ length (N.points names.now)) }
     ensures { IfOk result (λ text. text.items ≡ text_of (report_lines (N.points names.now) (N.code_text names.now) report.now)) }
 {
-    let room = report.verdicts.len().saturating_mul(LINE_ROOM);
-    let mut out = String::with_capacity(alloc, room)?;
-    write_head(&mut out, names, report.label, report.seed, report.clean)?;
-    write_census(&mut out, names, report.census)?;
-    write_count(&mut out, report.verdicts.len())?;
+    let mut out = String::with_capacity(alloc, room(report))?;
+    write_front(&mut out, names, report)?;
     let mut text = out.into_bytes();
     write_verdicts(alloc, &mut text, names, report.verdicts)?;
-    let mut findings = String::new(alloc);
-    write_findings(alloc, &mut findings, names, &report.findings)?;
-    text.extend_from_slice(findings.as_bytes())?;
+    let mut end = String::new(alloc);
+    write_end(alloc, &mut end, names, report)?;
+    text.extend_from_slice(end.as_bytes())?;
     Ok(text)
 }

@@ -1,7 +1,7 @@
-use Rattle.std.proofs.Common.{◌≡◌, ◌∷◌, ◌++◌, List, ℕ, Vec, Global, ap, ◌∙◌}
+use Rattle.std.proofs.Common.{◌≡◌, ◌∷◌, [], ◌++◌, List, ℕ, Vec, Global, ap, sym, ◌∙◌}
 use Rattle.std.specs.String.{string_bytes}
 use Rattle.report.specs.Reports.{ReportFacts}
-use Rattle.report.specs.ReportText.{ended, text_of, head_lines, census_lines, count_line, findings_lines}
+use Rattle.report.specs.ReportText.{ended, text_of, head_lines, census_lines, growth_lines, count_line, findings_lines, causes_lines}
 use Rattle.report.specs.BriefText.{counts_line, told_lines, brief_lines}
 use Rattle.report.proofs.ToldLines.{lines_on, joined_lines}
 use Rattle.report.proofs.Written.{goes_on}
@@ -20,26 +20,26 @@ returns g c =
       census = i.census.now;
       verdicts = i.verdicts.now;
       findings = i.findings.items;
+      growth = i.growth;
     } in
+    let front : ReportFacts → List (List ℕ) = λ r. head_lines name r ++ census_lines points r.census ++ growth_lines points r.growth ++ count_line r.verdicts ∷ [] in
+    let end : ReportFacts → List (List ℕ) = λ r. findings_lines name r.findings ++ causes_lines name r.growth in
     let told : List (List ℕ) = told_lines name 0 r.verdicts plans in
-    let found : List (List ℕ) = findings_lines name r.findings in
     let counts : List ℕ = counts_line name r.verdicts r.findings in
-    let rest : List (List ℕ) = census_lines points r.census ++ (count_line r.verdicts ∷ (counts ∷ (told ++ found))) in
-    let whole : List ℕ = text_of (head_lines name r ++ rest) in
-    let begun : string_bytes c.new-out.result ++ text_of (head_lines name r ++ rest) ≡ whole = ap (λ (s : List ℕ). s ++ whole) c.new-out.ensures.bytes in
-    let head = lines_on (string_bytes c.new-out.result) (string_bytes c.write_head.new.out) whole (head_lines name r) rest c.in_ok-write_head.ensures begun in
-    let census =
-    lines_on (string_bytes c.write_head.new.out) (string_bytes c.write_census.new.out) whole (census_lines points r.census)
-    (count_line r.verdicts ∷ (counts ∷ (told ++ found))) c.in_ok-write_census.ensures head in
-    let count =
-    goes_on (string_bytes c.write_census.new.out) (string_bytes c.write_count.new.out) (ended (count_line r.verdicts))
-    (text_of (counts ∷ (told ++ found))) whole census c.in_ok-write_count.ensures in
+    let rest : List (List ℕ) = counts ∷ (told ++ end r) in
+    let whole : List ℕ = text_of (front r ++ rest) in
+    let begun : string_bytes c.new-out.result ++ text_of (front r ++ rest) ≡ whole = ap (λ (s : List ℕ). s ++ whole) c.new-out.ensures.bytes in
+    let fronted =
+    lines_on (string_bytes c.new-out.result) (string_bytes c.write_front.new.out) whole (front r) rest
+    (c.in_ok-write_front.ensures ∙ ap (λ (r : ReportFacts). string_bytes c.new-out.result ++ text_of (front r)) (sym c.report.view_is)) begun in
     let counted =
-    goes_on (string_bytes c.write_count.new.out) (string_bytes c.write_counts.new.out) (ended counts) (text_of (told ++ found)) whole count
-    (c.in_ok-write_counts.ensures ∙ ap (λ fs. string_bytes c.write_count.new.out ++ ended (counts_line name r.verdicts fs)) c.deref.ensures.value)
+    goes_on (string_bytes c.write_front.new.out) (string_bytes c.write_counts.new.out) (ended counts) (text_of (told ++ end r)) whole fronted
+    (c.in_ok-write_counts.ensures ∙ ap (λ fs. string_bytes c.write_front.new.out ++ ended (counts_line name r.verdicts fs)) c.deref.ensures.value)
     in
-    let all = lines_on (string_bytes c.write_counts.new.out) (string_bytes c.write_all_told.new.out) whole told found c.in_ok-write_all_told.ensures counted in
-    ap (λ (v : Vec ℕ Global). v.items) c.into_bytes.ensures.value ∙ c.in_ok-write_findings.ensures
-    ∙ ap (λ fs. string_bytes c.write_all_told.new.out ++ text_of (findings_lines name fs)) c.deref-2.ensures.value ∙ all
-    ∙ ap (λ (lines : List (List ℕ)). text_of lines) (joined_lines (head_lines name r) (census_lines points r.census) told found (count_line r.verdicts) counts)
+    let all = lines_on (string_bytes c.write_counts.new.out) (string_bytes c.write_all_told.new.out) whole told (end r) c.in_ok-write_all_told.ensures counted in
+    ap (λ (v : Vec ℕ Global). v.items) c.into_bytes.ensures.value ∙ c.in_ok-write_end.ensures
+    ∙ ap (λ (r : ReportFacts). string_bytes c.write_all_told.new.out ++ text_of (end r)) (sym c.report.view_is) ∙ all
+    ∙ ap (λ (lines : List (List ℕ)). text_of lines)
+    (joined_lines (head_lines name r) (census_lines points r.census) (growth_lines points r.growth) told (findings_lines name r.findings)
+    (causes_lines name r.growth) (count_line r.verdicts) counts)
     ∙ ap (λ (r : ReportFacts). text_of (brief_lines points name r plans)) c.report.view_is

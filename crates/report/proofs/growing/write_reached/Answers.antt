@@ -1,0 +1,12 @@
+use Rattle.std.proofs.Common.{◌<◌, ◌≡◌, ◌∷◌, [], List, ℕ, length, drop, arith, subst, sym, ◌+◌}
+use Rattle.report.proofs.Written.{next_of, reached_next}
+use Rattle.report.proofs.growing.write_reached.Goals as goal
+
+pub loop-number-preserved : goal.loop-number-preserved
+loop-number-preserved g c =
+    let points = g.N.Names.points c.args.names.now in
+    let number = c.loop-number.number in
+    let within : number < length points = omega (arith, c.requires) in
+    let next : drop number points ≡ c.point.result.now ∷ drop (number + 1) points =
+    subst (λ (n : List ℕ). drop number points ≡ n ∷ drop (number + 1) points) (sym c.point.ensures) (next_of points number [] within) in
+    reached_next _ _ _ _ _ _ _ _ _ next (next_of c.args.reached.now number _ c.loop-number-test.true) c.in_ok-write_reached_point.ensures c.loop-number.invariant
