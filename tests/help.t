@@ -18,6 +18,8 @@ No line of it is longer than 100 letters, as has just been seen. It says what ea
   
   Options:
         --brief     Count the verdicts that pass, and write the scenario beside each other verdict
+        --strict    Tell on standard error what the report doesn't show, and end with 5 then
+        --recheck   Run each failing plan once more first, and refuse a target that says otherwise
         --progress  Show on standard error, in one line, how far plans or a reduction are
     -h, --help      Print help
   
@@ -25,6 +27,7 @@ No line of it is longer than 100 letters, as has just been seen. It says what ea
     paklour run my.toml             the verdict of each plan, and what the first failures come down to
     paklour run < my.toml           settings from standard input
     paklour run --brief my.toml     no line for a verdict that passes, and scenarios beside the others
+    paklour run --strict my.toml    the same report; what it doesn't show is told on standard error
     paklour run --progress my.toml  the same report; meanwhile `plans 12 of 65025` on standard error
   $ paklour help try | grep -e ^Usage: -e ' --scenario <' -e ' --plan <' -e '^A scenario has '
   Usage: paklour try <--scenario <TEXT>|--plan <N>> [FILE]
@@ -98,6 +101,8 @@ statuses.
        settings or the answers can't be read
     3  memory is refused
     4  a write failed
+    5  with --strict: no verdict is fail, and something was told on standard error: an unresolved run,
+       no hits without faults, a point that no run reaches, a name that no point has, storms of rate 0
 
 The help of the commands on a component that somebody else runs says what an answer is.
 

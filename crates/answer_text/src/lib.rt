@@ -9,9 +9,10 @@ mod line;
 mod reading;
 mod verdicts;
 
-pub use fault::{AnswersFault, LineFault};
+pub use fault::{AnswersFault, LineError, LineFault};
 pub use known::{Known, Told};
 pub use laws::{
     contradictions_agree_with_no_component, texts_say_what_is_read, tidying_again_changes_nothing,
 };
+pub use line::answer_in;
 pub use reading::{LIMIT, read};

@@ -18,6 +18,8 @@ use Rattle.campaign_main.specs.declared.input.ReadFault.{ReadFault}
 use Rattle.campaign_main.specs.declared.input.ReadFault.TheVariants as read
 use Rattle.campaign_main.specs.Commands.{Answer, Refusal, bad_scenario, bad_settings, campaign_for, choice_answer, given_answer, no_plan, not_text, of_text, text_answer}
 use Rattle.campaign_main.specs.Ends.{EndsAs, FallsShort, IsCutOff, IsEndOf, IsRefused, IsUntouched, IsWritten, Leaves, OnWhole, RefusesWith, Tells, TellsANote, TellsARefusal, TellsAs, TellsBy, TellsNotes, TellsOf, TellsRefusal}
+use Rattle.campaign_main.specs.declared.exit.Conclusion.{Conclusion}
+use Rattle.campaign_main.specs.declared.exit.Conclusion.TheVariants.{Clean, Failed, Doubtful}
 use Rattle.campaign_main.specs.Exit.{exit_of}
 use Rattle.campaign_main.specs.Minimal.{ReducesToMinimal, TextReducesToMinimal}
 use Rattle.campaign_main.specs.FaultLines.{refusal_line, scenario_line, settings_line, read_fault_line, unreadable_line}
@@ -46,6 +48,7 @@ pub tells-of : (noted refusal : Type 0) (line : List ℕ) (end : Exit) (old new 
     → TellsOf noted refusal end old new failed
 tells-of noted refusal line exit.Kept old new failed told why = absurd told
 tells-of noted refusal line exit.Found old new failed told why = absurd told
+tells-of noted refusal line exit.Doubted old new failed told why = absurd told
 tells-of noted refusal line exit.Refused old new failed told why = why refl
 tells-of noted refusal line exit.Memory old new failed told why = told
 tells-of noted refusal line (exit.Write n) old new failed told why = absurd told
@@ -59,6 +62,7 @@ pub refuses-leaves : (line : List ℕ) (end : Exit) (old new : Option (List ℕ)
     → RefusesWith line end old new failed → broken ≡ false → EndsAs end answer output output broken × Leaves end output output broken
 refuses-leaves line exit.Kept old new failed answer output broken told sound = absurd told
 refuses-leaves line exit.Found old new failed answer output broken told sound = absurd told
+refuses-leaves line exit.Doubted old new failed answer output broken told sound = absurd told
 refuses-leaves line exit.Refused old new failed answer output broken told sound = ((refl, sound), (refl, sound))
 refuses-leaves line exit.Memory old new failed answer output broken told sound = ((refl, sound), (refl, sound))
 refuses-leaves line (exit.Write n) old new failed answer output broken told sound = absurd told
@@ -66,6 +70,7 @@ refuses-leaves line (exit.Write n) old new failed answer output broken told soun
 pub refuses-whole : (line : List ℕ) (end : Exit) (old new : Option (List ℕ)) (failed : Bool) (claim : Type 0) → RefusesWith line end old new failed → OnWhole end claim
 refuses-whole line exit.Kept old new failed claim told = absurd told
 refuses-whole line exit.Found old new failed claim told = absurd told
+refuses-whole line exit.Doubted old new failed claim told = absurd told
 refuses-whole line exit.Refused old new failed claim told = tt
 refuses-whole line exit.Memory old new failed claim told = tt
 refuses-whole line (exit.Write n) old new failed claim told = absurd told
@@ -73,7 +78,7 @@ refuses-whole line (exit.Write n) old new failed claim told = absurd told
 -- ---- by what a command over a target came to
 
 module _ (answer : Answer) (old new : Option (List ℕ)) (failed : Bool) where
-  written-sound : (a : Answer) (found : Bool) → IsWritten a old new failed found → failed ≡ false
+  written-sound : (a : Answer) (found : Conclusion) → IsWritten a old new failed found → failed ≡ false
   written-sound (Ok text) found h = h.2
   written-sound (Err refusal) found h = absurd h
 
@@ -83,20 +88,23 @@ module _ (answer : Answer) (old new : Option (List ℕ)) (failed : Bool) where
 
   -- what an end says of its answer, it says of the output
   pub leaves : (end : Exit) → EndsAs end answer old new failed → Leaves end old new failed
-  leaves exit.Kept h = written-sound answer false h
-  leaves exit.Found h = written-sound answer true h
+  leaves exit.Kept h = written-sound answer Clean h
+  leaves exit.Found h = written-sound answer Failed h
+  leaves exit.Doubted h = written-sound answer Doubtful h
   leaves exit.Refused h = h
   leaves exit.Memory h = h
   leaves (exit.Write n) h = cut-broken answer n h
 
-  pub found-ends : (found : Bool) → IsWritten answer old new failed found → EndsAs (exit_of found) answer old new failed
-  found-ends false h = h
-  found-ends true h = h
+  pub found-ends : (found : Conclusion) → IsWritten answer old new failed found → EndsAs (exit_of found) answer old new failed
+  found-ends Clean h = h
+  found-ends Failed h = h
+  found-ends Doubtful h = h
 
   module _ (line line' : Option (List ℕ)) (broken : Bool) where
     unwritten-ends : (told : List ℕ) (end : Exit) → IsUntouched old new failed → RefusesWith told end line line' broken → EndsAs end answer old new failed
     unwritten-ends told exit.Kept short is = absurd is
     unwritten-ends told exit.Found short is = absurd is
+    unwritten-ends told exit.Doubted short is = absurd is
     unwritten-ends told exit.Refused short is = short
     unwritten-ends told exit.Memory short is = short
     unwritten-ends told (exit.Write n) short is = absurd is
@@ -108,6 +116,7 @@ module _ (answer : Answer) (old new : Option (List ℕ)) (failed : Bool) where
     fault-ends (command.Campaign campaign.TooManyPlans) end short is = let P : Exit → Type 0 = λ e. EndsAs e answer old new failed in subst P (sym is.0) short.0
     fault-ends (command.Campaign campaign.Memory) end short is = let P : Exit → Type 0 = λ e. EndsAs e answer old new failed in subst P (sym is.0) short
     fault-ends (command.Campaign (campaign.Write n)) end short is = let P : Exit → Type 0 = λ e. EndsAs e answer old new failed in subst P (sym is.0) short
+    fault-ends (command.Unsteady told) end short is = absurd short
     fault-ends command.Outside end short is = let P : Exit → Type 0 = λ e. EndsAs e answer old new failed in subst P (sym is.0) short.0
 
     pub fault-tells : (fault : CommandFault) (end : Exit) → FallsShort answer old new failed fault → IsEndOf fault end line line' broken → TellsAs end answer line line' broken
@@ -124,6 +133,7 @@ module _ (answer : Answer) (old new : Option (List ℕ)) (failed : Bool) where
         subst P (sym is.0) (subst Q (sym short.1) is.1)
     fault-tells (command.Campaign campaign.Memory) end short is = let P : Exit → Type 0 = λ e. TellsAs e answer line line' broken in subst P (sym is.0) is.1
     fault-tells (command.Campaign (campaign.Write n)) end short is = let P : Exit → Type 0 = λ e. TellsAs e answer line line' broken in subst P (sym is.0) is.1
+    fault-tells (command.Unsteady told) end short is = absurd short
     fault-tells command.Outside end short is =
         let P : Exit → Type 0 = λ e. TellsAs e answer line line' broken in
         let Q : Answer → Type 0 = λ a. TellsRefusal a line line' broken in
@@ -144,23 +154,22 @@ fault-whole line line' broken claim (command.Plan number) end is = refuses-whole
 fault-whole line line' broken claim (command.Campaign campaign.TooManyPlans) end is = let P : Exit → Type 0 = λ e. OnWhole e claim in subst P (sym is.0) tt
 fault-whole line line' broken claim (command.Campaign campaign.Memory) end is = let P : Exit → Type 0 = λ e. OnWhole e claim in subst P (sym is.0) tt
 fault-whole line line' broken claim (command.Campaign (campaign.Write n)) end is = let P : Exit → Type 0 = λ e. OnWhole e claim in subst P (sym is.0) tt
+fault-whole line line' broken claim (command.Unsteady told) end is = let P : Exit → Type 0 = λ e. OnWhole e claim in subst P (sym is.0) tt
 fault-whole line line' broken claim command.Outside end is = let P : Exit → Type 0 = λ e. OnWhole e claim in subst P (sym is.0) tt
 
 -- what holds of a text that was written whole
-pub found-whole : (found : Bool) (claim : Type 0) → claim → OnWhole (exit_of found) claim
-found-whole false claim h = h
-found-whole true claim h = h
+pub found-whole : (found : Conclusion) (claim : Type 0) → claim → OnWhole (exit_of found) claim
+found-whole Clean claim h = h
+found-whole Failed claim h = h
+found-whole Doubtful claim h = h
 
 pub whole-map : (end : Exit) (claim other : Type 0) → (claim → other) → OnWhole end claim → OnWhole end other
 whole-map exit.Kept claim other f h = f h
 whole-map exit.Found claim other f h = f h
+whole-map exit.Doubted claim other f h = f h
 whole-map exit.Refused claim other f h = tt
 whole-map exit.Memory claim other f h = tt
 whole-map (exit.Write n) claim other f h = tt
-
-pub found-tells : (refusal : Type 0) (found : Bool) (old : Option (List ℕ)) (failed : Bool) → failed ≡ false → TellsBy refusal (exit_of found) old old failed
-found-tells refusal false old failed sound = (refl, sound)
-found-tells refusal true old failed sound = (refl, sound)
 
 -- ---- by what the settings' text gives
 

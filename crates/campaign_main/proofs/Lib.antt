@@ -4,3 +4,5 @@ pub mod NoteLemmas
 pub mod OwnLemmas
 pub mod QuestionLemmas
 pub mod ToldLemmas
+mod TextLemmas
+mod StrictLemmas

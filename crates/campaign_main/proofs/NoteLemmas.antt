@@ -1,5 +1,5 @@
 -- What is noted beside a text, by the order.
-use Rattle.std.proofs.Common.{◌≡◌, ◌<◌, [], ◌∷◌, ℕ, Bool, true, false, List, Option, Result, Ok, Err, IfOk, IsErrAnd, length, refl, sym, ap, inl, subst, if◌then◌else◌}
+use Rattle.std.proofs.Common.{◌≡◌, [], ◌∷◌, ℕ, Bool, true, false, List, Option, Result, Ok, Err, IfOk, IsErrAnd, length, refl, inl, if◌then◌else◌}
 use Rattle.std.specs.Prelude.{nat_lt}
 use Rattle.scenario_values.specs.Scenario.{Entries}
 use Rattle.plan_gen.specs.PlanList.{most_plans}
@@ -18,9 +18,11 @@ use Rattle.campaign_main.specs.declared.exit.Exit.{Exit}
 use Rattle.campaign_main.specs.declared.exit.Exit.TheVariants as exit
 use Rattle.campaign_main.specs.declared.fault.CommandFault.{CommandFault}
 use Rattle.campaign_main.specs.Commands.{Answer, Refusal, choice_answer, explain_answer, given_answer, map_answer, of_few_plans, order_answer, outside_answer, plans_answer, reduce_answer, run_answer, taken, taken_answer, text_answer, too_many_plans, try_answer}
-use Rattle.campaign_main.specs.Ends.{ComesTo, IsNoted, IsTold, Noted, OnWhole, TellsANote, TellsARefusal, TellsAs, TellsNotes, TellsRefusal, Tells}
+use Rattle.campaign_main.specs.Ends.{IsNoted, IsTold, Noted, OnWhole, TellsANote, TellsARefusal, TellsAs, TellsNotes, TellsRefusal, Tells}
+use Rattle.campaign_main.specs.declared.exit.Conclusion.{Conclusion}
+use Rattle.campaign_main.specs.declared.exit.Conclusion.TheVariants.{Clean, Failed, Doubtful}
 use Rattle.campaign_main.specs.Exit.{exit_of}
-use Rattle.campaign_main.specs.Notes.{MayNote}
+use Rattle.campaign_main.specs.Notes.{MayNote, listed_notes}
 use Rattle.campaign_main.specs.OwnTarget.{own_given_answer, own_text_answer}
 
 -- ---- notes that are told
@@ -30,49 +32,46 @@ pub noted-some : (notes : List ℕ) (old new : Option (List ℕ)) (failed : Bool
 noted-some [] old new failed some told = absurd (some refl)
 noted-some (byte ∷ more) old new failed some told = told
 
-pub noted-none : (notes : List ℕ) (old : Option (List ℕ)) (failed : Bool) → notes ≡ [] → failed ≡ false → IsNoted notes old old failed
-noted-none notes old failed none sound = let P : List ℕ → Type 0 = λ n. IsNoted n old old failed in subst P (sym none) (refl, sound)
-
 -- ---- what an answer may note
-
--- the answer notes nothing
-abbrev pub IsQuiet : Answer → Type 0
-IsQuiet answer = IfOk answer (λ a. a.2 ≡ [])
 
 -- the answer notes what the order may
 abbrev pub NotesFor : Order → Answer → Type 0
 NotesFor o answer = IfOk answer (λ a. MayNote o a.2)
 
-quiet-few : (plans : List Entries) (t : List ℕ × Bool) → IsQuiet (of_few_plans plans t)
-quiet-few plans t =
-    let f : Bool → Answer = λ b. if b then Err too_many_plans else Ok (t.0, t.1, []) in
-    elim (nat_lt most_plans (length plans)) as (λ b. IsQuiet (f b)) [
+-- the answer's notes are these
+abbrev Notes : (List ℕ → Type 0) → Answer → Type 0
+Notes may answer = IfOk answer (λ a. may a.2)
+
+of-few : (may : List ℕ → Type 0) (plans : List Entries) (t : List ℕ × Conclusion × List ℕ) → may t.2 → Notes may (of_few_plans plans t)
+of-few may plans t h =
+    let f : Bool → Answer = λ b. if b then Err too_many_plans else Ok t in
+    elim (nat_lt most_plans (length plans)) as (λ b. Notes may (f b)) [
       | true ↦ tt
-      | false ↦ refl
+      | false ↦ h
     ]
 
 module _ (c : Campaign) where
-  pub quiet-run : (form : Form) → IsQuiet (run_answer form c)
+  may-run : (form : Form) (strict recheck : Bool) → NotesFor (order.Run form strict recheck) (run_answer form strict c)
   unfolding run_answer
-  quiet-run form = quiet-few _ _
+  may-run form strict recheck = of-few (MayNote (order.Run form strict recheck)) _ _ (c, refl)
 
-  pub quiet-map : IsQuiet (map_answer c)
+  may-map : NotesFor order.Map (map_answer c)
   unfolding map_answer
-  quiet-map = quiet-few _ _
+  may-map = of-few (MayNote order.Map) _ _ (c.points, (c.plans.listed, refl))
 
-  pub quiet-plans : IsQuiet (plans_answer c)
+  may-plans : NotesFor order.Plans (plans_answer c)
   unfolding plans_answer
-  quiet-plans = quiet-few _ _
-
-  pub quiet-reduce : (read : Result (ℕ × Entries) Refusal) → IsQuiet (taken_answer (reduce_answer c) read)
-  unfolding reduce_answer
-  quiet-reduce (Ok t) = refl
-  quiet-reduce (Err refusal) = tt
+  may-plans = of-few (MayNote order.Plans) _ _ (c.points, (c.plans.listed, refl))
 
   may-try : (which : Which) (read : Result (ℕ × Entries) Refusal) → NotesFor (order.Try which) (taken_answer (try_answer c) read)
   unfolding try_answer
   may-try which (Ok t) = (c.points, (t.1, refl))
   may-try which (Err refusal) = tt
+
+  may-reduce : (which : Which) (read : Result (ℕ × Entries) Refusal) → NotesFor (order.Reduce which) (taken_answer (reduce_answer c) read)
+  unfolding reduce_answer
+  may-reduce which (Ok t) = (c.points, (t.1, refl))
+  may-reduce which (Err refusal) = tt
 
   may-explain : (which : Which) (read : Result (ℕ × Entries) Refusal) → NotesFor (order.Explain which) (taken_answer (explain_answer c) read)
   unfolding explain_answer
@@ -80,36 +79,27 @@ module _ (c : Campaign) where
   may-explain which (Err refusal) = tt
 
   pub may-order : (o : Order) → NotesFor o (order_answer o c)
-  may-order (order.Run form) = quiet-run form
-  may-order order.Map = quiet-map
-  may-order order.Plans = quiet-plans
+  may-order (order.Run form strict recheck) = may-run form strict recheck
+  may-order order.Map = may-map
+  may-order order.Plans = may-plans
   may-order (order.Try which) = may-try which (taken c which)
-  may-order (order.Reduce which) = quiet-reduce (taken c which)
+  may-order (order.Reduce which) = may-reduce which (taken c which)
   may-order (order.Explain which) = may-explain which (taken c which)
 
-pub quiet-outside : (o : Order) (plans : List Entries) → IsQuiet (outside_answer o plans)
+may-outside : (o : Order) (plans : List Entries) (points : List (List ℕ)) (listed : List Entries) → NotesFor o (outside_answer o plans (listed_notes points listed))
 unfolding outside_answer
-quiet-outside (order.Run form) plans = tt
-quiet-outside order.Map plans = tt
-quiet-outside order.Plans plans = quiet-few plans _
-quiet-outside (order.Try which) plans = tt
-quiet-outside (order.Reduce which) plans = tt
-quiet-outside (order.Explain which) plans = tt
-
-may-outside : (o : Order) (plans : List Entries) → NotesFor o (outside_answer o plans)
-unfolding outside_answer
-may-outside (order.Run form) plans = tt
-may-outside order.Map plans = tt
-may-outside order.Plans plans = quiet-few plans _
-may-outside (order.Try which) plans = tt
-may-outside (order.Reduce which) plans = tt
-may-outside (order.Explain which) plans = tt
+may-outside (order.Run form strict recheck) plans points listed = tt
+may-outside order.Map plans points listed = tt
+may-outside order.Plans plans points listed = of-few (MayNote order.Plans) plans _ (points, (listed, refl))
+may-outside (order.Try which) plans points listed = tt
+may-outside (order.Reduce which) plans points listed = tt
+may-outside (order.Explain which) plans points listed = tt
 
 may-choice : (o : Order) (given : Given) (chosen : Choice) → NotesFor o (choice_answer o given chosen)
 may-choice o given (choice.Replace variant work) = may-order _ o
 may-choice o given (choice.Maildir variant messages) = may-order _ o
 may-choice o given (choice.Commit variant work) = may-order _ o
-may-choice o given (choice.Outside outside) = may-outside o _
+may-choice o given (choice.Outside outside) = may-outside o _ outside.points given.plans.listed
 
 may-given : (o : Order) (read : Read Settings) → NotesFor o (given_answer o read)
 may-given o (Ok s) = may-choice o s.campaign s.choice
@@ -129,16 +119,8 @@ may-own o campaign text = may-own-given o campaign (own_settings_of text)
 
 -- ---- by what a command came to
 
--- a command that notes nothing told nothing
-pub quiet-noted : (answer : Answer) (old new : Option (List ℕ)) (failed : Bool) (result : Result Bool CommandFault) (told : Option (List ℕ)) (broken : Bool)
-    → IsQuiet answer → ComesTo answer old new failed result → broken ≡ false → Noted answer told told broken result
-quiet-noted (Ok a) old new failed (Ok found) told broken quiet h sound = noted-none a.2 told broken quiet sound
-quiet-noted (Err refusal) old new failed (Ok found) told broken quiet h sound = absurd h
-quiet-noted (Ok a) old new failed (Err fault) told broken quiet h sound = (refl, sound)
-quiet-noted (Err refusal) old new failed (Err fault) told broken quiet h sound = (refl, sound)
-
 -- a fault that is passed up told nothing
-pub err-noted : (answer : Answer) (told : Option (List ℕ)) (broken : Bool) (result : Result Bool CommandFault) (fault : CommandFault) → IsErrAnd result (λ f. f ≡ fault) → broken ≡ false
+pub err-noted : (answer : Answer) (told : Option (List ℕ)) (broken : Bool) (result : Result Conclusion CommandFault) (fault : CommandFault) → IsErrAnd result (λ f. f ≡ fault) → broken ≡ false
     → Noted answer told told broken result
 err-noted answer told broken (Ok found) fault is sound = absurd is
 err-noted answer told broken (Err f) fault is sound = (refl, sound)
@@ -156,19 +138,22 @@ module _ (old new : Option (List ℕ)) (failed : Bool) where
   pub some-tells : (o : Order) (answer : Answer) (end : Exit) → NotesFor o answer → TellsAs end answer old new failed → Tells o end old new failed
   some-tells o answer exit.Kept may h = some-note o answer may h
   some-tells o answer exit.Found may h = some-note o answer may h
+  some-tells o answer exit.Doubted may h = some-note o answer may h
   some-tells o answer exit.Refused may h = one-refusal answer h
   some-tells o answer exit.Memory may h = h
   some-tells o answer (exit.Write n) may h = h
 
   module _ (answer : Answer) where
     -- an end of a text that was written whole tells the notes
-    pub found-notes : (found : Bool) → TellsNotes answer old new failed → TellsAs (exit_of found) answer old new failed
-    found-notes false h = h
-    found-notes true h = h
+    pub found-notes : (found : Conclusion) → TellsNotes answer old new failed → TellsAs (exit_of found) answer old new failed
+    found-notes Clean h = h
+    found-notes Failed h = h
+    found-notes Doubtful h = h
 
     pub told-notes : (end : Exit) → TellsAs end answer old new failed → OnWhole end (TellsNotes answer old new failed)
     told-notes exit.Kept h = h
     told-notes exit.Found h = h
+    told-notes exit.Doubted h = h
     told-notes exit.Refused h = tt
     told-notes exit.Memory h = tt
     told-notes (exit.Write n) h = tt

@@ -1,5 +1,5 @@
 -- Ends of questions, by what they came to and by what was read.
-use Rattle.std.proofs.Common.{◌≡◌, ◌≤◌, ◌<◌, ◌==◌, [], ℕ, Bool, true, false, List, Option, Some, None, IfSome, IsErrAnd, Result, Ok, Err, length, refl, sym, ap, inl, inr, subst, if◌then◌else◌}
+use Rattle.std.proofs.Common.{◌∙◌, ◌≡◌, ◌≤◌, ◌<◌, ◌==◌, [], ℕ, Bool, true, false, List, Option, Some, None, IfSome, IsErrAnd, Result, Ok, Err, length, refl, sym, ap, inl, inr, subst, if◌then◌else◌}
 use Rattle.std.specs.Str.{IsUtf8}
 use Rattle.answer_text.specs.Answers.{Answer as Told, most_bytes}
 use Rattle.answer_text.specs.FirstFault.{pieces_from, reading_of}
@@ -20,16 +20,19 @@ use Rattle.command_words.specs.declared.words.Question.TheVariants.{Asks, Report
 use Rattle.outside_campaign.specs.Campaigns.{AsksFault, TextFault}
 use Rattle.outside_campaign.specs.declared.refusal.OutsideFault.{OutsideFault}
 use Rattle.outside_campaign.specs.declared.refusal.OutsideFault.TheVariants as outside
+use Rattle.campaign_main.specs.declared.exit.Conclusion.{Conclusion}
+use Rattle.campaign_main.specs.declared.exit.Conclusion.TheVariants.{Clean, Failed, Doubtful}
 use Rattle.campaign_main.specs.declared.exit.Exit.{Exit}
 use Rattle.campaign_main.specs.declared.exit.Exit.TheVariants as exit
 use Rattle.campaign_main.specs.declared.input.ReadFault.{ReadFault}
 use Rattle.campaign_main.specs.declared.input.ReadFault.TheVariants as read
 use Rattle.campaign_main.specs.Commands.{Refusal, bad_answers, bad_settings, not_answered, not_text, too_many_plans}
-use Rattle.campaign_main.specs.Ends.{IsUntouched, Leaves, RefusesWith, TellsBy}
-use Rattle.campaign_main.specs.Exit.{exit_of}
+use Rattle.campaign_main.specs.Ends.{IsNoted, IsUntouched, Leaves, OnWhole, RefusesWith, TellsOf}
+use Rattle.campaign_main.specs.Exit.{concluded, exit_of}
 use Rattle.campaign_main.specs.FaultLines.{answers_read_line, read_fault_line, refusal_line, settings_line, unreadable_answers_line, unreadable_line}
-use Rattle.campaign_main.specs.Questions.{ComesToText, EndsAnswered, EndsQuestion, FallsShortOf, IsAnswered, IsEndOfQuestion, IsNotAnswered, IsPart, RefusesQuestion, Subject, TellsOfQuestion, TellsWhy, chosen_subject, given_subject, subject_of, text_subject, told_text}
-use Rattle.campaign_main.proofs.EndLemmas.{broken-meaning, if_some, long-meaning, memory-apart, read-meaning, tells-by, text-meaning, unset-cause}
+use Rattle.campaign_main.specs.QuestionNotes.{is_question_doubted, question_notes}
+use Rattle.campaign_main.specs.Questions.{ComesToText, ConcludesText, EndsAnswered, EndsQuestion, FallsShortOf, IsAnswered, IsConcluded, IsEndOfQuestion, IsNotAnswered, IsPart, IsUnnoted, NotesText, RefusesQuestion, Subject, TellsOfQuestion, TellsWhy, chosen_subject, given_subject, subject_of, text_subject, told_text}
+use Rattle.campaign_main.proofs.EndLemmas.{broken-meaning, if_some, long-meaning, memory-apart, read-meaning, tells-of, text-meaning, unset-cause}
 
 -- ---- by what the lower crate came to
 
@@ -41,7 +44,7 @@ module _ (s : Given) (d : Description) (answers : List ℕ) (old new : Option (L
   asks-short (outside.Campaign campaign.Memory) h = h
   asks-short (outside.Campaign (campaign.Write n)) h = (h.0, h.1)
 
-  report-short : (form : Form) (f : OutsideFault) → TextFault (told_text form (s, d)) d s answers old new failed f → FallsShortOf (Report form) (s, d) answers old new failed f
+  report-short : (form : Form) (f : OutsideFault) → TextFault (told_text form (s, d)) d s answers old new failed f → FallsShortOf (Report form false) (s, d) answers old new failed f
   report-short form (outside.Answers f) h = ((h.0, h.1), h.2)
   report-short form (outside.NotAnswered t) h = ((h.0, h.1), h.2)
   report-short form (outside.Campaign campaign.TooManyPlans) h = ((h.0, h.1), h.2)
@@ -57,28 +60,62 @@ module _ (s : Given) (d : Description) (answers : List ℕ) (old new : Option (L
   pub asks-up : (result : Result Bool OutsideFault) (f : OutsideFault) → IsErrAnd result (λ e. e ≡ f) → AsksFault d s answers old new failed f → ComesToText Asks (s, d) answers old new failed result
   asks-up result f is h = short-of-up Asks result f is (asks-short f h)
 
-  pub report-up : (form : Form) (result : Result Bool OutsideFault) (f : OutsideFault) → IsErrAnd result (λ e. e ≡ f) → TextFault (told_text form (s, d)) d s answers old new failed f → ComesToText (Report form) (s, d) answers old new failed result
-  report-up form result f is h = short-of-up (Report form) result f is (report-short form f h)
+  pub report-up : (form : Form) (result : Result Bool OutsideFault) (f : OutsideFault) → IsErrAnd result (λ e. e ≡ f) → TextFault (told_text form (s, d)) d s answers old new failed f → ComesToText (Report form false) (s, d) answers old new failed result
+  report-up form result f is h = short-of-up (Report form false) result f is (report-short form f h)
+
+-- ---- by what is noted
+
+module _ (question : Question) (s : Subject) (answers : List ℕ) where
+  -- a fault that is passed up, before anything is written
+  unnoted-short : (f : OutsideFault) (old : Option (List ℕ)) (failed : Bool) → failed ≡ false → IsUnnoted s answers f → FallsShortOf question s answers old old failed f
+  unnoted-short (outside.Answers f) old failed sound h = ((refl, sound), h)
+  unnoted-short (outside.NotAnswered t) old failed sound h = absurd h
+  unnoted-short (outside.Campaign campaign.TooManyPlans) old failed sound h = ((refl, sound), h)
+  unnoted-short (outside.Campaign campaign.Memory) old failed sound h = (refl, sound)
+  unnoted-short (outside.Campaign (campaign.Write n)) old failed sound h = absurd h
+
+  pub fault-up : (result : Result Conclusion OutsideFault) (f : OutsideFault) (old new : Option (List ℕ)) (failed : Bool) → IsErrAnd result (λ e. e ≡ f)
+      → FallsShortOf question s answers old new failed f → ConcludesText question s answers old new failed result
+  fault-up (Ok c) f old new failed is short = absurd is
+  fault-up (Err e) f old new failed is short = let P : OutsideFault → Type 0 = λ x. FallsShortOf question s answers old new failed x in subst P (sym is) short
+
+  pub unnoted-up : (result : Result Conclusion OutsideFault) (f : OutsideFault) (old : Option (List ℕ)) (failed : Bool) → IsErrAnd result (λ e. e ≡ f)
+      → failed ≡ false → IsUnnoted s answers f → ConcludesText question s answers old old failed result
+  unnoted-up result f old failed is sound h = fault-up result f old old failed is (unnoted-short f old failed sound h)
+
+  pub up-notes : (result : Result Conclusion OutsideFault) (f : OutsideFault) (old : Option (List ℕ)) (failed : Bool) → IsErrAnd result (λ e. e ≡ f) → failed ≡ false
+      → NotesText question s answers old old failed result
+  up-notes (Ok c) f old failed is sound = absurd is
+  up-notes (Err e) f old failed is sound = (refl, sound)
+
+  -- what a text comes to that was written whole
+  pub text-concluded : (found doubted : Bool) (notes : List ℕ) (conclusion : Conclusion) (old new : Option (List ℕ)) (failed : Bool)
+      → IsAnswered question s answers old new failed found → notes ≡ question_notes question s.0 s.1 answers → doubted ≡ is_question_doubted question notes
+      → conclusion ≡ concluded found doubted → IsConcluded question s answers old new failed conclusion
+  text-concluded found doubted notes conclusion old new failed h same is ends =
+      (found, h, ends ∙ ap (concluded found) (is ∙ ap (is_question_doubted question) same))
 
 -- ---- by what a question came to
 
 module _ (question : Question) (s : Subject) (answers : List ℕ) where
   module _ (old new : Option (List ℕ)) (failed : Bool) where
-    pub answered-ends : (found : Bool) → IsAnswered question s answers old new failed found → EndsAnswered question s answers (exit_of found) old new failed
-    answered-ends false h = h
-    answered-ends true h = h
+    pub concluded-ends : (conclusion : Conclusion) → IsConcluded question s answers old new failed conclusion → EndsAnswered question s answers (exit_of conclusion) old new failed
+    concluded-ends Clean h = h
+    concluded-ends Failed h = h
+    concluded-ends Doubtful h = h
 
     answered-sound : (q : Question) (found : Bool) → IsAnswered q s answers old new failed found → failed ≡ false
     answered-sound Asks found h = h.sound
-    answered-sound (Report form) found h = h.sound
+    answered-sound (Report form strict) found h = h.sound
 
     part-broken : (q : Question) (n : ℕ) → IsPart q s answers old new failed n → failed ≡ true
     part-broken Asks n h = h.1
-    part-broken (Report form) n h = h.1
+    part-broken (Report form strict) n h = h.1
 
     pub answered-leaves : (end : Exit) → EndsAnswered question s answers end old new failed → Leaves end old new failed
-    answered-leaves exit.Kept h = answered-sound question false h
-    answered-leaves exit.Found h = answered-sound question true h
+    answered-leaves exit.Kept h = answered-sound question h.0 h.1
+    answered-leaves exit.Found h = answered-sound question h.0 h.1
+    answered-leaves exit.Doubted h = answered-sound question h.0 h.1
     answered-leaves exit.Refused h = h
     answered-leaves exit.Memory h = h
     answered-leaves (exit.Write n) h = part-broken question n h
@@ -87,6 +124,7 @@ module _ (question : Question) (s : Subject) (answers : List ℕ) where
       pub refused-ends : (text : List ℕ) (end : Exit) → IsUntouched old new failed → RefusesWith text end line line' broken → EndsAnswered question s answers end old new failed
       refused-ends text exit.Kept h is = absurd is
       refused-ends text exit.Found h is = absurd is
+      refused-ends text exit.Doubted h is = absurd is
       refused-ends text exit.Refused h is = h
       refused-ends text exit.Memory h is = h
       refused-ends text (exit.Write n) h is = absurd is
@@ -103,31 +141,60 @@ module _ (question : Question) (s : Subject) (answers : List ℕ) where
       why refusal end because is refused =
           let P : Exit → Type 0 = λ e. RefusesWith (refusal_line refusal) e line line' broken in (refusal, because, subst P refused is)
 
-      pub short-tells : (f : OutsideFault) (end : Exit) → FallsShortOf question s answers old new failed f → IsEndOfQuestion f end line line' broken → TellsBy (TellsWhy question (Ok s) answers line line' broken) end line line' broken
-      short-tells (outside.Answers f) end short is = tells-by _ _ end line line' broken is (why (bad_answers f) end short.1 is)
-      short-tells (outside.NotAnswered t) end short is = tells-by _ _ end line line' broken is (why (not_answered t) end short.1 is)
-      short-tells (outside.Campaign campaign.TooManyPlans) end short is =
-          let P : Exit → Type 0 = λ e. TellsBy (TellsWhy question (Ok s) answers line line' broken) e line line' broken in subst P (sym is.0) (too_many_plans, short.1, is.1)
-      short-tells (outside.Campaign campaign.Memory) end short is = let P : Exit → Type 0 = λ e. TellsBy (TellsWhy question (Ok s) answers line line' broken) e line line' broken in subst P (sym is.0) is.1
-      short-tells (outside.Campaign (campaign.Write n)) end short is = let P : Exit → Type 0 = λ e. TellsBy (TellsWhy question (Ok s) answers line line' broken) e line line' broken in subst P (sym is.0) is.1
+      module _ (noted : Type 0) where
+        abbrev tells : Exit → Type 0
+        tells e = TellsOf noted (TellsWhy question (Ok s) answers line line' broken) e line line' broken
+
+        pub short-tells : (f : OutsideFault) (end : Exit) → FallsShortOf question s answers old new failed f → IsEndOfQuestion f end line line' broken → tells end
+        short-tells (outside.Answers f) end short is = tells-of _ _ _ end line line' broken is (why (bad_answers f) end short.1 is)
+        short-tells (outside.NotAnswered t) end short is = tells-of _ _ _ end line line' broken is (why (not_answered t) end short.1 is)
+        short-tells (outside.Campaign campaign.TooManyPlans) end short is = subst tells (sym is.0) (too_many_plans, short.1, is.1)
+        short-tells (outside.Campaign campaign.Memory) end short is = subst tells (sym is.0) is.1
+        short-tells (outside.Campaign (campaign.Write n)) end short is = subst tells (sym is.0) is.1
+
+  -- the same where nothing was told before
+  pub short-told : (old new : Option (List ℕ)) (failed : Bool) (line mid line' : Option (List ℕ)) (sound broken : Bool) (f : OutsideFault) (end : Exit)
+      → IsUntouched line mid sound → FallsShortOf question s answers old new failed f → IsEndOfQuestion f end mid line' broken
+      → TellsOf (IsNoted (question_notes question s.0 s.1 answers) line line' broken) (TellsWhy question (Ok s) answers line line' broken) end line line' broken
+  short-told old new failed line mid line' sound broken f end untouched short is =
+      let P : Option (List ℕ) → Type 0 =
+      λ o. TellsOf (IsNoted (question_notes question s.0 s.1 answers) o line' broken) (TellsWhy question (Ok s) answers o line' broken) end o line' broken in
+      subst P untouched.0 (short-tells old new failed mid line' broken (IsNoted (question_notes question s.0 s.1 answers) mid line' broken) f end short is)
+
+-- an end of a text that was written whole tells the notes
+pub concluded-tells : (refusal : Type 0) (notes : List ℕ) (conclusion : Conclusion) (old new : Option (List ℕ)) (failed : Bool) → IsNoted notes old new failed
+    → TellsOf (IsNoted notes old new failed) refusal (exit_of conclusion) old new failed
+concluded-tells refusal notes Clean old new failed h = h
+concluded-tells refusal notes Failed old new failed h = h
+concluded-tells refusal notes Doubtful old new failed h = h
+
+pub whole-noted : (noted refusal : Type 0) (end : Exit) (old new : Option (List ℕ)) (failed : Bool) → TellsOf noted refusal end old new failed → OnWhole end noted
+whole-noted noted refusal exit.Kept old new failed h = h
+whole-noted noted refusal exit.Found old new failed h = h
+whole-noted noted refusal exit.Doubted old new failed h = h
+whole-noted noted refusal exit.Refused old new failed h = tt
+whole-noted noted refusal exit.Memory old new failed h = tt
+whole-noted noted refusal (exit.Write n) old new failed h = tt
 
 -- what is told of a question's refusal is the line of some refusal
-pub some-why : (question : Question) (read : Result Subject Refusal) (answers : List ℕ) (end : Exit) (old new : Option (List ℕ)) (failed : Bool)
-    → TellsBy (TellsWhy question read answers old new failed) end old new failed → TellsOfQuestion end old new failed
-some-why question read answers exit.Kept old new failed told = told
-some-why question read answers exit.Found old new failed told = told
-some-why question read answers exit.Refused old new failed told = inl (told.0, told.2)
-some-why question read answers exit.Memory old new failed told = told
-some-why question read answers (exit.Write n) old new failed told = told
+pub some-why : (question : Question) (read : Result Subject Refusal) (answers notes : List ℕ) (end : Exit) (old new : Option (List ℕ)) (failed : Bool)
+    → TellsOf (IsNoted notes old new failed) (TellsWhy question read answers old new failed) end old new failed → TellsOfQuestion end old new failed
+some-why question read answers notes exit.Kept old new failed told = (notes, told)
+some-why question read answers notes exit.Found old new failed told = (notes, told)
+some-why question read answers notes exit.Doubted old new failed told = (notes, told)
+some-why question read answers notes exit.Refused old new failed told = inl (told.0, told.2)
+some-why question read answers notes exit.Memory old new failed told = told
+some-why question read answers notes (exit.Write n) old new failed told = told
 
-pub refused-why : (claim : Type 0) (end : Exit) (old new : Option (List ℕ)) (failed : Bool) → end ≡ exit.Refused → TellsBy claim end old new failed → claim
-refused-why claim end old new failed refused told = let P : Exit → Type 0 = λ e. TellsBy claim e old new failed in subst P refused told
+pub refused-why : (noted claim : Type 0) (end : Exit) (old new : Option (List ℕ)) (failed : Bool) → end ≡ exit.Refused → TellsOf noted claim end old new failed → claim
+refused-why noted claim end old new failed refused told = let P : Exit → Type 0 = λ e. TellsOf noted claim e old new failed in subst P refused told
 
 -- an end that refuses with a line wrote nothing, whatever the question is about
 pub refused-question : (question : Question) (read : Result Subject Refusal) (answers : List ℕ) (line : List ℕ) (end : Exit) (old new : Option (List ℕ)) (failed : Bool) (output : Option (List ℕ)) (broken : Bool)
     → RefusesWith line end old new failed → broken ≡ false → EndsQuestion question read answers end output output broken
 refused-question question read answers line exit.Kept old new failed output broken told sound = absurd told
 refused-question question read answers line exit.Found old new failed output broken told sound = absurd told
+refused-question question read answers line exit.Doubted old new failed output broken told sound = absurd told
 refused-question question (Ok s) answers line exit.Refused old new failed output broken told sound = (refl, sound)
 refused-question question (Err r) answers line exit.Refused old new failed output broken told sound = (refl, sound)
 refused-question question (Ok s) answers line exit.Memory old new failed output broken told sound = (refl, sound)
@@ -191,7 +258,7 @@ module _ (question : Question) (read : Result Subject Refusal) (refusal : Refusa
 pub tells-question : (refusal : Refusal) (end : Exit) (old new : Option (List ℕ)) (failed : Bool) → RefusesWith (refusal_line refusal) end old new failed → TellsOfQuestion end old new failed
 tells-question refusal end old new failed told =
     let P : Exit → Type 0 = λ e. RefusesWith (refusal_line refusal) e old new failed in
-    tells-by _ _ end old new failed told (λ refused. inl (refusal, subst P refused told))
+    tells-of _ _ _ end old new failed told (λ refused. inl (refusal, subst P refused told))
 
 module _ (text : List ℕ) where
   unset-subject : (cause : Cause) → settings_of text ≡ Err cause → text_subject text ≡ Err (bad_settings cause)
@@ -212,7 +279,7 @@ module _ (text : List ℕ) where
 
     pub unset-tells : TellsOfQuestion end old new failed
     unset-tells =
-        tells-by _ _ end old new failed told
+        tells-of _ _ _ end old new failed told
         (λ refused.
         let c = unset-cause (settings_of text) end old new failed refused f by memory told in
         let Q : Exit → Type 0 = λ e. RefusesWith (refusal_line (bad_settings c.0)) e old new failed in
@@ -262,13 +329,13 @@ module _ (end : Exit) (old new : Option (List ℕ)) (failed : Bool) where
   unread-tells read.TooLong told memory = tells-question (bad_settings too_long) end old new failed told
   unread-tells read.NotUtf8 told memory = tells-question not_text end old new failed told
   unread-tells read.NotReadable told memory =
-      let P : Exit → Type 0 = λ e. RefusesWith unreadable_line e old new failed in tells-by _ _ end old new failed told (λ refused. inr (inl (subst P refused told)))
-  unread-tells read.Memory told memory = tells-by _ _ end old new failed told (λ refused. memory-apart end (memory refl) refused)
+      let P : Exit → Type 0 = λ e. RefusesWith unreadable_line e old new failed in tells-of _ _ _ end old new failed told (λ refused. inr (inl (subst P refused told)))
+  unread-tells read.Memory told memory = tells-of _ _ _ end old new failed told (λ refused. memory-apart end (memory refl) refused)
 
   pub unread-answers-tells : (f : ReadFault) → RefusesWith (answers_read_line f) end old new failed → (f ≡ read.Memory → end ≡ exit.Memory) → TellsOfQuestion end old new failed
   unread-answers-tells read.TooLong told memory = tells-question (bad_answers answers.TooLong) end old new failed told
   unread-answers-tells read.NotUtf8 told memory =
-      let P : Exit → Type 0 = λ e. RefusesWith unreadable_answers_line e old new failed in tells-by _ _ end old new failed told (λ refused. inr (inr (subst P refused told)))
+      let P : Exit → Type 0 = λ e. RefusesWith unreadable_answers_line e old new failed in tells-of _ _ _ end old new failed told (λ refused. inr (inr (subst P refused told)))
   unread-answers-tells read.NotReadable told memory =
-      let P : Exit → Type 0 = λ e. RefusesWith unreadable_answers_line e old new failed in tells-by _ _ end old new failed told (λ refused. inr (inr (subst P refused told)))
-  unread-answers-tells read.Memory told memory = tells-by _ _ end old new failed told (λ refused. memory-apart end (memory refl) refused)
+      let P : Exit → Type 0 = λ e. RefusesWith unreadable_answers_line e old new failed in tells-of _ _ _ end old new failed told (λ refused. inr (inr (subst P refused told)))
+  unread-answers-tells read.Memory told memory = tells-of _ _ _ end old new failed told (λ refused. memory-apart end (memory refl) refused)

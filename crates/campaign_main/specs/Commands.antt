@@ -1,9 +1,10 @@
 -- What a command answers to the bytes of its settings: its text and its end, or why it is refused.
-use Rattle.std.specs.Prelude.{ℕ, Bool, false, [], List, length, Option, Some, None, is_some, Result, Ok, Err, nat_lt, if◌then◌else◌, slice_get, string_bytes}
+use Rattle.std.specs.Prelude.{ℕ, Bool, false, List, length, Option, Some, None, is_some, Result, Ok, Err, nat_lt, if◌then◌else◌, slice_get, string_bytes}
 use Rattle.std.specs.Str.{is_utf8}
 use Rattle.scenario_values.specs.Scenario.{Entries}
 use Rattle.scenario_grammar.specs.FirstFault.{Fault, reading}
 use Rattle.action_eval.specs.Answers.{given_of}
+use Rattle.target_trait.specs.declared.judgement.Verdict.{Verdict}
 use Rattle.file_replace.specs.Steps.{asks_of as replacing}
 use Rattle.file_replace.specs.Words.{point_names as replace_points, code_text as replace_codes, label as replace_label}
 use Rattle.maildir_target.specs.Steps.{asks_of as delivering}
@@ -28,8 +29,10 @@ use Rattle.command_words.specs.declared.words.Order.TheVariants as order
 use Rattle.command_words.specs.declared.words.Which.{Which}
 use Rattle.command_words.specs.declared.words.Which.TheVariants.{Scenario, Plan}
 use Rattle.run_explained.specs.Explained.{explain_text}
-use Rattle.campaign_main.specs.Exit.{is_fail}
-use Rattle.campaign_main.specs.Notes.{notes_of}
+use Rattle.campaign_main.specs.declared.exit.Conclusion.{Conclusion}
+use Rattle.campaign_main.specs.declared.exit.Conclusion.TheVariants.{Clean}
+use Rattle.campaign_main.specs.Exit.{concluded, is_fail}
+use Rattle.campaign_main.specs.Notes.{is_doubted, listed_notes, notes_of, report_notes}
 
 -- ---- answers
 
@@ -47,47 +50,53 @@ pub data Refusal : Type 0 where
   bad_answers : AnswersFault → Refusal
   not_answered : Entries → Refusal
 
--- a command's text, whether a verdict in it is fail, and what is noted beside it; or why the command is refused
+-- a command's text, what it comes to, and what is noted beside it; or why the command is refused
 abbrev pub Answer : Type 0
-Answer = Result (List ℕ × Bool × List ℕ) Refusal
+Answer = Result (List ℕ × Conclusion × List ℕ) Refusal
 
 -- ---- a command on what a campaign is given
 
--- what comes of a list of plans that isn't too long; nothing is noted
-abbrev pub of_few_plans : List Entries → List ℕ × Bool → Answer
-of_few_plans plans text = if nat_lt most_plans (length plans) then Err too_many_plans else Ok (text.0, text.1, [])
+-- what comes of a list of plans that isn't too long
+abbrev pub of_few_plans : List Entries → List ℕ × Conclusion × List ℕ → Answer
+of_few_plans plans text = if nat_lt most_plans (length plans) then Err too_many_plans else Ok text
 
 -- the report of a form
 abbrev pub report_in : Form → Campaign → List ℕ
 report_in Whole c = report_text c
 report_in Brief c = brief_report_text c
 
--- the report, and whether a plan fails
-unfoldable pub run_answer : Form → Campaign → Answer
-run_answer form c = of_few_plans (plans c) (report_in form c, is_some (first_failure c))
+-- the report, whether a plan fails, and what is noted, which counts where the report is to be strict
+unfoldable pub run_answer : Form → Bool → Campaign → Answer
+run_answer form strict c =
+    of_few_plans (plans c) (report_in form c, concluded (is_some (first_failure c)) (is_doubted strict (report_notes strict c)), report_notes strict c)
 
--- the map, and whether a plan fails
+-- the map, whether a plan fails, and what is noted of the listed scenarios
 unfoldable pub map_answer : Campaign → Answer
-map_answer c = of_few_plans (plans c) (campaign_map_text c, is_some (first_failure c))
+map_answer c =
+    of_few_plans (plans c) (campaign_map_text c, concluded (is_some (first_failure c)) false, listed_notes c.points c.plans.listed)
 
--- the list of plans
+-- the list of plans, and the same notes
 unfoldable pub plans_answer : Campaign → Answer
-plans_answer c = of_few_plans (plans c) (plans_text c, false)
+plans_answer c = of_few_plans (plans c) (plans_text c, Clean, listed_notes c.points c.plans.listed)
+
+-- what a text with this verdict comes to
+abbrev pub of_verdict : Verdict → Conclusion
+of_verdict verdict = concluded (is_fail verdict) false
 
 -- a scenario tried under a stream number, whether it fails, and which of its names no point has
 unfoldable pub try_answer : Campaign → ℕ → Entries → Answer
 try_answer c stream scenario =
-    Ok (try_text c.codes (tried c stream scenario), is_fail (tried c stream scenario).verdict, notes_of c.points scenario)
+    Ok (try_text c.codes (tried c stream scenario), of_verdict (tried c stream scenario).verdict, notes_of c.points scenario)
 
--- a scenario reduced under a stream number, and whether it fails
+-- a scenario reduced under a stream number, whether it fails, and which of its names no point has
 unfoldable pub reduce_answer : Campaign → ℕ → Entries → Answer
-reduce_answer c stream scenario = Ok (reduce_text c stream scenario, is_fail (say c stream scenario), [])
+reduce_answer c stream scenario = Ok (reduce_text c stream scenario, of_verdict (say c stream scenario), notes_of c.points scenario)
 
 -- a scenario's run under a stream number, told hit by hit, whether it fails, and which of its names no point has
 unfoldable pub explain_answer : Campaign → ℕ → Entries → Answer
 explain_answer c stream scenario = Ok (
   explain_text c.codes c.asks (given_of scenario c.points c.plans.seed stream c.max_hits),
-  is_fail (tried c stream scenario).verdict,
+  of_verdict (tried c stream scenario).verdict,
   notes_of c.points scenario,
 )
 
@@ -114,7 +123,7 @@ taken_answer answer (Ok t) = answer t.0 t.1
 taken_answer answer (Err refusal) = Err refusal
 
 abbrev pub order_answer : Order → Campaign → Answer
-order_answer (order.Run form) c = run_answer form c
+order_answer (order.Run form strict recheck) c = run_answer form strict c
 order_answer order.Map c = map_answer c
 order_answer order.Plans c = plans_answer c
 order_answer (order.Try which) c = taken_answer (try_answer c) (taken c which)
@@ -123,14 +132,14 @@ order_answer (order.Explain which) c = taken_answer (explain_answer c) (taken c 
 
 -- ---- a command on a component that somebody else runs
 
--- its plans can be listed; what runs it is refused
-unfoldable pub outside_answer : Order → List Entries → Answer
-outside_answer order.Plans plans = of_few_plans plans (text_of (plan_lines 0 plans), false)
-outside_answer (order.Run form) plans = Err outside_target
-outside_answer order.Map plans = Err outside_target
-outside_answer (order.Try which) plans = Err outside_target
-outside_answer (order.Reduce which) plans = Err outside_target
-outside_answer (order.Explain which) plans = Err outside_target
+-- its plans can be listed, with these notes; what runs it is refused
+unfoldable pub outside_answer : Order → List Entries → List ℕ → Answer
+outside_answer order.Plans plans notes = of_few_plans plans (text_of (plan_lines 0 plans), Clean, notes)
+outside_answer (order.Run form strict recheck) plans notes = Err outside_target
+outside_answer order.Map plans notes = Err outside_target
+outside_answer (order.Try which) plans notes = Err outside_target
+outside_answer (order.Reduce which) plans notes = Err outside_target
+outside_answer (order.Explain which) plans notes = Err outside_target
 
 -- ---- by the settings
 
@@ -155,7 +164,8 @@ choice_answer order given (choice.Maildir variant messages) =
     order_answer order (campaign_of (delivering variant messages) maildir_points maildir_codes (maildir_label variant) given)
 choice_answer order given (choice.Commit variant work) =
     order_answer order (campaign_of (committing variant work) commit_points commit_codes (commit_label variant) given)
-choice_answer order given (choice.Outside outside) = outside_answer order (outside_plans given outside)
+choice_answer order given (choice.Outside outside) =
+    outside_answer order (outside_plans given outside) (listed_notes outside.points given.plans.listed)
 
 abbrev pub given_answer : Order → Read Settings → Answer
 given_answer order (Ok s) = choice_answer order s.campaign s.choice

@@ -1,5 +1,5 @@
 -- How a command ends, by its answer. A sink held `old` and holds `new`, where it tells its bytes, and says whether it failed.
-use Rattle.std.specs.Prelude.{◌≡◌, ◌<◌, ◌⊎◌, ◌∷◌, [], ℕ, Bool, true, false, List, Option, Result, Ok, Err, IsErrAnd, IsOkAnd, length, take}
+use Rattle.std.specs.Prelude.{◌≡◌, ◌<◌, ◌⊎◌, ◌∷◌, [], ℕ, Bool, true, false, List, Option, Result, Ok, Err, IsErrAnd, IsOkAnd, length, string_bytes, take}
 use Rattle.std.specs.Io.KnownBytes.{Appends}
 use Rattle.scenario_grammar.specs.declared.fault.ScenarioFault.TheVariants as scenario
 use Rattle.scenario_values.specs.Scenario.{Entries}
@@ -8,9 +8,11 @@ use Rattle.command_words.specs.Words.{AsksToSee}
 use Rattle.command_words.specs.declared.words.Order.{Order}
 use Rattle.command_words.specs.declared.words.WordsFault.{WordsFault}
 use Rattle.campaign_main.specs.declared.exit.Exit.{Exit}
-use Rattle.campaign_main.specs.declared.exit.Exit.TheVariants.{Kept, Found, Refused, Memory, Write}
+use Rattle.campaign_main.specs.declared.exit.Exit.TheVariants.{Kept, Found, Refused, Memory, Write, Doubted}
+use Rattle.campaign_main.specs.declared.exit.Conclusion.{Conclusion}
+use Rattle.campaign_main.specs.declared.exit.Conclusion.TheVariants.{Clean, Failed, Doubtful}
 use Rattle.campaign_main.specs.declared.fault.CommandFault.{CommandFault}
-use Rattle.campaign_main.specs.declared.fault.CommandFault.TheVariants.{Scenario, Plan, Campaign, Outside}
+use Rattle.campaign_main.specs.declared.fault.CommandFault.TheVariants.{Scenario, Plan, Campaign, Unsteady, Outside}
 use Rattle.campaign_main.specs.Commands.{Answer, Refusal, bad_scenario, no_plan, outside_target, too_many_plans}
 use Rattle.campaign_main.specs.Notes.{MayNote}
 use Rattle.campaign_main.specs.FaultLines.{cut_off_line, memory_line, refusal_line, scenario_line, unreadable_line}
@@ -19,8 +21,8 @@ use Rattle.campaign_main.specs.FaultLines.{cut_off_line, memory_line, refusal_li
 abbrev pub IsUntouched : Option (List ℕ) → Option (List ℕ) → Bool → Type 0
 IsUntouched old new failed = (new ≡ old) × (failed ≡ false)
 
--- the answer's whole text was written, and this is whether a verdict in it is fail; the sink hasn't failed
-abbrev pub IsWritten : Answer → Option (List ℕ) → Option (List ℕ) → Bool → Bool → Type 0
+-- the answer's whole text was written, and this is what it comes to; the sink hasn't failed
+abbrev pub IsWritten : Answer → Option (List ℕ) → Option (List ℕ) → Bool → Conclusion → Type 0
 IsWritten answer old new failed found = IsOkAnd answer (λ a. Appends old new a.0 × (a.1 ≡ found) × (failed ≡ false))
 
 -- so many bytes of the answer's text, and not all, were written before the sink failed
@@ -28,11 +30,12 @@ abbrev pub IsCutOff : Answer → Option (List ℕ) → Option (List ℕ) → Boo
 IsCutOff answer old new failed written =
     IsOkAnd answer (λ a. Appends old new (take written a.0) × (written < length a.0) × (failed ≡ true))
 
--- What an end says: Kept and Found that the whole text was written and what was found, Write that a part was, and the others that
+-- What an end says: Kept, Found and Doubted that the whole text was written and what it comes to, Write that a part was, and the others that
 -- nothing was.
 abbrev pub EndsAs : Exit → Answer → Option (List ℕ) → Option (List ℕ) → Bool → Type 0
-EndsAs Kept answer old new failed = IsWritten answer old new failed false
-EndsAs Found answer old new failed = IsWritten answer old new failed true
+EndsAs Kept answer old new failed = IsWritten answer old new failed Clean
+EndsAs Found answer old new failed = IsWritten answer old new failed Failed
+EndsAs Doubted answer old new failed = IsWritten answer old new failed Doubtful
 EndsAs Refused answer old new failed = IsUntouched old new failed
 EndsAs Memory answer old new failed = IsUntouched old new failed
 EndsAs (Write written) answer old new failed = IsCutOff answer old new failed written
@@ -42,6 +45,7 @@ EndsAs (Write written) answer old new failed = IsCutOff answer old new failed wr
 abbrev pub Leaves : Exit → Option (List ℕ) → Option (List ℕ) → Bool → Type 0
 Leaves Kept old new failed = failed ≡ false
 Leaves Found old new failed = failed ≡ false
+Leaves Doubted old new failed = failed ≡ false
 Leaves Refused old new failed = IsUntouched old new failed
 Leaves Memory old new failed = IsUntouched old new failed
 Leaves (Write written) old new failed = failed ≡ true
@@ -50,11 +54,12 @@ Leaves (Write written) old new failed = failed ≡ true
 abbrev pub OnWhole : Exit → Type 0 → Type 0
 OnWhole Kept claim = claim
 OnWhole Found claim = claim
+OnWhole Doubted claim = claim
 OnWhole _ claim = Unit {0}
 
 -- ---- a command over a target
 
--- what was written by a command that came to a fault, and why
+-- what was written by a command that came to a fault, and why; a target whose verdict is a function of the scenario is never unsteady
 abbrev pub FallsShort : Answer → Option (List ℕ) → Option (List ℕ) → Bool → CommandFault → Type 0
 FallsShort answer old new failed (Scenario scenario.Memory) = IsUntouched old new failed
 FallsShort answer old new failed (Scenario (scenario.Bad kind entry term)) =
@@ -63,6 +68,7 @@ FallsShort answer old new failed (Plan number) = IsUntouched old new failed × (
 FallsShort answer old new failed (Campaign campaign.TooManyPlans) = IsUntouched old new failed × (answer ≡ Err too_many_plans)
 FallsShort answer old new failed (Campaign campaign.Memory) = IsUntouched old new failed
 FallsShort answer old new failed (Campaign (campaign.Write written)) = IsCutOff answer old new failed written
+FallsShort answer old new failed (Unsteady line) = ⊥
 FallsShort answer old new failed Outside = IsUntouched old new failed × (answer ≡ Err outside_target)
 
 -- why a command takes no scenario
@@ -73,10 +79,11 @@ IsUntaken taken (Plan number) = taken ≡ Err (no_plan number)
 IsUntaken taken (Campaign campaign.TooManyPlans) = taken ≡ Err too_many_plans
 IsUntaken taken (Campaign campaign.Memory) = Unit {0}
 IsUntaken taken (Campaign (campaign.Write written)) = ⊥
+IsUntaken taken (Unsteady line) = ⊥
 IsUntaken taken Outside = ⊥
 
--- what a command came to: whether a verdict in its text is fail, or a fault
-abbrev pub ComesTo : Answer → Option (List ℕ) → Option (List ℕ) → Bool → Result Bool CommandFault → Type 0
+-- what a command came to: what its text comes to, or a fault
+abbrev pub ComesTo : Answer → Option (List ℕ) → Option (List ℕ) → Bool → Result Conclusion CommandFault → Type 0
 ComesTo answer old new failed (Ok found) = IsWritten answer old new failed found
 ComesTo answer old new failed (Err fault) = FallsShort answer old new failed fault
 
@@ -101,7 +108,7 @@ abbrev pub TellsANote : Order → Option (List ℕ) → Option (List ℕ) → Bo
 TellsANote order old new failed = (notes : List ℕ) × MayNote order notes × IsNoted notes old new failed
 
 -- what a command told that came to this: its notes, where its text was written whole, and nothing before a fault is told
-abbrev pub Noted : Answer → Option (List ℕ) → Option (List ℕ) → Bool → Result Bool CommandFault → Type 0
+abbrev pub Noted : Answer → Option (List ℕ) → Option (List ℕ) → Bool → Result Conclusion CommandFault → Type 0
 Noted answer old new failed (Ok found) = TellsNotes answer old new failed
 Noted answer old new failed (Err fault) = IsUntouched old new failed
 
@@ -121,6 +128,7 @@ TellsARefusal old new failed = ((refusal : Refusal) × IsTold (refusal_line refu
 abbrev pub TellsOf : Type 0 → Type 0 → Exit → Option (List ℕ) → Option (List ℕ) → Bool → Type 0
 TellsOf noted refusal Kept old new failed = noted
 TellsOf noted refusal Found old new failed = noted
+TellsOf noted refusal Doubted old new failed = noted
 TellsOf noted refusal Refused old new failed = refusal
 TellsOf noted refusal Memory old new failed = IsTold memory_line old new failed
 TellsOf noted refusal (Write written) old new failed = IsTold (cut_off_line written) old new failed
@@ -152,6 +160,7 @@ IsEndOf (Plan number) end old new failed = RefusesWith (refusal_line (no_plan nu
 IsEndOf (Campaign campaign.TooManyPlans) end old new failed = (end ≡ Refused) × IsTold (refusal_line too_many_plans) old new failed
 IsEndOf (Campaign campaign.Memory) end old new failed = (end ≡ Memory) × IsTold memory_line old new failed
 IsEndOf (Campaign (campaign.Write written)) end old new failed = (end ≡ Write written) × IsTold (cut_off_line written) old new failed
+IsEndOf (Unsteady line) end old new failed = (end ≡ Refused) × IsTold (string_bytes line) old new failed
 IsEndOf Outside end old new failed = (end ≡ Refused) × IsTold (refusal_line outside_target) old new failed
 
 -- ---- words
@@ -161,6 +170,7 @@ IsEndOf Outside end old new failed = (end ≡ Refused) × IsTold (refusal_line o
 abbrev pub EndsWords : Exit → WordsFault → Option (List ℕ) → Option (List ℕ) → Bool → Type 0
 EndsWords Kept fault old new failed = AsksToSee fault × ((help : List ℕ) × Appends old new help) × (failed ≡ false)
 EndsWords Found fault old new failed = ⊥
+EndsWords Doubted fault old new failed = ⊥
 EndsWords Refused fault old new failed = (¬ AsksToSee fault) × IsUntouched old new failed
 EndsWords Memory fault old new failed = IsUntouched old new failed
 EndsWords (Write written) fault old new failed = AsksToSee fault

@@ -5,4 +5,5 @@ pub mod Commands
 pub mod Ends
 pub mod Minimal
 pub mod OwnTarget
+pub mod QuestionNotes
 pub mod Questions

@@ -10,7 +10,7 @@ use Rattle.campaign_main.specs.Commands.{campaign_for, taken}
 
 -- by what a campaign is given: of `run` the scenarios of the first failures, of `reduce` the one that it takes
 abbrev pub ReducesToMinimal : Order → Campaign → Type 0
-ReducesToMinimal (order.Run form) c = EachIsMinimal c
+ReducesToMinimal (order.Run form strict recheck) c = EachIsMinimal c
 ReducesToMinimal order.Map c = Unit {0}
 ReducesToMinimal order.Plans c = Unit {0}
 ReducesToMinimal (order.Try which) c = Unit {0}

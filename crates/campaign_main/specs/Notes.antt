@@ -1,9 +1,16 @@
--- What is noted beside a command's text: which names of its scenario no point of the target has.
-use Rattle.std.specs.Prelude.{◌≡◌, ◌++◌, [], ◌∷◌, ℕ, Bool, true, false, List, codes, flat_map, if◌then◌else◌}
-use Rattle.std.specs.List.{list_any}
+-- What is noted beside a command's text: which names of scenarios no point of the target has; and what makes a report say less than it seems to.
+use Rattle.std.specs.Prelude.{◌≡◌, ◌++◌, ◌+◌, ◌==◌, ◌&&◌, [], ◌∷◌, ℕ, Bool, true, false, List, codes, flat_map, length, map, nat_lt, slice_index_or, if◌then◌else◌}
+use Rattle.std.specs.Fmt.{decimal}
+use Rattle.std.specs.List.{list_all, list_any}
 use Rattle.std.specs.Str.{bytes_eq}
 use Rattle.scenario_values.specs.Scenario.{Entries}
-use Rattle.report.specs.ReportText.{text_of}
+use Rattle.report.specs.BriefText.{is_unresolved}
+use Rattle.report.specs.ReportText.{ended, text_of}
+use Rattle.plan_gen.specs.PlanList.{Asked}
+use Rattle.plan_survey.specs.Runs.{runs_from, unreached_in, unresolved_in}
+use Rattle.campaign_core.specs.CommandTexts.{tried}
+use Rattle.campaign_core.specs.Headline.{Campaign, census, plans, say}
+use Rattle.campaign_main.specs.declared.notes.Doubts.{Doubts}
 use Rattle.command_words.specs.declared.words.Order.{Order}
 use Rattle.command_words.specs.declared.words.Order.TheVariants as order
 
@@ -11,22 +18,100 @@ use Rattle.command_words.specs.declared.words.Order.TheVariants as order
 abbrev pub is_point : List (List ℕ) → List ℕ → Bool
 is_point points name = list_any (λ point. bytes_eq point name) points
 
--- the line for a name that no point has
-abbrev pub stranger_line : List ℕ → List ℕ
-stranger_line name = codes "scenario: no point is named " ++ name
+-- the line for a name that no point has, after words that say which scenario it stands in
+abbrev pub stranger_line : List ℕ → List ℕ → List ℕ
+stranger_line which name = which ++ codes ": no point is named " ++ name
 
-abbrev pub stranger_of : List (List ℕ) → List ℕ → List (List ℕ)
-stranger_of points name = if is_point points name then [] else stranger_line name ∷ []
+abbrev pub stranger_of : List (List ℕ) → List ℕ → List ℕ → List (List ℕ)
+stranger_of points which name = if is_point points name then [] else stranger_line which name ∷ []
 
 -- the lines for the names of a scenario, in its order
-abbrev pub notes_of : List (List ℕ) → Entries → List ℕ
-notes_of points scenario = text_of (flat_map (λ e. stranger_of points e.0) scenario)
+abbrev pub strangers_in : List (List ℕ) → List ℕ → Entries → List (List ℕ)
+strangers_in points which scenario = flat_map (λ e. stranger_of points which e.0) scenario
 
--- what an order may note: `try` and `explain` of some scenario over some points, and the others nothing
+-- what is noted of the scenario that a command takes
+abbrev pub notes_of : List (List ℕ) → Entries → List ℕ
+notes_of points scenario = text_of (strangers_in points (codes "scenario") scenario)
+
+-- what is noted of scenarios that the settings list, numbered from n on
+abbrev pub listed_from : List (List ℕ) → ℕ → List Entries → List ℕ
+listed_from points n [] = []
+listed_from points n (scenario ∷ more) =
+    text_of (strangers_in points (codes "settings: scenario " ++ decimal n) scenario) ++ listed_from points (n + 1) more
+
+-- of all of them
+abbrev pub listed_notes : List (List ℕ) → List Entries → List ℕ
+listed_notes points listed = listed_from points 1 listed
+
+-- ---- what makes a report say less than it seems to
+
+abbrev pub unresolved_line : ℕ → ℕ → List ℕ
+unresolved_line unresolved plans = codes "strict: " ++ (decimal unresolved ++ (codes " of " ++ (decimal plans ++ codes " plans unresolved")))
+
+abbrev pub text_if : Bool → List ℕ → List ℕ
+text_if true line = ended line
+text_if false line = []
+
+abbrev pub doubt_notes : Doubts → List ℕ
+doubt_notes d =
+    text_if d.clean (codes "strict: clean unresolved")
+    ++ (text_if (nat_lt 0 d.unresolved) (unresolved_line d.unresolved d.plans)
+    ++ (text_if d.unhit (codes "strict: no hits without faults")
+    ++ text_if d.unstormed (codes "strict: storms of rate 0")))
+
+-- storms that draw nothing
+abbrev pub draws_nothing : Asked → Bool
+draws_nothing asked = nat_lt 0 asked.storms && asked.rate == 0
+
+-- no point is hit
+abbrev pub is_unhit : List ℕ → Bool
+is_unhit counts = list_all (λ count. count == 0) counts
+
+-- of a campaign: the run without faults is unresolved, so many runs of its plans are, its census is without a hit, its storms draw nothing
+abbrev pub doubts_of : Campaign → Doubts
+doubts_of c = record {
+  clean = is_unresolved (say c 0 []);
+  unresolved = unresolved_in (runs_from (tried c) 0 (plans c));
+  plans = length (plans c);
+  unhit = is_unhit (census c);
+  unstormed = draws_nothing c.plans;
+}
+
+-- the line for a point that no run of a plan asks
+abbrev pub unreached_line : List ℕ → List ℕ
+unreached_line name = codes "strict: no run reaches " ++ name
+
+abbrev pub unreached_lines : List (List ℕ) → List ℕ → List (List ℕ)
+unreached_lines points unreached = map (λ p. unreached_line (slice_index_or points p [])) unreached
+
+-- what is noted of a campaign whose report is to be strict
+abbrev pub strict_notes : Campaign → List ℕ
+strict_notes c =
+    doubt_notes (doubts_of c) ++ text_of (unreached_lines c.points (unreached_in (length c.points) (runs_from (tried c) 0 (plans c))))
+
+-- what is noted beside a report
+abbrev pub report_notes : Bool → Campaign → List ℕ
+report_notes true c = listed_notes c.points c.plans.listed ++ strict_notes c
+report_notes false c = listed_notes c.points c.plans.listed
+
+-- something is noted that is to count
+abbrev pub is_doubted : Bool → List ℕ → Bool
+is_doubted strict notes = strict && nat_lt 0 (length notes)
+
+-- ---- which notes there may be
+
+-- of some scenario over some points, or of some listed ones
+abbrev pub NotesAScenario : List ℕ → Type 0
+NotesAScenario notes = (points : List (List ℕ)) × ((scenario : Entries) × (notes ≡ notes_of points scenario))
+
+abbrev pub NotesListed : List ℕ → Type 0
+NotesListed notes = (points : List (List ℕ)) × ((listed : List Entries) × (notes ≡ listed_notes points listed))
+
+-- what an order may note: `run` what is noted beside some campaign's report, `map` and `plans` of listed scenarios, and the others of one
 abbrev pub MayNote : Order → List ℕ → Type 0
-MayNote (order.Run form) notes = notes ≡ []
-MayNote order.Map notes = notes ≡ []
-MayNote order.Plans notes = notes ≡ []
-MayNote (order.Try which) notes = (points : List (List ℕ)) × ((scenario : Entries) × (notes ≡ notes_of points scenario))
-MayNote (order.Reduce which) notes = notes ≡ []
-MayNote (order.Explain which) notes = (points : List (List ℕ)) × ((scenario : Entries) × (notes ≡ notes_of points scenario))
+MayNote (order.Run form strict recheck) notes = (c : Campaign) × (notes ≡ report_notes strict c)
+MayNote order.Map notes = NotesListed notes
+MayNote order.Plans notes = NotesListed notes
+MayNote (order.Try which) notes = NotesAScenario notes
+MayNote (order.Reduce which) notes = NotesAScenario notes
+MayNote (order.Explain which) notes = NotesAScenario notes

@@ -28,11 +28,15 @@ use Rattle.outside_campaign.specs.Asked.{lines_for}
 use Rattle.outside_campaign.specs.Campaigns.{IsCut, code_name, untried}
 use Rattle.outside_campaign.specs.declared.refusal.OutsideFault.{OutsideFault}
 use Rattle.outside_campaign.specs.declared.refusal.OutsideFault.TheVariants as outside
+use Rattle.campaign_main.specs.declared.exit.Conclusion.{Conclusion}
+use Rattle.campaign_main.specs.declared.exit.Conclusion.TheVariants.{Clean, Failed, Doubtful}
 use Rattle.campaign_main.specs.declared.exit.Exit.{Exit}
-use Rattle.campaign_main.specs.declared.exit.Exit.TheVariants.{Kept, Found, Refused, Memory, Write}
+use Rattle.campaign_main.specs.declared.exit.Exit.TheVariants.{Kept, Found, Refused, Memory, Write, Doubted}
 use Rattle.campaign_main.specs.declared.fault.CommandFault.TheVariants as command
 use Rattle.campaign_main.specs.Commands.{Refusal, bad_answers, bad_settings, bundled_target, not_answered, of_text, outside_plans, too_many_plans}
-use Rattle.campaign_main.specs.Ends.{IsEndOf, IsTold, IsUntouched, RefusesWith, TellsBy}
+use Rattle.campaign_main.specs.Ends.{IsEndOf, IsNoted, IsTold, IsUntouched, RefusesWith, TellsOf}
+use Rattle.campaign_main.specs.Exit.{concluded}
+use Rattle.campaign_main.specs.QuestionNotes.{is_question_doubted, question_notes}
 use Rattle.campaign_main.specs.FaultLines.{refusal_line, unreadable_answers_line, unreadable_line}
 
 -- ---- what a question is about
@@ -102,18 +106,25 @@ pub record IsReported (form : Form) (s : Subject) (answers : List ℕ) (old new 
 
 abbrev pub IsAnswered : Question → Subject → List ℕ → Option (List ℕ) → Option (List ℕ) → Bool → Bool → Type 0
 IsAnswered Asks s answers old new failed found = IsAsked s answers old new failed found
-IsAnswered (Report form) s answers old new failed found = IsReported form s answers old new failed found
+IsAnswered (Report form strict) s answers old new failed found = IsReported form s answers old new failed found
 
 -- so many bytes of that text, and not all, were written before the sink failed
 abbrev pub IsPart : Question → Subject → List ℕ → Option (List ℕ) → Option (List ℕ) → Bool → ℕ → Type 0
 IsPart Asks s answers old new failed n = IsCut old new (asks_text s answers) n × (failed ≡ true)
-IsPart (Report form) s answers old new failed n =
+IsPart (Report form strict) s answers old new failed n =
     ((component : Component) → AgreesWithText s.1.codes answers component → IsCut old new (told_text form s component) n) × (failed ≡ true)
+
+-- the text was written whole, and this is what it comes to
+abbrev pub IsConcluded : Question → Subject → List ℕ → Option (List ℕ) → Option (List ℕ) → Bool → Conclusion → Type 0
+IsConcluded question s answers old new failed conclusion =
+    (found : Bool) × IsAnswered question s answers old new failed found
+    × (conclusion ≡ concluded found (is_question_doubted question (question_notes question s.0 s.1 answers)))
 
 -- what an end says of the output
 abbrev pub EndsAnswered : Question → Subject → List ℕ → Exit → Option (List ℕ) → Option (List ℕ) → Bool → Type 0
-EndsAnswered question s answers Kept old new failed = IsAnswered question s answers old new failed false
-EndsAnswered question s answers Found old new failed = IsAnswered question s answers old new failed true
+EndsAnswered question s answers Kept old new failed = IsConcluded question s answers old new failed Clean
+EndsAnswered question s answers Found old new failed = IsConcluded question s answers old new failed Failed
+EndsAnswered question s answers Doubted old new failed = IsConcluded question s answers old new failed Doubtful
 EndsAnswered question s answers Refused old new failed = IsUntouched old new failed
 EndsAnswered question s answers Memory old new failed = IsUntouched old new failed
 EndsAnswered question s answers (Write written) old new failed = IsPart question s answers old new failed written
@@ -129,12 +140,27 @@ abbrev pub EndsQuestion : Question → Result Subject Refusal → List ℕ → E
 EndsQuestion question (Ok s) answers end old new failed = EndsAnswered question s answers end old new failed
 EndsQuestion question (Err refusal) answers end old new failed = EndsUnanswered end old new failed
 
+-- ---- notes
+
+-- what is noted was told, by what the settings come to
+abbrev pub NotesQuestion : Question → Result Subject Refusal → List ℕ → Option (List ℕ) → Option (List ℕ) → Bool → Type 0
+NotesQuestion question (Ok s) answers old new failed = IsNoted (question_notes question s.0 s.1 answers) old new failed
+NotesQuestion question (Err refusal) answers old new failed = ⊥
+
+-- why nothing is noted: the answers have a fault, or there are too many plans
+abbrev pub IsUnnoted : Subject → List ℕ → OutsideFault → Type 0
+IsUnnoted s answers (outside.Answers f) = reading_of s.1.codes answers ≡ Err f
+IsUnnoted s answers (outside.NotAnswered t) = ⊥
+IsUnnoted s answers (outside.Campaign campaign.TooManyPlans) = most_plans < length (outside_plans s.0 s.1)
+IsUnnoted s answers (outside.Campaign campaign.Memory) = Unit {0}
+IsUnnoted s answers (outside.Campaign (campaign.Write n)) = ⊥
+
 -- ---- refusals
 
 -- a report waits for the first of what is still to be tried
 abbrev pub IsWaitedFor : Question → Subject → List ℕ → Entries → Type 0
 IsWaitedFor Asks s answers t = ⊥
-IsWaitedFor (Report form) s answers t = (more : List Entries) × (untried_of s answers ≡ t ∷ more)
+IsWaitedFor (Report form strict) s answers t = (more : List Entries) × (untried_of s answers ≡ t ∷ more)
 
 -- why a question is refused, by the answers
 abbrev pub RefusesAnswers : Question → Subject → List ℕ → Refusal → Type 0
@@ -161,7 +187,7 @@ IsNotAnswered question read answers old new failed =
 -- what an end tells on the sink of faults, whatever was read
 abbrev pub TellsOfQuestion : Exit → Option (List ℕ) → Option (List ℕ) → Bool → Type 0
 TellsOfQuestion end old new failed =
-    TellsBy (((refusal : Refusal) × IsTold (refusal_line refusal) old new failed)
+    TellsOf ((notes : List ℕ) × IsNoted notes old new failed) (((refusal : Refusal) × IsTold (refusal_line refusal) old new failed)
     ⊎ (IsTold unreadable_line old new failed ⊎ IsTold unreadable_answers_line old new failed)) end old new failed
 
 -- how a question ends that came to a fault, and what it tells
@@ -185,3 +211,13 @@ FallsShortOf question s answers old new failed (outside.Campaign (campaign.Write
 abbrev pub ComesToText : Question → Subject → List ℕ → Option (List ℕ) → Option (List ℕ) → Bool → Result Bool OutsideFault → Type 0
 ComesToText question s answers old new failed (Ok found) = IsAnswered question s answers old new failed found
 ComesToText question s answers old new failed (Err fault) = FallsShortOf question s answers old new failed fault
+
+-- the same with what the text comes to
+abbrev pub ConcludesText : Question → Subject → List ℕ → Option (List ℕ) → Option (List ℕ) → Bool → Result Conclusion OutsideFault → Type 0
+ConcludesText question s answers old new failed (Ok conclusion) = IsConcluded question s answers old new failed conclusion
+ConcludesText question s answers old new failed (Err fault) = FallsShortOf question s answers old new failed fault
+
+-- what it told: its notes, where its text was written whole, and nothing before a fault is told
+abbrev pub NotesText : Question → Subject → List ℕ → Option (List ℕ) → Option (List ℕ) → Bool → Result Conclusion OutsideFault → Type 0
+NotesText question s answers old new failed (Ok conclusion) = IsNoted (question_notes question s.0 s.1 answers) old new failed
+NotesText question s answers old new failed (Err fault) = IsUntouched old new failed

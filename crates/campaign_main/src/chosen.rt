@@ -5,6 +5,7 @@ ghost use Rattle.campaign_main.specs.Ends.{ComesTo, Noted};
 ghost use Rattle.campaign_main.specs.Minimal.{ReducesToMinimal};
 
 use crate::command::command;
+use crate::exit::Conclusion;
 use crate::fault::CommandFault;
 use crate::outside::outside_command;
 use campaign_given::CampaignSettings;
@@ -29,7 +30,7 @@ pub fn chosen_command<W: Sink, E: Sink, H: Threads + Wait + Sync, G: Gate>(
     settings: &CampaignSettings,
     output: &mut W,
     faults: &mut E,
-) -> Result<bool, CommandFault>
+) -> Result<Conclusion, CommandFault>
     requires output { W.has_failed output.old ≡ false }
     requires faults { E.has_failed faults.old ≡ false }
     ensures text { ComesTo (choice_answer order.now settings.now choice.now) (W.told output.old) (W.told output.new)
@@ -81,6 +82,8 @@ pub fn chosen_command<W: Sink, E: Sink, H: Threads + Wait + Sync, G: Gate>(
                 faults,
             )
         }
-        Choice::Outside(outside) => outside_command(alloc, order, outside, settings, output),
+        Choice::Outside(outside) => {
+            outside_command(alloc, order, outside, settings, output, faults)
+        },
     }
 }

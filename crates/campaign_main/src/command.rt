@@ -9,10 +9,11 @@ ghost use Rattle.campaign_main.specs.Ends.{ComesTo, IsUntaken, Noted};
 ghost use Rattle.campaign_main.specs.Notes.{notes_of};
 ghost use Rattle.campaign_main.specs.Minimal.{ReducesToMinimal};
 
-use crate::exit::is_fail;
+use crate::exit::{Conclusion, concluded, is_fail};
 use crate::fault::CommandFault;
 use crate::lines::note;
-use crate::notes::notes_on;
+use crate::notes::{is_doubted, listed_of, notes_on, report_notes_on};
+use crate::steady::check_steady;
 use campaign_core::{
     CampaignFault, Ending, brief_campaign, campaign, map_campaign, plan_list, plan_scenario,
     reduce_one, try_one,
@@ -56,8 +57,8 @@ where
     }
 }
 
-/// Runs a campaign, writes its report in this form, and answers whether a plan fails.
-fn run_plans<T: Target + Send, W: Sink, H: Threads + Wait + Sync, G: Gate>(
+/// Runs a campaign, writes its report in this form and what is noted beside it, and answers what it comes to.
+fn run_plans<T: Target + Send, W: Sink, E: Sink, H: Threads + Wait + Sync, G: Gate>(
     rt: &H,
     alloc: Global,
     gate: &G,
@@ -65,21 +66,29 @@ fn run_plans<T: Target + Send, W: Sink, H: Threads + Wait + Sync, G: Gate>(
     workload: &T::Workload,
     settings: &CampaignSettings,
     form: Form,
+    strict: bool,
     output: &mut W,
-) -> Result<bool, CommandFault>
+    faults: &mut E,
+) -> Result<Conclusion, CommandFault>
 where
     T::Workload: Sync,
-    requires { W.has_failed output.old ≡ false }
-    ensures text { ComesTo (run_answer form (campaign_on T.Target target.now workload.now settings.now)) (W.told output.old) (W.told output.new)
-        (W.has_failed output.new) result }
+    requires output { W.has_failed output.old ≡ false }
+    requires faults { E.has_failed faults.old ≡ false }
+    ensures text { ComesTo (run_answer form strict (campaign_on T.Target target.now workload.now settings.now)) (W.told output.old)
+        (W.told output.new) (W.has_failed output.new) result }
+    ensures noted { Noted (run_answer form strict (campaign_on T.Target target.now workload.now settings.now))
+        (E.told faults.old) (E.told faults.new) (E.has_failed faults.new) result }
     ensures minimal { OnOk result (EachIsMinimal (campaign_on T.Target target.now workload.now settings.now)) }
 {
+    let notes = report_notes_on(alloc, strict, target, workload, settings)?;
     let ending = report_plans(rt, alloc, gate, target, workload, settings, form, output)?;
-    Ok(ending.first.is_some())
+    note(notes.as_str(), faults);
+    let doubted = is_doubted(strict, notes.as_str());
+    Ok(concluded(ending.first.is_some(), doubted))
 }
 
-/// Runs a campaign, and writes its map.
-fn map_plans<T: Target + Send, W: Sink, H: Threads + Wait + Sync, G: Gate>(
+/// Runs a campaign, and writes its map and what is noted of the listed scenarios.
+fn map_plans<T: Target + Send, W: Sink, E: Sink, H: Threads + Wait + Sync, G: Gate>(
     rt: &H,
     alloc: Global,
     gate: &G,
@@ -87,31 +96,43 @@ fn map_plans<T: Target + Send, W: Sink, H: Threads + Wait + Sync, G: Gate>(
     workload: &T::Workload,
     settings: &CampaignSettings,
     output: &mut W,
-) -> Result<bool, CommandFault>
+    faults: &mut E,
+) -> Result<Conclusion, CommandFault>
 where
     T::Workload: Sync,
-    requires { W.has_failed output.old ≡ false }
-    ensures { ComesTo (map_answer (campaign_on T.Target target.now workload.now settings.now)) (W.told output.old) (W.told output.new)
+    requires output { W.has_failed output.old ≡ false }
+    requires faults { E.has_failed faults.old ≡ false }
+    ensures text { ComesTo (map_answer (campaign_on T.Target target.now workload.now settings.now)) (W.told output.old) (W.told output.new)
         (W.has_failed output.new) result }
+    ensures noted { Noted (map_answer (campaign_on T.Target target.now workload.now settings.now))
+        (E.told faults.old) (E.told faults.new) (E.has_failed faults.new) result }
 {
+    let notes = listed_of::<T>(alloc, settings)?;
     let ending = map_campaign(rt, alloc, target, workload, settings, gate, output)?;
-    Ok(ending.first.is_some())
+    note(notes.as_str(), faults);
+    Ok(concluded(ending.first.is_some(), false))
 }
 
-/// Writes the list of a campaign's plans.
-fn list_plans<T: Target, W: Sink>(
+/// Writes the list of a campaign's plans, and what is noted of the listed scenarios.
+fn list_plans<T: Target, W: Sink, E: Sink>(
     alloc: Global,
     target: &T,
     workload: &T::Workload,
     settings: &CampaignSettings,
     output: &mut W,
-) -> Result<bool, CommandFault>
-    requires { W.has_failed output.old ≡ false }
-    ensures { ComesTo (plans_answer (campaign_on T.Target target.now workload.now settings.now)) (W.told output.old) (W.told output.new)
+    faults: &mut E,
+) -> Result<Conclusion, CommandFault>
+    requires output { W.has_failed output.old ≡ false }
+    requires faults { E.has_failed faults.old ≡ false }
+    ensures text { ComesTo (plans_answer (campaign_on T.Target target.now workload.now settings.now)) (W.told output.old) (W.told output.new)
         (W.has_failed output.new) result }
+    ensures noted { Noted (plans_answer (campaign_on T.Target target.now workload.now settings.now))
+        (E.told faults.old) (E.told faults.new) (E.has_failed faults.new) result }
 {
+    let notes = listed_of::<T>(alloc, settings)?;
     plan_list(alloc, target, workload, settings, output)?;
-    Ok(false)
+    note(notes.as_str(), faults);
+    Ok(Conclusion::Clean)
 }
 
 /// The stream number and the scenario that a command takes. Nothing is written.
@@ -163,7 +184,7 @@ fn try_which<T: Target, W: Sink, E: Sink>(
     which: &Which,
     output: &mut W,
     faults: &mut E,
-) -> Result<bool, CommandFault>
+) -> Result<Conclusion, CommandFault>
     requires output { W.has_failed output.old ≡ false }
     requires faults { E.has_failed faults.old ≡ false }
     ensures text { let c = campaign_on T.Target target.old workload.now settings.now in
@@ -174,7 +195,7 @@ fn try_which<T: Target, W: Sink, E: Sink>(
     let (stream, scenario, notes) = take_noted(alloc, target, workload, settings, which)?;
     let verdict = try_one(alloc, target, workload, settings, stream, &scenario, output)?;
     note(notes.as_str(), faults);
-    Ok(is_fail(verdict))
+    Ok(concluded(is_fail(verdict), false))
 }
 
 /// Tells the run of the scenario that the command takes.
@@ -186,7 +207,7 @@ fn explain_which<T: Target, W: Sink, E: Sink>(
     which: &Which,
     output: &mut W,
     faults: &mut E,
-) -> Result<bool, CommandFault>
+) -> Result<Conclusion, CommandFault>
     requires output { W.has_failed output.old ≡ false }
     requires faults { E.has_failed faults.old ≡ false }
     ensures text { let c = campaign_on T.Target target.old workload.now settings.now in
@@ -197,11 +218,11 @@ fn explain_which<T: Target, W: Sink, E: Sink>(
     let (stream, scenario, notes) = take_noted(alloc, target, workload, settings, which)?;
     let verdict = explain_one(alloc, target, workload, settings, stream, &scenario, output)?;
     note(notes.as_str(), faults);
-    Ok(is_fail(verdict))
+    Ok(concluded(is_fail(verdict), false))
 }
 
 /// Reduces the scenario that the command takes.
-fn reduce_which<T: Target + Send, W: Sink, H: Threads + Wait + Sync, G: Gate>(
+fn reduce_which<T: Target + Send, W: Sink, E: Sink, H: Threads + Wait + Sync, G: Gate>(
     rt: &H,
     alloc: Global,
     gate: &G,
@@ -210,25 +231,30 @@ fn reduce_which<T: Target + Send, W: Sink, H: Threads + Wait + Sync, G: Gate>(
     settings: &CampaignSettings,
     which: &Which,
     output: &mut W,
-) -> Result<bool, CommandFault>
+    faults: &mut E,
+) -> Result<Conclusion, CommandFault>
 where
     T::Workload: Sync,
-    requires { W.has_failed output.old ≡ false }
+    requires output { W.has_failed output.old ≡ false }
+    requires faults { E.has_failed faults.old ≡ false }
     ensures text { let c = campaign_on T.Target target.now workload.now settings.now in
         ComesTo (taken_answer (reduce_answer c) (taken c which.now)) (W.told output.old) (W.told output.new) (W.has_failed output.new) result }
+    ensures noted { let c = campaign_on T.Target target.now workload.now settings.now in
+        Noted (taken_answer (reduce_answer c) (taken c which.now)) (E.told faults.old) (E.told faults.new) (E.has_failed faults.new) result }
     ensures minimal { let c = campaign_on T.Target target.now workload.now settings.now in
         OnOk result (IfOk (taken c which.now) (λ t. IsReducedToMinimal c t.0 t.1)) }
 {
-    let (stream, scenario) = take_scenario(alloc, target, workload, settings, which)?;
+    let (stream, scenario, notes) = take_noted(alloc, target, workload, settings, which)?;
     let verdict = reduce_one(
         rt, alloc, target, workload, settings, stream, &scenario, gate, output,
     )?;
-    Ok(is_fail(verdict))
+    note(notes.as_str(), faults);
+    Ok(concluded(is_fail(verdict), false))
 }
 
 /// Does what is ordered with this target, writes the command's text, and after it to the sink of faults what is noted beside it.
 ///
-/// It answers whether a verdict in the text is fail, where the whole text was written. Else nothing was written, or the fault tells
+/// It answers what the text comes to, where the whole text was written. Else nothing was written, or the fault tells
 /// how many bytes of the text, fewer than all, went out. Only then the output has failed.
 pub fn command<T: Target + Send, W: Sink, E: Sink, H: Threads + Wait + Sync, G: Gate>(
     rt: &H,
@@ -240,7 +266,7 @@ pub fn command<T: Target + Send, W: Sink, E: Sink, H: Threads + Wait + Sync, G: 
     settings: &CampaignSettings,
     output: &mut W,
     faults: &mut E,
-) -> Result<bool, CommandFault>
+) -> Result<Conclusion, CommandFault>
 where
     T::Workload: Sync,
     requires output { W.has_failed output.old ≡ false }
@@ -252,12 +278,23 @@ where
     ensures minimal { OnOk result (ReducesToMinimal order.now (campaign_on T.Target target.old workload.now settings.now)) }
 {
     match order {
-        Order::Run(form) => run_plans(rt, alloc, gate, target, workload, settings, *form, output),
-        Order::Map => map_plans(rt, alloc, gate, target, workload, settings, output),
-        Order::Plans => list_plans(alloc, target, workload, settings, output),
+        Order::Run {
+            form,
+            strict,
+            recheck,
+        } => {
+            if *recheck {
+                check_steady(alloc, target, workload, settings)?;
+            }
+            run_plans(
+                rt, alloc, gate, target, workload, settings, *form, *strict, output, faults,
+            )
+        }
+        Order::Map => map_plans(rt, alloc, gate, target, workload, settings, output, faults),
+        Order::Plans => list_plans(alloc, target, workload, settings, output, faults),
         Order::Try(which) => try_which(alloc, target, workload, settings, which, output, faults),
         Order::Reduce(which) => reduce_which(
-            rt, alloc, gate, target, workload, settings, which, output,
+            rt, alloc, gate, target, workload, settings, which, output, faults,
         ),
         Order::Explain(which) => explain_which(
             alloc, target, workload, settings, which, output, faults,

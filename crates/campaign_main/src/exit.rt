@@ -1,6 +1,6 @@
 //! How a command ended.
 ghost use Rattle.std.specs.Prelude.{◌≡◌};
-ghost use Rattle.campaign_main.specs.Exit.{status_of, exit_of, is_fail};
+ghost use Rattle.campaign_main.specs.Exit.{status_of, concluded, exit_of, is_fail};
 
 use target_trait::Verdict;
 
@@ -17,9 +17,22 @@ pub enum Exit {
     Memory,
     /// A write failed after this many bytes of the text.
     Write(u64),
+    /// The command's text was written, and no verdict in it is fail; it was to be strict, and something was told beside the text.
+    Doubted,
 }
 
-/// The exit status of the program: 0 for Kept, 1 for Found, 2 for Refused, 3 for Memory, 4 for a failed write.
+/// What a text comes to that was written whole.
+#[derive(Clone, Copy, Debug, PartialEq, Eq)]
+pub enum Conclusion {
+    /// No verdict in it is fail.
+    Clean,
+    /// A verdict in it is fail.
+    Failed,
+    /// No verdict in it is fail, and what was told beside it makes that say less.
+    Doubtful,
+}
+
+/// The exit status of the program: 0 for Kept, 1 for Found, 2 for Refused, 3 for Memory, 4 for a failed write, 5 for Doubted.
 pub fn status(exit: &Exit) -> u8
     ensures { result ≡ status_of exit.now }
 {
@@ -29,14 +42,30 @@ pub fn status(exit: &Exit) -> u8
         Exit::Refused => 2,
         Exit::Memory => 3,
         Exit::Write(_) => 4,
+        Exit::Doubted => 5,
     }
 }
 
-/// How a command ends whose text was written, by whether a verdict in it is fail.
-pub(crate) fn exit_of(found: bool) -> Exit
-    ensures { result ≡ exit_of found }
+/// What a text comes to, by whether a verdict in it is fail, and whether what is told beside it is to count.
+pub(crate) fn concluded(found: bool, doubted: bool) -> Conclusion
+    ensures { result ≡ concluded found doubted }
 {
-    if found { Exit::Found } else { Exit::Kept }
+    match (found, doubted) {
+        (true, _) => Conclusion::Failed,
+        (false, true) => Conclusion::Doubtful,
+        (false, false) => Conclusion::Clean,
+    }
+}
+
+/// How a command ends whose text was written.
+pub(crate) fn exit_of(conclusion: Conclusion) -> Exit
+    ensures { result ≡ exit_of conclusion }
+{
+    match conclusion {
+        Conclusion::Clean => Exit::Kept,
+        Conclusion::Failed => Exit::Found,
+        Conclusion::Doubtful => Exit::Doubted,
+    }
 }
 
 /// Whether a verdict is fail.

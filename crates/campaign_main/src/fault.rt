@@ -16,6 +16,8 @@ pub enum CommandFault {
     Plan(u16),
     /// What it does with the target came to no text, or the text wasn't written whole.
     Campaign(CampaignFault),
+    /// The target's verdict on a plan isn't the same twice, as this line says, which ends in its line feed. Nothing was written.
+    Unsteady(String),
     /// Somebody else runs the component, and the command would run it. Nothing was written.
     Outside,
 }

@@ -2,6 +2,7 @@
 //! text is written, or the line that says why there is none.
 #![tactic(auto)]
 
+mod answer_notes;
 mod chosen;
 mod command;
 mod exit;
@@ -14,6 +15,7 @@ mod own;
 mod performing;
 mod questions;
 mod refusals;
+mod steady;
 
 pub use campaign_core::{
     CampaignFault, Ending, campaign, plan_list, plan_scenario, reduce_one, try_one,

@@ -177,6 +177,7 @@ pub fn unanswered<E: Sink>(alloc: Global, fault: &CommandFault, faults: &mut E) 
         CommandFault::Scenario(cause) => unspelled(alloc, cause, faults),
         CommandFault::Plan(number) => refused_by(plan_line(alloc, *number), faults),
         CommandFault::Campaign(cause) => unwritten(*cause, faults),
+        CommandFault::Unsteady(line) => refused(line.as_str(), faults),
         CommandFault::Outside => refused(
             "settings: target outside: only plans, asks and report\n",
             faults,

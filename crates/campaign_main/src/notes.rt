@@ -1,12 +1,41 @@
-//! Which names of a scenario no point of a target has.
-ghost use Rattle.std.specs.Prelude.{◌≡◌, ◌++◌, string_bytes, IfOk, OnOk};
+//! What is noted beside a command's text: names of scenarios that no point of a target has, and what makes a report say less than it seems
+//! to.
+ghost use Rattle.std.specs.Prelude.{◌≡◌, ◌<◌, ◌++◌, [], All, codes, length, nat_lt, slice_index_or, string_bytes, IfErr, IfOk, IsErrOf, OnOk};
+ghost use Rattle.std.specs.Fmt.{decimal};
 ghost use Rattle.action_eval.specs.Answers.{texts};
+ghost use Rattle.plan_gen.specs.PlanList.{most_plans};
+ghost use Rattle.report.specs.BriefText.{is_unresolved};
 ghost use Rattle.report.specs.ReportText.{ended, text_of};
-ghost use Rattle.campaign_main.specs.Notes.{is_point, notes_of, stranger_line, stranger_of};
+ghost use Rattle.plan_survey.specs.Runs.{runs_from, unreached_in, unresolved_in};
+ghost use Rattle.campaign_core.specs.CommandTexts.{IsUnlisted, tried};
+ghost use Rattle.campaign_core.specs.Headline.{campaign_on, census, plans, say};
+ghost use Rattle.campaign_main.specs.Notes.{doubt_notes, draws_nothing, is_doubted, is_point, is_unhit, listed_notes, notes_of, report_notes, stranger_line, stranger_of, strangers_in, strict_notes, text_if, unreached_line, unreached_lines, unresolved_line};
 
+use campaign_core::CampaignFault;
+use campaign_given::{CampaignSettings, Outside};
+use outside_campaign::borrowed;
+use plan_gen::{Census, PlanFault, PlanList, by_census, plans};
+use plan_survey::{Survey, survey_plans};
 use scenario_grammar::Scenario;
+use scenario_values::build;
 use std::alloc::{AllocError, Global};
 use std::fmt::Write;
+use target_trait::{Target, Verdict, run_verdict};
+
+/// What makes a report say less than it seems to.
+#[derive(Clone, Copy, Debug)]
+pub struct Doubts {
+    /// The run without faults is unresolved.
+    pub clean: bool,
+    /// How many plans are unresolved.
+    pub unresolved: u32,
+    /// How many plans there are.
+    pub plans: u32,
+    /// No point is hit without faults.
+    pub unhit: bool,
+    /// There are storms, and they draw nothing.
+    pub unstormed: bool,
+}
 
 /// Whether a point has this name.
 fn is_point(points: &[&str], name: &str) -> bool
@@ -20,28 +49,296 @@ fn is_point(points: &[&str], name: &str) -> bool
     false
 }
 
-fn write_strange(out: &mut String, name: &str) -> Result<(), AllocError>
-    ensures { OnOk result (string_bytes out.new ≡ string_bytes out.old ++ ended (stranger_line name.now)) }
+fn write_strange(out: &mut String, which: &str, name: &str) -> Result<(), AllocError>
+    ensures { OnOk result (string_bytes out.new ≡ string_bytes out.old ++ ended (stranger_line which.now name.now)) }
 {
-    writeln!(out, "scenario: no point is named {name}")
+    writeln!(out, "{which}: no point is named {name}")
 }
 
-fn write_if_strange(out: &mut String, points: &[&str], name: &str) -> Result<(), AllocError>
-    ensures { OnOk result (string_bytes out.new ≡ string_bytes out.old ++ text_of (stranger_of (texts points.now) name.now)) }
+fn write_if_strange(
+    out: &mut String,
+    points: &[&str],
+    which: &str,
+    name: &str,
+) -> Result<(), AllocError>
+    ensures { OnOk result (string_bytes out.new ≡ string_bytes out.old ++ text_of (stranger_of (texts points.now) which.now name.now)) }
 {
     if is_point(points, name) {
         return Ok(());
     }
-    write_strange(out, name)
+    write_strange(out, which, name)
 }
 
-/// A line for each name of the scenario that no point has, in the scenario's order.
+/// A line for each name of the scenario that no point has, in the scenario's order, after words that say which scenario it is.
+pub fn write_strangers(
+    out: &mut String,
+    points: &[&str],
+    which: &str,
+    scenario: &Scenario,
+) -> Result<(), AllocError>
+    ensures { OnOk result (string_bytes out.new ≡ string_bytes out.old ++ text_of (strangers_in (texts points.now) which.now scenario.now)) }
+{
+    for (name, _) in scenario.entries() {
+        write_if_strange(out, points, which, name.as_str())?;
+    }
+    Ok(())
+}
+
+/// What is noted of the scenario that a command takes: a line for each name that no point has, in the scenario's order.
 pub fn notes_on(alloc: Global, points: &[&str], scenario: &Scenario) -> Result<String, AllocError>
     ensures { IfOk result (λ lines. string_bytes lines ≡ notes_of (texts points.now) scenario.now) }
 {
     let mut lines = String::new(alloc);
-    for (name, _) in scenario.entries() {
-        write_if_strange(&mut lines, points, name.as_str())?;
+    write_strangers(&mut lines, points, "scenario", scenario)?;
+    Ok(lines)
+}
+
+/// The same of a scenario that the settings list, by its number.
+fn write_listed(
+    alloc: Global,
+    out: &mut String,
+    points: &[&str],
+    number: usize,
+    scenario: &Scenario,
+) -> Result<(), AllocError>
+    ensures { OnOk result (string_bytes out.new ≡ string_bytes out.old
+        ++ text_of (strangers_in (texts points.now) (codes "settings: scenario " ++ decimal number) scenario.now)) }
+{
+    let which = format!(in alloc; "settings: scenario {number}")?;
+    write_strangers(out, points, which.as_str(), scenario)
+}
+
+/// What is noted of the scenarios that the settings list, numbered from 1.
+pub fn listed_on(alloc: Global, points: &[&str], listed: &[Scenario]) -> Result<String, AllocError>
+    ensures { IfOk result (λ lines. string_bytes lines ≡ listed_notes (texts points.now) listed.now) }
+{
+    let mut lines = String::new(alloc);
+    for place in 0..listed.len() {
+        write_listed(alloc, &mut lines, points, place + 1, &listed[place])?;
     }
     Ok(lines)
+}
+
+/// What is noted of the scenarios that the settings of a target list. An error means that memory was refused.
+pub fn listed_of<T: Target>(
+    alloc: Global,
+    settings: &CampaignSettings,
+) -> Result<String, AllocError>
+    ensures { IfOk result (λ lines. string_bytes lines ≡ listed_notes T.names settings.now.plans.listed) }
+{
+    listed_on(alloc, T::catalogue(), settings.scenarios.as_slice())
+}
+
+/// The same of a component that somebody else runs.
+pub fn listed_outside(
+    alloc: Global,
+    outside: &Outside,
+    settings: &CampaignSettings,
+) -> Result<String, AllocError>
+    ensures { IfOk result (λ lines. string_bytes lines ≡ listed_notes outside.now.points settings.now.plans.listed) }
+{
+    let points = borrowed(alloc, outside.points.as_slice())?;
+    listed_on(alloc, points.as_slice(), settings.scenarios.as_slice())
+}
+
+fn write_if(out: &mut String, condition: bool, line: &str) -> Result<(), AllocError>
+    ensures { OnOk result (string_bytes out.new ≡ string_bytes out.old ++ text_if condition line.now) }
+{
+    if condition {
+        writeln!(out, "{line}")?;
+    }
+    Ok(())
+}
+
+fn write_unresolved(out: &mut String, unresolved: u32, plans: u32) -> Result<(), AllocError>
+    ensures { OnOk result (string_bytes out.new ≡ string_bytes out.old ++ ended (unresolved_line unresolved plans)) }
+{
+    writeln!(out, "strict: {unresolved} of {plans} plans unresolved")
+}
+
+fn write_if_unresolved(
+    out: &mut String,
+    condition: bool,
+    unresolved: u32,
+    plans: u32,
+) -> Result<(), AllocError>
+    ensures { OnOk result (string_bytes out.new ≡ string_bytes out.old ++ text_if condition (unresolved_line unresolved plans)) }
+{
+    if condition {
+        write_unresolved(out, unresolved, plans)?;
+    }
+    Ok(())
+}
+
+fn is_some_number(number: u32) -> bool
+    ensures { result ≡ nat_lt 0 number }
+{
+    number > 0
+}
+
+pub fn write_doubts(out: &mut String, doubts: &Doubts) -> Result<(), AllocError>
+    ensures { OnOk result (string_bytes out.new ≡ string_bytes out.old ++ doubt_notes doubts.now) }
+{
+    write_if(out, doubts.clean, "strict: clean unresolved")?;
+    let some = is_some_number(doubts.unresolved);
+    write_if_unresolved(out, some, doubts.unresolved, doubts.plans)?;
+    write_if(out, doubts.unhit, "strict: no hits without faults")?;
+    write_if(out, doubts.unstormed, "strict: storms of rate 0")
+}
+
+/// The name of the point of this number.
+fn point_name<'a>(points: &[&'a str], point: u32) -> &'a str
+    requires { point < length points.now }
+    ensures { result.now ≡ slice_index_or (texts points.now) point [] }
+{
+    points[point as usize]
+}
+
+fn write_unreached_name(out: &mut String, name: &str) -> Result<(), AllocError>
+    ensures { OnOk result (string_bytes out.new ≡ string_bytes out.old ++ ended (unreached_line name.now)) }
+{
+    writeln!(out, "strict: no run reaches {name}")
+}
+
+fn write_unreached(out: &mut String, points: &[&str], point: u32) -> Result<(), AllocError>
+    requires { point < length points.now }
+    ensures { OnOk result (string_bytes out.new ≡ string_bytes out.old ++ ended (unreached_line (slice_index_or (texts points.now) point []))) }
+{
+    write_unreached_name(out, point_name(points, point))
+}
+
+fn write_all_unreached(
+    out: &mut String,
+    points: &[&str],
+    unreached: &[u32],
+) -> Result<(), AllocError>
+    requires { All (λ p. p < length points.now) unreached.now }
+    ensures { OnOk result (string_bytes out.new ≡ string_bytes out.old ++ text_of (unreached_lines (texts points.now) unreached.now)) }
+{
+    for point in unreached {
+        write_unreached(out, points, *point)?;
+    }
+    Ok(())
+}
+
+/// Whether no point is hit.
+pub fn is_unhit(counts: &[u32]) -> bool
+    ensures { result ≡ is_unhit counts.now }
+{
+    counts.iter().all(|count| *count == 0)
+}
+
+/// Whether there are storms that draw nothing.
+pub fn draws_nothing(settings: &CampaignSettings) -> bool
+    ensures { result ≡ draws_nothing settings.now.plans }
+{
+    settings.storms > 0 && settings.rate == 0
+}
+
+/// A campaign's census and its plans.
+pub fn planned<'a, T: Target>(
+    alloc: Global,
+    target: &mut T,
+    workload: &T::Workload,
+    settings: &'a CampaignSettings,
+) -> Result<(Census, PlanList<'a>), PlanFault>
+    ensures census { IfOk result (λ r. r.0.counts.items ≡ census (campaign_on T.Target target.old workload.now settings.now)) }
+    ensures plans { IfOk result (λ r. r.1 ≡ plans (campaign_on T.Target target.old workload.now settings.now)) }
+    ensures many { IsErrOf result PlanFault.TooManyPlans → most_plans < length (plans (campaign_on T.Target target.old workload.now settings.now)) }
+    ensures setup { target.new ≡ target.old }
+{
+    let Ok(census) = by_census(alloc, target, workload, settings.seed, settings.max_hits) else {
+        return Err(PlanFault::Memory);
+    };
+    match plans(alloc, &census, T::catalogue(), &settings.plan_settings()) {
+        Ok(plans) => Ok((census, plans)),
+        Err(fault) => Err(fault),
+    }
+}
+
+/// Whether the run without faults is unresolved.
+fn is_clean_unresolved<T: Target>(
+    alloc: Global,
+    target: &mut T,
+    workload: &T::Workload,
+    settings: &CampaignSettings,
+) -> Result<bool, AllocError>
+    ensures clean { IfOk result (λ clean. clean ≡ is_unresolved (say (campaign_on T.Target target.old workload.now settings.now) 0 [])) }
+    ensures setup { target.new ≡ target.old }
+{
+    let scenario = build(alloc, &[])?;
+    let verdict = run_verdict(alloc, target, workload, &settings.case(&scenario, 0))?;
+    Ok(matches!(verdict, Verdict::Unresolved))
+}
+
+/// What the runs of these plans come to, under the settings' seed and limit.
+fn survey_of<T: Target>(
+    alloc: Global,
+    target: &mut T,
+    workload: &T::Workload,
+    settings: &CampaignSettings,
+    plans: &PlanList<'_>,
+) -> Result<Survey, AllocError>
+    ensures unresolved { IfOk result (λ s. s.unresolved
+        ≡ unresolved_in (runs_from (tried (campaign_on T.Target target.old workload.now settings.now)) 0 plans.now)) }
+    ensures unreached { IfOk result (λ s. s.unreached.items
+        ≡ unreached_in (length T.names) (runs_from (tried (campaign_on T.Target target.old workload.now settings.now)) 0 plans.now)) }
+    ensures points { IfOk result (λ s. All (λ p. p < length T.names) s.unreached.items) }
+    ensures setup { target.new ≡ target.old }
+{
+    let seed = settings.seed;
+    survey_plans(alloc, target, workload, plans, seed, settings.max_hits)
+}
+
+/// What is noted of a campaign whose report is to be strict: each of its plans is run once more, one after another. The caller's target
+/// isn't touched.
+fn strict_on<T: Target>(
+    alloc: Global,
+    target: &T,
+    workload: &T::Workload,
+    settings: &CampaignSettings,
+) -> Result<String, CampaignFault>
+    ensures ok { IfOk result (λ lines. string_bytes lines ≡ strict_notes (campaign_on T.Target target.now workload.now settings.now)) }
+    ensures fault { IfErr result (IsUnlisted (campaign_on T.Target target.now workload.now settings.now)) }
+{
+    let mut twin = target.twin()?;
+    let (census, plans) = planned(alloc, &mut twin, workload, settings)?;
+    let survey = survey_of(alloc, &mut twin, workload, settings, &plans)?;
+    let doubts = Doubts {
+        clean: is_clean_unresolved(alloc, &mut twin, workload, settings)?,
+        unresolved: survey.unresolved,
+        plans: plans.len() as u32,
+        unhit: is_unhit(census.counts.as_slice()),
+        unstormed: draws_nothing(settings),
+    };
+    let mut lines = String::new(alloc);
+    write_doubts(&mut lines, &doubts)?;
+    write_all_unreached(&mut lines, T::catalogue(), survey.unreached.as_slice())?;
+    Ok(lines)
+}
+
+/// What is noted beside a campaign's report. Where it isn't to be strict, nothing is run for it.
+pub fn report_notes_on<T: Target>(
+    alloc: Global,
+    strict: bool,
+    target: &T,
+    workload: &T::Workload,
+    settings: &CampaignSettings,
+) -> Result<String, CampaignFault>
+    ensures ok { IfOk result (λ lines. string_bytes lines ≡ report_notes strict (campaign_on T.Target target.now workload.now settings.now)) }
+    ensures fault { IfErr result (IsUnlisted (campaign_on T.Target target.now workload.now settings.now)) }
+{
+    let mut lines = listed_of::<T>(alloc, settings)?;
+    if strict {
+        let more = strict_on(alloc, target, workload, settings)?;
+        lines.push_str(more.as_str())?;
+    }
+    Ok(lines)
+}
+
+/// Whether something is noted that is to count.
+pub fn is_doubted(strict: bool, notes: &str) -> bool
+    ensures { result ≡ is_doubted strict notes.now }
+{
+    strict && !notes.is_empty()
 }

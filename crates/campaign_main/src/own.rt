@@ -51,7 +51,7 @@ where
     match command(
         rt, alloc, order, gate, target, workload, settings, output, faults,
     ) {
-        Ok(found) => exit_of(found),
+        Ok(conclusion) => exit_of(conclusion),
         Err(fault) => unanswered(alloc, &fault, faults),
     }
 }
@@ -93,7 +93,8 @@ where
 /// each key has its default.
 ///
 /// A target that isn't proved is looked at first: where it breaks a law of [`target_laws::broken_law`] the command is refused with a line
-/// that names it, `target: asks after a halt`.
+/// that names it, `target: asks after a halt`. Where the order is to run with `recheck`, each plan that fails is run once more then, and where
+/// that says something else, the command is refused with the plan and both verdicts: `target: plan 12: fail lost, then pass`.
 ///
 /// What the answer tells, and for which readers and sinks the contract says which text, which fault and which reduced scenarios, is told
 /// at [`crate::perform`].

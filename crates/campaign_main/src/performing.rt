@@ -37,7 +37,7 @@ fn perform_chosen<W: Sink, E: Sink, H: Threads + Wait + Sync, G: Gate>(
     ensures minimal { OnWhole result (IfSome (campaign_for settings.now choice.now) (ReducesToMinimal order.now)) }
 {
     match chosen_command(rt, alloc, order, gate, choice, settings, output, faults) {
-        Ok(found) => exit_of(found),
+        Ok(conclusion) => exit_of(conclusion),
         Err(fault) => unanswered(alloc, &fault, faults),
     }
 }
@@ -76,15 +76,17 @@ fn perform_text<W: Sink, E: Sink, H: Threads + Wait + Sync, G: Gate>(
 
 /// Reads settings, does what is ordered with the target that they choose, and writes the command's text to the output.
 ///
-/// It answers Kept, or Found where a verdict in the text is fail, where the whole text stands in the output. Else one line on the
-/// sink of faults says why there is none: Refused for settings that can't be read or have a fault, for a scenario with a fault, for
-/// a number that no plan has, for more than 65536 plans, and where a component that somebody else runs isn't only to have its plans
-/// listed; and Memory where memory was refused, both with the output unchanged; or Write, which tells how many bytes of the text,
-/// fewer than all, went out before the output failed. Where that line can't be written whole the answer stays. The line of a refusal
-/// names the first fault in the order in which faults are looked for.
+/// It answers Kept, Found where a verdict in the text is fail, or Doubted where none is, the order is strict and something was told beside
+/// the text, where the whole text stands in the output. Else one line on the sink of faults says why there is none: Refused for settings
+/// that can't be read or have a fault, for a scenario with a fault, for a number that no plan has, for more than 65536 plans, and where a
+/// component that somebody else runs isn't only to have its plans listed; and Memory where memory was refused, both with the output
+/// unchanged; or Write, which tells how many bytes of the text, fewer than all, went out before the output failed. Where that line can't be
+/// written whole the answer stays. The line of a refusal names the first fault in the order in which faults are looked for.
 ///
-/// Beside the text of try and explain, once it stands there whole, the sink of faults has a line for each name of the scenario that no point
-/// of the target has, in the scenario's order: `scenario: no point is named NAME`. A line that can't be written changes no end.
+/// Beside the text of try, reduce and explain, once it stands there whole, the sink of faults has a line for each name of the scenario that no
+/// point of the target has, in the scenario's order: `scenario: no point is named NAME`; beside that of run, map and plans such a line for
+/// each scenario that the settings list, `settings: scenario 2: no point is named NAME`. A run that is strict adds what makes its report say
+/// less than it seems to. A line that can't be written changes no end.
 ///
 /// Workers arrive at the gate before each plan and each test of a reduction; what comes of the command is the same at every gate.
 ///

@@ -1,11 +1,13 @@
 //! Questions on a component that somebody else runs, over any readers and any sinks.
 ghost use Rattle.std.specs.Prelude.{◌≡◌, false, IfSome, Ok, Some};
-ghost use Rattle.campaign_main.specs.Ends.{Leaves, TellsBy};
-ghost use Rattle.campaign_main.specs.Questions.{ComesToText, EndsAnswered, EndsQuestion, IsNotAnswered, TellsOfQuestion, TellsWhy, chosen_subject, subject_of, text_subject};
+ghost use Rattle.campaign_main.specs.Ends.{IsNoted, Leaves, OnWhole, TellsOf};
+ghost use Rattle.campaign_main.specs.QuestionNotes.{question_notes};
+ghost use Rattle.campaign_main.specs.Questions.{ComesToText, ConcludesText, EndsAnswered, EndsQuestion, IsNotAnswered, NotesQuestion, NotesText, TellsOfQuestion, TellsWhy, chosen_subject, subject_of, text_subject};
 
-use crate::exit::{Exit, exit_of};
+use crate::answer_notes::{is_question_doubted, question_notes_on};
+use crate::exit::{Conclusion, Exit, concluded, exit_of};
 use crate::input::{read_all, read_bytes};
-use crate::lines::{bundled, unread, unread_answers, unset, untold};
+use crate::lines::{bundled, note, unread, unread_answers, unset, untold};
 use answer_text::LIMIT;
 use campaign_given::{CampaignSettings, Outside};
 use campaign_settings::{Choice, Settings};
@@ -40,7 +42,7 @@ fn write_reported<W: Sink>(
     output: &mut W,
 ) -> Result<bool, OutsideFault>
     requires { W.has_failed output.old ≡ false }
-    ensures { ComesToText (Question.Report Form.Whole) (settings.now, outside.now) answers.now (W.told output.old) (W.told output.new)
+    ensures { ComesToText (Question.Report Form.Whole false) (settings.now, outside.now) answers.now (W.told output.old) (W.told output.new)
         (W.has_failed output.new) result }
 {
     let ending = write_told(alloc, outside, settings, answers, output)?;
@@ -56,7 +58,7 @@ fn write_brief_reported<W: Sink>(
     output: &mut W,
 ) -> Result<bool, OutsideFault>
     requires { W.has_failed output.old ≡ false }
-    ensures { ComesToText (Question.Report Form.Brief) (settings.now, outside.now) answers.now (W.told output.old) (W.told output.new)
+    ensures { ComesToText (Question.Report Form.Brief false) (settings.now, outside.now) answers.now (W.told output.old) (W.told output.new)
         (W.has_failed output.new) result }
 {
     let told = write_brief(alloc, outside, settings, answers, output)?;
@@ -78,11 +80,39 @@ fn write_answer<W: Sink>(
 {
     match question {
         Question::Asks => write_asked(alloc, outside, settings, answers, output),
-        Question::Report(Form::Whole) => write_reported(alloc, outside, settings, answers, output),
-        Question::Report(Form::Brief) => {
-            write_brief_reported(alloc, outside, settings, answers, output)
-        }
+        Question::Report {
+            form: Form::Whole,
+            ..
+        } => write_reported(alloc, outside, settings, answers, output),
+        Question::Report {
+            form: Form::Brief,
+            ..
+        } => write_brief_reported(alloc, outside, settings, answers, output),
     }
+}
+
+/// Writes the text that answers a question, and after it to the sink of faults what is noted beside it.
+fn write_noted<W: Sink, E: Sink>(
+    alloc: Global,
+    question: &Question,
+    outside: &Outside,
+    settings: &CampaignSettings,
+    answers: &[u8],
+    output: &mut W,
+    faults: &mut E,
+) -> Result<Conclusion, OutsideFault>
+    requires output { W.has_failed output.old ≡ false }
+    requires faults { E.has_failed faults.old ≡ false }
+    ensures text { ConcludesText question.now (settings.now, outside.now) answers.now (W.told output.old) (W.told output.new)
+        (W.has_failed output.new) result }
+    ensures noted { NotesText question.now (settings.now, outside.now) answers.now (E.told faults.old) (E.told faults.new)
+        (E.has_failed faults.new) result }
+{
+    let notes = question_notes_on(alloc, question, outside, settings, answers)?;
+    let found = write_answer(alloc, question, outside, settings, answers, output)?;
+    note(notes.as_str(), faults);
+    let doubted = is_question_doubted(question, notes.as_str());
+    Ok(concluded(found, doubted))
 }
 
 /// Answers a question by a text of answers.
@@ -99,12 +129,13 @@ fn answer_by<W: Sink, E: Sink>(
     requires faults { E.has_failed faults.old ≡ false }
     ensures end { EndsAnswered question.now (settings.now, outside.now) answers.now result (W.told output.old) (W.told output.new)
         (W.has_failed output.new) }
-    ensures told { TellsBy (TellsWhy question.now (Ok (settings.now, outside.now)) answers.now (E.told faults.old) (E.told faults.new)
+    ensures told { TellsOf (IsNoted (question_notes question.now settings.now outside.now answers.now) (E.told faults.old) (E.told faults.new)
         (E.has_failed faults.new))
+        (TellsWhy question.now (Ok (settings.now, outside.now)) answers.now (E.told faults.old) (E.told faults.new) (E.has_failed faults.new))
         result (E.told faults.old) (E.told faults.new) (E.has_failed faults.new) }
 {
-    match write_answer(alloc, question, outside, settings, answers, output) {
-        Ok(found) => exit_of(found),
+    match write_noted(alloc, question, outside, settings, answers, output, faults) {
+        Ok(conclusion) => exit_of(conclusion),
         Err(fault) => untold(alloc, &fault, faults),
     }
 }
@@ -123,6 +154,8 @@ fn answer_on<A: Read, W: Sink, E: Sink>(
     requires faults { E.has_failed faults.old ≡ false }
     ensures end { IfSome (A.remaining answers.old) (λ bytes. EndsAnswered question.now (settings.now, outside.now) bytes result
         (W.told output.old) (W.told output.new) (W.has_failed output.new)) }
+    ensures noted { OnWhole result (IfSome (A.remaining answers.old) (λ bytes. IsNoted (question_notes question.now settings.now outside.now bytes)
+        (E.told faults.old) (E.told faults.new) (E.has_failed faults.new))) }
     ensures cause { result ≡ Exit.Refused → IfSome (A.remaining answers.old)
         (λ bytes. IsNotAnswered question.now (Ok (settings.now, outside.now)) bytes (E.told faults.old) (E.told faults.new)
         (E.has_failed faults.new)) }
@@ -157,6 +190,8 @@ fn answer_choice<A: Read, W: Sink, E: Sink>(
     requires faults { E.has_failed faults.old ≡ false }
     ensures end { IfSome (A.remaining answers.old) (λ bytes. EndsQuestion question.now
         (chosen_subject settings.now choice.now) bytes result (W.told output.old) (W.told output.new) (W.has_failed output.new)) }
+    ensures noted { OnWhole result (IfSome (A.remaining answers.old) (λ bytes. NotesQuestion question.now (chosen_subject settings.now choice.now)
+        bytes (E.told faults.old) (E.told faults.new) (E.has_failed faults.new))) }
     ensures cause { result ≡ Exit.Refused → IfSome (A.remaining answers.old)
         (λ bytes. IsNotAnswered question.now (chosen_subject settings.now choice.now) bytes (E.told faults.old) (E.told faults.new)
         (E.has_failed faults.new)) }
@@ -184,6 +219,8 @@ fn answer_text<A: Read, W: Sink, E: Sink>(
     requires faults { E.has_failed faults.old ≡ false }
     ensures end { IfSome (A.remaining answers.old) (λ bytes. EndsQuestion question.now (text_subject text.now) bytes result (W.told output.old)
         (W.told output.new) (W.has_failed output.new)) }
+    ensures noted { OnWhole result (IfSome (A.remaining answers.old) (λ bytes. NotesQuestion question.now (text_subject text.now) bytes
+        (E.told faults.old) (E.told faults.new) (E.has_failed faults.new))) }
     ensures cause { result ≡ Exit.Refused → IfSome (A.remaining answers.old)
         (λ bytes. IsNotAnswered question.now (text_subject text.now) bytes (E.told faults.old) (E.told faults.new) (E.has_failed faults.new)) }
     ensures output { Leaves result (W.told output.old) (W.told output.new) (W.has_failed output.new) }
@@ -206,12 +243,16 @@ fn answer_text<A: Read, W: Sink, E: Sink>(
 /// Reads settings, and answers a question on the component from outside that they describe: which scenarios are still to be tried, or the
 /// report. What is known of the component is what a second reader has left: a text of answers, of which up to 268435456 bytes are read.
 ///
-/// It answers Kept, or Found where the report tells a failure, where the whole text stands in the output. Else one line on the sink of
-/// faults says why there is none: Refused for settings that can't be read or have a fault, that choose a bundled target, or that have
-/// more than 65536 plans; for answers that can't be read or have a fault, of which the first is named; and for a report where something is
-/// still to be tried. Memory is for memory that was refused, and both leave the output unchanged. Write tells how many bytes of the text,
-/// fewer than all, went out before the output failed. Where that line can't be written whole the answer stays. Where settings are refused,
-/// no answers are read.
+/// It answers Kept, Found where the report tells a failure, or Doubted where it tells none, is to be strict and something was told beside
+/// it, where the whole text stands in the output. Else one line on the sink of faults says why there is none: Refused for settings that
+/// can't be read or have a fault, that choose a bundled target, or that have more than 65536 plans; for answers that can't be read or have
+/// a fault, of which the first is named; and for a report where something is still to be tried. Memory is for memory that was refused, and
+/// both leave the output unchanged. Write tells how many bytes of the text, fewer than all, went out before the output failed. Where that
+/// line can't be written whole the answer stays. Where settings are refused, no answers are read.
+///
+/// Beside the text, once it stands there whole, the sink of faults has a line for each name that no point of the component has, of the
+/// scenarios that the settings list and of those that are answered: `answers: line 3: no point is named NAME`. A report that is strict adds
+/// what makes it say less than it seems to. A line that can't be written changes no end.
 ///
 /// The report is that of every component that agrees with the answers, a function from tidied scenarios to verdicts.
 ///
@@ -229,6 +270,8 @@ pub fn perform_outside<R: Read, A: Read, W: Sink, E: Sink>(
     requires faults { E.has_failed faults.old ≡ false }
     ensures end { IfSome (R.remaining settings.old) (λ given. IfSome (A.remaining answers.old)
         (λ bytes. EndsQuestion question.now (subject_of given) bytes result (W.told output.old) (W.told output.new) (W.has_failed output.new))) }
+    ensures noted { OnWhole result (IfSome (R.remaining settings.old) (λ given. IfSome (A.remaining answers.old)
+        (λ bytes. NotesQuestion question.now (subject_of given) bytes (E.told faults.old) (E.told faults.new) (E.has_failed faults.new)))) }
     ensures cause { result ≡ Exit.Refused → IfSome (R.remaining settings.old)
         (λ given. IfSome (A.remaining answers.old) (λ bytes. IsNotAnswered question.now (subject_of given) bytes (E.told faults.old)
         (E.told faults.new) (E.has_failed faults.new))) }

@@ -25,7 +25,11 @@ fn torn<H: Threads + Wait + Sync>(rt: &H, alloc: Global, bytes: &[u8], fails_at:
     answer(
         rt,
         alloc,
-        &Order::Run(Form::Whole),
+        &Order::Run {
+            form: Form::Whole,
+            strict: false,
+            recheck: false,
+        },
         &mut reader,
         Narrow::new(alloc, 4096),
     )

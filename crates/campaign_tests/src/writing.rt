@@ -44,7 +44,11 @@ fn tells_what_was_written(rt: HostRuntime) -> Result<(), Fail> {
             let did = cut_off(
                 &rt,
                 rt.alloc(),
-                &Order::Run(Form::Whole),
+                &Order::Run {
+                    form: Form::Whole,
+                    strict: false,
+                    recheck: false,
+                },
                 1,
                 fails_at,
                 trouble,
@@ -59,7 +63,14 @@ fn tells_what_was_written(rt: HostRuntime) -> Result<(), Fail> {
 fn each_command_tells_what_was_written(rt: HostRuntime) -> Result<(), Fail> {
     let alloc = rt.alloc();
     let orders = [
-        (Order::Run(Form::Whole), "target rep"),
+        (
+            Order::Run {
+                form: Form::Whole,
+                strict: false,
+                recheck: false,
+            },
+            "target rep",
+        ),
         (Order::Plans, "plan 0 non"),
         (
             Order::Try(Which::Scenario(String::new(alloc))),
@@ -83,7 +94,11 @@ fn narrow_writer_gets_the_whole_report(rt: HostRuntime) {
     let did = cut_off(
         &rt,
         rt.alloc(),
-        &Order::Run(Form::Whole),
+        &Order::Run {
+            form: Form::Whole,
+            strict: false,
+            recheck: false,
+        },
         1,
         0,
         Trouble::Broken,
@@ -103,7 +118,11 @@ fn a_line_that_cannot_be_written_changes_no_end(rt: HostRuntime) {
     let exit = perform(
         &rt,
         rt.alloc(),
-        &Order::Run(Form::Whole),
+        &Order::Run {
+            form: Form::Whole,
+            strict: false,
+            recheck: false,
+        },
         &FreeGate,
         &mut reader,
         &mut output,
@@ -120,8 +139,9 @@ fn ends_have_their_statuses(rt: HostRuntime) {
         Exit::Refused,
         Exit::Memory,
         Exit::Write(7),
+        Exit::Doubted,
     ];
-    for (end, want) in ends.iter().zip([0, 1, 2, 3, 4]) {
+    for (end, want) in ends.iter().zip([0, 1, 2, 3, 4, 5]) {
         assert_eq!(rt; status(end), want);
     }
 }

@@ -60,15 +60,23 @@ brief_rule = flag_rule (codes "brief")
 abbrev pub progress_rule : Rule
 progress_rule = flag_rule (codes "progress")
 
+-- --strict, a flag
+abbrev pub strict_rule : Rule
+strict_rule = flag_rule (codes "strict")
+
+-- --recheck, a flag
+abbrev pub recheck_rule : Rule
+recheck_rule = flag_rule (codes "recheck")
+
 -- ---- commands
 
 -- a command that takes FILE alone
 abbrev pub file_app : Text → App
 file_app name = with_rule (new_app name) file_rule
 
--- a command that writes a report, whole or in brief
+-- a command that writes a report, whole or in brief, on which it may be strict
 abbrev pub report_app : Text → App
-report_app name = with_rule (with_rule (new_app name) brief_rule) file_rule
+report_app name = with_rule (with_rule (with_rule (new_app name) brief_rule) strict_rule) file_rule
 
 -- a command that takes a scenario, by its text or as the plan of a number
 abbrev pub scenario_app : Text → App
@@ -78,13 +86,17 @@ scenario_app name = with_rule (with_rule (with_rule (new_app name) scenario_rule
 abbrev pub shown_app : App → App
 shown_app app = with_rule app progress_rule
 
+-- a command that may run plans that fail once more
+abbrev pub rechecked_app : App → App
+rechecked_app app = with_rule app recheck_rule
+
 -- a command that takes FILE, which has to be there since standard input has the answers
 abbrev pub question_app : Text → App
 question_app name = with_rule (new_app name) needed_file_rule
 
--- the one of these that writes a report, whole or in brief
+-- the one of these that writes a report, whole or in brief, on which it may be strict
 abbrev pub question_report_app : Text → App
-question_report_app name = with_rule (with_rule (new_app name) brief_rule) needed_file_rule
+question_report_app name = with_rule (with_rule (with_rule (new_app name) brief_rule) strict_rule) needed_file_rule
 
 abbrev pub with_commands : App → List Shape → App
 with_commands app [] = app
@@ -92,7 +104,7 @@ with_commands app (s ∷ rest) = with_commands (with_subcommand app s) rest
 
 abbrev pub campaign_commands : List Shape
 campaign_commands =
-    (shown_app (report_app (codes "run"))).top ∷ (file_app (codes "plans")).top ∷ (shown_app (file_app (codes "map"))).top ∷ []
+    (shown_app (rechecked_app (report_app (codes "run")))).top ∷ (file_app (codes "plans")).top ∷ (shown_app (file_app (codes "map"))).top ∷ []
 
 abbrev pub scenario_commands : List Shape
 scenario_commands =
@@ -116,11 +128,13 @@ HasAlso app (Err fault) command = ⊥
 
 -- ---- what the words mean
 
--- the values that a command was given: TEXT, N, `true` where --brief was given, and where --progress was, and FILE
+-- the values that a command was given: TEXT, N, `true` where --brief was given, and so of the other flags, and FILE
 pub record Values : Type 0 where
   pub scenario : Option Text
   pub plan : Option Text
   pub brief : Option Text
+  pub strict : Option Text
+  pub recheck : Option Text
   pub progress : Option Text
   pub file : Option Text
 
@@ -129,6 +143,8 @@ values_in rows = record {
   scenario = first_of (codes "scenario") rows;
   plan = first_of (codes "plan") rows;
   brief = first_of (codes "brief") rows;
+  strict = first_of (codes "strict") rows;
+  recheck = first_of (codes "recheck") rows;
   progress = first_of (codes "progress") rows;
   file = first_of (codes "file") rows;
 }
@@ -139,6 +155,8 @@ values_of f = record {
   scenario = first_value f (codes "scenario");
   plan = first_value f (codes "plan");
   brief = first_value f (codes "brief");
+  strict = first_value f (codes "strict");
+  recheck = first_value f (codes "recheck");
   progress = first_value f (codes "progress");
   file = first_value f (codes "file");
 }
@@ -152,17 +170,18 @@ abbrev pub IsWhich : Values → Which → Type 0
 IsWhich v (Scenario text) = (v.scenario ≡ Some (string_bytes text)) × (v.plan ≡ None)
 IsWhich v (Plan number) = (v.scenario ≡ None) × ((text : Text) × (v.plan ≡ Some text) × Spells text number)
 
+-- whether a flag was given
+abbrev pub is_set : Option Text → Bool
+is_set value = option_map_or (bytes_eq (codes "true")) value false
+
 -- the form of a report
 abbrev pub form_of : Values → Form
-form_of v = if option_map_or (bytes_eq (codes "true")) v.brief false then Brief else Whole
-
--- whether it is to be shown how far the command is
-abbrev pub progress_of : Values → Bool
-progress_of v = option_map_or (bytes_eq (codes "true")) v.progress false
+form_of v = if is_set v.brief then Brief else Whole
 
 -- the order that a command's name and its values give
 abbrev pub IsOrder : Text → Values → Order → Type 0
-IsOrder name v (order.Run form) = (name ≡ codes "run") × (form ≡ form_of v)
+IsOrder name v (order.Run form strict recheck) =
+    (name ≡ codes "run") × (form ≡ form_of v) × (strict ≡ is_set v.strict) × (recheck ≡ is_set v.recheck)
 IsOrder name v order.Plans = name ≡ codes "plans"
 IsOrder name v order.Map = name ≡ codes "map"
 IsOrder name v (order.Try which) = (name ≡ codes "try") × IsWhich v which
@@ -172,16 +191,16 @@ IsOrder name v (order.Explain which) = (name ≡ codes "explain") × IsWhich v w
 -- the question that a command's name and its values give
 abbrev pub IsQuestion : Text → Values → Question → Type 0
 IsQuestion name v Asks = name ≡ codes "asks"
-IsQuestion name v (Report form) = (name ≡ codes "report") × (form ≡ form_of v)
+IsQuestion name v (Report form strict) = (name ≡ codes "report") × (form ≡ form_of v) × (strict ≡ is_set v.strict)
 
 -- the order of no command is Run, with the whole report, on the settings that come from standard input, and nothing more is shown
 abbrev pub IsRun : Line → Type 0
-IsRun (Own (order.Run Whole) progress file) = (progress ≡ false) × (file ≡ None)
+IsRun (Own (order.Run Whole false false) progress file) = (progress ≡ false) × (file ≡ None)
 IsRun _ = ⊥
 
 -- the line of a command's name and its values
 abbrev pub IsLineOf : Text → Values → Line → Type 0
-IsLineOf name v (Own order progress own) = IsOrder name v order × (progress ≡ progress_of v) × (option_map string_bytes own ≡ v.file)
+IsLineOf name v (Own order progress own) = IsOrder name v order × (progress ≡ is_set v.progress) × (option_map string_bytes own ≡ v.file)
 IsLineOf name v (Outside question own) = IsQuestion name v question × (v.file ≡ Some (string_bytes own))
 
 -- the line that the matches give

@@ -16,6 +16,7 @@ Examples:
   paklour run my.toml             the verdict of each plan, and what the first failures come down to
   paklour run < my.toml           settings from standard input
   paklour run --brief my.toml     no line for a verdict that passes, and scenarios beside the others
+  paklour run --strict my.toml    the same report; what it doesn't show is told on standard error
   paklour run --progress my.toml  the same report; meanwhile `plans 12 of 65025` on standard error";
 
 /// How a campaign is drawn.
@@ -50,6 +51,11 @@ pub const SCENARIO: &str = "The scenario, as 'POINT=TERM->TERM;POINT=TERM'";
 
 pub const BRIEF: &str =
     "Count the verdicts that pass, and write the scenario beside each other verdict";
+
+pub const STRICT: &str = "Tell on standard error what the report doesn't show, and end with 5 then";
+
+pub const RECHECK: &str =
+    "Run each failing plan once more first, and refuse a target that says otherwise";
 
 pub const PROGRESS: &str = "Show on standard error, in one line, how far plans or a reduction are";
 
@@ -155,4 +161,6 @@ Exit status:
   2  the words, the settings, a scenario, the answers or the number of plans is refused, or the
      settings or the answers can't be read
   3  memory is refused
-  4  a write failed";
+  4  a write failed
+  5  with --strict: no verdict is fail, and something was told on standard error: an unresolved run,
+     no hits without faults, a point that no run reaches, a name that no point has, storms of rate 0";

@@ -1,7 +1,7 @@
 ghost use Rattle.std.specs.Prelude.{◌≡◌, ◌↔◌, ◌∷◌, [], IsTrue, Some, None, option_map, is_some, true, false, IfOk, IfErr, IfSome, map, codes, string_bytes};
 ghost use Rattle.clap.specs.Words.{app_of, fault_of, first_value, found_of, rule_of, subcommand_of, takes};
 ghost use Rattle.clap.specs.declared.builder.command.Command.TheViews.{out-Command as fields_of};
-ghost use Rattle.command_words.specs.Words.{AsksToSee, HasAlso, HasNeeded, IsFaultOf, IsLine, IsLineOf, IsName, IsOrder, IsOrderName, IsQuestion, IsQuestionName, IsRefusedFor, IsScenarioName, IsWhich, Spells, bare_app, campaign_commands, choice_fault, choice_kinds, file_app, file_rule, flag_rule, form_of, needed_file_rule, paklour, progress_of, question_app, question_commands, question_report_app, report_app, scenario_app, scenario_commands, shown_app, value_rule, values_of, which_kinds, with_commands, words_fault};
+ghost use Rattle.command_words.specs.Words.{AsksToSee, HasAlso, HasNeeded, IsFaultOf, IsLine, IsLineOf, IsName, IsOrder, IsOrderName, IsQuestion, IsQuestionName, IsRefusedFor, IsScenarioName, IsWhich, Spells, bare_app, campaign_commands, choice_fault, choice_kinds, file_app, file_rule, flag_rule, form_of, needed_file_rule, paklour, is_set, question_app, question_commands, question_report_app, rechecked_app, report_app, scenario_app, scenario_commands, shown_app, value_rule, values_of, which_kinds, with_commands, words_fault};
 ghost use Rattle.command_words.specs.declared.words.WordsFault.TheVariants.{Memory};
 ghost use Rattle.clap.specs.Kinds.{value_kinds};
 ghost use Rattle.clap.specs.declared.builder.value_parser.ValueParser.TheVariants.{Unsigned};
@@ -37,8 +37,13 @@ pub enum Form {
 /// What the program is to do.
 #[derive(Debug, Drop)]
 pub enum Order {
-    /// Run a campaign, and write its report.
-    Run(Form),
+    /// Run a campaign, and write its report. Where `strict` is set, what makes a report say less than it seems to is told beside it. Where
+    /// `recheck` is set, each plan that fails is run once more first, and the command is refused where the verdicts differ.
+    Run {
+        form: Form,
+        strict: bool,
+        recheck: bool,
+    },
     /// List a campaign's plans.
     Plans,
     /// Run a campaign, and draw it as a picture.
@@ -56,8 +61,8 @@ pub enum Order {
 pub enum Question {
     /// Which scenarios are still to be tried.
     Asks,
-    /// The campaign's report.
-    Report(Form),
+    /// The campaign's report. Where `strict` is set, what makes it say less than it seems to is told beside it.
+    Report { form: Form, strict: bool },
 }
 
 /// What the words ask for.
@@ -189,6 +194,7 @@ fn report_command<'a>(
         .about(about)
         .after_help(examples)
         .arg(flag_arg(alloc, "brief", help::BRIEF))?
+        .arg(flag_arg(alloc, "strict", help::STRICT))?
         .arg(file_arg(alloc))
 }
 
@@ -211,14 +217,12 @@ fn scenario_command<'a>(
 
 // The command that runs a campaign and reports it.
 fn run_command<'a>(alloc: Global) -> Result<Command<'a>, AllocError>
-    ensures app { IfOk result (λ command. app_of command ≡ shown_app (report_app (codes "run"))) }
+    ensures app { IfOk result (λ command. app_of command ≡ shown_app (rechecked_app (report_app (codes "run")))) }
     ensures local { IfOk result (λ command. (fields_of command).has_globals ≡ false) }
 {
-    report_command(alloc, "run", help::RUN, help::RUN_EXAMPLES)?.arg(flag_arg(
-        alloc,
-        "progress",
-        help::PROGRESS,
-    ))
+    report_command(alloc, "run", help::RUN, help::RUN_EXAMPLES)?
+        .arg(flag_arg(alloc, "recheck", help::RECHECK))?
+        .arg(flag_arg(alloc, "progress", help::PROGRESS))
 }
 
 // The command that runs a campaign and draws it.
@@ -271,6 +275,7 @@ fn question_report_command<'a>(
         .about(about)
         .after_help(help::ANSWERS)
         .arg(flag_arg(alloc, "brief", help::BRIEF))?
+        .arg(flag_arg(alloc, "strict", help::STRICT))?
         .arg(needed_file_arg(alloc))
 }
 
@@ -353,7 +358,11 @@ pub fn read_words(alloc: Global, words: &[String]) -> Result<Line, WordsFault>
     match matches.subcommand() {
         Some((name, own)) => line_of(alloc, name, own),
         None => Ok(Line::Own {
-            order: Order::Run(Form::Whole),
+            order: Order::Run {
+                form: Form::Whole,
+                strict: false,
+                recheck: false,
+            },
             progress: false,
             file: None,
         }),
@@ -385,7 +394,7 @@ fn line_of<'a>(alloc: Global, name: &str, own: &ArgMatches<'a>) -> Result<Line, 
         }),
         None => Ok(Line::Own {
             order: order_of(alloc, name, own)?,
-            progress: is_shown(own),
+            progress: is_set(own, "progress"),
             file: file_of(alloc, own)?,
         }),
     }
@@ -397,7 +406,10 @@ fn question_of<'a>(name: &str, own: &ArgMatches<'a>) -> Option<Question>
 {
     match name {
         "asks" => Some(Question::Asks),
-        "report" => Some(Question::Report(form_of(own))),
+        "report" => Some(Question::Report {
+            form: form_of(own),
+            strict: is_strict(own),
+        }),
         _ => None,
     }
 }
@@ -406,17 +418,25 @@ fn question_of<'a>(name: &str, own: &ArgMatches<'a>) -> Option<Question>
 fn form_of<'a>(own: &ArgMatches<'a>) -> Form
     ensures { result ≡ form_of (values_of (found_of own.now)) }
 {
-    match own.get_str("brief") {
-        Some("true") => Form::Brief,
-        _ => Form::Whole,
+    if is_set(own, "brief") {
+        Form::Brief
+    } else {
+        Form::Whole
     }
 }
 
-// Whether it is to be shown how far the command is.
-fn is_shown<'a>(own: &ArgMatches<'a>) -> bool
-    ensures { result ≡ progress_of (values_of (found_of own.now)) }
+// Whether the report is to be strict.
+fn is_strict<'a>(own: &ArgMatches<'a>) -> bool
+    ensures { result ≡ is_set (values_of (found_of own.now)).strict }
 {
-    own.get_str("progress") == Some("true")
+    is_set(own, "strict")
+}
+
+// Whether the flag of this name was given.
+fn is_set<'a>(own: &ArgMatches<'a>, flag: &str) -> bool
+    ensures { result ≡ is_set (first_value (found_of own.now) flag.now) }
+{
+    own.get_str(flag) == Some("true")
 }
 
 // The order of a command's name and its matches.
@@ -427,7 +447,11 @@ fn order_of<'a>(alloc: Global, name: &str, own: &ArgMatches<'a>) -> Result<Order
     ensures refused { IfErr result (IsRefusedFor (choice_kinds name.now (values_of (found_of own.now)))) }
 {
     match name {
-        "run" => Ok(Order::Run(form_of(own))),
+        "run" => Ok(Order::Run {
+            form: form_of(own),
+            strict: is_strict(own),
+            recheck: is_set(own, "recheck"),
+        }),
         "plans" => Ok(Order::Plans),
         "map" => Ok(Order::Map),
         "try" => Ok(Order::Try(which_of(alloc, name, own)?)),

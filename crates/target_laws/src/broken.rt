@@ -1,7 +1,7 @@
 //! Which law a target breaks.
 ghost use Rattle.std.specs.Prelude.{◌≡◌, false, None, IfOk};
 
-use crate::catalogue::is_lawful;
+use crate::catalogue::{CatalogueFault, catalogue_fault};
 use crate::trial::{are_alike, asks_after_halt};
 use scenario_values::build;
 use std::alloc::{AllocError, Global};
@@ -12,7 +12,7 @@ use target_trait::{Case, Target, run_case};
 #[derive(Clone, Copy, Debug, PartialEq, Eq)]
 pub enum BrokenLaw {
     /// Its catalogue isn't 1 to 64 distinct names of at most 200 bytes, each of which a scenario can have.
-    Catalogue,
+    Catalogue(CatalogueFault),
     /// It asked a point after it had been stopped. It went on where its component was dead, so what it judged shows nothing.
     AsksAfterHalt,
     /// Two runs of the same scenario differ: something is kept from run to run.
@@ -21,11 +21,11 @@ pub enum BrokenLaw {
 
 impl fmt::Display for BrokenLaw {
     fn fmt<W: fmt::Write>(&self, f: &mut fmt::Formatter<W>) -> fmt::Result {
-        f.write_str(match self {
-            BrokenLaw::Catalogue => "unlawful catalogue",
-            BrokenLaw::AsksAfterHalt => "asks after a halt",
-            BrokenLaw::KeepsState => "keeps state between runs",
-        })
+        match self {
+            BrokenLaw::Catalogue(fault) => write!(f, "unlawful catalogue: {fault}"),
+            BrokenLaw::AsksAfterHalt => f.write_str("asks after a halt"),
+            BrokenLaw::KeepsState => f.write_str("keeps state between runs"),
+        }
     }
 }
 
@@ -62,8 +62,8 @@ pub fn broken_law<T: Target>(
 ) -> Result<Option<BrokenLaw>, AllocError>
     ensures { IfOk result (λ law. law ≡ None) }
 {
-    if !is_lawful(T::catalogue()) {
-        return Ok(Some(BrokenLaw::Catalogue));
+    if let Some(fault) = catalogue_fault(T::catalogue()) {
+        return Ok(Some(BrokenLaw::Catalogue(fault)));
     }
     let mut twin = target.twin()?;
     let scenario = build(alloc, &[])?;

@@ -1,15 +1,43 @@
-//! Whether a catalogue is lawful.
-ghost use Rattle.std.specs.Prelude.{◌≡◌, ◌<◌, true, false, length};
+//! What is wrong with a catalogue.
+ghost use Rattle.std.specs.Prelude.{◌≡◌, ◌<◌, None, false, length};
 ghost use Rattle.action_eval.specs.Answers.{texts};
 ghost use Rattle.action_eval.specs.Catalogue.{IsCatalogue};
 ghost use Rattle.target_laws.specs.inside.Names.{IsLawfulAt, IsNewAt};
 
 use scenario_grammar::is_name;
+use std::fmt;
 
 /// The most points of a catalogue, and the most bytes of a name.
 const MOST_POINTS: usize = 64;
 
 const MOST_BYTES: usize = 200;
+
+/// What is wrong with a catalogue.
+#[derive(Clone, Copy, Debug, PartialEq, Eq)]
+pub enum CatalogueFault {
+    /// It has no point.
+    NoPoints,
+    /// It has so many points, more than 64.
+    ManyPoints(usize),
+    /// This name has more than 200 bytes.
+    LongName(&'static str),
+    /// No scenario can have this name.
+    UnlawfulName(&'static str),
+    /// Two points have this name.
+    RepeatedName(&'static str),
+}
+
+impl fmt::Display for CatalogueFault {
+    fn fmt<W: fmt::Write>(&self, f: &mut fmt::Formatter<W>) -> fmt::Result {
+        match self {
+            CatalogueFault::NoPoints => f.write_str("no points"),
+            CatalogueFault::ManyPoints(count) => write!(f, "{count} points, more than 64"),
+            CatalogueFault::LongName(name) => write!(f, "more than 200 bytes in {name}"),
+            CatalogueFault::UnlawfulName(name) => write!(f, "no scenario can name {name}"),
+            CatalogueFault::RepeatedName(name) => write!(f, "two points are named {name}"),
+        }
+    }
+}
 
 /// Whether the name of this place stands at an earlier one too.
 fn is_repeated(names: &[&str], place: usize) -> bool
@@ -25,34 +53,42 @@ fn is_repeated(names: &[&str], place: usize) -> bool
     false
 }
 
-/// Whether the name of this place is one that a scenario can have, short enough, and not one of those before it.
-fn is_lawful_at(names: &[&str], place: usize) -> bool
+/// What is wrong with the name of this place: it is too long, no scenario can have it, or it is one of those before it.
+fn name_fault(names: &[&'static str], place: usize) -> Option<CatalogueFault>
     requires { place < length names.now }
-    ensures lawful { IsCatalogue (texts names.now) → result ≡ true }
-    ensures only { result ≡ true → IsLawfulAt (texts names.now) place }
+    ensures lawful { IsCatalogue (texts names.now) → result ≡ None }
+    ensures only { result ≡ None → IsLawfulAt (texts names.now) place }
 {
     let name = names[place];
     if name.len() > MOST_BYTES {
-        return false;
+        return Some(CatalogueFault::LongName(name));
     }
     if !is_name(name) {
-        return false;
+        return Some(CatalogueFault::UnlawfulName(name));
     }
-    !is_repeated(names, place)
+    if is_repeated(names, place) {
+        return Some(CatalogueFault::RepeatedName(name));
+    }
+    None
 }
 
-/// Whether these are 1 to 64 distinct names of at most 200 bytes, each of which a scenario can have.
-pub fn is_lawful(names: &[&str]) -> bool
-    ensures lawful { IsCatalogue (texts names.now) → result ≡ true }
-    ensures only { result ≡ true → IsCatalogue (texts names.now) }
+/// The first thing that is wrong with a catalogue: how many names there are, and then of each name in order what is wrong with it. `None`
+/// just where these are 1 to 64 distinct names of at most 200 bytes, each of which a scenario can have.
+pub fn catalogue_fault(names: &[&'static str]) -> Option<CatalogueFault>
+    ensures lawful { IsCatalogue (texts names.now) → result ≡ None }
+    ensures only { result ≡ None → IsCatalogue (texts names.now) }
 {
-    if names.is_empty() || names.len() > MOST_POINTS {
-        return false;
+    if names.is_empty() {
+        return Some(CatalogueFault::NoPoints);
+    }
+    if names.len() > MOST_POINTS {
+        return Some(CatalogueFault::ManyPoints(names.len()));
     }
     for place in 0..names.len() {
-        if !is_lawful_at(names, place) {
-            return false;
+        match name_fault(names, place) {
+            Some(fault) => return Some(fault),
+            None => {}
         }
     }
-    true
+    None
 }

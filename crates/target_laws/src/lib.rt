@@ -3,6 +3,9 @@
 
 mod broken;
 mod catalogue;
+mod recheck;
 mod trial;
 
 pub use broken::{BrokenLaw, broken_law};
+pub use catalogue::CatalogueFault;
+pub use recheck::{ChangedVerdict, changed_verdict};

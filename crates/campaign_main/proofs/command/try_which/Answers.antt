@@ -1,5 +1,5 @@
-use Rattle.std.proofs.Common.{◌∙◌, None, ap}
-use Rattle.campaign_main.specs.Exit.{is_fail}
+use Rattle.std.proofs.Common.{◌∙◌, None, ap, false}
+use Rattle.campaign_main.specs.Exit.{concluded, is_fail}
 use Rattle.campaign_main.specs.declared.fault.CommandFault.TheVariants.{Campaign}
 use Rattle.campaign_main.proofs.AnswerLemmas.{short-up, try-noted, try-short, try-written}
 use Rattle.campaign_main.proofs.NoteLemmas.{err-noted}
@@ -8,7 +8,7 @@ use Rattle.campaign_main.proofs.command.try_which.Goals as goal
 pub returns-clause-text : goal.returns-clause-text
 returns-clause-text g c =
     try-written _ _ (c.in_ok-stream.stream, c.in_ok-stream.scenario) c.in_ok-stream.ensures.ok _ _ _ _ c.in_ok-verdict.ensures.text c.in_ok-verdict.ensures.sound
-    (c.is_fail.ensures ∙ ap is_fail c.in_ok-verdict.ensures.verdict)
+    (c.concluded.ensures ∙ ap (λ b. concluded b false) (c.is_fail.ensures ∙ ap is_fail c.in_ok-verdict.ensures.verdict))
 
 pub returns-in_err-verdict-clause-text : goal.returns-in_err-verdict-clause-text
 returns-in_err-verdict-clause-text g c =

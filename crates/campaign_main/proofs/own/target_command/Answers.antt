@@ -1,5 +1,4 @@
 use Rattle.campaign_main.proofs.EndLemmas.{fault-told}
-use Rattle.campaign_main.proofs.NoteLemmas.{found-notes}
 use Rattle.campaign_main.proofs.own.target_command.Goals as goal
 
 pub returns-in-Err-command-clause-told : goal.returns-in-Err-command-clause-told

@@ -14,7 +14,7 @@ returns-in-Ok-clause-told g c =
     let failed = E.has_failed c.chosen_command.new.faults in
     let answer = choice_answer c.args.order.now c.args.settings.now c.args.choice.now in
     let P : Exit → Type 0 = λ e. TellsAs e answer old new failed in
-    subst P (sym c.exit_of.ensures) (found-notes old new failed answer c.in-Ok.found c.in-Ok.ensures.noted)
+    subst P (sym c.exit_of.ensures) (found-notes old new failed answer c.in-Ok.conclusion c.in-Ok.ensures.noted)
 
 pub returns-in-Err-clause-told : goal.returns-in-Err-clause-told
 returns-in-Err-clause-told g c =

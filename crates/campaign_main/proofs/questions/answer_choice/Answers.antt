@@ -2,12 +2,16 @@ use Rattle.std.proofs.Common.{◌≡◌, Err, Result, ap, inl, inr}
 use Rattle.campaign_settings.specs.declared.choice.Choice.{Choice}
 use Rattle.campaign_main.specs.Commands.{Refusal, bundled_target}
 use Rattle.campaign_main.specs.Questions.{Subject, chosen_subject}
+use Rattle.campaign_main.proofs.EndLemmas.{refuses-whole}
 use Rattle.campaign_main.proofs.QuestionLemmas.{settings-why, tells-question}
 use Rattle.campaign_main.proofs.ToldLemmas.{refuses-with}
 use Rattle.campaign_main.proofs.questions.answer_choice.Goals as goal
 
 pub returns-in-Replace-clause-told : goal.returns-in-Replace-clause-told
 returns-in-Replace-clause-told g c = tells-question bundled_target c.bundled.result _ _ _ (refuses-with _ _ _ _ _ c.bundled.ensures.end c.bundled.ensures.told)
+
+pub returns-in-Replace-clause-noted : goal.returns-in-Replace-clause-noted
+returns-in-Replace-clause-noted g c = refuses-whole _ c.bundled.result _ _ _ _ (refuses-with _ _ _ _ _ c.bundled.ensures.end c.bundled.ensures.told)
 
 pub returns-in-Replace-clause-cause : goal.returns-in-Replace-clause-cause
 returns-in-Replace-clause-cause g c =

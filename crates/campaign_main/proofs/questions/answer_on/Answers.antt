@@ -1,7 +1,9 @@
 use Rattle.std.proofs.Common.{Err, List, Ok, ap, inl, ℕ}
+use Rattle.campaign_main.specs.Ends.{IsNoted}
+use Rattle.campaign_main.specs.QuestionNotes.{question_notes}
 use Rattle.campaign_main.specs.Questions.{EndsAnswered, IsNotAnswered}
-use Rattle.campaign_main.proofs.EndLemmas.{read-whole}
-use Rattle.campaign_main.proofs.QuestionLemmas.{answered-leaves, cause-unread-answers, for-any, refused-question, refused-why, some-why, unread-answers-tells}
+use Rattle.campaign_main.proofs.EndLemmas.{read-whole, refuses-whole, whole-map}
+use Rattle.campaign_main.proofs.QuestionLemmas.{answered-leaves, cause-unread-answers, for-any, refused-question, refused-why, some-why, unread-answers-tells, whole-noted}
 use Rattle.campaign_main.proofs.questions.answer_on.Goals as goal
 
 pub returns-in-Ok-clause-end : goal.returns-in-Ok-clause-end
@@ -17,13 +19,23 @@ returns-in-Ok-clause-cause g c =
     let E = g.E.Sink in
     let new = c.answer_by.new.faults in
     let P : List ℕ → Type 0 = λ b. IsNotAnswered c.args.question.now (Ok (c.args.settings.now, c.args.outside.now)) b (E.told c.args.faults.now) (E.told new) (E.has_failed new) in
-    read-whole _ _ _ P c.as_slice.ensures.value c.in-Ok.ensures.ok (inl (refused-why _ _ _ _ _ refused c.answer_by.ensures.told))
+    read-whole _ _ _ P c.as_slice.ensures.value c.in-Ok.ensures.ok (inl (refused-why _ _ _ _ _ _ refused c.answer_by.ensures.told))
+
+pub returns-in-Ok-clause-noted : goal.returns-in-Ok-clause-noted
+returns-in-Ok-clause-noted g c =
+    let E = g.E.Sink in
+    let new = c.answer_by.new.faults in
+    let P : List ℕ → Type 0 = λ b. IsNoted (question_notes c.args.question.now c.args.settings.now c.args.outside.now b) (E.told c.args.faults.now) (E.told new) (E.has_failed new) in
+    whole-map c.answer_by.result _ _ (λ h. read-whole _ _ _ P c.as_slice.ensures.value c.in-Ok.ensures.ok h) (whole-noted _ _ c.answer_by.result _ _ _ c.answer_by.ensures.told)
+
+pub returns-in-Err-clause-noted : goal.returns-in-Err-clause-noted
+returns-in-Err-clause-noted g c = refuses-whole _ c.unread_answers.result _ _ _ _ c.unread_answers.ensures.end
 
 pub returns-in-Ok-clause-output : goal.returns-in-Ok-clause-output
 returns-in-Ok-clause-output g c = answered-leaves _ _ _ _ _ _ c.answer_by.result c.answer_by.ensures.end
 
 pub returns-in-Ok-clause-told : goal.returns-in-Ok-clause-told
-returns-in-Ok-clause-told g c = some-why c.args.question.now (Ok (c.args.settings.now, c.args.outside.now)) c.as_slice.result.now c.answer_by.result _ _ _ c.answer_by.ensures.told
+returns-in-Ok-clause-told g c = some-why c.args.question.now (Ok (c.args.settings.now, c.args.outside.now)) c.as_slice.result.now _ c.answer_by.result _ _ _ c.answer_by.ensures.told
 
 pub returns-in-Err-clause-end : goal.returns-in-Err-clause-end
 returns-in-Err-clause-end g c =

@@ -1,6 +1,8 @@
 use Rattle.std.proofs.Common.{IfSome, Result, subst, sym}
 use Rattle.campaign_main.specs.Commands.{Refusal}
-use Rattle.campaign_main.specs.Questions.{EndsQuestion, IsNotAnswered, Subject, text_subject}
+use Rattle.campaign_main.specs.Ends.{OnWhole}
+use Rattle.campaign_main.specs.Questions.{EndsQuestion, IsNotAnswered, NotesQuestion, Subject, text_subject}
+use Rattle.campaign_main.proofs.EndLemmas.{refuses-whole}
 use Rattle.campaign_main.proofs.QuestionLemmas.{chosen-is, refused-any, unset-tells, unset-why}
 use Rattle.campaign_main.proofs.questions.answer_text.Goals as goal
 
@@ -24,6 +26,18 @@ returns-in-Ok-clause-end g c =
     let P : Result Subject Refusal → Type 0 =
     λ r. IfSome (A.remaining c.args.answers.now) (λ b. EndsQuestion c.args.question.now r b c.answer_choice.result (W.told c.args.output.now) (W.told new) (W.has_failed new)) in
     subst P (sym (chosen-is _ c.in-Ok.settings c.in-Ok.ensures.ok)) c.answer_choice.ensures.end
+
+pub returns-in-Err-clause-noted : goal.returns-in-Err-clause-noted
+returns-in-Err-clause-noted g c = refuses-whole _ c.unset.result _ _ _ _ c.unset.ensures.end
+
+pub returns-in-Ok-clause-noted : goal.returns-in-Ok-clause-noted
+returns-in-Ok-clause-noted g c =
+    let E = g.E.Sink in
+    let A = g.A.Read in
+    let new = c.answer_choice.new.faults in
+    let P : Result Subject Refusal → Type 0 =
+    λ r. OnWhole c.answer_choice.result (IfSome (A.remaining c.args.answers.now) (λ b. NotesQuestion c.args.question.now r b (E.told c.args.faults.now) (E.told new) (E.has_failed new))) in
+    subst P (sym (chosen-is _ c.in-Ok.settings c.in-Ok.ensures.ok)) c.answer_choice.ensures.noted
 
 pub returns-in-Ok-clause-cause : goal.returns-in-Ok-clause-cause
 returns-in-Ok-clause-cause g c =

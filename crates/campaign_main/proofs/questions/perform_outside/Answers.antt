@@ -1,6 +1,7 @@
 use Rattle.std.proofs.Common.{Err, IfSome, Result, ap}
 use Rattle.campaign_main.specs.Commands.{Refusal}
-use Rattle.campaign_main.specs.Questions.{EndsQuestion, IsNotAnswered, Subject, subject_of}
+use Rattle.campaign_main.specs.Questions.{EndsQuestion, IsNotAnswered, NotesQuestion, Subject, subject_of}
+use Rattle.campaign_main.proofs.EndLemmas.{refuses-whole, whole-map}
 use Rattle.campaign_main.proofs.QuestionLemmas.{for-any, read-subject, refused-any, unread-tells, unread-why}
 use Rattle.campaign_main.proofs.questions.perform_outside.Goals as goal
 
@@ -12,6 +13,18 @@ returns-in-Ok-clause-end g c =
     let P : Result Subject Refusal → Type 0 =
     λ r. IfSome (A.remaining c.args.answers.now) (λ b. EndsQuestion c.args.question.now r b c.answer_text.result (W.told c.args.output.now) (W.told new) (W.has_failed new)) in
     read-subject _ _ _ P c.as_str.ensures.value c.in-Ok.ensures.ok c.in-Ok.ensures.limit c.as_str.utf8 c.answer_text.ensures.end
+
+pub returns-in-Ok-clause-noted : goal.returns-in-Ok-clause-noted
+returns-in-Ok-clause-noted g c =
+    let E = g.E.Sink in
+    let A = g.A.Read in
+    let new = c.answer_text.new.faults in
+    let P : Result Subject Refusal → Type 0 =
+    λ r. IfSome (A.remaining c.args.answers.now) (λ b. NotesQuestion c.args.question.now r b (E.told c.args.faults.now) (E.told new) (E.has_failed new)) in
+    whole-map c.answer_text.result _ _ (λ h. read-subject _ _ _ P c.as_str.ensures.value c.in-Ok.ensures.ok c.in-Ok.ensures.limit c.as_str.utf8 h) c.answer_text.ensures.noted
+
+pub returns-in-Err-clause-noted : goal.returns-in-Err-clause-noted
+returns-in-Err-clause-noted g c = refuses-whole _ c.unread.result _ _ _ _ c.unread.ensures.end
 
 pub returns-in-Ok-clause-cause : goal.returns-in-Ok-clause-cause
 returns-in-Ok-clause-cause g c =

@@ -1,0 +1,51 @@
+-- What is noted of a strict report, by its parts.
+use Rattle.std.proofs.Common.{◌≡◌, ◌++◌, ◌∙◌, ◌∷◌, ◌+◌, ◌<◌, ℕ, suc, Bool, List, [], append_assoc, arith, drop, length, slice_index_or, sym, ap}
+use Rattle.std.proofs.Math.Seq.{drop-cons}
+use Rattle.report.specs.ReportText.{ended, text_of}
+use Rattle.plan_survey.specs.Runs.{runs_from, unreached_in}
+use Rattle.campaign_core.specs.CommandTexts.{tried}
+use Rattle.campaign_core.specs.Headline.{Campaign, plans}
+use Rattle.campaign_main.specs.Notes.{doubt_notes, doubts_of, strict_notes, unreached_line, unreached_lines}
+use Rattle.campaign_main.specs.QuestionNotes.{unhit_lines}
+use Rattle.campaign_main.specs.declared.notes.Doubts.{Doubts}
+
+-- equal parts make equal doubts
+pub same-doubts : (d e : Doubts) → d.clean ≡ e.clean → d.unresolved ≡ e.unresolved → d.plans ≡ e.plans → d.unhit ≡ e.unhit → d.unstormed ≡ e.unstormed → d ≡ e
+same-doubts d e clean unresolved plans unhit unstormed =
+    let made : Bool → ℕ → ℕ → Bool → Bool → Doubts = λ a b p h s. record { clean = a; unresolved = b; plans = p; unhit = h; unstormed = s } in
+    ap (λ x. made x d.unresolved d.plans d.unhit d.unstormed) clean
+    ∙ ap (λ x. made e.clean x d.plans d.unhit d.unstormed) unresolved
+    ∙ ap (λ x. made e.clean e.unresolved x d.unhit d.unstormed) plans
+    ∙ ap (λ x. made e.clean e.unresolved e.plans x d.unstormed) unhit
+    ∙ ap (λ x. made e.clean e.unresolved e.plans e.unhit x) unstormed
+
+-- the lines, where what stands before them is nothing
+pub strict-is : (c : Campaign) (d : Doubts) (names : List (List ℕ)) (unreached empty one two : List ℕ) → d ≡ doubts_of c → names ≡ c.points
+    → unreached ≡ unreached_in (length c.points) (runs_from (tried c) 0 (plans c))
+    → empty ≡ [] → one ≡ empty ++ doubt_notes d → two ≡ one ++ text_of (unreached_lines names unreached) → two ≡ strict_notes c
+strict-is c d names unreached empty one two same points left none first second =
+    let start : one ≡ doubt_notes (doubts_of c) = first ∙ ap (λ (x : List ℕ). x ++ doubt_notes d) none ∙ ap doubt_notes same in
+    let rest : unreached_lines names unreached ≡ unreached_lines c.points (unreached_in (length c.points) (runs_from (tried c) 0 (plans c))) =
+    ap (λ n. unreached_lines n unreached) points ∙ ap (unreached_lines c.points) left in
+    second ∙ ap (λ (x : List ℕ). x ++ text_of (unreached_lines names unreached)) start ∙ ap (λ l. doubt_notes (doubts_of c) ++ text_of l) rest
+
+-- the same of a report by answers
+pub answered-is : (d e : Doubts) (names points : List (List ℕ)) (hits counts empty one two : List ℕ) → d ≡ e → names ≡ points → hits ≡ counts
+    → empty ≡ [] → one ≡ empty ++ doubt_notes d → two ≡ one ++ text_of (unhit_lines names hits) → two ≡ doubt_notes e ++ text_of (unhit_lines points counts)
+answered-is d e names points hits counts empty one two same named counted none first second =
+    let start : one ≡ doubt_notes e = first ∙ ap (λ (x : List ℕ). x ++ doubt_notes d) none ∙ ap doubt_notes same in
+    let rest : unhit_lines names hits ≡ unhit_lines points counts = ap (λ n. unhit_lines n hits) named ∙ ap (unhit_lines points) counted in
+    second ∙ ap (λ (x : List ℕ). x ++ text_of (unhit_lines names hits)) start ∙ ap (λ l. doubt_notes e ++ text_of l) rest
+
+-- one more of the lines for points that no run asks
+pub unreached-step : (points : List (List ℕ)) (left : List ℕ) (k d : ℕ) (out new whole : List ℕ) → k < length left
+    → new ≡ out ++ ended (unreached_line (slice_index_or points (slice_index_or left k d) []))
+    → out ++ text_of (unreached_lines points (drop k left)) ≡ whole → new ++ text_of (unreached_lines points (drop (k + 1) left)) ≡ whole
+unreached-step points left k d out new whole less added h =
+    let one : k + 1 ≡ suc k = omega arith in
+    let line = ended (unreached_line (slice_index_or points (slice_index_or left k d) [])) in
+    let more : List ℕ → List ℕ = λ l. text_of (unreached_lines points l) in
+    let begins : drop k left ≡ slice_index_or left k d ∷ drop (k + 1) left =
+    drop-cons left k d less ∙ ap (λ m. slice_index_or left k d ∷ drop m left) (sym one) in
+    ap (λ (x : List ℕ). x ++ more (drop (k + 1) left)) added ∙ append_assoc out line (more (drop (k + 1) left))
+    ∙ ap (λ (l : List ℕ). out ++ more l) (sym begins) ∙ h

@@ -1,0 +1,19 @@
+use Rattle.std.proofs.Common.{◌≡◌, ◌∙◌, List, ℕ, ap}
+use Rattle.action_eval.specs.Answers.{texts}
+use Rattle.answer_text.specs.Known.{known_by, verdict_in}
+use Rattle.campaign_given.specs.Description.{Description}
+use Rattle.campaign_main.specs.QuestionNotes.{doubts_by}
+use Rattle.campaign_main.proofs.StrictLemmas.{answered-is}
+use Rattle.campaign_main.proofs.answer_notes.strict_answered.Goals as goal
+
+pub returns-clause-ok : goal.returns-clause-ok
+returns-clause-ok c =
+    let outside = c.args.outside.now in
+    let codes : c.as_slice.result.now ≡ outside.codes = c.as_slice.ensures.value ∙ ap (λ (d : Description). d.codes) c.outside.view_is in
+    let known : verdict_in c.in_ok-known.known ≡ known_by outside.codes c.args.answers.now =
+    c.in_ok-known.ensures.known ∙ ap (λ (names : List (List ℕ)). known_by names c.args.answers.now) codes in
+    answered-is _ _ _ _ _ _ _ _ _
+    (c.in_ok-doubts.ensures ∙ ap (λ k. doubts_by k c.args.settings.now outside) known)
+    (ap texts c.as_slice-points.ensures.value ∙ c.in_ok-points.ensures ∙ c.as_slice-2.ensures.value ∙ ap (λ (d : Description). d.points) c.outside.view_is)
+    (c.as_slice-3.ensures.value ∙ ap (λ (d : Description). d.hits) c.outside.view_is)
+    c.new-lines.ensures.bytes c.in_ok-write_doubts.ensures c.in_ok-write_all_unhit.ensures

@@ -1,0 +1,243 @@
+//! What is noted beside the answer to a question on a component that somebody else runs.
+ghost use Rattle.std.specs.Prelude.{◌≡◌, ◌<◌, ◌==◌, ◌++◌, [], true, codes, count_by, length, slice_index_or, string_bytes, IfErr, IfOk, OnOk, if◌then◌else◌};
+ghost use Rattle.std.specs.Fmt.{decimal};
+ghost use Rattle.std.specs.List.{slice_split};
+ghost use Rattle.action_eval.specs.Answers.{texts};
+ghost use Rattle.report.specs.ReportText.{ended, text_of};
+ghost use Rattle.answer_text.specs.FirstFault.{answer_in};
+ghost use Rattle.answer_text.specs.Known.{verdict_in};
+ghost use Rattle.campaign_main.specs.Commands.{outside_plans};
+ghost use Rattle.campaign_main.specs.Notes.{strangers_in};
+ghost use Rattle.campaign_main.specs.QuestionNotes.{answer_strangers, answered_doubts, doubts_by, is_left_open, is_question_doubted, name_notes, question_notes, strangers_from, unhit_line, unhit_lines, unhit_of};
+ghost use Rattle.campaign_main.specs.Questions.{IsUnnoted};
+
+use crate::notes::{
+    Doubts, draws_nothing, is_doubted, is_unhit, listed_on, write_doubts, write_strangers,
+};
+use answer_text::{Known, LineError, answer_in, read};
+use campaign_given::{CampaignSettings, Outside};
+use command_words::Question;
+use outside_campaign::{OutsideFault, borrowed, outside_plans};
+use plan_gen::PlanList;
+use scenario_grammar::Scenario;
+use scenario_values::build;
+use std::alloc::{AllocError, Global};
+use std::fmt::Write;
+use target_trait::Verdict;
+
+/// A line for each name that no point has, of the scenario that a line of answers gives.
+fn write_answered(
+    alloc: Global,
+    out: &mut String,
+    points: &[&str],
+    number: usize,
+    scenario: &Scenario,
+) -> Result<(), AllocError>
+    ensures { OnOk result (string_bytes out.new ≡ string_bytes out.old
+        ++ text_of (strangers_in (texts points.now) (codes "answers: line " ++ decimal number) scenario.now)) }
+{
+    let which = format!(in alloc; "answers: line {number}")?;
+    write_strangers(out, points, which.as_str(), scenario)
+}
+
+/// The same of a line of answers, by its number; a line that gives no answer has none.
+fn write_line_strangers(
+    alloc: Global,
+    out: &mut String,
+    points: &[&str],
+    outside: &Outside,
+    number: usize,
+    line: &[u8],
+) -> Result<(), AllocError>
+    ensures { OnOk result (string_bytes out.new ≡ string_bytes out.old
+        ++ text_of (answer_strangers (texts points.now) number (answer_in outside.now.codes line.now))) }
+{
+    match answer_in(alloc, outside.codes.as_slice(), line) {
+        Ok((scenario, _)) => write_answered(alloc, out, points, number, &scenario),
+        Err(LineError::Bad(_)) => Ok(()),
+        Err(LineError::Memory) => Err(AllocError),
+    }
+}
+
+/// The pieces of a text between its line feeds.
+fn pieces(alloc: Global, text: &[u8]) -> Result<Vec<&[u8]>, AllocError>
+    ensures { IfOk result (λ pieces. texts pieces.items ≡ slice_split (λ b. b == 10) text.now) }
+{
+    text.split(|b| *b == b'\n').collect(alloc)
+}
+
+/// What is noted of a text of answers, whose lines are numbered from 1.
+fn write_answers_strangers(
+    alloc: Global,
+    out: &mut String,
+    points: &[&str],
+    outside: &Outside,
+    answers: &[u8],
+) -> Result<(), AllocError>
+    ensures { OnOk result (string_bytes out.new ≡ string_bytes out.old
+        ++ strangers_from (texts points.now) outside.now.codes 1 (slice_split (λ b. b == 10) answers.now)) }
+{
+    let lines = pieces(alloc, answers)?;
+    for place in 0..lines.len() {
+        write_line_strangers(alloc, out, points, outside, place + 1, lines[place])?;
+    }
+    Ok(())
+}
+
+/// What is noted of names that no point has: those of the listed scenarios, and then those of the answers.
+fn name_notes_on(
+    alloc: Global,
+    outside: &Outside,
+    settings: &CampaignSettings,
+    answers: &[u8],
+) -> Result<String, AllocError>
+    ensures { IfOk result (λ lines. string_bytes lines ≡ name_notes settings.now outside.now answers.now) }
+{
+    let points = borrowed(alloc, outside.points.as_slice())?;
+    let points = points.as_slice();
+    let mut lines = listed_on(alloc, points, settings.scenarios.as_slice())?;
+    write_answers_strangers(alloc, &mut lines, points, outside, answers)?;
+    Ok(lines)
+}
+
+/// Whether a scenario is answered as unresolved.
+fn is_left_open(alloc: Global, known: &Known, scenario: &Scenario) -> Result<bool, AllocError>
+    ensures { IfOk result (λ found. found ≡ is_left_open (verdict_in known.now) scenario.now) }
+{
+    match known.verdict_of(alloc, scenario)? {
+        Some(Verdict::Unresolved) => Ok(true),
+        Some(Verdict::Pass | Verdict::Fail(_)) | None => Ok(false),
+    }
+}
+
+/// One, where the plan of this number is answered as unresolved.
+fn count_of(
+    alloc: Global,
+    known: &Known,
+    plans: &PlanList<'_>,
+    number: usize,
+) -> Result<u32, AllocError>
+    requires { number < length plans.now }
+    ensures { IfOk result (λ n. n ≡ if is_left_open (verdict_in known.now) (slice_index_or plans.now number []) then 1 else 0) }
+{
+    let scenario = plans.plan(number).scenario(alloc)?;
+    if is_left_open(alloc, known, &scenario)? {
+        Ok(1)
+    } else {
+        Ok(0)
+    }
+}
+
+/// How many of the plans are answered as unresolved.
+fn count_left_open(alloc: Global, known: &Known, plans: &PlanList<'_>) -> Result<u32, AllocError>
+    ensures { IfOk result (λ n. n ≡ count_by (is_left_open (verdict_in known.now)) plans.now) }
+{
+    let mut count = 0;
+    for number in 0..plans.len() {
+        count += count_of(alloc, known, plans, number)?;
+    }
+    Ok(count)
+}
+
+/// What makes a report by these answers say less than it seems to.
+fn doubts_known(
+    alloc: Global,
+    known: &Known,
+    outside: &Outside,
+    settings: &CampaignSettings,
+    plans: &PlanList<'_>,
+) -> Result<Doubts, AllocError>
+    requires { plans.now ≡ outside_plans settings.now outside.now }
+    ensures { IfOk result (λ doubts. doubts ≡ doubts_by (verdict_in known.now) settings.now outside.now) }
+{
+    let none = build(alloc, &[])?;
+    Ok(Doubts {
+        clean: is_left_open(alloc, known, &none)?,
+        unresolved: count_left_open(alloc, known, plans)?,
+        plans: plans.len() as u32,
+        unhit: is_unhit(outside.hits.as_slice()),
+        unstormed: draws_nothing(settings),
+    })
+}
+
+fn write_unhit(out: &mut String, name: &str) -> Result<(), AllocError>
+    ensures { OnOk result (string_bytes out.new ≡ string_bytes out.old ++ ended (unhit_line name.now)) }
+{
+    writeln!(out, "strict: no hit without faults of {name}")
+}
+
+fn is_never(hits: u32) -> bool
+    ensures { result ≡ (hits == 0) }
+{
+    hits == 0
+}
+
+fn write_if_unhit(out: &mut String, name: &str, hits: u32) -> Result<(), AllocError>
+    ensures { OnOk result (string_bytes out.new ≡ string_bytes out.old ++ text_of (unhit_of name.now hits)) }
+{
+    if is_never(hits) {
+        return write_unhit(out, name);
+    }
+    Ok(())
+}
+
+/// A line for each point that isn't hit without faults.
+fn write_all_unhit(out: &mut String, points: &[&str], hits: &[u32]) -> Result<(), AllocError>
+    requires { length hits.now ≡ length points.now }
+    ensures { OnOk result (string_bytes out.new ≡ string_bytes out.old ++ text_of (unhit_lines (texts points.now) hits.now)) }
+{
+    for place in 0..points.len() {
+        write_if_unhit(out, points[place], hits[place])?;
+    }
+    Ok(())
+}
+
+/// What is noted besides of a report that is to be strict.
+fn strict_answered(
+    alloc: Global,
+    outside: &Outside,
+    settings: &CampaignSettings,
+    answers: &[u8],
+) -> Result<String, OutsideFault>
+    ensures ok { IfOk result (λ lines. string_bytes lines ≡ answered_doubts true settings.now outside.now answers.now) }
+    ensures fault { IfErr result (IsUnnoted (settings.now, outside.now) answers.now) }
+{
+    let known = read(alloc, outside.codes.as_slice(), answers)?;
+    let points = borrowed(alloc, outside.points.as_slice())?;
+    let points = points.as_slice();
+    let plans = outside_plans(alloc, points, outside, settings)?;
+    let doubts = doubts_known(alloc, &known, outside, settings, &plans)?;
+    let mut lines = String::new(alloc);
+    write_doubts(&mut lines, &doubts)?;
+    write_all_unhit(&mut lines, points, outside.hits.as_slice())?;
+    Ok(lines)
+}
+
+/// What is noted beside the answer to a question. A fault is one that the answer has.
+pub fn question_notes_on(
+    alloc: Global,
+    question: &Question,
+    outside: &Outside,
+    settings: &CampaignSettings,
+    answers: &[u8],
+) -> Result<String, OutsideFault>
+    ensures ok { IfOk result (λ lines. string_bytes lines ≡ question_notes question.now settings.now outside.now answers.now) }
+    ensures fault { IfErr result (IsUnnoted (settings.now, outside.now) answers.now) }
+{
+    let mut lines = name_notes_on(alloc, outside, settings, answers)?;
+    if let Question::Report { strict: true, .. } = question {
+        let more = strict_answered(alloc, outside, settings, answers)?;
+        lines.push_str(more.as_str())?;
+    }
+    Ok(lines)
+}
+
+/// Whether something is noted that is to count.
+pub fn is_question_doubted(question: &Question, notes: &str) -> bool
+    ensures { result ≡ is_question_doubted question.now notes.now }
+{
+    match question {
+        Question::Asks => false,
+        Question::Report { strict, .. } => is_doubted(*strict, notes),
+    }
+}

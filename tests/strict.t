@@ -1,0 +1,175 @@
+`run --strict` writes the report that `run` writes, and tells on standard error what makes it say less than it seems to: a line each for a run
+without faults that is unresolved, for plans that are, for a census without a hit, for storms that draw nothing, for points that no plan's
+run reaches, and for names that no point has. Where a line is told and no verdict is fail, the status is 5. What is expected was worked out
+by hand from docs/TARGETS.md.
+
+  $ cat > small.toml <<'END'
+  > target = "replace"
+  > seed = 7
+  > [replace]
+  > old = "old"
+  > replacements = [["ne", "w"]]
+  > END
+  $ same() { paklour run "$@" > plain; paklour run --strict "$@" > strict; status=$?; cmp plain strict; return $status; }
+
+`clear` is asked where the file `tmp` of an earlier replacement is there. With one replacement there is none.
+
+  $ same small.toml
+  strict: no run reaches replace::clear
+  [5]
+  $ same --brief small.toml
+  strict: no run reaches replace::clear
+  [5]
+
+With two, it takes a write and the `unlink` after it that both fail. `unlink` isn't asked without faults, so no plan lets it fail by itself.
+
+  $ sed 's/= \[\[.*/= [["ne", "w"], ["er"]]/' small.toml > two.toml
+  $ same two.toml
+  strict: no run reaches replace::clear
+  [5]
+  $ sed '2a scenarios = ["replace::write=1*return;replace::unlink=1*return"]' two.toml > all.toml
+  $ same all.toml
+
+A limit of 3 hits ends the run without faults before its sync, and the two plans in which the second write fails before it is cleaned up.
+
+  $ sed '2a max_hits = 3' small.toml > short.toml
+  $ same short.toml
+  strict: clean unresolved
+  strict: 3 of 10 plans unresolved
+  strict: no run reaches replace::clear
+  strict: no run reaches replace::sync
+  strict: no run reaches replace::rename
+  strict: no run reaches replace::sync_dir
+  [5]
+  $ paklour run --brief short.toml | grep -v census
+  target replace sound
+  seed 7
+  clean unresolved
+  plans 10
+  counts pass 7 unresolved 3
+  verdict 0 unresolved none
+  verdict 7 unresolved replace::write=1*off->1*return
+  verdict 8 unresolved replace::write=1*off->return
+  first none
+
+Nothing to do, storms of rate 0, and a name that no point has.
+
+  $ sed 's/= \[\[.*/= []/' small.toml > empty.toml
+  $ same empty.toml
+  strict: no hits without faults
+  strict: no run reaches replace::clear
+  strict: no run reaches replace::create
+  strict: no run reaches replace::write
+  strict: no run reaches replace::sync
+  strict: no run reaches replace::rename
+  strict: no run reaches replace::sync_dir
+  strict: no run reaches replace::unlink
+  [5]
+  $ sed '2a storms = 3\nrate = 0' all.toml > still.toml
+  $ same still.toml
+  strict: storms of rate 0
+  [5]
+  $ sed 's/::unlink=1/::unlinked=1/' all.toml > named.toml
+  $ same named.toml 2>&1 | sort -u
+  settings: scenario 1: no point is named replace::unlinked
+  strict: no run reaches replace::clear
+  $ paklour run named.toml > plain
+  settings: scenario 1: no point is named replace::unlinked
+
+A failing plan's status is 1 all the same, what is refused 2, and a failed write 4.
+
+  $ sed '1a variant = "late_sync"' small.toml > flawed.toml
+  $ same flawed.toml
+  strict: no run reaches replace::clear
+  [1]
+  $ sed '2a pears = true' small.toml | paklour run --strict
+  settings: unknown key pears
+  [2]
+  $ paklour run --strict small.toml > /dev/full
+  write failed after 0 bytes
+  [4]
+  $ paklour map --strict small.toml 2>&1 | head -n 1
+  error: unexpected argument '--strict' found
+
+`run --recheck` runs each plan before the campaign, and each that fails once more. A bundled target says the same twice, so its report and its
+status are those of `run`.
+
+  $ paklour run flawed.toml > plain
+  [1]
+  $ paklour run --recheck flawed.toml > again
+  [1]
+  $ cmp plain again
+  $ paklour run --recheck --strict all.toml > again
+  $ paklour run all.toml | cmp - again
+  $ sed '2a pears = true' small.toml | paklour run --recheck
+  settings: unknown key pears
+  [2]
+
+`report --strict` tells of a component that somebody else runs what settings and answers say: unresolved answers, and points that aren't hit
+without faults; which points the other runs reach, no answer tells. Names that no point has are told by `asks` and `report` in any case, of
+the scenarios that settings list and of the lines of answers, each numbered from 1.
+
+  $ cat > outside.toml <<'END'
+  > target = "outside"
+  > scenarios = ["b=1*panic", "c=return"]
+  > [outside]
+  > label = "two points"
+  > codes = ["lost"]
+  > points = ["a", "b"]
+  > hits = [1, 0]
+  > END
+  $ paklour plans outside.toml 2>&1 > /dev/null
+  settings: scenario 2: no point is named c
+  $ paklour asks outside.toml < /dev/null
+  none
+  a=1*return
+  a=return
+  a=1*panic
+  b=1*panic
+  c=return
+  settings: scenario 2: no point is named c
+  $ printf 'pass\tnone\npass\ta=1*return\npass\ta=return\nunresolved\ta=1*panic\npass\tb=1*panic\npass\tc=return\npass\td=panic;a=panic\n' > answers
+  $ paklour report --brief outside.toml < answers
+  target two points
+  seed 0
+  clean pass
+  census a 1
+  census b 0
+  plans 6
+  counts pass 5 unresolved 1
+  verdict 3 unresolved a=1*panic
+  first none
+  settings: scenario 2: no point is named c
+  answers: line 6: no point is named c
+  answers: line 7: no point is named d
+  $ paklour report outside.toml < answers > plain 2> nothing
+  $ paklour report --strict outside.toml < answers > strict
+  settings: scenario 2: no point is named c
+  answers: line 6: no point is named c
+  answers: line 7: no point is named d
+  strict: 1 of 6 plans unresolved
+  strict: no hit without faults of b
+  [5]
+  $ cmp plain strict
+
+Where nothing is told the status is 0, a failing plan keeps 1, and an answer that is lacking 2.
+
+  $ sed -e '/^scenarios/d' -e 's/, "b"//' -e 's/, 0//' outside.toml > green.toml
+  $ sed '4,$d' answers > three
+  $ (cat three; printf 'pass\ta=1*panic\n') | paklour report --strict green.toml | tail -n 1
+  first none
+  $ (cat three; printf 'fail lost\ta=1*panic\n') | paklour report --strict green.toml > failing
+  [1]
+  $ paklour report --strict green.toml < three
+  not answered a=1*panic
+  [2]
+  $ sed -e '2i storms = 2\nrate = 0' -e 's/= .1.$/= [0]/' green.toml > still.toml
+  $ printf 'unresolved\tnone\n' | paklour report --strict still.toml > nothing
+  strict: clean unresolved
+  strict: 3 of 3 plans unresolved
+  strict: no hits without faults
+  strict: storms of rate 0
+  strict: no hit without faults of a
+  [5]
+  $ paklour asks --strict green.toml < three 2>&1 | head -n 1
+  error: unexpected argument '--strict' found
