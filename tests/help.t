@@ -74,6 +74,8 @@ statuses.
     pairs      true or false: plans of two steps that both fail, or the second panics; default false
     storms     how many plans of faults drawn at random there are, 0 to 10000; default 0
     rate       how many steps in a thousand each of these plans draws, 0 to 1000; default 100
+    depth      with up to how many faults each behaviour is tried, 1 to 64, without pairs; default
+               none: plans come from the run without faults
     scenarios  scenarios to run as plans too, up to 1000 texts; default none
   and the table of the target, with all of its keys:
     [replace]
@@ -90,7 +92,7 @@ statuses.
       points        the names of its points, 1 to 64 texts of up to 200 bytes
       hits          how often each point is hit without faults, as many numbers from 0 to 100000
   With "outside" somebody else runs the component: only plans, asks and report take such settings, in
-  which variant, workers and max_hits are unknown keys.
+  which variant, workers and max_hits are unknown keys, and depth is out of range.
   A chunk is a text of up to 4096 bytes. `paklour help try` says what a scenario may hold.
   
   Example:

@@ -190,6 +190,37 @@ From here on the keys stand in settings that have all that is needed.
   $ told 'rate = 1001'
   settings: out of range rate
 
+  $ told 'depth = "2"'
+  settings: wrong type depth
+  $ told 'depth = 2.0'
+  settings: wrong type depth
+  $ told 'depth = -1'
+  settings: out of range depth
+  $ told 'depth = 0'
+  settings: out of range depth
+  $ told 'depth = 1'
+  accepted
+  $ told 'depth = 64'
+  accepted
+  $ told 'depth = 65'
+  settings: out of range depth
+
+A depth leaves no room for pairs. That is told after what is wrong with either of them alone, and with the keys between, and before what is
+wrong with the scenarios.
+
+  $ told 'depth = 2\npairs = false'
+  accepted
+  $ told 'depth = 2\npairs = true'
+  settings: out of range pairs
+  $ told 'depth = 65\npairs = true'
+  settings: out of range depth
+  $ told 'depth = 2\npairs = 1'
+  settings: wrong type pairs
+  $ told 'depth = 2\npairs = true\nrate = 1001'
+  settings: out of range rate
+  $ told 'depth = 2\npairs = true\nscenarios = 1'
+  settings: out of range pairs
+
   $ told 'scenarios = "a=off"'
   settings: wrong type scenarios
   $ told 'scenarios = [1]'
@@ -219,8 +250,10 @@ Of two keys the earlier one is told, whatever their order in the text.
   settings: out of range storms
   $ told 'storms = [1]\nrate = 1001'
   settings: wrong type storms
-  $ told 'rate = 1001\nscenarios = 1'
+  $ told 'rate = 1001\ndepth = 0'
   settings: out of range rate
+  $ told 'depth = 65\nscenarios = 1'
+  settings: out of range depth
   $ told 'rate = 1001\nstorms = 10001\nworkers = 0'
   settings: out of range workers
   $ told 'scenarios = ["=off"]\nworkers = 0'

@@ -44,6 +44,26 @@ known; of unknown keys the least is told, before all else.
   settings: wrong type pairs
   $ outside --top 'storms = 10001'
   settings: out of range storms
+
+Plans don't grow from the runs of such a component: each depth is out of range. It comes where the key comes, before the scenarios.
+
+  $ outside --top 'depth = 1'
+  settings: out of range depth
+  $ outside --top 'depth = 64'
+  settings: out of range depth
+  $ outside --top 'depth = 65'
+  settings: out of range depth
+  $ outside --top 'depth = "2"'
+  settings: wrong type depth
+  $ outside --top 'depth = 2' --top 'pairs = false' --top 'scenarios = 1'
+  settings: out of range depth
+  $ outside --top 'depth = 2' --top 'pairs = true'
+  settings: out of range pairs
+  $ outside --top 'depth = 2' --top 'rate = 1001'
+  settings: out of range rate
+
+Tables of other targets, and targets without their table.
+
   $ told << 'END'
   > target = "outside"
   > [outside]

@@ -1,5 +1,5 @@
 -- What a campaign is given by its settings.
-use Rattle.std.specs.Prelude.{ℕ, ◌≤◌, false, List, [], length}
+use Rattle.std.specs.Prelude.{ℕ, ◌≡◌, ◌≤◌, false, List, [], Option, None, IfSome, length}
 use Rattle.scenario_values.specs.Scenario.{Entries}
 use Rattle.action_eval.specs.Answers.{Reply}
 use Rattle.target_trait.specs.declared.judgement.Verdict.{Verdict}
@@ -7,10 +7,12 @@ use Rattle.target_trait.specs.Outcomes.{verdict_with}
 use Rattle.target_trait.specs.Play.{Move}
 use Rattle.plan_gen.specs.PlanList.{Asked}
 
--- how many workers there are, how many hits of a run are answered, and what is asked of the list of plans, the seed of every draw among it
+-- how many workers there are; how many hits of a run are answered; up to how many faults each behaviour is tried with, where plans grow from
+-- each run's own hits; and what is asked of the list of plans, the seed of every draw among it
 pub record Given : Type 0 where
   pub workers : ℕ
   pub max_hits : ℕ
+  pub depth : Option ℕ
   pub plans : Asked
 
 -- what holds where nothing else is given
@@ -18,16 +20,20 @@ abbrev pub defaults : Given
 defaults = record {
   workers = 1;
   max_hits = 1000;
+  depth = None;
   plans = record { pairs = false; storms = 0; rate = 100; listed = []; seed = 0 };
 }
 
--- the ranges
+-- the ranges; with a depth there are no pairs
 pub record IsGiven (g : Given) : Type 0 where
   pub seed : g.plans.seed ≤ 9223372036854775807
   pub some_workers : 1 ≤ g.workers
   pub few_workers : g.workers ≤ 64
   pub some_hits : 1 ≤ g.max_hits
   pub few_hits : g.max_hits ≤ 100000
+  pub some_depth : IfSome g.depth (λ faults. 1 ≤ faults)
+  pub low_depth : IfSome g.depth (λ faults. faults ≤ 64)
+  pub depth_without_pairs : IfSome g.depth (λ _. g.plans.pairs ≡ false)
   pub few_storms : g.plans.storms ≤ 10000
   pub rate : g.plans.rate ≤ 1000
   pub few_listed : length g.plans.listed ≤ 1000

@@ -1,5 +1,6 @@
 //! The settings of a campaign.
-ghost use Rattle.std.specs.Prelude.{◌≡◌, ◌≤◌, ◌<◌, length};
+ghost use Rattle.std.specs.Prelude.{◌≡◌, ◌≤◌, ◌<◌, IfSome, false, length};
+ghost use Rattle.std.proofs.Props.{props};
 ghost use Rattle.campaign_given.specs.Given.{defaults, IsGiven};
 
 use plan_gen::PlanSettings;
@@ -41,6 +42,9 @@ pub struct CampaignSettings {
     pub storms: u32,
     /// How many of a thousand sites such a plan takes, 0 to 1000.
     pub rate: u32,
+    /// Up to how many faults each behaviour is tried with, 1 to 64; `None` where plans come from the run without faults. With a depth `pairs`
+    /// is false.
+    pub depth: Option<u32>,
     /// The scenarios that are tried besides, up to 1000.
     pub scenarios: Vec<Scenario>,
     ghost seed_high: { seed ≤ 9223372036854775807 },
@@ -50,6 +54,9 @@ pub struct CampaignSettings {
     ghost hits_high: { max_hits ≤ 100000 },
     ghost storms_high: { storms ≤ 10000 },
     ghost rate_high: { rate ≤ 1000 },
+    ghost depth_low: { IfSome depth (λ faults. 1 ≤ faults) } by { Prim.hlevel props },
+    ghost depth_high: { IfSome depth (λ faults. faults ≤ 64) } by { Prim.hlevel props },
+    ghost depth_without_pairs: { IfSome depth (λ _. pairs ≡ false) } by { Prim.hlevel props },
     ghost few_scenarios: { length scenarios.items ≤ 1000 },
 }
 
@@ -61,13 +68,14 @@ impl Model for CampaignSettings {
     ghost view = { λ s. record {
       workers = s.workers;
       max_hits = s.max_hits;
+      depth = s.depth;
       plans = record { pairs = s.pairs; storms = s.storms; rate = s.rate; listed = s.scenarios.items; seed = s.seed };
     } };
 }
 
 impl CampaignSettings {
-    /// What holds where nothing is given: seed 0, one worker, at most 1000 hits, no pairs, no storms, 100 of a thousand sites for a storm, and
-    /// no listed scenarios. A program that brings a target of its own sets from here what differs.
+    /// What holds where nothing is given: seed 0, one worker, at most 1000 hits, no pairs, no storms, 100 of a thousand sites for a storm, no
+    /// depth, and no listed scenarios. A program that brings a target of its own sets from here what differs.
     pub fn new(alloc: Global) -> Self
         ensures { result ≡ defaults }
     {
@@ -78,6 +86,7 @@ impl CampaignSettings {
             pairs: PAIRS_IF_MISSING,
             storms: STORMS_IF_MISSING,
             rate: RATE_IF_MISSING,
+            depth: None,
             scenarios: Vec::new(alloc),
         }
     }

@@ -28,6 +28,7 @@ key_name key.MaxHits = codes "max_hits"
 key_name key.Pairs = codes "pairs"
 key_name key.Storms = codes "storms"
 key_name key.Rate = codes "rate"
+key_name key.Depth = codes "depth"
 key_name key.Scenarios = codes "scenarios"
 key_name (key.Table target) = target_name target
 key_name key.Old = codes "replace.old"
@@ -43,7 +44,7 @@ key_name key.Hits = codes "outside.hits"
 -- the keys of every target
 abbrev pub is_shared_key : Text → Bool
 is_shared_key name = list_any (bytes_eq name) (codes "target" ∷ codes "seed" ∷ codes "pairs" ∷ codes "storms" ∷ codes "rate"
-    ∷ codes "scenarios" ∷ [])
+    ∷ codes "depth" ∷ codes "scenarios" ∷ [])
 
 -- what the program is told of a target that it runs itself; a target from outside has no variant, and somebody else runs it
 abbrev pub is_bundled_key : Text → Bool
@@ -52,7 +53,7 @@ is_bundled_key name = list_any (bytes_eq name) (codes "variant" ∷ codes "worke
 -- the keys of a program with a target of its own
 abbrev pub is_own_key : Text → Bool
 is_own_key name = list_any (bytes_eq name) (codes "seed" ∷ codes "workers" ∷ codes "max_hits" ∷ codes "pairs" ∷ codes "storms"
-    ∷ codes "rate" ∷ codes "scenarios" ∷ [])
+    ∷ codes "rate" ∷ codes "depth" ∷ codes "scenarios" ∷ [])
 
 abbrev pub is_key_of : TargetName → Text → Bool
 is_key_of Outside name = is_shared_key name

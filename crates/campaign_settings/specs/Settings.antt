@@ -1,5 +1,5 @@
 -- What the settings' text means: one definition, with the order in which its faults are looked for.
-use Rattle.std.specs.Prelude.{◌≡◌, ◌+◌, ◌≤◌, ℕ, List, [], ◌∷◌, length, Option, Some, None, Result, Ok, Err, codes, nat_lt, string_bytes, if◌then◌else◌}
+use Rattle.std.specs.Prelude.{◌≡◌, ◌+◌, ◌≤◌, ◌&&◌, ℕ, Bool, false, List, [], ◌∷◌, length, Option, Some, None, IfSome, Result, Ok, Err, codes, is_some, nat_lt, string_bytes, if◌then◌else◌}
 use Rattle.std.specs.Cmp.Lexicographic.{slice_cmp}
 use Rattle.std.specs.List.{list_all}
 use Rattle.std.specs.Ordering.{match_ordering, nat_cmp}
@@ -12,7 +12,7 @@ use Rattle.file_replace.specs.declared.variant.Variant.{Variant as ReplaceVarian
 use Rattle.maildir_target.specs.declared.variant.Variant.{Variant as MaildirVariant}
 use Rattle.commit_target.specs.declared.variant.Variant.{Variant as CommitVariant}
 use Rattle.campaign_settings.specs.Keys.{Text, is_known, target_name}
-use Rattle.campaign_settings.specs.Values.{boolean_at, number_at, lists_at, setup_at, table_at, target_at, text_at, texts_at}
+use Rattle.campaign_settings.specs.Values.{boolean_at, number_at, optional_at, lists_at, setup_at, table_at, target_at, text_at, texts_at}
 use Rattle.campaign_settings.specs.Lists.{chunks_of, wishes_of}
 use Rattle.campaign_given.specs.Description.{are_codes, are_points}
 use Rattle.campaign_settings.specs.Outside.{can_be_handed, counts_at, label_at, names_at}
@@ -158,13 +158,28 @@ running_in ms =
     after (keyed key.MaxHits (number_at (Ok defaults.max_hits) 1 100000 (get_member (codes "max_hits") ms))) (λ max_hits.
     Ok (record { seed = seed; workers = workers; max_hits = max_hits }))))
 
+-- up to how many faults each behaviour is tried with, which isn't asked for together with pairs
+abbrev pub depth_beside : Bool → Members → Read (Option ℕ)
+depth_beside pairs ms =
+    after (keyed key.Depth (optional_at 1 64 (get_member (codes "depth") ms))) (λ depth.
+    if is_some depth && pairs then Err (wrong key.Pairs fault.OutOfRange) else Ok depth)
+
 -- which plans are made, besides those of one fault
 abbrev pub planning_in : Members → Read Planning
 planning_in ms =
     after (keyed key.Pairs (boolean_at defaults.plans.pairs (get_member (codes "pairs") ms))) (λ pairs.
     after (keyed key.Storms (number_at (Ok defaults.plans.storms) 0 10000 (get_member (codes "storms") ms))) (λ storms.
     after (keyed key.Rate (number_at (Ok defaults.plans.rate) 0 1000 (get_member (codes "rate") ms))) (λ rate.
-    Ok (record { pairs = pairs; storms = storms; rate = rate }))))
+    after (depth_beside pairs ms) (λ depth.
+    Ok (record { pairs = pairs; storms = storms; rate = rate; depth = depth })))))
+
+-- those of a target: no plans grow for one from outside yet
+abbrev pub growing_for : Setup → Planning → Read Planning
+growing_for setup.Outside planning = if is_some planning.depth then Err (wrong key.Depth fault.OutOfRange) else Ok planning
+growing_for s planning = Ok planning
+
+abbrev pub planning_for : Setup → Members → Read Planning
+planning_for s ms = after (planning_in ms) (growing_for s)
 
 -- the ranges of these numbers
 pub record IsRunning (r : Running) : Type 0 where
@@ -177,12 +192,16 @@ pub record IsRunning (r : Running) : Type 0 where
 pub record IsPlanning (p : Planning) : Type 0 where
   pub storms : p.storms ≤ 10000
   pub rate : p.rate ≤ 1000
+  pub some_depth : IfSome p.depth (λ faults. 1 ≤ faults)
+  pub low_depth : IfSome p.depth (λ faults. faults ≤ 64)
+  pub depth_without_pairs : IfSome p.depth (λ _. p.pairs ≡ false)
 
 -- what a campaign is given, by these numbers and the listed scenarios
 abbrev pub campaign_of : Running → Planning → List Entries → Given
 campaign_of running planning scenarios = record {
   workers = running.workers;
   max_hits = running.max_hits;
+  depth = planning.depth;
   plans = record {
     pairs = planning.pairs;
     storms = planning.storms;
@@ -199,7 +218,7 @@ abbrev pub settings_for : TargetName → Members → Read Settings
 settings_for t ms =
     after (keyed key.Variant (setup_at t (get_member (codes "variant") ms))) (λ s.
     after (running_in ms) (λ running.
-    after (planning_in ms) (λ planning.
+    after (planning_for s ms) (λ planning.
     after (scenarios_at s (get_member (codes "scenarios") ms)) (λ scenarios.
     after (choice_in t s ms) (λ choice.
     Ok (record { choice = choice; campaign = campaign_of running planning scenarios }))))))

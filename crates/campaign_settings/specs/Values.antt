@@ -1,6 +1,7 @@
 -- What the value at one key means, by its kind and range.
 use Rattle.std.specs.Prelude.{◌&&◌, ℕ, ℤ, pos, negsuc, Bool, List, [], length, Option, Some, None, Result, Ok, Err, codes, nat_le, if◌then◌else◌}
 use Rattle.std.specs.Option.{option_map_or}
+use Rattle.std.specs.Result.{result_map_both}
 use Rattle.std.specs.Str.{bytes_eq}
 use Rattle.toml.specs.Data.{Data, Members, as_array, as_bool, as_integer, as_str, as_table}
 use Rattle.campaign_settings.specs.Keys.{Text}
@@ -30,6 +31,11 @@ in_range low high (negsuc n) = Err OutOfRange
 abbrev pub number_at : Result ℕ KeyFault → ℕ → ℕ → Option Data → Result ℕ KeyFault
 number_at missing low high None = missing
 number_at missing low high (Some d) = typed (in_range low high) (as_integer d)
+
+-- the same, where there may be none
+abbrev pub optional_at : ℕ → ℕ → Option Data → Result (Option ℕ) KeyFault
+optional_at low high None = Ok None
+optional_at low high (Some d) = result_map_both (λ n. Some n) (λ fault. fault) (number_at (Err Missing) low high (Some d))
 
 abbrev pub boolean_at : Bool → Option Data → Result Bool KeyFault
 boolean_at missing None = Ok missing

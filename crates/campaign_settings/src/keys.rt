@@ -18,6 +18,7 @@ pub enum Key {
     Pairs,
     Storms,
     Rate,
+    Depth,
     Scenarios,
     Table(TargetName),
     Old,
@@ -85,6 +86,7 @@ impl Key {
             Key::Pairs => "pairs",
             Key::Storms => "storms",
             Key::Rate => "rate",
+            Key::Depth => "depth",
             Key::Scenarios => "scenarios",
             Key::Table(target) => target.name(),
             Key::Old => "replace.old",
@@ -141,7 +143,15 @@ fn is_shared_key(name: &str) -> bool
 {
     stands_in(
         name,
-        &["target", "seed", "pairs", "storms", "rate", "scenarios"],
+        &[
+            "target",
+            "seed",
+            "pairs",
+            "storms",
+            "rate",
+            "depth",
+            "scenarios",
+        ],
     )
 }
 
@@ -163,6 +173,7 @@ fn is_own_key(name: &str) -> bool
             "pairs",
             "storms",
             "rate",
+            "depth",
             "scenarios",
         ],
     )

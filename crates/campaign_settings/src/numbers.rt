@@ -1,12 +1,13 @@
 //! The numbers of the settings, by what they are for.
-ghost use Rattle.std.specs.Prelude.{◌≡◌, ◌≤◌, Ok, IfOk, IfErr, length};
+ghost use Rattle.std.specs.Prelude.{◌≡◌, ◌≤◌, Ok, IfOk, IfErr, IfSome, false, length};
 ghost use Rattle.toml.specs.View.{table_view};
-ghost use Rattle.campaign_settings.specs.Settings.{IsPlanning, IsRunning, RefusedBy, campaign_of, planning_in, running_in};
+ghost use Rattle.campaign_settings.specs.Settings.{IsPlanning, IsRunning, RefusedBy, campaign_of, depth_beside, planning_for, planning_in, running_in};
 
+use crate::choice::Setup;
 use crate::fault::SettingsFault;
 use crate::keys::Key;
 use crate::tables::keyed;
-use crate::values::{read_boolean, read_number, value_at};
+use crate::values::{read_boolean, read_number, read_optional, value_at};
 use campaign_given::{
     CampaignSettings, MAX_HITS_IF_MISSING, PAIRS_IF_MISSING, RATE_IF_MISSING, SEED_IF_MISSING,
     STORMS_IF_MISSING, WORKERS_IF_MISSING,
@@ -28,6 +29,7 @@ pub struct Planning {
     pub pairs: bool,
     pub storms: u32,
     pub rate: u32,
+    pub depth: Option<u32>,
 }
 
 pub fn read_running(table: &Table) -> Result<Running, SettingsFault>
@@ -81,11 +83,41 @@ pub fn read_planning(table: &Table) -> Result<Planning, SettingsFault>
     let storms = keyed(Key::Storms, storms)?;
     let rate = read_number(value_at(table, "rate"), Ok(RATE_IF_MISSING as u64), 0, 1000);
     let rate = keyed(Key::Rate, rate)?;
+    let depth = read_depth(pairs, table)?;
     Ok(Planning {
         pairs,
         storms: storms as u32,
         rate: rate as u32,
+        depth,
     })
+}
+
+// Up to how many faults each behaviour is tried with, beside pairs or not.
+fn read_depth(pairs: bool, table: &Table) -> Result<Option<u32>, SettingsFault>
+    ensures ok { IfOk result (λ depth. depth_beside pairs (table_view table.now) ≡ Ok depth) }
+    ensures low { IfOk result (λ depth. IfSome depth (λ faults. 1 ≤ faults)) }
+    ensures high { IfOk result (λ depth. IfSome depth (λ faults. faults ≤ 64)) }
+    ensures without_pairs { IfOk result (λ depth. IfSome depth (λ _. pairs ≡ false)) }
+    ensures refused { IfErr result (RefusedBy (depth_beside pairs (table_view table.now))) }
+{
+    let depth = keyed(Key::Depth, read_optional(value_at(table, "depth"), 1, 64))?;
+    if depth.is_some() && pairs {
+        return Err(SettingsFault::OutOfRange(Key::Pairs));
+    }
+    Ok(depth)
+}
+
+// Which plans are made for a target.
+pub fn read_planning_for(setup: Setup, table: &Table) -> Result<Planning, SettingsFault>
+    ensures ok { IfOk result (λ planning. planning_for setup (table_view table.now) ≡ Ok planning) }
+    ensures ranges { IfOk result IsPlanning }
+    ensures refused { IfErr result (RefusedBy (planning_for setup (table_view table.now))) }
+{
+    let planning = read_planning(table)?;
+    match setup {
+        Setup::Outside if planning.depth.is_some() => Err(SettingsFault::OutOfRange(Key::Depth)),
+        _ => Ok(planning),
+    }
 }
 
 // The settings of a campaign, by these numbers and its listed scenarios.
@@ -106,6 +138,7 @@ pub fn campaign_of(
         pairs: planning.pairs,
         storms: planning.storms,
         rate: planning.rate,
+        depth: planning.depth,
         scenarios,
     }
 }

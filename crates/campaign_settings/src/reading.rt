@@ -6,7 +6,7 @@ ghost use Rattle.campaign_settings.specs.Own.{own_settings_in, own_settings_of};
 
 use crate::fault::SettingsFault;
 use crate::keys::{Key, Place, TargetName};
-use crate::numbers::{campaign_of, read_planning, read_running};
+use crate::numbers::{campaign_of, read_planning, read_planning_for, read_running};
 use crate::scenarios::{read_listed, read_scenarios};
 use crate::settings::Settings;
 use crate::tables::{keyed, read_choice, refuse_unknown};
@@ -20,7 +20,8 @@ pub const LIMIT: usize = 1048576;
 
 impl Settings {
     /// The settings that a text of TOML gives. `Err` is the first fault of the text, in this order: too long, no TOML, an unknown key at the
-    /// top, each key as [`Key`] lists them, and in the target's table its unknown key before its keys; or that memory ran out.
+    /// top, each key as [`Key`] lists them, and in the target's table its unknown key before its keys; or that memory ran out. Pairs beside a
+    /// depth, and a depth of a target from outside, are out of range: that comes after the depth's own fault, and before the scenarios.
     pub fn read(alloc: Global, text: &str) -> Result<Settings, SettingsFault>
         ensures ok { IfOk result (λ settings. settings_of text.now ≡ Ok settings) }
         ensures refused { IfErr result (RefusedBy (settings_of text.now)) }
@@ -31,7 +32,7 @@ impl Settings {
 
     /// The settings that a text of TOML gives to a program that brings its own target: the keys are those of a bundled target but `target`,
     /// `variant` and the target's table. `Err` is the first fault of the text, in this order: too long, no TOML, an unknown key, each key as
-    /// [`Key`] lists them; or that memory ran out.
+    /// [`Key`] lists them, where pairs beside a depth are out of range, after the depth's own fault; or that memory ran out.
     pub fn read_own(alloc: Global, text: &str) -> Result<CampaignSettings, SettingsFault>
         ensures ok { IfOk result (λ settings. own_settings_of text.now ≡ Ok settings) }
         ensures refused { IfErr result (RefusedBy (own_settings_of text.now)) }
@@ -84,7 +85,7 @@ fn read_for(alloc: Global, target: TargetName, table: &Table) -> Result<Settings
 {
     let setup = keyed(Key::Variant, read_setup(target, value_at(table, "variant")))?;
     let running = read_running(table)?;
-    let planning = read_planning(table)?;
+    let planning = read_planning_for(setup, table)?;
     let scenarios = read_scenarios(alloc, setup, value_at(table, "scenarios"))?;
     let choice = read_choice(alloc, target, setup, table)?;
     Ok(Settings {

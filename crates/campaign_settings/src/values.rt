@@ -1,8 +1,8 @@
 //! The value at one key, by its kind and range.
-ghost use Rattle.std.specs.Prelude.{◌≡◌, ◌≤◌, Ok, Err, option_map, IfOk, IfErr};
+ghost use Rattle.std.specs.Prelude.{◌≡◌, ◌≤◌, Ok, Err, option_map, IfOk, IfErr, IfSome};
 ghost use Rattle.toml.specs.Data.{get_member};
 ghost use Rattle.toml.specs.View.{table_view, view};
-ghost use Rattle.campaign_settings.specs.Values.{boolean_at, commit_named, in_range, number_at, maildir_named, replace_named, setup_at, setup_named, table_at, target_at, target_named, text_at, within};
+ghost use Rattle.campaign_settings.specs.Values.{boolean_at, commit_named, in_range, number_at, optional_at, maildir_named, replace_named, setup_at, setup_named, table_at, target_at, target_named, text_at, within};
 
 use crate::choice::Setup;
 use crate::keys::{KeyFault, TargetName};
@@ -54,6 +54,19 @@ pub fn read_number(
         Some(number) => ranged(number, low, high),
         None => Err(KeyFault::WrongType),
     }
+}
+
+// The same at a key that may be missing.
+pub fn read_optional(value: Option<&Value>, low: u32, high: u32) -> Result<Option<u32>, KeyFault>
+    ensures value { result ≡ optional_at low high (option_map (λ v. view v.now) value.entry) }
+    ensures low { IfOk result (λ number. IfSome number (λ n. low ≤ n)) }
+    ensures high { IfOk result (λ number. IfSome number (λ n. n ≤ high)) }
+{
+    if value.is_none() {
+        return Ok(None);
+    }
+    let number = read_number(value, Err(KeyFault::Missing), low as u64, high as u64)?;
+    Ok(Some(number as u32))
 }
 
 pub fn read_boolean(value: Option<&Value>, missing: bool) -> Result<bool, KeyFault>
