@@ -1,5 +1,5 @@
 -- The scenarios of plans that grew.
-use Rattle.std.specs.Prelude.{ℕ, List, map}
+use Rattle.std.specs.Prelude.{ℕ, List, [], Option, None, Some, map}
 use Rattle.scenario_values.specs.Scenario.{Entries}
 use Rattle.action_eval.specs.declared.rig.Rig.{Rig}
 use Rattle.action_eval.specs.Rigging.{rigging}
@@ -12,3 +12,8 @@ grown_scenario names plan = rigging names (rigs_of plan)
 -- and those of plans in their order
 abbrev pub grown_scenarios : List (List ℕ) → List (List Rig) → List Entries
 grown_scenarios names plans = map (grown_scenario names) plans
+
+-- the plans that grew, where any did
+abbrev pub grown_among : Option (List (List Rig)) → List (List Rig)
+grown_among None = []
+grown_among (Some plans) = plans

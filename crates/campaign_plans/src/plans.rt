@@ -1,12 +1,12 @@
 //! The plans of a campaign, by their numbers.
-ghost use Rattle.std.specs.Prelude.{◌≡◌, ◌<◌, ◌≤◌, ◌+◌, ◌++◌, [], length, slice_index_or, IfOk};
+ghost use Rattle.std.specs.Prelude.{◌≡◌, ◌<◌, ◌≤◌, ◌+◌, ◌++◌, [], length, slice_index_or, option_copied, IfOk};
 ghost use Rattle.std.specs.List.{AllByRecursion};
 ghost use Rattle.action_eval.specs.Answers.{texts};
 ghost use Rattle.action_eval.specs.Catalogue.{IsCatalogue};
 ghost use Rattle.action_eval.specs.Rigging.{CanBeRigged};
 ghost use Rattle.plan_gen.specs.PlanList.{most_plans};
 ghost use Rattle.grown_plans.specs.GrownPlans.{rigs_of};
-ghost use Rattle.campaign_plans.specs.GrownScenarios.{grown_scenarios};
+ghost use Rattle.campaign_plans.specs.GrownScenarios.{grown_among, grown_scenarios};
 
 use crate::grown::GrownPart;
 use crate::rigger::CampaignRigger;
@@ -52,16 +52,24 @@ impl<'a> CampaignPlans<'a> {
         }
     }
 
-    /// The plans that grew over the points of a catalogue, and behind them those of a list: at most 65536 together. Those that grew to a
-    /// depth of at most 64 can be rigged, as a law of them says.
-    pub fn grown(plans: &'a GrownPlans, catalogue: &'a [&'a str], further: &'a PlanList<'a>) -> Self
+    /// The plans that grew over the points of a catalogue, where plans grew, and behind them those of a list: at most 65536 together. Those
+    /// that grew to a depth of at most 64 can be rigged, as a law of them says.
+    pub fn grown(
+        plans: Option<&'a GrownPlans>,
+        catalogue: &'static [&'static str],
+        further: &'a PlanList<'a>,
+    ) -> Self
         requires lawful { IsCatalogue (texts catalogue.now) }
-        requires rigs { AllByRecursion (λ plan. CanBeRigged (rigs_of plan)) plans.now }
-        requires few { length plans.now + length further.now ≤ most_plans }
-        ensures { result ≡ grown_scenarios (texts catalogue.now) plans.now ++ further.now }
+        requires rigs { AllByRecursion (λ plan. CanBeRigged (rigs_of plan)) (grown_among (option_copied plans)) }
+        requires few { length (grown_among (option_copied plans)) + length further.now ≤ most_plans }
+        ensures { result ≡ grown_scenarios (texts catalogue.now) (grown_among (option_copied plans.entry)) ++ further.now }
     {
+        let grown_part = match plans {
+            Some(plans) => Some(GrownPart::new(plans, catalogue)),
+            None => None,
+        };
         CampaignPlans {
-            grown_part: Some(GrownPart::new(plans, catalogue)),
+            grown_part,
             listed: further,
         }
     }

@@ -3,7 +3,7 @@
 use crate::one_step::OneStep;
 use crate::scenarios::{plans, scenarios};
 use campaign_given::CampaignSettings;
-use plan_gen::PlanList;
+use campaign_plans::CampaignPlans;
 use result_book::{Book, Course, Numbered, PutFault, Row, Workspace, put_all};
 use std::alloc::Global;
 use std::process::Abort;
@@ -20,7 +20,7 @@ fn settings(alloc: Global) -> CampaignSettings {
     settings
 }
 
-fn course<'a>(settings: &'a CampaignSettings, plans: &'a PlanList<'a>) -> Course<'a, OneStep> {
+fn course<'a>(settings: &'a CampaignSettings, plans: &'a CampaignPlans<'a>) -> Course<'a, OneStep> {
     Course {
         workload: &(),
         settings,
@@ -99,9 +99,11 @@ fn tells(rt: &impl Abort, alloc: Global, book: &Book, firsts: &[(u32, u32)]) -> 
 fn a_book_takes_each_result_of_its_course_once(rt: HostRuntime) -> Result<(), Fail> {
     let alloc = rt.alloc();
     let nine = scenarios(alloc, 9, &[])?;
-    let shorter = plans(alloc, &nine)?;
+    let nine = plans(alloc, &nine)?;
+    let shorter = CampaignPlans::by_census(&nine);
     let scenarios = scenarios(alloc, 18, &[])?;
-    let plans = plans(alloc, &scenarios)?;
+    let listed = plans(alloc, &scenarios)?;
+    let plans = CampaignPlans::by_census(&listed);
     assert_eq!(rt; plans.len(), 19);
     let settings = settings(alloc);
     let longer = course(&settings, &plans);
@@ -122,7 +124,8 @@ fn a_book_takes_each_result_of_its_course_once(rt: HostRuntime) -> Result<(), Fa
 fn the_first_failure_of_a_code_is_told_once(rt: HostRuntime) -> Result<(), Fail> {
     let alloc = rt.alloc();
     let scenarios = scenarios(alloc, 18, &[9, 10, 11])?;
-    let plans = plans(alloc, &scenarios)?;
+    let listed = plans(alloc, &scenarios)?;
+    let plans = CampaignPlans::by_census(&listed);
     let settings = settings(alloc);
     let course = course(&settings, &plans);
     let mut book = book(&rt, alloc, &course)?;
@@ -152,7 +155,8 @@ fn put_others<'a>(
 fn results_of_workers_are_put_by_their_numbers(rt: HostRuntime) -> Result<(), Fail> {
     let alloc = rt.alloc();
     let scenarios = scenarios(alloc, 3, &[0, 2])?;
-    let plans = plans(alloc, &scenarios)?;
+    let listed = plans(alloc, &scenarios)?;
+    let plans = CampaignPlans::by_census(&listed);
     let settings = settings(alloc);
     let course = course(&settings, &plans);
     let mut book = book(&rt, alloc, &course)?;
@@ -173,7 +177,8 @@ fn results_of_workers_are_put_by_their_numbers(rt: HostRuntime) -> Result<(), Fa
 fn a_row_gives_its_last_result_first(rt: HostRuntime) -> Result<(), Fail> {
     let alloc = rt.alloc();
     let scenarios = scenarios(alloc, 3, &[0, 2])?;
-    let plans = plans(alloc, &scenarios)?;
+    let listed = plans(alloc, &scenarios)?;
+    let plans = CampaignPlans::by_census(&listed);
     let settings = settings(alloc);
     let course = course(&settings, &plans);
     let mut row = row(&rt, alloc, &course, 1, 3)?;
@@ -183,4 +188,28 @@ fn a_row_gives_its_last_result_first(rt: HostRuntime) -> Result<(), Fail> {
     }
     assert!(rt; row.pop().is_none());
     Ok(())
+}
+
+/// The verdicts that are known of three plans are put once: others of the same numbers change nothing, and neither does one more than there
+/// are plans.
+#[test]
+fn known_verdicts_are_put_in_the_first_places(rt: HostRuntime) -> Result<(), Fail> {
+    let alloc = rt.alloc();
+    let scenarios = scenarios(alloc, 2, &[])?;
+    let listed = plans(alloc, &scenarios)?;
+    let plans = CampaignPlans::by_census(&listed);
+    let settings = settings(alloc);
+    let course = course(&settings, &plans);
+    let mut book = book(&rt, alloc, &course)?;
+    let fails = Verdict::Fail(REFUSED);
+    book.put_known(vec![in alloc; Verdict::Pass, fails]?);
+    assert!(rt; !book.whole());
+    let first_two = [Verdict::Pass, fails];
+    assert_eq!(rt; book.verdicts(alloc)?.as_slice(), first_two.as_slice());
+    assert_eq!(rt; put(&rt, alloc, &mut book, &course, 1)?, "twice");
+    book.put_known(vec![in alloc; fails, Verdict::Unresolved, fails, Verdict::Pass]?);
+    assert!(rt; book.whole());
+    let all = [Verdict::Pass, fails, fails];
+    assert_eq!(rt; book.verdicts(alloc)?.as_slice(), all.as_slice());
+    tells(&rt, alloc, &book, &[(1, REFUSED)])
 }

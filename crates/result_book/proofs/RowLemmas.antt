@@ -1,5 +1,5 @@
 -- What a row of verdicts is, and what a book comes to into which rows were put.
-use Rattle.std.proofs.Common.{◌≡◌, ℕ, zero, suc, ◌+◌, ◌-◌, ◌<◌, ◌≤◌, Bool, true, false, cond, nat_eq, Option, None, Some, List, [], ◌∷◌, ◌++◌, length, map, get_or, replicate, take, drop, Vec, Global, count_by, refl, sym, ap, ◌∙◌, subst, arith, add-zero}
+use Rattle.std.proofs.Common.{◌≡◌, ℕ, zero, suc, ◌+◌, ◌-◌, ◌<◌, ◌≤◌, Bool, true, false, cond, nat_eq, Option, None, Some, List, [], ◌∷◌, ◌++◌, length, map, get_or, replicate, take, drop, Vec, Global, count_by, refl, sym, ap, ◌∙◌, subst, arith, add-zero, ◌⊎◌, inl, inr}
 use Rattle.std.specs.List.{sum_by, slice_range, AllByRecursion}
 use Rattle.std.proofs.lemmas.List.{take_more, length-take, length-drop, get_or-take, get_or-drop}
 use Rattle.std.proofs.lemmas.List.Sums.{sum_by-cons}
@@ -52,7 +52,7 @@ row_said say plans first end up fits k d lt =
     sym (verdict_at say first run k d in_run) ∙ ap (say (first + k)) (range_at plans first end k [] up (omega arith))
 
 -- the last one is put first
-enter_row_last : (slots : List (Option Verdict)) (n : ℕ) (vs : List Verdict) (v : Verdict) → enter_row slots n (vs ++ v ∷ []) ≡ enter_row (enter slots (n + length vs) v) n vs
+pub enter_row_last : (slots : List (Option Verdict)) (n : ℕ) (vs : List Verdict) (v : Verdict) → enter_row slots n (vs ++ v ∷ []) ≡ enter_row (enter slots (n + length vs) v) n vs
 enter_row_last slots n [] v = ap (λ k. enter slots k v) (sym (add-zero n))
 enter_row_last slots n (w ∷ vs) v = ap (λ s. enter s n w) (enter_row_last slots (n + 1) vs v ∙ ap (λ k. enter_row (enter slots k v) (n + 1) vs) (moved n (length vs)))
 
@@ -98,6 +98,10 @@ has_kept_row slots n (v ∷ vs) m there = has_enter (enter_row slots (n + 1) vs)
 has_kept_rows : (slots : List (Option Verdict)) (ps : List (ℕ × Stretch)) (m : ℕ) → has slots m ≡ true → has (enter_rows slots ps) m ≡ true
 has_kept_rows slots [] m there = there
 has_kept_rows slots (p ∷ ps) m there = has_kept_row (enter_rows slots ps) p.1.first p.1.verdicts m (has_kept_rows slots ps m there)
+
+has_kept_lists : (slots : List (Option Verdict)) (ls : List (Vec (ℕ × Stretch) Global)) (m : ℕ) → has slots m ≡ true → has (enter_lists slots ls) m ≡ true
+has_kept_lists slots [] m there = there
+has_kept_lists slots (l ∷ ls) m there = has_kept_rows (enter_lists slots ls) l.items m (has_kept_lists slots ls m there)
 
 has_put_row : (slots : List (Option Verdict)) (n : ℕ) (vs : List Verdict) (k : ℕ) → n + k < length slots → k < length vs → has (enter_row slots n vs) (n + k) ≡ true
 has_put_row slots n [] k lt within = absurd (omega arith)
@@ -179,6 +183,26 @@ said_there say plans d r said k lt within =
     let at : 0 + (r.first + k) ≡ r.first + k = omega arith in
     said k d lt ∙ ap (λ n. say n (get_or plans (r.first + k) [])) (sym at) ∙ verdict_at say 0 plans (r.first + k) d (omega (arith, length_verdicts say 0 plans))
 
+length_empty : (n : ℕ) → length (replicate {A = Option Verdict} n None) ≡ n
+length_empty zero = refl
+length_empty (suc n) = ap suc (length_empty n)
+
+empty_agrees : (say : ℕ → Entries → Verdict) (plans : List Entries) → Agrees (replicate (length plans) None) (verdicts_from say 0 plans)
+empty_agrees say plans = let all : List Verdict = verdicts_from say 0 plans in subst (λ n. Agrees (replicate n None) all) (length_verdicts say 0 plans) (agrees_empty all)
+
+-- rows that have their plans' verdicts are put into a book that agrees with them: where each number is there in the end, it is full of the verdicts
+full_after : (say : ℕ → Entries → Verdict) (plans : List Entries) (row : ℕ → Stretch) (ls : List (Vec (ℕ × Stretch) Global)) (slots : List (Option Verdict))
+    → length slots ≡ length plans
+    → Agrees slots (verdicts_from say 0 plans)
+    → AllAreOf row ls
+    → ((t : ℕ) → AreSaid say plans (row t).first (row t).verdicts)
+    → ((m : ℕ) → m < length plans → has (enter_lists slots ls) m ≡ true)
+    → enter_lists slots ls ≡ map Some (verdicts_from say 0 plans)
+full_after say plans row ls slots fits agrees own said each =
+    full_is (enter_lists slots ls) (verdicts_from say 0 plans)
+    (agrees_lists row (verdicts_from say 0 plans) verdict.Pass (λ t. said_there say plans verdict.Pass (row t) (said t)) slots ls agrees own)
+    (λ m lt. each m (omega (arith, fits, length_lists slots ls)))
+
 -- each row has its plans' verdicts, and each number is in a row that was put: the book is full of the verdicts
 pub book_is : (say : ℕ → Entries → Verdict) (plans : List Entries) (row : ℕ → Stretch) (ls : List (Vec (ℕ × Stretch) Global))
     → AllAreOf row ls
@@ -186,16 +210,33 @@ pub book_is : (say : ℕ → Entries → Verdict) (plans : List Entries) (row : 
     → ((m : ℕ) → m < length plans → (t : ℕ) × (((row t).first ≤ m) × (m < (row t).first + length (row t).verdicts) × (0 < sum_by (λ (l : Vec (ℕ × Stretch) Global). count_by (λ p. nat_eq p.0 t) l.items) ls)))
     → enter_lists (replicate (length plans) None) ls ≡ map Some (verdicts_from say 0 plans)
 book_is say plans row ls own said each =
-    let all : List Verdict = verdicts_from say 0 plans in
     let start : List (Option Verdict) = replicate (length plans) None in
-    let starts : Agrees start all = subst (λ n. Agrees (replicate n None) all) (length_verdicts say 0 plans) (agrees_empty all) in
     let fits : length start ≡ length plans = length_empty (length plans) in
-    full_is (enter_lists start ls) all
-    (agrees_lists row all verdict.Pass (λ t. said_there say plans verdict.Pass (row t) (said t)) start ls starts own)
-    (λ m lt. let in_range : m < length plans = omega (arith, length_lists start ls) in
-    let put = each m in_range in
-    has_put_lists row start ls put.0 m (omega arith) own (put.1.0, put.1.1) put.1.2)
+    full_after say plans row ls start fits (empty_agrees say plans) own said
+    (λ m lt. let put = each m lt in has_put_lists row start ls put.0 m (omega (arith, fits)) own (put.1.0, put.1.1) put.1.2)
+
+-- the same where the verdicts of the first plans are known, and were put first: each other number is in a row that was put
+pub book_after_known : (say : ℕ → Entries → Verdict) (plans : List Entries) (known : List Verdict) (row : ℕ → Stretch) (ls : List (Vec (ℕ × Stretch) Global))
+    → AreSaid say plans 0 known
+    → length known ≤ length plans
+    → AllAreOf row ls
+    → ((t : ℕ) → AreSaid say plans (row t).first (row t).verdicts)
+    → ((m : ℕ) → length known ≤ m → m < length plans
+    → (t : ℕ) × (((row t).first ≤ m) × (m < (row t).first + length (row t).verdicts) × (0 < sum_by (λ (l : Vec (ℕ × Stretch) Global). count_by (λ p. nat_eq p.0 t) l.items) ls)))
+    → enter_lists (enter_row (replicate (length plans) None) 0 known) ls ≡ map Some (verdicts_from say 0 plans)
+book_after_known say plans known row ls known_said few own said each =
+    let empty : List (Option Verdict) = replicate (length plans) None in
+    let start : List (Option Verdict) = enter_row empty 0 known in
+    let fits : length start ≡ length plans = length_row empty 0 known ∙ length_empty (length plans) in
+    let first : Stretch = record { first = 0; verdicts = known } in
+    let there : AreThere (verdicts_from say 0 plans) verdict.Pass first = said_there say plans verdict.Pass first known_said in
+    full_after say plans row ls start fits (agrees_row empty (verdicts_from say 0 plans) verdict.Pass 0 known (empty_agrees say plans) there) own said
+    (λ m lt. elim (known_or_after (length known) m) [
+      | inl before ↦ has_kept_lists start ls m (has_put_at empty first m (omega (arith, lt, length_empty (length plans))) (omega arith, before))
+      | inr after ↦ let put = each m after lt in has_put_lists row start ls put.0 m (omega (arith, lt, fits)) own (put.1.0, put.1.1) put.1.2
+    ])
   where
-    length_empty : (n : ℕ) → length (replicate {A = Option Verdict} n None) ≡ n
-    length_empty zero = refl
-    length_empty (suc n) = ap suc (length_empty n)
+    known_or_after : (n m : ℕ) → (m < 0 + n) ⊎ (n ≤ m)
+    known_or_after zero m = inr (omega arith)
+    known_or_after (suc n) zero = inl (omega arith)
+    known_or_after (suc n) (suc m) = elim (known_or_after n m) [ inl before ↦ inl (omega (arith, before)) | inr after ↦ inr (omega (arith, after)) ]

@@ -116,6 +116,14 @@ taken_at (None ∷ slots) zero slot lt is = ap is_some is
 taken_at (Some w ∷ slots) zero slot lt is = ap is_some is
 taken_at (s ∷ slots) (suc n) slot lt is = taken_at slots n slot (omega arith) is
 
+-- the same where a place is looked up without that
+pub taken_in : (slots : List (Option Verdict)) (n : ℕ) (slot : Option Verdict) → slot ≡ get_or slots n None → is_some slot ≡ has slots n
+taken_in slots n slot is = ap is_some is ∙ seen (get_or slots n None)
+  where
+    seen : (s : Option Verdict) → is_some s ≡ elim s [ None ↦ false | Some v ↦ true ]
+    seen None = refl
+    seen (Some v) = refl
+
 pub present_full : (vs : List Verdict) → present (map Some vs) ≡ vs
 present_full [] = refl
 present_full (v ∷ vs) = ap (λ ws. v ∷ ws) (present_full vs)

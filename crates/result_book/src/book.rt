@@ -75,9 +75,37 @@ impl Book {
         if self.is_put[number] {
             return Err(PutFault::Twice(pair));
         }
-        self.verdicts[number] = pair.verdict();
-        self.is_put[number] = true;
+        self.fill(number, pair.verdict());
         Ok(())
+    }
+
+    /// Puts the verdicts of the first plans, whose runs are known already, each in the place of its number, from 0 on. One whose number has
+    /// its verdict already, or has no place, changes nothing. No memory is taken.
+    pub fn put_known(&mut self, verdicts: Vec<Verdict>)
+        ensures { self.new ≡ enter_row self.old 0 verdicts.items }
+    {
+        let mut verdicts = verdicts;
+        while let Some(verdict) = verdicts.pop() {
+            self.put_free(verdicts.len(), verdict);
+        }
+    }
+
+    /// Puts a verdict in the place of this number, where there is one and it is free.
+    fn put_free(&mut self, number: usize, verdict: Verdict)
+        ensures { self.new ≡ enter self.old number verdict }
+    {
+        if number < self.len() && self.at(number).is_none() {
+            self.fill(number, verdict);
+        }
+    }
+
+    /// Has this verdict in the place of this number.
+    fn fill(&mut self, number: usize, verdict: Verdict)
+        requires { number < length self.now }
+        ensures { self.new ≡ slice_set self.old number (Some verdict) }
+    {
+        self.verdicts[number] = verdict;
+        self.is_put[number] = true;
     }
 
     /// How many places there are.

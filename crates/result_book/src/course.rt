@@ -1,7 +1,7 @@
 //! What all runs of a campaign share.
 
 use campaign_given::CampaignSettings;
-use plan_gen::PlanList;
+use campaign_plans::CampaignPlans;
 use target_trait::Target;
 
 /// A workload and plans, with the settings that say under which seed and limit they run. Runs on any thread borrow it.
@@ -9,5 +9,5 @@ use target_trait::Target;
 pub struct Course<'a, T: Target> {
     pub workload: &'a T::Workload,
     pub settings: &'a CampaignSettings,
-    pub plans: &'a PlanList<'a>,
+    pub plans: &'a CampaignPlans<'a>,
 }

@@ -5,7 +5,7 @@ ghost use Rattle.result_book.specs.Says.{course_says};
 use crate::course::Course;
 use crate::workspace::Workspace;
 use action_eval::{Rigging, Room, Session};
-use plan_gen::{Plan, Rigger};
+use campaign_plans::{CampaignPlan, CampaignRigger};
 use std::alloc::{AllocError, Global};
 use std::marker::Model;
 use std::mem;
@@ -44,7 +44,7 @@ fn written_verdict<T: Target>(
     alloc: Global,
     target: &mut T,
     course: &Course<'_, T>,
-    plan: &Plan<'_>,
+    plan: &CampaignPlan<'_>,
     number: u32,
 ) -> Result<Verdict, AllocError>
     ensures ok { IfOk result (λ verdict. verdict ≡ course_says T.Target target.old course.now number plan.now) }
@@ -61,7 +61,7 @@ fn written_verdict<T: Target>(
 pub(crate) fn verdict_of<T: Target>(
     alloc: Global,
     target: &mut T,
-    rigger: &Rigger<'_, 'static>,
+    rigger: &CampaignRigger<'_, 'static>,
     workspace: &mut Workspace,
     course: &Course<'_, T>,
     number: u32,
@@ -74,10 +74,10 @@ pub(crate) fn verdict_of<T: Target>(
 {
     let Workspace {
         rigging,
-        rigs,
+        lists,
         room,
     } = workspace;
-    let is_loaded = rigger.load(number as usize, rigging, rigs)?;
+    let is_loaded = rigger.load(number as usize, rigging, lists)?;
     if is_loaded {
         rigged_verdict(alloc, target, course, rigging, room, number)
     } else {

@@ -3,6 +3,7 @@ ghost use Rattle.std.specs.Prelude.{◌^◌, ⊤};
 
 use crate::adding::{Setup, have_performed};
 use campaign_given::CampaignSettings;
+use campaign_plans::CampaignPlans;
 use file_replace::{Replace, Replacements, Variant};
 use plan_gen::{PlanList, PlanSettings, by_census, plans};
 use result_book::{Course, Numbered};
@@ -160,7 +161,8 @@ fn are_run<R: Threads + Wait + Abort + Sync>(
 fn three_hands_twice_on_the_small_workload(rt: HostRuntime) -> Result<(), Fail> {
     let alloc = rt.alloc();
     let work = small_workload(alloc)?;
-    let plans = plans_of(alloc, &work)?;
+    let listed = plans_of(alloc, &work)?;
+    let plans = CampaignPlans::by_census(&listed);
     assert_eq!(rt; plans.len(), 19);
     let settings = settings(alloc);
     let course = Course {

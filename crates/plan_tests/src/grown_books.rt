@@ -1,0 +1,133 @@
+//! Books of a course of the small workload whose plans grew, with a storm behind them. A failed sync that is taken for one that went well
+//! tears the file.
+ghost use Rattle.std.specs.Prelude.{◌≡◌, ◌+◌, ◌≤◌, length, IfOk};
+ghost use Rattle.std.specs.List.{AllByRecursion};
+ghost use Rattle.action_eval.specs.Rigging.{CanBeRigged};
+ghost use Rattle.plan_gen.specs.PlanList.{most_plans};
+ghost use Rattle.grown_plans.specs.GrownPlans.{rigs_of};
+
+use action_eval::{Kind, Site};
+use campaign_given::CampaignSettings;
+use campaign_plans::CampaignPlans;
+use file_replace::{Replace, Replacements, TORN, Variant};
+use grown_plans::{Child, GrownPlans};
+use plan_gen::{Census, PlanList, PlanSettings, further_plans};
+use result_book::{Book, Course, Row, Workspace, put_all};
+use std::alloc::{AllocError, Global};
+use std::process::Abort;
+use std::test::Fail;
+use target_checks::small_workload;
+use target_trait::{Target, Verdict, run_verdict};
+
+/// The plan without faults; a return and a panic at the sync of the new file; and after that return one at the sync of the directory.
+fn grown(alloc: Global) -> Result<GrownPlans, AllocError>
+    ensures rigs { IfOk result (λ plans. AllByRecursion (λ plan. CanBeRigged (rigs_of plan)) plans) }
+    ensures many { IfOk result (λ plans. length plans ≡ 4) }
+{
+    let sync = Site { point: 3, hit: 1 };
+    let sync_dir = Site { point: 5, hit: 1 };
+    let mut plans = GrownPlans::new(alloc);
+    plans.add(&[
+        Child::new(0, sync, Kind::OnceReturn),
+        Child::new(0, sync, Kind::OncePanic),
+    ])?;
+    plans.add(&[Child::new(1, sync_dir, Kind::OnceReturn)])?;
+    Ok(plans)
+}
+
+/// A storm that takes half of the hits of the run without faults.
+fn storm(alloc: Global) -> Result<PlanList<'static>, Fail>
+    ensures { IfOk result (λ plans. 4 + length plans ≤ most_plans) }
+{
+    let census = Census {
+        counts: vec![in alloc; 0, 1, 2, 1, 1, 1, 0]?,
+    };
+    let settings = PlanSettings {
+        pairs: false,
+        storms: 1,
+        rate: 500,
+        listed: &[],
+        seed: 7,
+    };
+    match further_plans(alloc, &census, Replace::catalogue(), &settings, 4) {
+        Ok(plans) => Ok(plans),
+        Err(_) => Err(Fail::from("no storm")),
+    }
+}
+
+/// The verdicts of a course's plans, each run alone under the scenario that is made of it.
+fn alone(alloc: Global, course: &Course<'_, Replace>) -> Result<Vec<Verdict>, AllocError> {
+    let mut verdicts = Vec::new(alloc);
+    for number in 0..course.plans.len() {
+        let scenario = course.plans.plan(number).scenario(alloc)?;
+        let case = course.settings.case(&scenario, number as u64);
+        let mut target = Replace::new(alloc, Variant::IgnoreSync);
+        verdicts.push(run_verdict(alloc, &mut target, course.workload, &case)?)?;
+    }
+    Ok(verdicts)
+}
+
+/// The row of the plans from a number on to the last one.
+fn row<'a>(
+    rt: &impl Abort,
+    alloc: Global,
+    course: &'a Course<'a, Replace>,
+    first: u32,
+) -> Result<Row<'a, Replace>, AllocError> {
+    let end = course.plans.len() as u32;
+    assert!(rt; first <= end);
+    let mut target = Replace::new(alloc, Variant::IgnoreSync);
+    let mut workspace = Workspace::new(alloc);
+    Row::run_over(alloc, &mut target, &mut workspace, course, first, end)
+}
+
+/// The book in which the verdicts of the first plans are known, and the row of all others is put.
+fn book(
+    rt: &impl Abort,
+    alloc: Global,
+    course: &Course<'_, Replace>,
+    known: &[Verdict],
+) -> Result<Book, AllocError> {
+    let plans = course.plans.len();
+    assert!(rt; known.len() <= plans && plans <= 65536);
+    let row = row(rt, alloc, course, known.len() as u32)?;
+    let mut book = Book::new(alloc, course)?;
+    book.put_known(Vec::from_slice(alloc, known)?);
+    put_all(&mut book, vec![in alloc; vec![in alloc; (0, row)]?]?);
+    Ok(book)
+}
+
+/// Each book of a course has the verdicts of its plans run alone, however many of them are known before.
+fn books_have_each_alone(
+    rt: &impl Abort,
+    alloc: Global,
+    course: &Course<'_, Replace>,
+) -> Result<(), Fail> {
+    let alone = alone(alloc, course)?;
+    assert_eq!(rt; alone.len(), 5);
+    assert_eq!(rt; alone[0], Verdict::Pass);
+    assert_eq!(rt; alone[1], Verdict::Fail(TORN));
+    for known in 0..6 {
+        let book = book(rt, alloc, course, &alone[..known])?;
+        assert!(rt; book.whole());
+        assert_eq!(rt; book.verdicts(alloc)?.as_slice(), alone.as_slice());
+    }
+    Ok(())
+}
+
+#[test]
+fn plans_that_grew_and_a_storm_behind_them_are_run(rt: HostRuntime) -> Result<(), Fail> {
+    let alloc = rt.alloc();
+    let workload: Replacements = small_workload(alloc)?;
+    let grown = grown(alloc)?;
+    let storm = storm(alloc)?;
+    let plans = CampaignPlans::grown(Some(&grown), Replace::catalogue(), &storm);
+    let mut settings = CampaignSettings::new(alloc);
+    settings.seed = 7;
+    let course = Course {
+        workload: &workload,
+        settings: &settings,
+        plans: &plans,
+    };
+    books_have_each_alone(&rt, alloc, &course)
+}
