@@ -1,5 +1,5 @@
 -- The first failures, and what a report says of them.
-use Rattle.std.proofs.Common.{◌≡◌, ℕ, zero, suc, ◌+◌, ◌<◌, true, Bool, Option, option_map, slice_get, List, [], ◌∷◌, length, get_or, map, All, refl, sym, ap, None}
+use Rattle.std.proofs.Common.{◌≡◌, ℕ, zero, suc, ◌+◌, ◌<◌, true, Bool, Option, option_map, slice_get, List, [], ◌∷◌, length, get_or, map, All, refl, sym, ap}
 use Rattle.std.proofs.Common.{◌∙◌, arith, eq-eqb, zero-add, add-zero}
 use Rattle.std.proofs.lemmas.List.Elements.{All-map}
 use Rattle.scenario_values.specs.Scenario.{Entries, DistinctNames}
@@ -11,11 +11,8 @@ use Rattle.target_trait.specs.declared.judgement.Verdict.TheVariants as verdict
 use Rattle.result_book.specs.Verdicts.{verdicts_from, numbered}
 use Rattle.result_book.specs.FirstFailure.{FailsAt}
 use Rattle.result_book.specs.FirstFailures.{first_failures, AreFirstFailures}
-use Rattle.report.specs.Reports.{FindingFacts, ReportFacts}
+use Rattle.report.specs.Reports.{FindingFacts, GrowthFacts, ReportFacts}
 use Rattle.campaign_map.specs.Mapped.{Mapped}
-use Rattle.report.specs.ReportText.{text_of}
-use Rattle.report.specs.BriefText.{brief_lines}
-use Rattle.campaign_core.specs.Headline.{Campaign, census, plans, say, brief_report_text}
 use Rattle.campaign_core.specs.FaultTest.{fails_with}
 use Rattle.campaign_core.specs.Findings.{finding, reduced, reduction, report_of, IsFailure, ReducesToMinimal}
 use Rattle.campaign_core.proofs.Minimal.{reduced_minimal}
@@ -69,19 +66,22 @@ found_is say plans number code tests stream scenario left plan same_stream same_
     ap (λ s. made s left tests) plan ∙ ap (λ l. made planned l tests) left_is ∙ ap (made planned (reduced say number code planned)) tests_is
 
 -- what a report is made of is what the definition says
-pub report_is : (say : ℕ → Entries → Verdict) (label : List ℕ) (seed : ℕ) (census : List ℕ) (plans : List Entries)
-    (name : List ℕ) (same_seed : ℕ) (clean : Verdict) (counts : List ℕ) (vs : List Verdict) (told : List FindingFacts)
+pub report_is : (say : ℕ → Entries → Verdict) (label : List ℕ) (seed : ℕ) (census : List ℕ) (plans : List Entries) (growth : Option GrowthFacts)
+    (name : List ℕ) (same_seed : ℕ) (clean : Verdict) (counts : List ℕ) (vs : List Verdict) (told : List FindingFacts) (grew : Option GrowthFacts)
     → name ≡ label → same_seed ≡ seed → clean ≡ get_or vs 0 verdict.Unresolved → counts ≡ census → vs ≡ verdicts_from say 0 plans
     → told ≡ map (finding say plans) (first_failures (numbered (verdicts_from say 0 plans)))
-    → (let r : ReportFacts = record { label = name; seed = same_seed; clean = clean; census = counts; verdicts = vs; findings = told; growth = None } in r)
-    ≡ report_of say label seed census plans
-report_is say label seed census plans name s clean counts vs told same_name same_seed same_clean same_counts same same_told =
-    let made : List ℕ → ℕ → Verdict → List ℕ → List Verdict → List FindingFacts → ReportFacts =
-    λ n s c k v f. record { label = n; seed = s; clean = c; census = k; verdicts = v; findings = f; growth = None } in
-    ap (λ n. made n s clean counts vs told) same_name ∙ ap (λ z. made label z clean counts vs told) same_seed
-    ∙ ap (λ c. made label seed c counts vs told) same_clean ∙ ap (λ k. made label seed (get_or vs 0 verdict.Unresolved) k vs told) same_counts
-    ∙ ap (λ v. made label seed (get_or v 0 verdict.Unresolved) census v told) same
-    ∙ ap (made label seed (get_or (verdicts_from say 0 plans) 0 verdict.Unresolved) census (verdicts_from say 0 plans)) same_told
+    → grew ≡ growth
+    → (let r : ReportFacts = record { label = name; seed = same_seed; clean = clean; census = counts; verdicts = vs; findings = told; growth = grew } in r)
+    ≡ report_of say label seed census plans growth
+report_is say label seed census plans growth name s clean counts vs told grew same_name same_seed same_clean same_counts same same_told same_growth =
+    let made : List ℕ → ℕ → Verdict → List ℕ → List Verdict → List FindingFacts → Option GrowthFacts → ReportFacts =
+    λ n s c k v f g. record { label = n; seed = s; clean = c; census = k; verdicts = v; findings = f; growth = g } in
+    let first : List Verdict → Verdict = λ v. get_or v 0 verdict.Unresolved in
+    ap (λ n. made n s clean counts vs told grew) same_name ∙ ap (λ z. made label z clean counts vs told grew) same_seed
+    ∙ ap (λ c. made label seed c counts vs told grew) same_clean ∙ ap (λ k. made label seed (first vs) k vs told grew) same_counts
+    ∙ ap (λ v. made label seed (first v) census v told grew) same
+    ∙ ap (λ f. made label seed (first (verdicts_from say 0 plans)) census (verdicts_from say 0 plans) f grew) same_told
+    ∙ ap (made label seed (first (verdicts_from say 0 plans)) census (verdicts_from say 0 plans) (map (finding say plans) (first_failures (numbered (verdicts_from say 0 plans))))) same_growth
 
 -- the first of the first failures, by results over the same plans
 pub first_is : (say : ℕ → Entries → Verdict) (given plans : List Entries) (firsts : List (ℕ × ℕ)) (number : Option ℕ)
@@ -111,11 +111,3 @@ mapped_is say label census pairs plans name counts shown given vs firsts same_na
     ap (λ n. made n counts shown vs firsts) same_name ∙ ap (λ k. made label k shown vs firsts) same_counts ∙ ap (λ p. made label census p vs firsts) same_shown
     ∙ ap (λ v. made label census plans v firsts) (same ∙ ap (verdicts_from say 0) same_given)
     ∙ ap (made label census plans (verdicts_from say 0 plans)) (are ∙ ap (λ ps. first_failures (numbered (verdicts_from say 0 ps))) same_given)
-
--- the brief text over the counts and plans of a campaign is the campaign's
-pub brief_is : (k : Campaign) (text counts : List ℕ) (ps : List Entries)
-    → text ≡ text_of (brief_lines k.points k.codes (report_of (say k) k.label k.plans.seed counts ps) ps) → counts ≡ census k → ps ≡ plans k
-    → text ≡ brief_report_text k
-brief_is k text counts ps told counted planned =
-    let of : List ℕ → List Entries → List ℕ = λ counts ps. text_of (brief_lines k.points k.codes (report_of (say k) k.label k.plans.seed counts ps) ps) in
-    told ∙ ap (λ counts. of counts ps) counted ∙ ap (of (census k)) planned

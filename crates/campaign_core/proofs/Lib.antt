@@ -4,3 +4,5 @@ pub mod PlanNames
 pub mod Gathered
 pub mod PlanRows
 pub mod Sites
+pub mod FirstLevel
+pub mod Grown

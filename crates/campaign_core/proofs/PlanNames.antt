@@ -1,5 +1,5 @@
 -- The names in each plan's scenario are distinct.
-use Rattle.std.proofs.Common.{◌≡◌, ℕ, ◌+◌, Bool, true, false, List, [], ◌∷◌, ◌++◌, map}
+use Rattle.std.proofs.Common.{◌≡◌, ℕ, ◌+◌, Bool, true, false, Option, None, Some, List, [], ◌∷◌, ◌++◌, map}
 use Rattle.std.specs.List.{AllByRecursion, All, flat_map, range_with_len}
 use Rattle.std.specs.Str.{bytes_eq}
 use Rattle.std.proofs.lemmas.List.Elements.{All-from_recursion, recursion_from_All}
@@ -11,6 +11,8 @@ use Rattle.action_eval.specs.declared.rig.Site.{Site}
 use Rattle.action_eval.specs.declared.rig.Kind.TheVariants.{OnceReturn}
 use Rattle.action_eval.specs.Rigging.{chain_from, entry, entries_from, rig, rigging}
 use Rattle.plan_gen.specs.Census.{sites_of}
+use Rattle.grown_plans.specs.GrownPlans.{Subject, rigs_of, scenario_of, grown, grown_list}
+use Rattle.campaign_core.specs.Headline.{Campaign, census, grower, plans, plans_to}
 use Rattle.plan_gen.specs.PlanList.{Asked, plan_list, site_plans, pair_plans, pairs_of, pair_part, storm, storm_part, alone, second}
 
 -- ---- lists
@@ -78,9 +80,21 @@ listed_distinct names counts asked d listed =
     all_both P (empty ++ alone_part ++ pairs ++ storms) asked.listed
     (all_both P (empty ++ alone_part ++ pairs) storms (all_both P (empty ++ alone_part) pairs (all_both P empty alone_part (tt, tt) one) two) many) listed
 
+-- the same of plans that grow, with storms and listed scenarios behind them
+grown_distinct : (t : Subject) (d : ℕ) (asked : Asked) (sites : List Site) → HasDistinct t.names → AllByRecursion (λ s. DistinctNames s) asked.listed
+    → AllByRecursion (λ s. DistinctNames s) (grown_list t d asked sites)
+grown_distinct t d asked sites distinct listed =
+    let P : Entries → Type 0 = λ s. DistinctNames s in
+    let many = all_map P _ (λ j. rigging_distinct t.names (storm asked.seed asked.rate sites j) distinct) (range_with_len 0 asked.storms) in
+    let grew = all_map P _ (λ plan. rigging_distinct t.names (rigs_of plan) distinct) (grown t d) in
+    all_both P (map (scenario_of t) (grown t d) ++ storm_part t.names asked.seed asked.rate asked.storms sites) asked.listed
+    (all_both P (map (scenario_of t) (grown t d)) (storm_part t.names asked.seed asked.rate asked.storms sites) grew many) listed
+
 -- each plan's scenario has distinct names, where the names of the points are distinct and those in each listed scenario
-pub plans_distinct : (names : List (List ℕ)) (counts : List ℕ) (asked : Asked) → HasDistinct names → All (λ s. DistinctNames s) asked.listed
-    → All (λ s. DistinctNames s) (plan_list names counts asked)
-plans_distinct names counts asked d listed =
-    All-from_recursion (λ s. DistinctNames s) (plan_list names counts asked)
-    (listed_distinct names counts asked d (recursion_from_All (λ s. DistinctNames s) asked.listed listed))
+pub plans_distinct : (c : Campaign) → HasDistinct c.points → All (λ s. DistinctNames s) c.plans.listed → All (λ s. DistinctNames s) (plans c)
+plans_distinct c distinct listed =
+    All-from_recursion (λ s. DistinctNames s) (plans c) (each c.depth (recursion_from_All (λ s. DistinctNames s) c.plans.listed listed))
+  where
+    each : (depth : Option ℕ) → AllByRecursion (λ s. DistinctNames s) c.plans.listed → AllByRecursion (λ s. DistinctNames s) (plans_to c depth)
+    each None h = listed_distinct c.points (census c) c.plans distinct h
+    each (Some d) h = grown_distinct (grower c) d c.plans (sites_of (census c)) distinct h

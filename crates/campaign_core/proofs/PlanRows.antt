@@ -1,12 +1,12 @@
 -- Rows of plans: each plan stands in one, and none reaches past the plans. What the row of a number says.
-use Rattle.std.proofs.Common.{ℕ, ◌+◌, ◌*◌, ◌/◌, ◌<◌, ◌≤◌, min, Bool, true, false, nat_le, cond, List, length, arith}
+use Rattle.std.proofs.Common.{ℕ, ◌+◌, ◌-◌, ◌*◌, ◌/◌, ◌<◌, ◌≤◌, min, Bool, true, false, nat_le, cond, List, length, arith}
 use Rattle.std.specs.Int.{div_ceil}
 use Rattle.scenario_values.specs.Scenario.{Entries}
 use Rattle.target_trait.specs.declared.judgement.Verdict.{Verdict}
 use Rattle.result_book.specs.Rows.{AreSaid}
 use Rattle.result_book.proofs.RowLemmas.{row_length, row_said}
 use Rattle.plan_rows.specs.Rows.{row_count, row_start}
-use Rattle.campaign_core.specs.inside.Rows.{row_of}
+use Rattle.campaign_core.specs.inside.Rows.{row_from, row_of}
 
 -- the number stands in a row, where rows have one size
 abbrev InRow : (plans size m : ℕ) → Type 0
@@ -31,17 +31,31 @@ sized_within false false plans row = omega arith
 row_within : (plans row : ℕ) → (row_start plans row ≤ row_start plans (row + 1)) × (row_start plans (row + 1) ≤ plans)
 row_within plans row = (sized_within (nat_le plans 1024) (nat_le plans 16384) plans row, omega arith)
 
+-- the same of the plans from a number on
+from_within : (plans first row : ℕ) → first ≤ plans
+    → (first + row_start (plans - first) row ≤ first + row_start (plans - first) (row + 1)) × (first + row_start (plans - first) (row + 1) ≤ plans)
+from_within plans first row fit =
+    let within = row_within (plans - first) row in
+    let up = within.0 in
+    let high = within.1 in
+    (omega (arith, up), omega (arith, high, fit))
+
 -- a row's verdicts are those of its plans
-pub rows_said : (say : ℕ → Entries → Verdict) (plans : List Entries) (row : ℕ) → AreSaid say plans (row_of say plans row).first (row_of say plans row).verdicts
-rows_said say plans row =
-    let within = row_within (length plans) row in
-    row_said say plans (row_start (length plans) row) (row_start (length plans) (row + 1)) within.0 within.1
+pub rows_said : (say : ℕ → Entries → Verdict) (plans : List Entries) (first row : ℕ) → first ≤ length plans
+    → AreSaid say plans (row_of say plans first row).first (row_of say plans first row).verdicts
+rows_said say plans first row fit =
+    let within = from_within (length plans) first row fit in
+    row_said say plans (row_from plans first row) (row_from plans first (row + 1)) within.0 within.1
 
 -- each plan's verdict is in a row
-pub row_reaches : (say : ℕ → Entries → Verdict) (plans : List Entries) (m : ℕ) → m < length plans
-    → (row : ℕ) × ((row < row_count (length plans)) × ((row_of say plans row).first ≤ m) × (m < (row_of say plans row).first + length (row_of say plans row).verdicts))
-row_reaches say plans m lt =
-    let found = in_row (length plans) m lt in
-    let within = row_within (length plans) found.0 in
-    let ends = row_length say plans (row_start (length plans) found.0) (row_start (length plans) (found.0 + 1)) within.0 within.1 in
-    (found.0, (found.1.0, found.1.1, omega (arith, ends, found.1.2)))
+pub row_reaches : (say : ℕ → Entries → Verdict) (plans : List Entries) (first m : ℕ) → first ≤ m → m < length plans
+    → (row : ℕ) × ((row < row_count (length plans - first)) × ((row_of say plans first row).first ≤ m)
+    × (m < (row_of say plans first row).first + length (row_of say plans first row).verdicts))
+row_reaches say plans first m from lt =
+    let found = in_row (length plans - first) (m - first) (omega (arith, from, lt)) in
+    let fit : first ≤ length plans = omega (arith, from, lt) in
+    let within = from_within (length plans) first found.0 fit in
+    let ends = row_length say plans (row_from plans first found.0) (row_from plans first (found.0 + 1)) within.0 within.1 in
+    let low = found.1.1 in
+    let high = found.1.2 in
+    (found.0, (found.1.0, (omega (arith, low, from)), (omega (arith, ends, high, from))))

@@ -1,6 +1,6 @@
 -- What a report tells of a list of plans: a map and recursions on lists. Which verdict a stream number and a scenario have, the first
 -- argument says.
-use Rattle.std.specs.Prelude.{◌≡◌, ◌<◌, ℕ, true, List, [], length, map, slice_index_or, None}
+use Rattle.std.specs.Prelude.{◌≡◌, ◌<◌, ℕ, ◌+◌, true, List, [], length, map, slice_index_or, Option, None, Some}
 use Rattle.std.specs.List.{range_with_len}
 use Rattle.scenario_values.specs.Scenario.{Entries, all_faults}
 use Rattle.scenario_values.specs.Keep.{kept}
@@ -11,7 +11,10 @@ use Rattle.result_book.specs.Verdicts.{verdicts_from, numbered}
 use Rattle.result_book.specs.FirstFailures.{first_failures}
 use Rattle.ddmin_parallel.specs.Ddmin.{Reduced, ddmin}
 use Rattle.ddmin_parallel.specs.OneMinimal.{IsOneMinimal}
-use Rattle.report.specs.Reports.{FindingFacts, ReportFacts}
+use Rattle.report.specs.Reports.{FindingFacts, CauseFacts, GrowthFacts, ReportFacts}
+use Rattle.grown_plans.specs.GrownPlans.{Subject, onward, grown, beyond}
+use Rattle.grown_runs.specs.GrownRuns.{over, cause_at}
+use Rattle.grown_runs.specs.Grown.{level_sizes, reached_each}
 use Rattle.campaign_core.specs.FaultTest.{fails_with, fault_test}
 
 -- the reduction of a scenario's faults: which are kept so that it fails with this code, under this stream number
@@ -37,16 +40,32 @@ finding say plans first = record {
   tests = (reduction say first.0 first.1 (plan_at plans first.0)).tests;
 }
 
--- what a report tells, of a label, a seed, a census and plans; of each code with which a plan fails, the first failure is told
-abbrev pub report_of : (ℕ → Entries → Verdict) → List ℕ → ℕ → List ℕ → List Entries → ReportFacts
-report_of say label seed census plans = record {
+-- a cause among these plans, by its number and code
+abbrev pub cause_of : List Entries → ℕ × ℕ → CauseFacts
+cause_of plans cause = record { number = cause.0; code = cause.1; scenario = plan_at plans cause.0 }
+
+-- how plans grew under a seed, of a list that begins with them, where there is a depth
+abbrev pub growth_of : Subject → ℕ → List Entries → Option ℕ → Option GrowthFacts
+growth_of t seed plans None = None
+growth_of t seed plans (Some depth) = Some (record {
+  depth = depth;
+  levels = level_sizes t (depth + 1);
+  onward = length (onward t depth);
+  beyond = beyond t depth;
+  reached = reached_each t depth;
+  causes = map (cause_of plans) (over (cause_at t seed) (grown t depth) 0 (length (grown t depth)));
+})
+
+-- what a report tells, of a label, a seed, a census, plans and how they grew; of each code with which a plan fails, the first failure is told
+abbrev pub report_of : (ℕ → Entries → Verdict) → List ℕ → ℕ → List ℕ → List Entries → Option GrowthFacts → ReportFacts
+report_of say label seed census plans growth = record {
   label = label;
   seed = seed;
   clean = slice_index_or (verdicts_from say 0 plans) 0 verdict.Unresolved;
   census = census;
   verdicts = verdicts_from say 0 plans;
   findings = map (finding say plans) (first_failures (numbered (verdicts_from say 0 plans)));
-  growth = None;
+  growth = growth;
 }
 
 -- a scenario fails with this code, and no single fault can be left out of it: it fails with all its faults, and without any one of

@@ -1,31 +1,37 @@
 -- What a campaign comes to, by what its target asks and by its settings.
-use Rattle.std.specs.Prelude.{ℕ, List, Option, All, slice_get}
+use Rattle.std.specs.Prelude.{ℕ, List, Option, None, Some, IfSome, All, slice_get}
 use Rattle.scenario_values.specs.Scenario.{Entries}
 use Rattle.action_eval.specs.Answers.{Reply}
 use Rattle.target_trait.specs.declared.judgement.Verdict.{Verdict}
 use Rattle.target_trait.specs.declared.target.Target.{Ghosts}
 use Rattle.target_trait.specs.Outcomes.{verdict_with}
 use Rattle.target_trait.specs.Play.{Move}
-use Rattle.plan_gen.specs.Census.{census_of}
+use Rattle.plan_gen.specs.Census.{census_of, sites_of}
 use Rattle.plan_gen.specs.PlanList.{Asked, plan_list}
+use Rattle.grown_plans.specs.GrownPlans.{usual_subject, grown_list}
+use Rattle.grown_plans.specs.GrownPlans.{Subject as Grower}
+use Rattle.grown_plans.specs.Promises.{SkipsNothing, RunsNothingTwice, TriesOnward, IsLeast, IsWhole, HasCauses}
 use Rattle.campaign_given.specs.Given.{Given}
 use Rattle.result_book.specs.Verdicts.{verdicts_from, numbered}
 use Rattle.result_book.specs.FirstFailures.{first_failures as first_of_each}
 use Rattle.report.specs.ReportText.{report_lines, text_of}
 use Rattle.report.specs.BriefText.{brief_lines}
-use Rattle.report.specs.Reports.{ReportFacts}
+use Rattle.report.specs.Reports.{GrowthFacts, ReportFacts}
 use Rattle.campaign_map.specs.Mapped.{Mapped}
 use Rattle.campaign_map.specs.Map.{map_text}
-use Rattle.campaign_core.specs.Findings.{report_of, ReducesToMinimal}
+use Rattle.campaign_core.specs.declared.subject.Subject.{Subject}
+use Rattle.campaign_core.specs.Findings.{report_of, growth_of, ReducesToMinimal}
 
 -- what a campaign is given: what its target asks on the workload, the names of the points and of the codes, the target's label, how many
--- hits of a run are answered, and what is asked of the list of plans, the seed among it. How many workers there are isn't among it.
+-- hits of a run are answered, with up to how many faults each behaviour is tried, where its plans grow, and what is asked of the list of
+-- plans, the seed among it. How many workers there are isn't among it.
 pub record Campaign : Type 0 where
   pub asks : List Reply → Move
   pub points : List (List ℕ)
   pub codes : ℕ → List ℕ
   pub label : List ℕ
   pub max_hits : ℕ
+  pub depth : Option ℕ
   pub plans : Asked
 
 abbrev pub campaign_of : (List Reply → Move) → List (List ℕ) → (ℕ → List ℕ) → List ℕ → Given → Campaign
@@ -35,6 +41,7 @@ campaign_of asks points codes label given = record {
   codes = codes;
   label = label;
   max_hits = given.max_hits;
+  depth = given.depth;
   plans = given.plans;
 }
 
@@ -42,6 +49,10 @@ campaign_of asks points codes label given = record {
 abbrev pub campaign_on : {T W : Type 0} → Ghosts T W → T → W → Given → Campaign
 campaign_on target setup workload given =
     campaign_of (target.asks setup workload) target.names target.code_text (target.label_of setup) given
+
+-- and by what is tried
+abbrev pub campaign_in : {T W : Type 0} → Ghosts T W → Subject T W → Campaign
+campaign_in target tried = campaign_on target tried.target.now tried.workload.now tried.settings.now
 
 -- the verdict of a scenario under a stream number
 abbrev pub say : Campaign → ℕ → Entries → Verdict
@@ -51,13 +62,25 @@ say c = verdict_with c.asks c.points c.plans.seed c.max_hits
 abbrev pub census : Campaign → List ℕ
 census c = census_of c.asks c.points c.plans.seed c.max_hits
 
--- the list of plans
+-- whose runs plans grow from, and how
+abbrev pub grower : Campaign → Grower
+grower c = usual_subject c.asks c.points c.max_hits
+
+-- the list of plans: that of the census, or, to a depth, the plans that grow from each other's runs, storms and listed scenarios
+abbrev pub plans_to : Campaign → Option ℕ → List Entries
+plans_to c None = plan_list c.points (census c) c.plans
+plans_to c (Some depth) = grown_list (grower c) depth c.plans (sites_of (census c))
+
 abbrev pub plans : Campaign → List Entries
-plans c = plan_list c.points (census c) c.plans
+plans c = plans_to c c.depth
+
+-- how the plans grew, to a depth
+abbrev pub growth : Campaign → Option GrowthFacts
+growth c = growth_of (grower c) c.plans.seed (plans c) c.depth
 
 -- what the report tells
 abbrev pub report : Campaign → ReportFacts
-report c = report_of (say c) c.label c.plans.seed (census c) (plans c)
+report c = report_of (say c) c.label c.plans.seed (census c) (plans c) (growth c)
 
 -- the report's text
 abbrev pub report_text : Campaign → List ℕ
@@ -80,7 +103,22 @@ first_failure c = slice_get (first_failures c) 0
 abbrev pub EachIsMinimal : Campaign → Type 0
 EachIsMinimal c = All (ReducesToMinimal (say c)) (report c).findings
 
--- what the map shows
+-- what plans that grow to a depth promise: no behaviour with so few faults is skipped, and with each code that one fails with the first plan
+-- has least faults; none is run twice; faults from then on are tried; where the next level is empty, nothing is skipped at all; and each
+-- plan that fails has a cause among them
+pub record KeepsPromises (t : Grower) (depth : ℕ) : Type 0 where
+  pub nothing_skipped : SkipsNothing t depth
+  pub nothing_twice : RunsNothingTwice t depth
+  pub onward : TriesOnward t depth
+  pub least : IsLeast t depth
+  pub whole : IsWhole t depth
+  pub causes : HasCauses t depth
+
+-- of a campaign with a depth, what its plans promise
+abbrev pub EachIsTried : Campaign → Type 0
+EachIsTried c = IfSome c.depth (KeepsPromises (grower c))
+
+-- what the map shows, of a campaign without a depth
 abbrev pub mapped : Campaign → Mapped
 mapped c = record {
   label = c.label;

@@ -1,5 +1,6 @@
 pub mod FaultTest
 pub mod Findings
 pub mod Headline
+pub mod Planned
 pub mod CommandTexts
 pub mod inside

@@ -2,8 +2,16 @@
 ghost use Rattle.std.specs.Prelude.{ℕ, All};
 ghost use Rattle.scenario_values.specs.Scenario.{Entries, DistinctNames};
 ghost use Rattle.action_eval.specs.Catalogue.{HasDistinct};
-ghost use Rattle.campaign_core.specs.Headline.{Campaign, EachIsMinimal};
+ghost use Rattle.campaign_given.specs.Given.{Given};
+ghost use Rattle.campaign_core.specs.Headline.{Campaign, campaign_on, grower, EachIsMinimal, KeepsPromises};
 ghost use Rattle.campaign_core.specs.CommandTexts.{IsReducedToMinimal};
+
+use grown_plans::{
+    an_empty_level_makes_it_whole, each_failure_has_a_cause, each_target_is_a_lawful_subject,
+    faults_from_then_on_are_tried, first_failures_have_least_faults, nothing_is_run_twice,
+    nothing_is_skipped,
+};
+use target_trait::Target;
 
 /// Each reduced scenario that a report or the text of `reduce` tells fails with its code, under the same seed, stream number and limit as
 /// what it was reduced from, and no single fault can be left out of it.
@@ -14,3 +22,17 @@ pub fn reduced_scenarios_are_minimal()
     ensures report { (c : Campaign) → HasDistinct c.points → All (λ s. DistinctNames s) c.plans.listed → EachIsMinimal c }
     ensures reduce { (c : Campaign) (stream : ℕ) (scenario : Entries) → DistinctNames scenario → IsReducedToMinimal c stream scenario }
 {}
+
+/// The plans of a campaign of a target keep what is promised of plans that grow, to whatever depth.
+pub fn each_behaviour_is_tried<T: Target>()
+    ensures { (setup : T) (workload : T.Workload) (given : Given) (depth : ℕ)
+        → KeepsPromises (grower (campaign_on T.Target setup workload given)) depth }
+{
+    each_target_is_a_lawful_subject::<T>();
+    nothing_is_skipped();
+    nothing_is_run_twice();
+    faults_from_then_on_are_tried();
+    first_failures_have_least_faults();
+    an_empty_level_makes_it_whole();
+    each_failure_has_a_cause();
+}

@@ -3,18 +3,21 @@ ghost use Rattle.std.specs.Prelude.{◌≡◌, ◌++◌, ◌≤◌, false, lengt
 ghost use Rattle.std.specs.Io.KnownBytes.{Appends};
 ghost use Rattle.plan_gen.specs.PlanList.{most_plans};
 ghost use Rattle.report.specs.ReportText.{ended, text_of};
-ghost use Rattle.campaign_core.specs.Headline.{campaign_on, plans};
+ghost use Rattle.campaign_core.specs.Headline.{campaign_in, plans};
 ghost use Rattle.campaign_core.specs.CommandTexts.{plan_line, plan_lines, plans_text, IsFault, IsUnlisted};
 
 use crate::ending::CampaignFault;
-use crate::planned::planned;
-use campaign_given::CampaignSettings;
-use plan_gen::PlanList;
+use crate::planned::{plan_campaign, plans_of};
+use crate::subject::{Host, Subject};
+use campaign_plans::CampaignPlans;
 use report::{write_report, write_scenario};
 use scenario_values::Scenario;
 use std::alloc::{AllocError, Global};
 use std::fmt::Write;
+use std::sync::Wait;
+use std::thread::Threads;
 use target_trait::{Sink, Target};
+use work_gate::Gate;
 
 fn write_plan(
     alloc: Global,
@@ -30,7 +33,7 @@ fn write_plan(
 }
 
 /// The text of a list of plans, a line for each: its number and its scenario. An error means that memory was refused.
-pub fn plans_text(alloc: Global, plans: &PlanList<'_>) -> Result<String, AllocError>
+pub fn plans_text(alloc: Global, plans: &CampaignPlans<'_>) -> Result<String, AllocError>
     ensures { IfOk result (λ text. string_bytes text ≡ text_of (plan_lines 0 plans.now)) }
 {
     let mut text = String::new(alloc);
@@ -47,49 +50,51 @@ pub fn plans_text(alloc: Global, plans: &PlanList<'_>) -> Result<String, AllocEr
 
 /// The scenario of the plan of this number of a campaign; `None` where the list has no such number.
 ///
-/// One run without faults counts how often each point is asked, on a twin of the target; the caller's target isn't touched. The answer is
-/// `TooManyPlans` only where the list has more than 65536 plans, otherwise an error is `Memory`.
-pub fn plan_scenario<T: Target>(
-    alloc: Global,
-    target: &T,
-    workload: &T::Workload,
-    settings: &CampaignSettings,
+/// Runs of twins of the target tell the list: one without faults, and to a depth each of those that grow. The caller's target isn't
+/// touched. The answer is `TooManyPlans` only where the list has more than 65536 plans, otherwise an error is `Memory`.
+pub fn plan_scenario<T: Target + Send, G: Gate, R: Threads + Wait + Sync>(
+    host: &Host<'_, G, R>,
+    subject: &Subject<'_, T>,
     number: u32,
 ) -> Result<Option<Scenario>, CampaignFault>
-    ensures plan { IfOk result (λ plan. plan ≡ slice_get (plans (campaign_on T.Target target.now workload.now settings.now)) number) }
-    ensures few { OnOk result (length (plans (campaign_on T.Target target.now workload.now settings.now)) ≤ most_plans) }
-    ensures fault { IfErr result (IsUnlisted (campaign_on T.Target target.now workload.now settings.now)) }
+where
+    T::Workload: Sync,
+    ensures plan { IfOk result (λ plan. plan ≡ slice_get (plans (campaign_in T.Target subject.now)) number) }
+    ensures few { OnOk result (length (plans (campaign_in T.Target subject.now)) ≤ most_plans) }
+    ensures fault { IfErr result (IsUnlisted (campaign_in T.Target subject.now)) }
 {
-    let (_, plans) = planned(alloc, target, workload, settings)?;
+    let planned = plan_campaign(host, subject)?;
+    let plans = plans_of(subject, &planned);
     let number = number as usize;
     if number >= plans.len() {
         return Ok(None);
     }
-    Ok(Some(plans.plan(number).scenario(alloc)?))
+    Ok(Some(plans.plan(number).scenario(host.alloc)?))
 }
 
-/// Writes the list of plans of a campaign, a line for each: its number and its scenario. One run without faults counts how often each
-/// point is asked, on a twin of the target; the caller's target isn't touched.
+/// Writes the list of plans of a campaign, a line for each: its number and its scenario. Runs of twins of the target tell the list: one
+/// without faults, and to a depth each of those that grow. The caller's target isn't touched.
 ///
 /// Nothing is written before the whole text stands. The answer is `TooManyPlans` only where the list has more than 65536 plans, and then,
 /// and where memory was refused, the sink is as it was and hasn't failed; `Write` tells how many bytes of the text, fewer than all, went
 /// out before the sink failed.
-pub fn plan_list<T: Target, W: Sink>(
-    alloc: Global,
-    target: &T,
-    workload: &T::Workload,
-    settings: &CampaignSettings,
+pub fn plan_list<T: Target + Send, G: Gate, W: Sink, R: Threads + Wait + Sync>(
+    host: &Host<'_, G, R>,
+    subject: &Subject<'_, T>,
     sink: &mut W,
 ) -> Result<(), CampaignFault>
+where
+    T::Workload: Sync,
     requires { W.has_failed sink.old ≡ false }
-    ensures text { OnOk result (Appends (W.told sink.old) (W.told sink.new) (plans_text (campaign_on T.Target target.now workload.now settings.now))) }
-    ensures few { OnOk result (length (plans (campaign_on T.Target target.now workload.now settings.now)) ≤ most_plans) }
+    ensures text { OnOk result (Appends (W.told sink.old) (W.told sink.new) (plans_text (campaign_in T.Target subject.now))) }
+    ensures few { OnOk result (length (plans (campaign_in T.Target subject.now)) ≤ most_plans) }
     ensures sound { OnOk result (W.has_failed sink.new ≡ false) }
-    ensures fault { IfErr result (let c = campaign_on T.Target target.now workload.now settings.now in
+    ensures fault { IfErr result (let c = campaign_in T.Target subject.now in
         IsFault c (plans_text c) (W.told sink.old) (W.told sink.new) (W.has_failed sink.new)) }
 {
-    let (_, plans) = planned(alloc, target, workload, settings)?;
-    let text = plans_text(alloc, &plans)?;
+    let planned = plan_campaign(host, subject)?;
+    let plans = plans_of(subject, &planned);
+    let text = plans_text(host.alloc, &plans)?;
     write_report(text.as_bytes(), sink)?;
     Ok(())
 }

@@ -5,6 +5,7 @@ ghost use Rattle.campaign_given.specs.Given.{verdict_on};
 ghost use Rattle.campaign_core.specs.FaultTest.{fails_with, fault_test};
 ghost use Rattle.campaign_core.specs.Findings.{reduction};
 
+use crate::subject::Host;
 use campaign_given::CampaignSettings;
 use ddmin_parallel::{Probe, Reduction, reduce};
 use scenario_values::{Scenario, are_faults, faults, faults_are_counted, keep};
@@ -110,9 +111,7 @@ where
 /// Reduces a failure with a thread for each worker, and a twin of the target for each. The result is that of one thread. An error means
 /// that memory was refused.
 pub fn reduced<T: Target + Send, G: Gate, R: Threads + Wait + Sync>(
-    rt: &R,
-    alloc: Global,
-    gate: &G,
+    host: &Host<'_, G, R>,
     target: &T,
     failure: &Failure<'_, T>,
 ) -> Result<Reduction, AllocError>
@@ -123,7 +122,7 @@ where
         failure.now.stream failure.now.code failure.now.scenario.now) }
 {
     let _ = failure.scenario.entries();
-    let settings = failure.settings;
-    let hands: Vec<CaseProbe<'_, T>> = probes(alloc, target, failure, settings.workers())?;
-    reduce(rt, alloc, gate, hands, failure.faults)
+    let Host { rt, alloc, gate } = host;
+    let hands: Vec<CaseProbe<'_, T>> = probes(*alloc, target, failure, failure.settings.workers())?;
+    reduce(*rt, *alloc, *gate, hands, failure.faults)
 }

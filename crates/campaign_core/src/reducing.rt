@@ -2,18 +2,17 @@
 ghost use Rattle.std.specs.Prelude.{◌≡◌, ◌++◌, ◌∷◌, [], true, false, codes, string_bytes, IfOk, IfErr, OnOk};
 ghost use Rattle.std.specs.Fmt.{decimal};
 ghost use Rattle.std.specs.Io.KnownBytes.{Appends};
-ghost use Rattle.campaign_given.specs.Given.{verdict_on};
 ghost use Rattle.report.specs.ReportText.{scenario_text, text_of};
 ghost use Rattle.campaign_core.specs.FaultTest.{fails_with};
 ghost use Rattle.campaign_core.specs.Findings.{reduction, reduced, IsMinimal};
-ghost use Rattle.campaign_core.specs.Headline.{campaign_on, say};
+ghost use Rattle.campaign_core.specs.Headline.{campaign_in, say};
 ghost use Rattle.campaign_core.specs.CommandTexts.{found_lines, reduce_text, IsReducedToMinimal, LeavesOnly};
 ghost use Rattle.campaign_core.specs.inside.Says.{failure_says};
 
 use crate::ending::CampaignFault;
 use crate::probe::{Failure, fault_count, reduced};
+use crate::subject::{Host, Subject};
 use crate::written::write_judged;
-use campaign_given::CampaignSettings;
 use report::{write_scenario, write_verdict};
 use scenario_values::{Scenario, keep, tidy};
 use std::alloc::{AllocError, Global};
@@ -25,9 +24,7 @@ use work_gate::Gate;
 
 /// The scenario that a failure is reduced to, tidied, and how many sets of faults were tested. An error means that memory was refused.
 pub fn reduced_scenario<T: Target + Send, G: Gate, R: Threads + Wait + Sync>(
-    rt: &R,
-    alloc: Global,
-    gate: &G,
+    host: &Host<'_, G, R>,
     target: &T,
     failure: &Failure<'_, T>,
 ) -> Result<(Scenario, u64), AllocError>
@@ -42,26 +39,23 @@ where
         (reduced (failure_says T.Target target.now failure.now) failure.now.stream failure.now.code failure.now.scenario.now)) }
 {
     let _ = failure.scenario.entries();
-    let reduction = reduced(rt, alloc, gate, target, failure)?;
-    let kept = keep(alloc, failure.scenario, reduction.kept.as_slice())?;
-    Ok((tidy(alloc, &kept)?, reduction.tests))
+    let reduction = reduced(host, target, failure)?;
+    let kept = keep(host.alloc, failure.scenario, reduction.kept.as_slice())?;
+    Ok((tidy(host.alloc, &kept)?, reduction.tests))
 }
 
 /// The verdict of a scenario under a stream number, with a twin of the target. An error means that memory was refused.
 fn verdict_of<T: Target>(
     alloc: Global,
-    target: &T,
-    workload: &T::Workload,
-    settings: &CampaignSettings,
+    subject: &Subject<'_, T>,
     stream: u64,
     scenario: &Scenario,
 ) -> Result<Verdict, AllocError>
-    ensures { IfOk result (λ verdict. verdict
-        ≡ verdict_on (T.asks target.now workload.now) T.names settings.now stream scenario.now) }
+    ensures { IfOk result (λ verdict. verdict ≡ say (campaign_in T.Target subject.now) stream scenario.now) }
 {
-    let case = settings.case(scenario, stream);
-    let mut twin = target.twin()?;
-    run_verdict(alloc, &mut twin, workload, &case)
+    let case = subject.settings.case(scenario, stream);
+    let mut twin = subject.target.twin()?;
+    run_verdict(alloc, &mut twin, subject.workload, &case)
 }
 
 /// Appends what is left of a scenario, and how many sets of faults were tested.
@@ -81,9 +75,7 @@ fn write_left(
 
 /// Appends what a scenario that failed with this code is reduced to, and how many tests that took.
 fn write_reduced<T: Target + Send, G: Gate, R: Threads + Wait + Sync>(
-    rt: &R,
-    alloc: Global,
-    gate: &G,
+    host: &Host<'_, G, R>,
     out: &mut String,
     target: &T,
     failure: &Failure<'_, T>,
@@ -96,42 +88,38 @@ where
     ensures minimal { OnOk result (IsMinimal (failure_says T.Target target.now failure.now failure.now.stream) failure.now.code
         (reduced (failure_says T.Target target.now failure.now) failure.now.stream failure.now.code failure.now.scenario.now)) }
 {
-    let (left, tests) = reduced_scenario(rt, alloc, gate, target, failure)?;
-    write_left(alloc, out, &left, tests)
+    let (left, tests) = reduced_scenario(host, target, failure)?;
+    write_left(host.alloc, out, &left, tests)
 }
 
 /// The lines of `reduce` for a scenario with this verdict. An error means that memory was refused.
 fn reduce_text<T: Target + Send, G: Gate, R: Threads + Wait + Sync>(
-    rt: &R,
-    alloc: Global,
-    gate: &G,
-    target: &T,
-    workload: &T::Workload,
-    settings: &CampaignSettings,
+    host: &Host<'_, G, R>,
+    subject: &Subject<'_, T>,
     stream: u64,
     scenario: &Scenario,
     verdict: Verdict,
 ) -> Result<String, AllocError>
 where
     T::Workload: Sync,
-    requires { verdict ≡ verdict_on (T.asks target.now workload.now) T.names settings.now stream scenario.now }
-    ensures text { IfOk result (λ text. string_bytes text ≡ reduce_text (campaign_on T.Target target.now workload.now settings.now) stream scenario.now) }
-    ensures minimal { OnOk result (IsReducedToMinimal (campaign_on T.Target target.now workload.now settings.now) stream scenario.now) }
+    requires { verdict ≡ say (campaign_in T.Target subject.now) stream scenario.now }
+    ensures text { IfOk result (λ text. string_bytes text ≡ reduce_text (campaign_in T.Target subject.now) stream scenario.now) }
+    ensures minimal { OnOk result (IsReducedToMinimal (campaign_in T.Target subject.now) stream scenario.now) }
 {
-    let mut text = String::new(alloc);
+    let mut text = String::new(host.alloc);
     text.push_str("verdict ")?;
-    write_verdict(&mut text, target, verdict)?;
+    write_verdict(&mut text, subject.target, verdict)?;
     text.push_str("\n")?;
     if let Verdict::Fail(code) = verdict {
         let failure = Failure {
-            workload,
-            settings,
+            workload: subject.workload,
+            settings: subject.settings,
             scenario,
-            faults: fault_count(alloc, scenario)?,
+            faults: fault_count(host.alloc, scenario)?,
             stream,
             code,
         };
-        write_reduced(rt, alloc, gate, &mut text, target, &failure)?;
+        write_reduced(host, &mut text, subject.target, &failure)?;
     }
     Ok(text)
 }
@@ -144,30 +132,24 @@ where
 /// be left out of it. Nothing is written before the text stands whole: for want of memory the sink is unchanged and hasn't failed. A
 /// failed write tells how many bytes of the text, fewer than all, went out.
 pub fn reduce_one<T: Target + Send, G: Gate, W: Sink, R: Threads + Wait + Sync>(
-    rt: &R,
-    alloc: Global,
-    target: &T,
-    workload: &T::Workload,
-    settings: &CampaignSettings,
+    host: &Host<'_, G, R>,
+    subject: &Subject<'_, T>,
     stream: u64,
     scenario: &Scenario,
-    gate: &G,
     sink: &mut W,
 ) -> Result<Verdict, CampaignFault>
 where
     T::Workload: Sync,
     requires { W.has_failed sink.old ≡ false }
-    ensures verdict { IfOk result (λ verdict. verdict ≡ say (campaign_on T.Target target.now workload.now settings.now) stream scenario.now) }
+    ensures verdict { IfOk result (λ verdict. verdict ≡ say (campaign_in T.Target subject.now) stream scenario.now) }
     ensures text { OnOk result (Appends (W.told sink.old) (W.told sink.new)
-        (reduce_text (campaign_on T.Target target.now workload.now settings.now) stream scenario.now)) }
-    ensures minimal { OnOk result (IsReducedToMinimal (campaign_on T.Target target.now workload.now settings.now) stream scenario.now) }
+        (reduce_text (campaign_in T.Target subject.now) stream scenario.now)) }
+    ensures minimal { OnOk result (IsReducedToMinimal (campaign_in T.Target subject.now) stream scenario.now) }
     ensures sound { OnOk result (W.has_failed sink.new ≡ false) }
     ensures fault { IfErr result (LeavesOnly (W.told sink.old) (W.told sink.new) (W.has_failed sink.new)
-        (reduce_text (campaign_on T.Target target.now workload.now settings.now) stream scenario.now)) }
+        (reduce_text (campaign_in T.Target subject.now) stream scenario.now)) }
 {
-    let verdict = verdict_of(alloc, target, workload, settings, stream, scenario)?;
-    let text = reduce_text(
-        rt, alloc, gate, target, workload, settings, stream, scenario, verdict,
-    )?;
+    let verdict = verdict_of(host.alloc, subject, stream, scenario)?;
+    let text = reduce_text(host, subject, stream, scenario, verdict)?;
     write_judged(verdict, text.as_str(), sink)
 }

@@ -1,12 +1,14 @@
 //! What the plans of a campaign come to.
 ghost use Rattle.std.specs.Prelude.{◌≡◌, ◌<◌, ◌≤◌, length, option_map, slice_get, IfOk};
 ghost use Rattle.result_book.specs.Says.{course_says};
+ghost use Rattle.campaign_core.specs.Planned.{AreKnown};
 ghost use Rattle.campaign_core.specs.inside.Results.{AreResults};
 
 use crate::ending::Ending;
+use crate::subject::Host;
 use crate::workers::run_plans;
 use result_book::{Course, full_books_tell_their_verdicts};
-use std::alloc::{AllocError, Global};
+use std::alloc::AllocError;
 use std::sync::Wait;
 use std::thread::Threads;
 use target_trait::{Target, Verdict};
@@ -34,23 +36,23 @@ impl Results {
     }
 }
 
-/// Runs each plan of a course once, with a thread for each worker and a twin of the target for each. The results are those of one thread.
-/// An error means that memory was refused.
+/// Runs each plan of a course once whose verdict isn't known, with a thread for each worker and a twin of the target for each. The results
+/// are those of one thread. An error means that memory was refused.
 pub fn run_course<T: Target + Send, G: Gate, R: Threads + Wait + Sync>(
-    rt: &R,
-    alloc: Global,
-    gate: &G,
+    host: &Host<'_, G, R>,
     target: &T,
     course: &Course<'_, T>,
+    known: &[Verdict],
 ) -> Result<Results, AllocError>
 where
     T::Workload: Sync,
     requires few { length course.now.plans.now ≤ 65536 }
+    requires known { AreKnown (course_says T.Target target.now course.now) course.now.plans.now known.now }
     ensures { IfOk result (AreResults (course_says T.Target target.now course.now) course.now.plans.now) }
 {
-    let book = run_plans(rt, alloc, gate, target, course)?;
+    let book = run_plans(host, target, course, known)?;
     full_books_tell_their_verdicts();
-    let firsts = book.first_failures(alloc)?;
+    let firsts = book.first_failures(host.alloc)?;
     let verdicts = book.into_verdicts();
     Ok(Results { verdicts, firsts })
 }

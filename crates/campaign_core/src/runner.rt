@@ -1,5 +1,5 @@
 //! Runs of a course's plans, row by row, as a job of workers.
-ghost use Rattle.std.specs.Prelude.{◌≡◌, ℕ, List, length};
+ghost use Rattle.std.specs.Prelude.{◌≡◌, ◌≤◌, ℕ, List, length};
 ghost use Rattle.campaign_given.specs.Given.{verdict_on};
 ghost use Rattle.campaign_core.specs.inside.Rows.{row_limit, row_of};
 
@@ -18,6 +18,8 @@ pub struct Setup<T: Target> {
     pub workload: T::Workload,
     pub settings: CampaignSettings,
     pub plans: LinkedList<Scenario>,
+    /// The number of the first plan that is run: those before it have their verdicts.
+    pub first: u32,
 }
 
 /// A target, with the course whose plans it runs, and with a workspace of its own that each run takes over from the one before.
@@ -25,8 +27,11 @@ pub struct Setup<T: Target> {
 pub struct Runner<'a, T: Target> {
     pub target: T,
     pub course: &'a Course<'a, T>,
+    /// The number of the first plan that is run.
+    pub first: u32,
     pub workspace: Workspace,
     pub alloc: Global,
+    ghost within: { first ≤ length course.now.plans.now },
 }
 
 impl<'a, T: Target + Send> Job for Runner<'a, T>
@@ -42,25 +47,26 @@ where
       workload = runner.course.now.workload.now;
       settings = runner.course.now.settings.now;
       plans = runner.course.now.plans.now;
+      first = runner.first;
     } };
 
-    ghost limit = { λ setup. row_limit (length setup.plans) };
+    ghost limit = { λ setup. row_limit (length setup.plans) setup.first };
 
     ghost answers = { λ setup n row. row ≡ row_of
-        (verdict_on (T.asks setup.target setup.workload) T.names setup.settings) setup.plans n };
+        (verdict_on (T.asks setup.target setup.workload) T.names setup.settings) setup.plans setup.first n };
 
     ghost becomes = { λ _ _ _. Unit {0} };
 
     fn perform(&mut self, number: u32) -> Result<Row<'a, T>, AllocError> {
-        // A number is below the limit only where the plans are few, so their count is not cut.
-        let (first, end) = row_bounds(self.course.plans.len() as u32, number);
+        let count = self.course.plans.len() as u32 - self.first;
+        let (begin, end) = row_bounds(count, number);
         Row::run_over(
             self.alloc,
             &mut self.target,
             &mut self.workspace,
             self.course,
-            first,
-            end,
+            self.first + begin,
+            self.first + end,
         )
     }
 }

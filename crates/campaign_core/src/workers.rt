@@ -2,27 +2,31 @@
 ghost use Rattle.std.specs.Prelude.{◌≡◌, ◌≤◌, length, vec_len, map, Some, All, IfOk};
 ghost use Rattle.result_book.specs.Verdicts.{verdicts_from};
 ghost use Rattle.result_book.specs.Says.{course_says};
+ghost use Rattle.campaign_core.specs.Planned.{AreKnown};
 
 use crate::runner::Runner;
+use crate::subject::Host;
 use plan_rows::{RowGate, answers_of, row_count};
 use result_book::{Book, Course, Workspace, put_all};
 use std::alloc::{AllocError, Global};
 use std::sync::Wait;
 use std::thread::Threads;
-use target_trait::Target;
+use target_trait::{Target, Verdict};
 use work_gate::{Gate, Phase};
 
-/// A job for each worker, with a twin of the target. An error means that memory was refused.
+/// A job for each worker, with a twin of the target, for the plans from this number on. An error means that memory was refused.
 fn runners<'a, T: Target + Send>(
     alloc: Global,
     target: &T,
     course: &'a Course<'a, T>,
+    first: u32,
     workers: usize,
 ) -> Result<Vec<Runner<'a, T>>, AllocError>
 where
     T::Workload: Sync,
+    requires { first ≤ length course.now.plans.now }
     ensures many { IfOk result (λ runners. vec_len runners ≡ workers) }
-    ensures same { IfOk result (λ runners. All (λ r. (r.target ≡ target.now) × (r.course.now ≡ course.now)) runners.items) }
+    ensures same { IfOk result (λ runners. All (λ r. (r.target ≡ target.now) × (r.course.now ≡ course.now) × (r.first ≡ first)) runners.items) }
 {
     let mut all = Vec::new(alloc);
     for _ in 0..workers {
@@ -30,6 +34,7 @@ where
         all.push(Runner {
             target,
             course,
+            first,
             workspace: Workspace::new(alloc),
             alloc,
         })?;
@@ -37,33 +42,44 @@ where
     Ok(all)
 }
 
-/// Runs each plan of a course once, with a thread for each worker and a twin of the target for each, and puts the verdicts into a book. It
-/// is the book of one thread. The book is made once all have run, when the workers' tickets are gone. An error means that memory was refused.
+/// A copy of these verdicts. An error means that memory was refused.
+fn copied(alloc: Global, verdicts: &[Verdict]) -> Result<Vec<Verdict>, AllocError>
+    ensures { IfOk result (λ all. all.items ≡ verdicts.now) }
+{
+    let mut all = Vec::new(alloc);
+    all.extend_from_slice(verdicts)?;
+    Ok(all)
+}
+
+/// Runs each plan of a course once whose verdict isn't known, with a thread for each worker and a twin of the target for each, and puts all
+/// verdicts into a book. It is the book of one thread. The book is made once all have run, when the workers' tickets are gone. An error
+/// means that memory was refused.
 pub fn run_plans<T: Target + Send, G: Gate, R: Threads + Wait + Sync>(
-    rt: &R,
-    alloc: Global,
-    gate: &G,
+    host: &Host<'_, G, R>,
     target: &T,
     course: &Course<'_, T>,
+    known: &[Verdict],
 ) -> Result<Book, AllocError>
 where
     T::Workload: Sync,
     requires few { length course.now.plans.now ≤ 65536 }
-    ensures { IfOk result (λ book. book ≡ map Some (verdicts_from
-        (course_says T.Target target.now course.now)
-        0 course.now.plans.now)) }
+    requires known { AreKnown (course_says T.Target target.now course.now) course.now.plans.now known.now }
+    ensures { IfOk result (λ book. book ≡ map Some (verdicts_from (course_says T.Target target.now course.now) 0 course.now.plans.now)) }
 {
-    let settings = course.settings;
-    let jobs = runners(alloc, target, course, settings.workers())?;
+    let Host { rt, alloc, gate } = host;
+    let first = known.len() as u32;
     let plans = course.plans.len() as u32;
+    let workers = course.settings.workers();
+    let jobs = runners(*alloc, target, course, first, workers)?;
     gate.expect(Phase::Plans, plans);
     let gate = RowGate {
-        gate,
-        first: 0,
-        plans,
+        gate: *gate,
+        first,
+        plans: plans - first,
     };
-    let rows = answers_of(rt, alloc, &gate, jobs, row_count(plans))?;
-    let mut book = Book::new(alloc, course)?;
+    let rows = answers_of(*rt, *alloc, &gate, jobs, row_count(plans - first))?;
+    let mut book = Book::new(*alloc, course)?;
+    book.put_known(copied(*alloc, known)?);
     put_all(&mut book, rows);
     Ok(book)
 }

@@ -1,6 +1,6 @@
 -- A campaign on a component that somebody else runs: its list of plans, what is still to be tried, and its report, by the settings and a
 -- text of answers.
-use Rattle.std.specs.Prelude.{◌≡◌, ◌≤◌, ◌<◌, ℕ, Bool, true, false, List, [], ◌∷◌, Option, option_map, length, slice_get, slice_index_or, take, Err}
+use Rattle.std.specs.Prelude.{◌≡◌, ◌≤◌, ◌<◌, ℕ, Bool, true, false, List, [], ◌∷◌, Option, None, option_map, length, slice_get, slice_index_or, take, Err}
 use Rattle.std.specs.Io.KnownBytes.{Appends}
 use Rattle.scenario_values.specs.Scenario.{Entries}
 use Rattle.plan_gen.specs.PlanList.{most_plans, plan_list}
@@ -35,12 +35,12 @@ code_name codes number = slice_index_or codes number []
 -- the report's text, for a component
 abbrev pub report_text : Description → Given → Component → List ℕ
 report_text outside given component = text_of (report_lines outside.points (code_name outside.codes)
-    (report_of (say component) outside.label given.plans.seed outside.hits (plans outside given)))
+    (report_of (say component) outside.label given.plans.seed outside.hits (plans outside given) None))
 
 -- the same of the brief report
 abbrev pub brief_report_text : Description → Given → Component → List ℕ
 brief_report_text outside given component = text_of (brief_lines outside.points (code_name outside.codes)
-    (report_of (say component) outside.label given.plans.seed outside.hits (plans outside given)) (plans outside given))
+    (report_of (say component) outside.label given.plans.seed outside.hits (plans outside given) None) (plans outside given))
 
 -- the least number of a plan that fails
 abbrev pub first_failure : Description → Given → Component → Option ℕ

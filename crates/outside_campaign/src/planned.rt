@@ -7,6 +7,7 @@ ghost use Rattle.outside_campaign.specs.Campaigns.{plans, plans_text, IsCut, IsU
 
 use campaign_core::{CampaignFault, plans_text};
 use campaign_given::{CampaignSettings, Outside};
+use campaign_plans::CampaignPlans;
 use plan_gen::{Census, PlanFault, PlanList, plans};
 use report::write_report;
 use scenario_values::Text;
@@ -64,7 +65,7 @@ pub fn list_plans<W: Sink>(
 {
     let points = borrowed(alloc, outside.points.as_slice())?;
     let plans = planned(alloc, points.as_slice(), outside, settings)?;
-    let text = plans_text(alloc, &plans)?;
+    let text = plans_text(alloc, &CampaignPlans::by_census(&plans))?;
     write_report(text.as_bytes(), sink)?;
     Ok(())
 }

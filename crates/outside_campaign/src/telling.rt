@@ -3,6 +3,7 @@ ghost use Rattle.std.specs.Prelude.{◌≡◌, ◌<◌, length, IfOk, option_map
 ghost use Rattle.outside_campaign.specs.inside.Results.{text_in};
 
 use campaign_given::Outside;
+use campaign_plans::CampaignPlans;
 use plan_gen::PlanList;
 use report::{Finding, Names, Report, brief_text, text};
 use std::alloc::{AllocError, Global};
@@ -71,7 +72,7 @@ pub fn told_text<'a>(
     let words = Words { outside };
     match form {
         Form::Whole => text(alloc, &words, &report),
-        Form::Brief => brief_text(alloc, &words, &report, plans),
+        Form::Brief => brief_text(alloc, &words, &report, &CampaignPlans::by_census(plans)),
     }
 }
 

@@ -5,7 +5,7 @@ ghost use Rattle.target_trait.specs.Outcomes.{outcome};
 ghost use Rattle.report.specs.BriefText.{is_unresolved};
 ghost use Rattle.plan_survey.specs.Runs.{is_asked, runs_of, unreached_in, unresolved_in};
 
-use plan_gen::PlanList;
+use campaign_plans::CampaignPlans;
 use std::alloc::{AllocError, Global};
 use target_trait::{Case, Outcome, Target, Verdict, run_case};
 
@@ -63,7 +63,7 @@ fn run_plan<T: Target>(
     alloc: Global,
     target: &mut T,
     workload: &T::Workload,
-    plans: &PlanList<'_>,
+    plans: &CampaignPlans<'_>,
     number: usize,
     seed: u64,
     max_hits: u32,
@@ -90,7 +90,7 @@ pub fn survey_plans<T: Target>(
     alloc: Global,
     target: &mut T,
     workload: &T::Workload,
-    plans: &PlanList<'_>,
+    plans: &CampaignPlans<'_>,
     seed: u64,
     max_hits: u32,
 ) -> Result<Survey, AllocError>

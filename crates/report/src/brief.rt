@@ -7,7 +7,7 @@ use crate::facts::{Finding, Report};
 use crate::lines::{write_end, write_front, write_scenario};
 use crate::names::Names;
 use crate::verdicts::write_verdict;
-use plan_gen::{Plan, PlanList};
+use campaign_plans::{CampaignPlan, CampaignPlans};
 use std::alloc::{AllocError, Global};
 use std::fmt::Write;
 use target_trait::Verdict;
@@ -96,7 +96,7 @@ fn write_told<N: Names>(
     names: &N,
     number: usize,
     verdict: Verdict,
-    plan: &Plan<'_>,
+    plan: &CampaignPlan<'_>,
 ) -> Result<(), AllocError>
     ensures { OnOk result (string_bytes out.new ≡ string_bytes out.old ++ ended (told_line (N.code_text names.now) number verdict plan.now)) }
 {
@@ -113,7 +113,7 @@ fn write_told_of<N: Names>(
     names: &N,
     number: usize,
     verdict: Verdict,
-    plan: &Plan<'_>,
+    plan: &CampaignPlan<'_>,
 ) -> Result<(), AllocError>
     ensures { OnOk result (string_bytes out.new ≡ string_bytes out.old ++ text_of (told_line_of (N.code_text names.now) number verdict plan.now)) }
 {
@@ -130,7 +130,7 @@ fn write_all_told<N: Names>(
     out: &mut String,
     names: &N,
     verdicts: &[Verdict],
-    plans: &PlanList<'_>,
+    plans: &CampaignPlans<'_>,
 ) -> Result<(), AllocError>
     requires { length verdicts.now ≡ length plans.now }
     ensures { OnOk result (string_bytes out.new ≡ string_bytes out.old ++ text_of (told_lines (N.code_text names.now) 0 verdicts.now plans.now)) }
@@ -150,7 +150,7 @@ pub fn brief_text<N: Names>(
     alloc: Global,
     names: &N,
     report: &Report<'_>,
-    plans: &PlanList<'_>,
+    plans: &CampaignPlans<'_>,
 ) -> Result<Vec<u8>, AllocError>
     requires counts { length report.now.census ≡ length (N.points names.now) }
     requires reached { IfSome report.now.growth (λ growth. length growth.reached ≡ length (N.points names.now)) }

@@ -1,7 +1,7 @@
 //! Whether plans that fail fail again.
 ghost use Rattle.std.specs.Prelude.{◌≡◌, ◌<◌, None, length, IfOk};
 
-use plan_gen::PlanList;
+use campaign_plans::CampaignPlans;
 use std::alloc::{AllocError, Global};
 use target_trait::{Case, Target, Verdict, run_verdict};
 
@@ -21,7 +21,7 @@ fn changed<T: Target>(
     alloc: Global,
     target: &mut T,
     workload: &T::Workload,
-    plans: &PlanList<'_>,
+    plans: &CampaignPlans<'_>,
     number: usize,
     seed: u64,
     max_hits: u32,
@@ -60,7 +60,7 @@ pub fn changed_verdict<T: Target>(
     alloc: Global,
     target: &T,
     workload: &T::Workload,
-    plans: &PlanList<'_>,
+    plans: &CampaignPlans<'_>,
     seed: u64,
     max_hits: u32,
 ) -> Result<Option<ChangedVerdict>, AllocError>

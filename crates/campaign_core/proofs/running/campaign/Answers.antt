@@ -1,13 +1,18 @@
-use Rattle.std.proofs.Common.{ℕ, ◌∙◌}
-use Rattle.scenario_values.specs.Scenario.{Entries}
-use Rattle.target_trait.specs.declared.judgement.Verdict.{Verdict}
-use Rattle.target_trait.specs.Outcomes.{verdict_with}
+use Rattle.std.proofs.Common.{◌≡◌, IfSome, length, refl, subst, sym}
+use Rattle.report.specs.Reports.{GrowthFacts, ReportFacts}
+use Rattle.campaign_core.specs.Headline.{Campaign, campaign_in, plans, say}
 use Rattle.campaign_core.proofs.Firsts.{first_is}
+use Rattle.campaign_core.proofs.Grown.{reached_counts}
 use Rattle.campaign_core.proofs.running.campaign.Goals as goal
 
 pub returns-clause-first : goal.returns-clause-first
 returns-clause-first g c =
-    let settings = c.args.settings.now in
-    let say : ℕ → Entries → Verdict = verdict_with (g.T.Target.asks c.args.target.now c.args.workload.now) g.T.Target.names settings.plans.seed settings.max_hits in
-    first_is say c.in_ok-census.plans _ c.in_ok-results.results.firsts.items c.ending.result.first c.ending.ensures c.in_ok-results.ensures.1
-    c.in_ok-census.ensures.plans
+    let k : Campaign = campaign_in g.T.Target c.args.subject.now in
+    let ran = c.in_ok-ran.ensures.ran in
+    first_is (say k) (plans k) (plans k) c.in_ok-ran.ran.results.firsts.items c.ending.result.first c.ending.ensures ran.results.1 refl
+
+pub text-requires-clause-reached : goal.text-requires-clause-reached
+text-requires-clause-reached g c =
+    let k : Campaign = campaign_in g.T.Target c.args.subject.now in
+    subst (λ (r : ReportFacts). IfSome r.growth (λ (x : GrowthFacts). length x.reached ≡ length k.points)) (sym c.in_ok-report.ensures.report)
+    (reached_counts k k.depth)

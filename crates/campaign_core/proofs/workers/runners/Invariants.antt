@@ -2,4 +2,5 @@ use Rattle.std.proofs.Common.{◌≡◌, All, vec_len}
 use Rattle.campaign_core.proofs.workers.runners.Given as goal
 
 abbrev pub invariant-loop : goal.invariant-loop
-invariant-loop g l = (vec_len l.all ≡ l.counter) × All (λ r. (r.target ≡ l.fn.target) × (r.course.now ≡ l.fn.course)) l.all.items
+invariant-loop g l =
+    (vec_len l.all ≡ l.counter) × All (λ r. (r.target ≡ l.fn.target) × (r.course.now ≡ l.fn.course) × (r.first ≡ l.fn.first)) l.all.items

@@ -6,7 +6,7 @@ use Rattle.target_trait.specs.declared.judgement.Verdict.{Verdict}
 use Rattle.result_book.specs.Says.{course_says}
 use Rattle.report.specs.Reports.{FindingFacts}
 use Rattle.campaign_core.specs.Findings.{finding, ReducesToMinimal}
-use Rattle.campaign_core.proofs.running.findings.Goals as goal
+use Rattle.campaign_core.proofs.reporting.findings.Goals as goal
 
 -- one more
 more : (f : ℕ × ℕ → FindingFacts) (fs : List (ℕ × ℕ)) (i : ℕ) (all new : List FindingFacts) (x : FindingFacts) → i < length fs → new ≡ all ++ x ∷ []

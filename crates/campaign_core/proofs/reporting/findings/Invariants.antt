@@ -1,7 +1,7 @@
 use Rattle.std.proofs.Common.{◌≡◌, All, map, take}
 use Rattle.result_book.specs.Says.{course_says}
 use Rattle.campaign_core.specs.Findings.{finding, ReducesToMinimal}
-use Rattle.campaign_core.proofs.running.findings.Given as goal
+use Rattle.campaign_core.proofs.reporting.findings.Given as goal
 
 abbrev pub invariant-loop-first : goal.invariant-loop-first
 invariant-loop-first g l =

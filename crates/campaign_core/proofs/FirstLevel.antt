@@ -1,0 +1,122 @@
+-- Where plans grow, a census has few sites: each is a fault of the first level.
+use Rattle.std.proofs.Common.{◌≡◌, ℕ, zero, suc, ◌+◌, ◌*◌, ◌<◌, ◌≤◌, ◌==◌, Bool, true, false, cond, nat_eq, List, [], ◌∷◌, ◌++◌, map, length, count_by, refl, ap, sym, ◌∙◌, arith, eq-eqb, length-append, subst, rules}
+use Rattle.std.specs.List.{range_with_len, AllByRecursion, flat_map}
+use Rattle.std.proofs.lemmas.List.{append-nil}
+use Rattle.std.proofs.lemmas.List.Sums.{sum_by-cons}
+use Rattle.scenario_values.specs.Scenario.{Entries}
+use Rattle.action_eval.specs.Answers.{Reply, given_of}
+use Rattle.action_eval.specs.Rigging.{rigging, entries_from, rig}
+use Rattle.action_eval.specs.declared.rig.Rig.{Rig}
+use Rattle.action_eval.specs.declared.rig.Site.{Site}
+use Rattle.target_trait.specs.Play.{Move}
+use Rattle.target_trait.specs.Outcomes.{outcome}
+use Rattle.plan_gen.specs.Census.{census_of, counts_of, sites_of}
+use Rattle.plan_gen.specs.Counts.{total_of}
+use Rattle.plan_gen.proofs.Counting.{sites_length}
+use Rattle.plan_gen.proofs.Lists.{flat_length, map_length}
+use Rattle.grown_plans.specs.GrownPlans.{Subject, usual_subject, given_for, children, level, levels, onward, grown}
+use Rattle.grown_plans.specs.AskedPoints.{GrowsByAsked, sites_from, children_by}
+use Rattle.grown_plans.specs.Promises.{IsLawful}
+use Rattle.grown_plans.proofs.AskedSites.{grows_by_asked}
+
+-- ---- counts of points are at most the hits
+
+total_both : (f g : ℕ → ℕ) (h : ℕ → ℕ) → ((p : ℕ) → h p ≡ f p + g p) → (a n : ℕ)
+    → total_of (map h (range_with_len a n)) ≡ total_of (map f (range_with_len a n)) + total_of (map g (range_with_len a n))
+total_both f g h is a zero = refl
+total_both f g h is a (suc n) =
+    let here = is a in
+    let rest = total_both f g h is (a + 1) n in
+    omega (arith, here, rest)
+
+abbrev one_at : ℕ → ℕ → ℕ
+one_at q p = cond {A = ℕ} (q == p) 1 0
+
+not_past : (q p : ℕ) (b : Bool) → (q == p) ≡ b → q < p → cond {A = ℕ} b 1 0 ≡ 0
+not_past q p true is lt = let same : q ≡ p = search (is, rules) in absurd (omega (arith, same, lt))
+not_past q p false is lt = refl
+
+total_past : (q a n : ℕ) → q < a → total_of (map (one_at q) (range_with_len a n)) ≡ 0
+total_past q a zero lt = refl
+total_past q a (suc n) lt =
+    let here = not_past q a (q == a) refl lt in
+    let rest = total_past q (a + 1) n (omega arith) in
+    omega (arith, here, rest)
+
+at_most : (q a n : ℕ) (b : Bool) → (q == a) ≡ b → total_of (map (one_at q) (range_with_len (a + 1) n)) ≤ 1
+    → cond {A = ℕ} b 1 0 + total_of (map (one_at q) (range_with_len (a + 1) n)) ≤ 1
+at_most q a n true is rest =
+    let same : q ≡ a = search (is, rules) in
+    let none = total_past q (a + 1) n (omega (arith, same)) in
+    omega (arith, none)
+at_most q a n false is rest = omega (arith, rest)
+
+total_once : (q a n : ℕ) → total_of (map (one_at q) (range_with_len a n)) ≤ 1
+total_once q a zero = omega arith
+total_once q a (suc n) = at_most q a n (q == a) refl (total_once q (a + 1) n)
+
+total_counts : (n : ℕ) (asked : List ℕ) → total_of (counts_of n asked) ≤ length asked
+total_counts n [] = none 0 n
+  where
+    none : (a n : ℕ) → total_of (map (λ p. count_by (λ q. q == p) []) (range_with_len a n)) ≤ 0
+    none a zero = omega arith
+    none a (suc n) = let rest = none (a + 1) n in omega (arith, rest)
+total_counts n (q ∷ asked) =
+    let parts = total_both (one_at q) (λ p. count_by (λ r. r == p) asked) (λ p. count_by (λ r. r == p) (q ∷ asked))
+    (λ p. sum_by-cons (λ r. cond {A = ℕ} (r == p) 1 0) q asked) 0 n in
+    let once = total_once q 0 n in
+    let rest = total_counts n asked in
+    omega (arith, parts, once, rest)
+
+-- ---- each hit of the run without faults has two children
+
+no_entries : (p : ℕ) (names : List (List ℕ)) → entries_from p names [] ≡ []
+no_entries p [] = refl
+no_entries p (name ∷ names) = no_entries (p + 1) names
+
+no_rigs : (names : List (List ℕ)) → rigging names [] ≡ []
+unfolding rigging
+no_rigs names = no_entries 0 names
+
+length_sites : (before asked : List ℕ) → length (sites_from before asked) ≡ length asked
+length_sites before [] = refl
+length_sites before (p ∷ asked) = ap suc (length_sites (before ++ p ∷ []) asked)
+
+first_level : (asks : List Reply → Move) (names : List (List ℕ)) (limit seed : ℕ) → GrowsByAsked (usual_subject asks names limit) []
+    → length (level (usual_subject asks names limit) 1) ≡ 2 * length (outcome asks (given_of [] names seed 0 limit)).asked
+unfolding level
+first_level asks names limit seed grows =
+    let t : Subject = usual_subject asks names limit in
+    let asked : Entries → List ℕ = λ s. (outcome asks (given_of s names seed 0 limit)).asked in
+    ap length (append-nil (children t []) ∙ grows seed 0)
+    ∙ flat_length (λ (s : Site). map (λ kind. rig s kind ∷ []) (t.kinds s.point)) 2 (λ s. refl) (sites_from [] (asked (rigging names [])))
+    ∙ ap (λ n. 2 * n) (length_sites [] (asked (rigging names [])) ∙ ap (λ s. length (asked s)) (no_rigs names))
+
+-- ---- the first level is one of those that grow
+
+first_of_levels : (t : Subject) (d : ℕ) → 1 ≤ d → length (level t 1) ≤ length (levels t d)
+unfolding levels
+first_of_levels t zero some = absurd (omega arith)
+first_of_levels t (suc zero) some = let e = length-append (levels t 0) (level t 1) in omega (arith, e)
+first_of_levels t (suc (suc d)) some =
+    let e = length-append (levels t (suc d)) (level t (suc (suc d))) in
+    let rest = first_of_levels t (suc d) (omega arith) in
+    omega (arith, e, rest)
+
+-- where few plans grow, there are few sites
+pub few_sites_grow : (asks : List Reply → Move) (names : List (List ℕ)) (limit seed d : ℕ) → GrowsByAsked (usual_subject asks names limit) [] → 1 ≤ d
+    → length (grown (usual_subject asks names limit) d) ≤ 65536 → length (sites_of (census_of asks names seed limit)) < 65536
+few_sites_grow asks names limit seed d grows some few =
+    let t : Subject = usual_subject asks names limit in
+    let hits = (outcome asks (given_of [] names seed 0 limit)).asked in
+    let one = first_level asks names limit seed grows in
+    let part = first_of_levels t d some in
+    let both = length-append (levels t d) (onward t d) in
+    let counted = total_counts (length names) hits in
+    let sites = sites_length 0 (census_of asks names seed limit) in
+    omega (arith, one, part, both, counted, sites, few)
+
+-- the children of the run without faults follow from what it asked
+pub first_grows : (t : Subject) → IsLawful t → GrowsByAsked t []
+unfolding level
+first_grows t lawful = (grows_by_asked t lawful 0).0

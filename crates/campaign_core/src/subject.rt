@@ -1,0 +1,25 @@
+//! What the calls over a target take.
+
+use campaign_given::CampaignSettings;
+use std::alloc::Global;
+use std::sync::Wait;
+use std::thread::Threads;
+use target_trait::Target;
+use work_gate::Gate;
+
+/// What runs take from outside: the threads that workers are, the memory, and the gate at which workers arrive with what they take.
+#[derive(Drop)]
+pub struct Host<'a, G: Gate, R: Threads + Wait + Sync> {
+    pub rt: &'a R,
+    pub alloc: Global,
+    pub gate: &'a G,
+}
+
+/// What is tried: a target, with the workload that its runs are given and the settings of the campaign. The target itself isn't run: each
+/// run is one of a twin.
+#[derive(Drop)]
+pub struct Subject<'a, T: Target> {
+    pub target: &'a T,
+    pub workload: &'a T::Workload,
+    pub settings: &'a CampaignSettings,
+}
