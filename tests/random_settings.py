@@ -48,9 +48,12 @@ def keys(numbers, points):
     """The keys that each target has, with these points in listed scenarios."""
     yield f"seed = {numbers.below(1000)}"
     yield f"max_hits = {numbers.below(20) + 1 if numbers.below(4) == 0 else 1000}"
-    yield f"pairs = {'true' if numbers.below(8) == 0 else 'false'}"
+    grows = numbers.below(4) == 0
+    yield f"pairs = {'true' if not grows and numbers.below(8) == 0 else 'false'}"
     yield f"storms = {numbers.below(4)}"
     yield f"rate = {numbers.below(1001)}"
+    if grows:
+        yield f"depth = {numbers.below(2) + 1}"
     scenarios = []
     for _ in range(numbers.below(3)):
         scenarios.append('"' + "".join(f"{numbers.among(points)}={numbers.among(CHAINS)};" for _ in range(numbers.below(3))) + '"')

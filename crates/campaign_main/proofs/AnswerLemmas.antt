@@ -1,6 +1,6 @@
 -- Answers, by what a command did.
 use Rattle.std.proofs.Common.{◌≡◌, ◌≤◌, ◌<◌, ◌∙◌, ℕ, Bool, true, false, List, Option, Some, None, Result, Ok, Err, IfErr, IfOk, IsErrAnd, length, refl, sym, ap, is_some, option_map, slice_get, subst, take, if◌then◌else◌}
-use Rattle.std.proofs.lemmas.Bool.{le-ltb, lt-ltb}
+use Rattle.std.proofs.lemmas.Bool.{false≢true, le-ltb, lt-ltb}
 use Rattle.std.specs.Io.KnownBytes.{Appends}
 use Rattle.scenario_values.specs.Scenario.{Entries}
 use Rattle.scenario_grammar.specs.declared.fault.ScenarioFault.TheVariants as scenario
@@ -20,7 +20,7 @@ use Rattle.campaign_main.specs.declared.fault.CommandFault.TheVariants as faults
 use Rattle.campaign_main.specs.declared.exit.Conclusion.{Conclusion}
 use Rattle.campaign_main.specs.declared.exit.Conclusion.TheVariants.{Clean}
 use Rattle.campaign_main.specs.Exit.{concluded}
-use Rattle.campaign_main.specs.Commands.{Answer, Refusal, explain_answer, map_answer, numbered, of_few_plans, of_verdict, outside_answer, planned, plans_answer, reduce_answer, report_in, run_answer, taken_answer, too_many_plans, try_answer}
+use Rattle.campaign_main.specs.Commands.{Answer, Refusal, explain_answer, map_answer, map_to, no_map, numbered, of_few_plans, of_verdict, outside_answer, planned, plans_answer, reduce_answer, report_in, run_answer, taken_answer, too_many_plans, try_answer}
 use Rattle.campaign_main.specs.Notes.{is_doubted, listed_notes, notes_of, report_notes}
 use Rattle.campaign_main.specs.Ends.{ComesTo, FallsShort, IsCutOff, IsNoted, IsUntaken, IsUntouched, IsWritten, TellsNotes}
 
@@ -142,16 +142,16 @@ module _ (c : Campaign) where
   listed = listed_notes c.points c.plans.listed
 
   module _ (old new : Option (List ℕ)) where
-    pub map-written : (failed : Bool) (found : Conclusion) (first : Option ℕ) (some : Bool) → length (plans c) ≤ most_plans → Appends old new (campaign_map_text c) → failed ≡ false
+    pub map-written : c.depth ≡ None → (failed : Bool) (found : Conclusion) (first : Option ℕ) (some : Bool) → length (plans c) ≤ most_plans → Appends old new (campaign_map_text c) → failed ≡ false
         → found ≡ concluded some false → some ≡ is_some first → first ≡ option_map (λ f. f.0) (first_failure c) → IsWritten (map_answer c) old new failed found
     unfolding map_answer
-    map-written failed found first some few written sound is has first-is =
+    map-written plain failed found first some few written sound is has first-is =
         let f : Bool → Conclusion = λ b. concluded b false in
-        of_campaign c (map_answer c) (campaign_map_text c) false listed refl old new failed found first few written sound (is ∙ ap f has) first-is
+        of_campaign c (map_answer c) (campaign_map_text c) false listed (ap (map_to c) plain) old new failed found first few written sound (is ∙ ap f has) first-is
 
-    pub map-short : (failed : Bool) (f : CampaignFault) → IsFault c (campaign_map_text c) old new failed f → FallsShort (map_answer c) old new failed (faults.Campaign f)
+    pub map-short : c.depth ≡ None → (failed : Bool) (f : CampaignFault) → IsFault c (campaign_map_text c) old new failed f → FallsShort (map_answer c) old new failed (faults.Campaign f)
     unfolding map_answer
-    map-short failed f h = short_of_plans c (map_answer c) (campaign_map_text c) (concluded (is_some (first_failure c)) false) listed refl old new failed f h
+    map-short plain failed f h = short_of_plans c (map_answer c) (campaign_map_text c) (concluded (is_some (first_failure c)) false) listed (ap (map_to c) plain) old new failed f h
 
     pub plans-written : (failed : Bool) → length (plans c) ≤ most_plans → Appends old new (plans_text c) → failed ≡ false → IsWritten (plans_answer c) old new failed Clean
     unfolding plans_answer
@@ -161,10 +161,19 @@ module _ (c : Campaign) where
     unfolding plans_answer
     plans-short failed f h = short_of_plans c (plans_answer c) (plans_text c) Clean listed refl old new failed f h
 
-  pub map-noted : (lines : List ℕ) (told told' : Option (List ℕ)) (broken : Bool) → length (plans c) ≤ most_plans → lines ≡ listed → IsNoted lines told told' broken
+  pub map-noted : c.depth ≡ None → (lines : List ℕ) (told told' : Option (List ℕ)) (broken : Bool) → length (plans c) ≤ most_plans → lines ≡ listed → IsNoted lines told told' broken
       → TellsNotes (map_answer c) told told' broken
   unfolding map_answer
-  map-noted = noted_plans (plans c) (map_answer c) (campaign_map_text c) (concluded (is_some (first_failure c)) false) listed refl
+  map-noted plain = noted_plans (plans c) (map_answer c) (campaign_map_text c) (concluded (is_some (first_failure c)) false) listed (ap (map_to c) plain)
+
+  -- plans that grow have no map
+  map-to-grown : (depth : Option ℕ) → is_some depth ≡ true → map_to c depth ≡ Err no_map
+  map-to-grown None some = absurd (false≢true some)
+  map-to-grown (Some d) some = refl
+
+  pub map-grown : is_some c.depth ≡ true → map_answer c ≡ Err no_map
+  unfolding map_answer
+  map-grown some = map-to-grown c.depth some
 
   pub plans-noted : (lines : List ℕ) (told told' : Option (List ℕ)) (broken : Bool) → length (plans c) ≤ most_plans → lines ≡ listed → IsNoted lines told told' broken
       → TellsNotes (plans_answer c) told told' broken
@@ -268,6 +277,7 @@ untaken-short answer read old failed (faults.Campaign campaign.TooManyPlans) sou
 untaken-short answer read old failed (faults.Campaign campaign.Memory) sound h = (refl, sound)
 untaken-short answer read old failed (faults.Campaign (campaign.Write n)) sound h = absurd h
 untaken-short answer read old failed (faults.Unsteady line) sound h = absurd h
+untaken-short answer read old failed faults.Unmapped sound h = absurd h
 untaken-short answer read old failed faults.Outside sound h = absurd h
 
 -- ---- the plans of a component that somebody else runs

@@ -37,14 +37,15 @@ use Rattle.campaign_main.specs.Notes.{is_doubted, listed_notes, notes_of, report
 -- ---- answers
 
 -- why a command is refused: its settings are no UTF-8 or have a fault, its scenario has one, there are too many plans, or none of this
--- number; it would run a component from outside, or asks about a target that isn't from outside; the answers have a fault, or lack this
--- scenario
+-- number; it would draw a map of plans that grow; it would run a component from outside, or asks about a target that isn't from outside;
+-- the answers have a fault, or lack this scenario
 pub data Refusal : Type 0 where
   not_text : Refusal
   bad_settings : Cause → Refusal
   bad_scenario : Fault → Refusal
   too_many_plans : Refusal
   no_plan : ℕ → Refusal
+  no_map : Refusal
   outside_target : Refusal
   bundled_target : Refusal
   bad_answers : AnswersFault → Refusal
@@ -70,10 +71,14 @@ unfoldable pub run_answer : Form → Bool → Campaign → Answer
 run_answer form strict c =
     of_few_plans (plans c) (report_in form c, concluded (is_some (first_failure c)) (is_doubted strict (report_notes strict c)), report_notes strict c)
 
--- the map, whether a plan fails, and what is noted of the listed scenarios
-unfoldable pub map_answer : Campaign → Answer
-map_answer c =
+-- the map, whether a plan fails, and what is noted of the listed scenarios; plans that grow have none
+abbrev pub map_to : Campaign → Option ℕ → Answer
+map_to c None =
     of_few_plans (plans c) (campaign_map_text c, concluded (is_some (first_failure c)) false, listed_notes c.points c.plans.listed)
+map_to c (Some depth) = Err no_map
+
+unfoldable pub map_answer : Campaign → Answer
+map_answer c = map_to c c.depth
 
 -- the list of plans, and the same notes
 unfoldable pub plans_answer : Campaign → Answer

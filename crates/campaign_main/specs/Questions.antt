@@ -1,6 +1,6 @@
 -- What is answered to a question on a component that somebody else runs, by the bytes of the settings and of the answers. A sink held `old`
 -- and holds `new`, where it tells its bytes, and says whether it failed.
-use Rattle.std.specs.Prelude.{◌≡◌, ◌≤◌, ◌<◌, ◌⊎◌, ℕ, Bool, true, false, List, [], ◌∷◌, length, Option, is_some, option_map, slice_get, Result, Ok, Err}
+use Rattle.std.specs.Prelude.{◌≡◌, ◌≤◌, ◌<◌, ◌⊎◌, ℕ, Bool, true, false, List, [], ◌∷◌, length, Option, None, is_some, option_map, slice_get, Result, Ok, Err}
 use Rattle.std.specs.Io.KnownBytes.{Appends}
 use Rattle.scenario_values.specs.Scenario.{Entries}
 use Rattle.plan_gen.specs.PlanList.{most_plans}
@@ -76,9 +76,9 @@ asks_text s answers = text_of (lines_for (untried_of s answers))
 -- the report of a component, in a form
 abbrev pub told_text : Form → Subject → Component → List ℕ
 told_text Whole s component = text_of (report_lines s.1.points (code_name s.1.codes)
-    (report_of (say component) s.1.label s.0.plans.seed s.1.hits (outside_plans s.0 s.1)))
+    (report_of (say component) s.1.label s.0.plans.seed s.1.hits (outside_plans s.0 s.1) None))
 told_text Brief s component = text_of (brief_lines s.1.points (code_name s.1.codes)
-    (report_of (say component) s.1.label s.0.plans.seed s.1.hits (outside_plans s.0 s.1)) (outside_plans s.0 s.1))
+    (report_of (say component) s.1.label s.0.plans.seed s.1.hits (outside_plans s.0 s.1) None) (outside_plans s.0 s.1))
 
 -- whether a plan fails
 abbrev pub is_found : Subject → Component → Bool

@@ -8,13 +8,13 @@ use crate::command::command;
 use crate::exit::Conclusion;
 use crate::fault::CommandFault;
 use crate::outside::outside_command;
+use campaign_core::{Host, Subject};
 use campaign_given::CampaignSettings;
 use campaign_settings::Choice;
 use command_words::Order;
 use commit_target::Commit;
 use file_replace::Replace;
 use maildir_target::Maildir;
-use std::alloc::Global;
 use std::sync::Wait;
 use std::thread::Threads;
 use target_trait::Sink;
@@ -22,10 +22,8 @@ use work_gate::Gate;
 
 /// Does what is ordered with a bundled target and its workload, or with a component from outside.
 pub fn chosen_command<W: Sink, E: Sink, H: Threads + Wait + Sync, G: Gate>(
-    rt: &H,
-    alloc: Global,
+    host: &Host<'_, G, H>,
     order: &Order,
-    gate: &G,
     choice: &Choice,
     settings: &CampaignSettings,
     output: &mut W,
@@ -41,49 +39,34 @@ pub fn chosen_command<W: Sink, E: Sink, H: Threads + Wait + Sync, G: Gate>(
 {
     match choice {
         Choice::Replace(variant, work) => {
-            let mut target = Replace::new(alloc, *variant);
-            command(
-                rt,
-                alloc,
-                order,
-                gate,
-                &mut target,
-                work,
+            let target = &Replace::new(host.alloc, *variant);
+            let subject = Subject {
+                target,
+                workload: work,
                 settings,
-                output,
-                faults,
-            )
+            };
+            command(host, &subject, order, output, faults)
         }
         Choice::Maildir(variant, work) => {
-            let mut target = Maildir::new(alloc, *variant);
-            command(
-                rt,
-                alloc,
-                order,
-                gate,
-                &mut target,
-                work,
+            let target = &Maildir::new(host.alloc, *variant);
+            let subject = Subject {
+                target,
+                workload: work,
                 settings,
-                output,
-                faults,
-            )
+            };
+            command(host, &subject, order, output, faults)
         }
         Choice::Commit(variant, work) => {
-            let mut target = Commit::new(alloc, *variant);
-            command(
-                rt,
-                alloc,
-                order,
-                gate,
-                &mut target,
-                work,
+            let target = &Commit::new(host.alloc, *variant);
+            let subject = Subject {
+                target,
+                workload: work,
                 settings,
-                output,
-                faults,
-            )
+            };
+            command(host, &subject, order, output, faults)
         }
         Choice::Outside(outside) => {
-            outside_command(alloc, order, outside, settings, output, faults)
+            outside_command(host.alloc, order, outside, settings, output, faults)
         },
     }
 }

@@ -3,7 +3,7 @@ ghost use Rattle.std.specs.Prelude.{◌≡◌, ◌≤◌, false, length, option_
 ghost use Rattle.std.specs.Io.KnownBytes.{Appends};
 ghost use Rattle.plan_gen.specs.PlanList.{most_plans};
 ghost use Rattle.campaign_core.specs.CommandTexts.{IsFault, IsReducedToMinimal};
-ghost use Rattle.campaign_core.specs.Headline.{campaign_on, first_failure, plans, EachIsMinimal};
+ghost use Rattle.campaign_core.specs.Headline.{campaign_in, first_failure, plans, EachIsMinimal};
 ghost use Rattle.campaign_main.specs.Commands.{explain_answer, map_answer, order_answer, plans_answer, reduce_answer, report_in, run_answer, taken, taken_answer, try_answer};
 ghost use Rattle.campaign_main.specs.Ends.{ComesTo, IsUntaken, Noted};
 ghost use Rattle.campaign_main.specs.Notes.{notes_of};
@@ -15,14 +15,12 @@ use crate::lines::note;
 use crate::notes::{is_doubted, listed_of, notes_on, report_notes_on};
 use crate::steady::check_steady;
 use campaign_core::{
-    CampaignFault, Ending, brief_campaign, campaign, map_campaign, plan_list, plan_scenario,
-    reduce_one, try_one,
+    CampaignFault, Ending, Host, Subject, brief_campaign, campaign, map_campaign, plan_list,
+    plan_scenario, reduce_one, try_one,
 };
-use campaign_given::CampaignSettings;
 use command_words::{Form, Order, Which};
 use run_explained::explain_one;
 use scenario_grammar::{Scenario, parse};
-use std::alloc::Global;
 use std::sync::Wait;
 use std::thread::Threads;
 use target_trait::{Sink, Target};
@@ -30,12 +28,8 @@ use work_gate::Gate;
 
 /// Runs a campaign, and writes its report in this form.
 fn report_plans<T: Target + Send, W: Sink, H: Threads + Wait + Sync, G: Gate>(
-    rt: &H,
-    alloc: Global,
-    gate: &G,
-    target: &T,
-    workload: &T::Workload,
-    settings: &CampaignSettings,
+    host: &Host<'_, G, H>,
+    subject: &Subject<'_, T>,
     form: Form,
     output: &mut W,
 ) -> Result<Ending, CampaignFault>
@@ -43,28 +37,24 @@ where
     T::Workload: Sync,
     requires { W.has_failed output.old ≡ false }
     ensures text { IfOk result (λ _. Appends (W.told output.old) (W.told output.new)
-        (report_in form (campaign_on T.Target target.now workload.now settings.now))) }
-    ensures first { IfOk result (λ ending. ending.first ≡ option_map (λ f. f.0) (first_failure (campaign_on T.Target target.now workload.now settings.now))) }
-    ensures minimal { OnOk result (EachIsMinimal (campaign_on T.Target target.now workload.now settings.now)) }
-    ensures few { OnOk result (length (plans (campaign_on T.Target target.now workload.now settings.now)) ≤ most_plans) }
+        (report_in form (campaign_in T.Target subject.now))) }
+    ensures first { IfOk result (λ ending. ending.first ≡ option_map (λ f. f.0) (first_failure (campaign_in T.Target subject.now))) }
+    ensures minimal { OnOk result (EachIsMinimal (campaign_in T.Target subject.now)) }
+    ensures few { OnOk result (length (plans (campaign_in T.Target subject.now)) ≤ most_plans) }
     ensures sound { OnOk result (W.has_failed output.new ≡ false) }
-    ensures fault { IfErr result (let c = campaign_on T.Target target.now workload.now settings.now in IsFault c (report_in form c)
+    ensures fault { IfErr result (let c = campaign_in T.Target subject.now in IsFault c (report_in form c)
         (W.told output.old) (W.told output.new) (W.has_failed output.new)) }
 {
     match form {
-        Form::Whole => campaign(rt, alloc, target, workload, settings, gate, output),
-        Form::Brief => brief_campaign(rt, alloc, target, workload, settings, gate, output),
+        Form::Whole => campaign(host, subject, output),
+        Form::Brief => brief_campaign(host, subject, output),
     }
 }
 
 /// Runs a campaign, writes its report in this form and what is noted beside it, and answers what it comes to.
 fn run_plans<T: Target + Send, W: Sink, E: Sink, H: Threads + Wait + Sync, G: Gate>(
-    rt: &H,
-    alloc: Global,
-    gate: &G,
-    target: &T,
-    workload: &T::Workload,
-    settings: &CampaignSettings,
+    host: &Host<'_, G, H>,
+    subject: &Subject<'_, T>,
     form: Form,
     strict: bool,
     output: &mut W,
@@ -74,14 +64,14 @@ where
     T::Workload: Sync,
     requires output { W.has_failed output.old ≡ false }
     requires faults { E.has_failed faults.old ≡ false }
-    ensures text { ComesTo (run_answer form strict (campaign_on T.Target target.now workload.now settings.now)) (W.told output.old)
+    ensures text { ComesTo (run_answer form strict (campaign_in T.Target subject.now)) (W.told output.old)
         (W.told output.new) (W.has_failed output.new) result }
-    ensures noted { Noted (run_answer form strict (campaign_on T.Target target.now workload.now settings.now))
+    ensures noted { Noted (run_answer form strict (campaign_in T.Target subject.now))
         (E.told faults.old) (E.told faults.new) (E.has_failed faults.new) result }
-    ensures minimal { OnOk result (EachIsMinimal (campaign_on T.Target target.now workload.now settings.now)) }
+    ensures minimal { OnOk result (EachIsMinimal (campaign_in T.Target subject.now)) }
 {
-    let notes = report_notes_on(alloc, strict, target, workload, settings)?;
-    let ending = report_plans(rt, alloc, gate, target, workload, settings, form, output)?;
+    let notes = report_notes_on(host, subject, strict)?;
+    let ending = report_plans(host, subject, form, output)?;
     note(notes.as_str(), faults);
     let doubted = is_doubted(strict, notes.as_str());
     Ok(concluded(ending.first.is_some(), doubted))
@@ -89,12 +79,8 @@ where
 
 /// Runs a campaign, and writes its map and what is noted of the listed scenarios.
 fn map_plans<T: Target + Send, W: Sink, E: Sink, H: Threads + Wait + Sync, G: Gate>(
-    rt: &H,
-    alloc: Global,
-    gate: &G,
-    target: &T,
-    workload: &T::Workload,
-    settings: &CampaignSettings,
+    host: &Host<'_, G, H>,
+    subject: &Subject<'_, T>,
     output: &mut W,
     faults: &mut E,
 ) -> Result<Conclusion, CommandFault>
@@ -102,55 +88,59 @@ where
     T::Workload: Sync,
     requires output { W.has_failed output.old ≡ false }
     requires faults { E.has_failed faults.old ≡ false }
-    ensures text { ComesTo (map_answer (campaign_on T.Target target.now workload.now settings.now)) (W.told output.old) (W.told output.new)
+    ensures text { ComesTo (map_answer (campaign_in T.Target subject.now)) (W.told output.old) (W.told output.new)
         (W.has_failed output.new) result }
-    ensures noted { Noted (map_answer (campaign_on T.Target target.now workload.now settings.now))
+    ensures noted { Noted (map_answer (campaign_in T.Target subject.now))
         (E.told faults.old) (E.told faults.new) (E.has_failed faults.new) result }
 {
-    let notes = listed_of::<T>(alloc, settings)?;
-    let ending = map_campaign(rt, alloc, target, workload, settings, gate, output)?;
+    let settings = subject.settings;
+    if settings.depth.is_some() {
+        return Err(CommandFault::Unmapped);
+    }
+    let notes = listed_of::<T>(host.alloc, settings)?;
+    let ending = map_campaign(host, subject, output)?;
     note(notes.as_str(), faults);
     Ok(concluded(ending.first.is_some(), false))
 }
 
 /// Writes the list of a campaign's plans, and what is noted of the listed scenarios.
-fn list_plans<T: Target, W: Sink, E: Sink>(
-    alloc: Global,
-    target: &T,
-    workload: &T::Workload,
-    settings: &CampaignSettings,
+fn list_plans<T: Target + Send, W: Sink, E: Sink, H: Threads + Wait + Sync, G: Gate>(
+    host: &Host<'_, G, H>,
+    subject: &Subject<'_, T>,
     output: &mut W,
     faults: &mut E,
 ) -> Result<Conclusion, CommandFault>
+where
+    T::Workload: Sync,
     requires output { W.has_failed output.old ≡ false }
     requires faults { E.has_failed faults.old ≡ false }
-    ensures text { ComesTo (plans_answer (campaign_on T.Target target.now workload.now settings.now)) (W.told output.old) (W.told output.new)
+    ensures text { ComesTo (plans_answer (campaign_in T.Target subject.now)) (W.told output.old) (W.told output.new)
         (W.has_failed output.new) result }
-    ensures noted { Noted (plans_answer (campaign_on T.Target target.now workload.now settings.now))
+    ensures noted { Noted (plans_answer (campaign_in T.Target subject.now))
         (E.told faults.old) (E.told faults.new) (E.has_failed faults.new) result }
 {
-    let notes = listed_of::<T>(alloc, settings)?;
-    plan_list(alloc, target, workload, settings, output)?;
+    let notes = listed_of::<T>(host.alloc, subject.settings)?;
+    plan_list(host, subject, output)?;
     note(notes.as_str(), faults);
     Ok(Conclusion::Clean)
 }
 
 /// The stream number and the scenario that a command takes. Nothing is written.
-fn take_scenario<T: Target>(
-    alloc: Global,
-    target: &T,
-    workload: &T::Workload,
-    settings: &CampaignSettings,
+fn take_scenario<T: Target + Send, H: Threads + Wait + Sync, G: Gate>(
+    host: &Host<'_, G, H>,
+    subject: &Subject<'_, T>,
     which: &Which,
 ) -> Result<(u64, Scenario), CommandFault>
-    ensures ok { IfOk result (λ t. taken (campaign_on T.Target target.now workload.now settings.now) which.now ≡ Ok t) }
-    ensures fault { IfErr result (IsUntaken (taken (campaign_on T.Target target.now workload.now settings.now) which.now)) }
+where
+    T::Workload: Sync,
+    ensures ok { IfOk result (λ t. taken (campaign_in T.Target subject.now) which.now ≡ Ok t) }
+    ensures fault { IfErr result (IsUntaken (taken (campaign_in T.Target subject.now) which.now)) }
 {
     match which {
-        Which::Scenario(text) => Ok((0, parse(alloc, text.as_str())?)),
+        Which::Scenario(text) => Ok((0, parse(host.alloc, text.as_str())?)),
         Which::Plan(number) => {
             let number = *number;
-            match plan_scenario(alloc, target, workload, settings, u32::from(number))? {
+            match plan_scenario(host, subject, u32::from(number))? {
                 Some(scenario) => Ok((u64::from(number), scenario)),
                 None => Err(CommandFault::Plan(number)),
             }
@@ -159,76 +149,26 @@ fn take_scenario<T: Target>(
 }
 
 /// The same with what is noted beside the command's text. Nothing is written.
-fn take_noted<T: Target>(
-    alloc: Global,
-    target: &T,
-    workload: &T::Workload,
-    settings: &CampaignSettings,
+fn take_noted<T: Target + Send, H: Threads + Wait + Sync, G: Gate>(
+    host: &Host<'_, G, H>,
+    subject: &Subject<'_, T>,
     which: &Which,
 ) -> Result<(u64, Scenario, String), CommandFault>
-    ensures ok { IfOk result (λ t. taken (campaign_on T.Target target.now workload.now settings.now) which.now ≡ Ok (t.0, t.1)) }
+where
+    T::Workload: Sync,
+    ensures ok { IfOk result (λ t. taken (campaign_in T.Target subject.now) which.now ≡ Ok (t.0, t.1)) }
     ensures notes { IfOk result (λ t. string_bytes t.2 ≡ notes_of T.names t.1) }
-    ensures fault { IfErr result (IsUntaken (taken (campaign_on T.Target target.now workload.now settings.now) which.now)) }
+    ensures fault { IfErr result (IsUntaken (taken (campaign_in T.Target subject.now) which.now)) }
 {
-    let (stream, scenario) = take_scenario(alloc, target, workload, settings, which)?;
-    let lines = notes_on(alloc, T::catalogue(), &scenario)?;
+    let (stream, scenario) = take_scenario(host, subject, which)?;
+    let lines = notes_on(host.alloc, T::catalogue(), &scenario)?;
     Ok((stream, scenario, lines))
 }
 
 /// Tries the scenario that the command takes.
-fn try_which<T: Target, W: Sink, E: Sink>(
-    alloc: Global,
-    target: &mut T,
-    workload: &T::Workload,
-    settings: &CampaignSettings,
-    which: &Which,
-    output: &mut W,
-    faults: &mut E,
-) -> Result<Conclusion, CommandFault>
-    requires output { W.has_failed output.old ≡ false }
-    requires faults { E.has_failed faults.old ≡ false }
-    ensures text { let c = campaign_on T.Target target.old workload.now settings.now in
-        ComesTo (taken_answer (try_answer c) (taken c which.now)) (W.told output.old) (W.told output.new) (W.has_failed output.new) result }
-    ensures noted { let c = campaign_on T.Target target.old workload.now settings.now in
-        Noted (taken_answer (try_answer c) (taken c which.now)) (E.told faults.old) (E.told faults.new) (E.has_failed faults.new) result }
-{
-    let (stream, scenario, notes) = take_noted(alloc, target, workload, settings, which)?;
-    let verdict = try_one(alloc, target, workload, settings, stream, &scenario, output)?;
-    note(notes.as_str(), faults);
-    Ok(concluded(is_fail(verdict), false))
-}
-
-/// Tells the run of the scenario that the command takes.
-fn explain_which<T: Target, W: Sink, E: Sink>(
-    alloc: Global,
-    target: &mut T,
-    workload: &T::Workload,
-    settings: &CampaignSettings,
-    which: &Which,
-    output: &mut W,
-    faults: &mut E,
-) -> Result<Conclusion, CommandFault>
-    requires output { W.has_failed output.old ≡ false }
-    requires faults { E.has_failed faults.old ≡ false }
-    ensures text { let c = campaign_on T.Target target.old workload.now settings.now in
-        ComesTo (taken_answer (explain_answer c) (taken c which.now)) (W.told output.old) (W.told output.new) (W.has_failed output.new) result }
-    ensures noted { let c = campaign_on T.Target target.old workload.now settings.now in
-        Noted (taken_answer (explain_answer c) (taken c which.now)) (E.told faults.old) (E.told faults.new) (E.has_failed faults.new) result }
-{
-    let (stream, scenario, notes) = take_noted(alloc, target, workload, settings, which)?;
-    let verdict = explain_one(alloc, target, workload, settings, stream, &scenario, output)?;
-    note(notes.as_str(), faults);
-    Ok(concluded(is_fail(verdict), false))
-}
-
-/// Reduces the scenario that the command takes.
-fn reduce_which<T: Target + Send, W: Sink, E: Sink, H: Threads + Wait + Sync, G: Gate>(
-    rt: &H,
-    alloc: Global,
-    gate: &G,
-    target: &T,
-    workload: &T::Workload,
-    settings: &CampaignSettings,
+fn try_which<T: Target + Send, W: Sink, E: Sink, H: Threads + Wait + Sync, G: Gate>(
+    host: &Host<'_, G, H>,
+    subject: &Subject<'_, T>,
     which: &Which,
     output: &mut W,
     faults: &mut E,
@@ -237,17 +177,79 @@ where
     T::Workload: Sync,
     requires output { W.has_failed output.old ≡ false }
     requires faults { E.has_failed faults.old ≡ false }
-    ensures text { let c = campaign_on T.Target target.now workload.now settings.now in
+    ensures text { let c = campaign_in T.Target subject.now in
+        ComesTo (taken_answer (try_answer c) (taken c which.now)) (W.told output.old) (W.told output.new) (W.has_failed output.new) result }
+    ensures noted { let c = campaign_in T.Target subject.now in
+        Noted (taken_answer (try_answer c) (taken c which.now)) (E.told faults.old) (E.told faults.new) (E.has_failed faults.new) result }
+{
+    let (stream, scenario, notes) = take_noted(host, subject, which)?;
+    let mut twin = subject.target.twin()?;
+    let verdict = try_one(
+        host.alloc,
+        &mut twin,
+        subject.workload,
+        subject.settings,
+        stream,
+        &scenario,
+        output,
+    )?;
+    note(notes.as_str(), faults);
+    Ok(concluded(is_fail(verdict), false))
+}
+
+/// Tells the run of the scenario that the command takes.
+fn explain_which<T: Target + Send, W: Sink, E: Sink, H: Threads + Wait + Sync, G: Gate>(
+    host: &Host<'_, G, H>,
+    subject: &Subject<'_, T>,
+    which: &Which,
+    output: &mut W,
+    faults: &mut E,
+) -> Result<Conclusion, CommandFault>
+where
+    T::Workload: Sync,
+    requires output { W.has_failed output.old ≡ false }
+    requires faults { E.has_failed faults.old ≡ false }
+    ensures text { let c = campaign_in T.Target subject.now in
+        ComesTo (taken_answer (explain_answer c) (taken c which.now)) (W.told output.old) (W.told output.new) (W.has_failed output.new) result }
+    ensures noted { let c = campaign_in T.Target subject.now in
+        Noted (taken_answer (explain_answer c) (taken c which.now)) (E.told faults.old) (E.told faults.new) (E.has_failed faults.new) result }
+{
+    let (stream, scenario, notes) = take_noted(host, subject, which)?;
+    let mut twin = subject.target.twin()?;
+    let verdict = explain_one(
+        host.alloc,
+        &mut twin,
+        subject.workload,
+        subject.settings,
+        stream,
+        &scenario,
+        output,
+    )?;
+    note(notes.as_str(), faults);
+    Ok(concluded(is_fail(verdict), false))
+}
+
+/// Reduces the scenario that the command takes.
+fn reduce_which<T: Target + Send, W: Sink, E: Sink, H: Threads + Wait + Sync, G: Gate>(
+    host: &Host<'_, G, H>,
+    subject: &Subject<'_, T>,
+    which: &Which,
+    output: &mut W,
+    faults: &mut E,
+) -> Result<Conclusion, CommandFault>
+where
+    T::Workload: Sync,
+    requires output { W.has_failed output.old ≡ false }
+    requires faults { E.has_failed faults.old ≡ false }
+    ensures text { let c = campaign_in T.Target subject.now in
         ComesTo (taken_answer (reduce_answer c) (taken c which.now)) (W.told output.old) (W.told output.new) (W.has_failed output.new) result }
-    ensures noted { let c = campaign_on T.Target target.now workload.now settings.now in
+    ensures noted { let c = campaign_in T.Target subject.now in
         Noted (taken_answer (reduce_answer c) (taken c which.now)) (E.told faults.old) (E.told faults.new) (E.has_failed faults.new) result }
-    ensures minimal { let c = campaign_on T.Target target.now workload.now settings.now in
+    ensures minimal { let c = campaign_in T.Target subject.now in
         OnOk result (IfOk (taken c which.now) (λ t. IsReducedToMinimal c t.0 t.1)) }
 {
-    let (stream, scenario, notes) = take_noted(alloc, target, workload, settings, which)?;
-    let verdict = reduce_one(
-        rt, alloc, target, workload, settings, stream, &scenario, gate, output,
-    )?;
+    let (stream, scenario, notes) = take_noted(host, subject, which)?;
+    let verdict = reduce_one(host, subject, stream, &scenario, output)?;
     note(notes.as_str(), faults);
     Ok(concluded(is_fail(verdict), false))
 }
@@ -257,13 +259,9 @@ where
 /// It answers what the text comes to, where the whole text was written. Else nothing was written, or the fault tells
 /// how many bytes of the text, fewer than all, went out. Only then the output has failed.
 pub fn command<T: Target + Send, W: Sink, E: Sink, H: Threads + Wait + Sync, G: Gate>(
-    rt: &H,
-    alloc: Global,
+    host: &Host<'_, G, H>,
+    subject: &Subject<'_, T>,
     order: &Order,
-    gate: &G,
-    target: &mut T,
-    workload: &T::Workload,
-    settings: &CampaignSettings,
     output: &mut W,
     faults: &mut E,
 ) -> Result<Conclusion, CommandFault>
@@ -271,11 +269,11 @@ where
     T::Workload: Sync,
     requires output { W.has_failed output.old ≡ false }
     requires faults { E.has_failed faults.old ≡ false }
-    ensures text { ComesTo (order_answer order.now (campaign_on T.Target target.old workload.now settings.now)) (W.told output.old)
+    ensures text { ComesTo (order_answer order.now (campaign_in T.Target subject.now)) (W.told output.old)
         (W.told output.new) (W.has_failed output.new) result }
-    ensures noted { Noted (order_answer order.now (campaign_on T.Target target.old workload.now settings.now))
+    ensures noted { Noted (order_answer order.now (campaign_in T.Target subject.now))
         (E.told faults.old) (E.told faults.new) (E.has_failed faults.new) result }
-    ensures minimal { OnOk result (ReducesToMinimal order.now (campaign_on T.Target target.old workload.now settings.now)) }
+    ensures minimal { OnOk result (ReducesToMinimal order.now (campaign_in T.Target subject.now)) }
 {
     match order {
         Order::Run {
@@ -284,20 +282,14 @@ where
             recheck,
         } => {
             if *recheck {
-                check_steady(alloc, target, workload, settings)?;
+                check_steady(host, subject)?;
             }
-            run_plans(
-                rt, alloc, gate, target, workload, settings, *form, *strict, output, faults,
-            )
+            run_plans(host, subject, *form, *strict, output, faults)
         }
-        Order::Map => map_plans(rt, alloc, gate, target, workload, settings, output, faults),
-        Order::Plans => list_plans(alloc, target, workload, settings, output, faults),
-        Order::Try(which) => try_which(alloc, target, workload, settings, which, output, faults),
-        Order::Reduce(which) => reduce_which(
-            rt, alloc, gate, target, workload, settings, which, output, faults,
-        ),
-        Order::Explain(which) => explain_which(
-            alloc, target, workload, settings, which, output, faults,
-        ),
+        Order::Map => map_plans(host, subject, output, faults),
+        Order::Plans => list_plans(host, subject, output, faults),
+        Order::Try(which) => try_which(host, subject, which, output, faults),
+        Order::Reduce(which) => reduce_which(host, subject, which, output, faults),
+        Order::Explain(which) => explain_which(host, subject, which, output, faults),
     }
 }

@@ -18,7 +18,7 @@ mod refusals;
 mod steady;
 
 pub use campaign_core::{
-    CampaignFault, Ending, campaign, plan_list, plan_scenario, reduce_one, try_one,
+    CampaignFault, Ending, Host, Subject, campaign, plan_list, plan_scenario, reduce_one, try_one,
 };
 pub use campaign_given::{CampaignSettings, Outside};
 pub use campaign_settings::{Choice, Key, LIMIT, Place, Settings, SettingsFault, TargetName};

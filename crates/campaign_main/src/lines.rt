@@ -178,6 +178,7 @@ pub fn unanswered<E: Sink>(alloc: Global, fault: &CommandFault, faults: &mut E) 
         CommandFault::Plan(number) => refused_by(plan_line(alloc, *number), faults),
         CommandFault::Campaign(cause) => unwritten(*cause, faults),
         CommandFault::Unsteady(line) => refused(line.as_str(), faults),
+        CommandFault::Unmapped => refused("settings: depth: no map\n", faults),
         CommandFault::Outside => refused(
             "settings: target outside: only plans, asks and report\n",
             faults,

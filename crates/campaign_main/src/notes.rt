@@ -1,26 +1,28 @@
 //! What is noted beside a command's text: names of scenarios that no point of a target has, and what makes a report say less than it seems
 //! to.
-ghost use Rattle.std.specs.Prelude.{◌≡◌, ◌<◌, ◌++◌, [], All, codes, length, nat_lt, slice_index_or, string_bytes, IfErr, IfOk, IsErrOf, OnOk};
+ghost use Rattle.std.specs.Prelude.{◌≡◌, ◌<◌, ◌++◌, [], All, codes, length, nat_lt, slice_index_or, string_bytes, IfErr, IfOk, OnOk};
 ghost use Rattle.std.specs.Fmt.{decimal};
 ghost use Rattle.action_eval.specs.Answers.{texts};
-ghost use Rattle.plan_gen.specs.PlanList.{most_plans};
 ghost use Rattle.report.specs.BriefText.{is_unresolved};
 ghost use Rattle.report.specs.ReportText.{ended, text_of};
 ghost use Rattle.plan_survey.specs.Runs.{runs_from, unreached_in, unresolved_in};
 ghost use Rattle.campaign_core.specs.CommandTexts.{IsUnlisted, tried};
-ghost use Rattle.campaign_core.specs.Headline.{campaign_on, census, plans, say};
+ghost use Rattle.campaign_core.specs.Headline.{campaign_in, campaign_on, say};
 ghost use Rattle.campaign_main.specs.Notes.{doubt_notes, draws_nothing, is_doubted, is_point, is_unhit, listed_notes, notes_of, report_notes, stranger_line, stranger_of, strangers_in, strict_notes, text_if, unreached_line, unreached_lines, unresolved_line};
 
-use campaign_core::CampaignFault;
+use campaign_core::{CampaignFault, Host, Subject, plan_campaign, plans_of};
 use campaign_given::{CampaignSettings, Outside};
+use campaign_plans::CampaignPlans;
 use outside_campaign::borrowed;
-use plan_gen::{Census, PlanFault, PlanList, by_census, plans};
 use plan_survey::{Survey, survey_plans};
 use scenario_grammar::Scenario;
 use scenario_values::build;
 use std::alloc::{AllocError, Global};
 use std::fmt::Write;
+use std::sync::Wait;
+use std::thread::Threads;
 use target_trait::{Target, Verdict, run_verdict};
+use work_gate::Gate;
 
 /// What makes a report say less than it seems to.
 #[derive(Clone, Copy, Debug)]
@@ -235,27 +237,6 @@ pub fn draws_nothing(settings: &CampaignSettings) -> bool
     settings.storms > 0 && settings.rate == 0
 }
 
-/// A campaign's census and its plans.
-pub fn planned<'a, T: Target>(
-    alloc: Global,
-    target: &mut T,
-    workload: &T::Workload,
-    settings: &'a CampaignSettings,
-) -> Result<(Census, PlanList<'a>), PlanFault>
-    ensures census { IfOk result (λ r. r.0.counts.items ≡ census (campaign_on T.Target target.old workload.now settings.now)) }
-    ensures plans { IfOk result (λ r. r.1 ≡ plans (campaign_on T.Target target.old workload.now settings.now)) }
-    ensures many { IsErrOf result PlanFault.TooManyPlans → most_plans < length (plans (campaign_on T.Target target.old workload.now settings.now)) }
-    ensures setup { target.new ≡ target.old }
-{
-    let Ok(census) = by_census(alloc, target, workload, settings.seed, settings.max_hits) else {
-        return Err(PlanFault::Memory);
-    };
-    match plans(alloc, &census, T::catalogue(), &settings.plan_settings()) {
-        Ok(plans) => Ok((census, plans)),
-        Err(fault) => Err(fault),
-    }
-}
-
 /// Whether the run without faults is unresolved.
 fn is_clean_unresolved<T: Target>(
     alloc: Global,
@@ -277,7 +258,7 @@ fn survey_of<T: Target>(
     target: &mut T,
     workload: &T::Workload,
     settings: &CampaignSettings,
-    plans: &PlanList<'_>,
+    plans: &CampaignPlans<'_>,
 ) -> Result<Survey, AllocError>
     ensures unresolved { IfOk result (λ s. s.unresolved
         ≡ unresolved_in (runs_from (tried (campaign_on T.Target target.old workload.now settings.now)) 0 plans.now)) }
@@ -292,23 +273,27 @@ fn survey_of<T: Target>(
 
 /// What is noted of a campaign whose report is to be strict: each of its plans is run once more, one after another. The caller's target
 /// isn't touched.
-fn strict_on<T: Target>(
-    alloc: Global,
-    target: &T,
-    workload: &T::Workload,
-    settings: &CampaignSettings,
+fn strict_on<T: Target + Send, G: Gate, R: Threads + Wait + Sync>(
+    host: &Host<'_, G, R>,
+    subject: &Subject<'_, T>,
 ) -> Result<String, CampaignFault>
-    ensures ok { IfOk result (λ lines. string_bytes lines ≡ strict_notes (campaign_on T.Target target.now workload.now settings.now)) }
-    ensures fault { IfErr result (IsUnlisted (campaign_on T.Target target.now workload.now settings.now)) }
+where
+    T::Workload: Sync,
+    ensures ok { IfOk result (λ lines. string_bytes lines ≡ strict_notes (campaign_in T.Target subject.now)) }
+    ensures fault { IfErr result (IsUnlisted (campaign_in T.Target subject.now)) }
 {
-    let mut twin = target.twin()?;
-    let (census, plans) = planned(alloc, &mut twin, workload, settings)?;
+    let alloc = host.alloc;
+    let workload = subject.workload;
+    let settings = subject.settings;
+    let planned = plan_campaign(host, subject)?;
+    let plans = plans_of(subject, &planned);
+    let mut twin = subject.target.twin()?;
     let survey = survey_of(alloc, &mut twin, workload, settings, &plans)?;
     let doubts = Doubts {
         clean: is_clean_unresolved(alloc, &mut twin, workload, settings)?,
         unresolved: survey.unresolved,
         plans: plans.len() as u32,
-        unhit: is_unhit(census.counts.as_slice()),
+        unhit: is_unhit(planned.census.counts.as_slice()),
         unstormed: draws_nothing(settings),
     };
     let mut lines = String::new(alloc);
@@ -318,19 +303,19 @@ fn strict_on<T: Target>(
 }
 
 /// What is noted beside a campaign's report. Where it isn't to be strict, nothing is run for it.
-pub fn report_notes_on<T: Target>(
-    alloc: Global,
+pub fn report_notes_on<T: Target + Send, G: Gate, R: Threads + Wait + Sync>(
+    host: &Host<'_, G, R>,
+    subject: &Subject<'_, T>,
     strict: bool,
-    target: &T,
-    workload: &T::Workload,
-    settings: &CampaignSettings,
 ) -> Result<String, CampaignFault>
-    ensures ok { IfOk result (λ lines. string_bytes lines ≡ report_notes strict (campaign_on T.Target target.now workload.now settings.now)) }
-    ensures fault { IfErr result (IsUnlisted (campaign_on T.Target target.now workload.now settings.now)) }
+where
+    T::Workload: Sync,
+    ensures ok { IfOk result (λ lines. string_bytes lines ≡ report_notes strict (campaign_in T.Target subject.now)) }
+    ensures fault { IfErr result (IsUnlisted (campaign_in T.Target subject.now)) }
 {
-    let mut lines = listed_of::<T>(alloc, settings)?;
+    let mut lines = listed_of::<T>(host.alloc, subject.settings)?;
     if strict {
-        let more = strict_on(alloc, target, workload, settings)?;
+        let more = strict_on(host, subject)?;
         lines.push_str(more.as_str())?;
     }
     Ok(lines)

@@ -10,6 +10,7 @@ use crate::command::command;
 use crate::exit::{Exit, exit_of};
 use crate::input::read_all;
 use crate::lines::{no_memory, unanswered, unlawful, unread, unset};
+use campaign_core::{Host, Subject};
 use campaign_given::CampaignSettings;
 use campaign_settings::Settings;
 use command_words::Order;
@@ -23,10 +24,8 @@ use work_gate::Gate;
 
 /// Does what is ordered with this target, unless it is seen to break a law, which none does that is proved.
 fn target_command<T: Target + Send, W: Sink, E: Sink, H: Threads + Wait + Sync, G: Gate>(
-    rt: &H,
-    alloc: Global,
+    host: &Host<'_, G, H>,
     order: &Order,
-    gate: &G,
     target: &mut T,
     workload: &T::Workload,
     settings: &CampaignSettings,
@@ -43,14 +42,18 @@ where
         (E.told faults.old) (E.told faults.new) (E.has_failed faults.new) }
     ensures minimal { OnWhole result (ReducesToMinimal order.now (campaign_on T.Target target.old workload.now settings.now)) }
 {
+    let alloc = host.alloc;
     match broken_law(alloc, target, workload, settings.seed, settings.max_hits) {
         Ok(None) => {}
         Ok(Some(law)) => return unlawful(alloc, law, faults),
         Err(AllocError) => return no_memory(faults),
     }
-    match command(
-        rt, alloc, order, gate, target, workload, settings, output, faults,
-    ) {
+    let subject = Subject {
+        target: &*target,
+        workload,
+        settings,
+    };
+    match command(host, &subject, order, output, faults) {
         Ok(conclusion) => exit_of(conclusion),
         Err(fault) => unanswered(alloc, &fault, faults),
     }
@@ -58,10 +61,8 @@ where
 
 /// Does what is ordered with this target, by the settings that a text gives.
 fn target_text<T: Target + Send, W: Sink, E: Sink, H: Threads + Wait + Sync, G: Gate>(
-    rt: &H,
-    alloc: Global,
+    host: &Host<'_, G, H>,
     order: &Order,
-    gate: &G,
     target: &mut T,
     workload: &T::Workload,
     text: &str,
@@ -78,11 +79,9 @@ where
         (E.told faults.old) (E.told faults.new) (E.has_failed faults.new) }
     ensures minimal { OnWhole result (OwnReducesToMinimal order.now (campaign_on T.Target target.old workload.now) text.now) }
 {
-    match Settings::read_own(alloc, text) {
-        Ok(settings) => target_command(
-            rt, alloc, order, gate, target, workload, &settings, output, faults,
-        ),
-        Err(fault) => unset(alloc, &fault, faults),
+    match Settings::read_own(host.alloc, text) {
+        Ok(settings) => target_command(host, order, target, workload, &settings, output, faults),
+        Err(fault) => unset(host.alloc, &fault, faults),
     }
 }
 
@@ -133,17 +132,11 @@ where
     ensures told { Tells order.now result (E.told faults.old) (E.told faults.new) (E.has_failed faults.new) }
 {
     match read_all(alloc, reader) {
-        Ok(text) => target_text(
-            rt,
-            alloc,
-            order,
-            gate,
-            target,
-            workload,
-            text.as_str(),
-            output,
-            faults,
-        ),
+        Ok(text) => {
+            let host = Host { rt, alloc, gate };
+            let text = text.as_str();
+            target_text(&host, order, target, workload, text, output, faults)
+        },
         Err(fault) => unread(fault, faults),
     }
 }

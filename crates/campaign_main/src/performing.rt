@@ -8,6 +8,7 @@ use crate::chosen::chosen_command;
 use crate::exit::{Exit, exit_of};
 use crate::input::read_all;
 use crate::lines::{unanswered, unread, unset};
+use campaign_core::Host;
 use campaign_given::CampaignSettings;
 use campaign_settings::{Choice, Settings};
 use command_words::Order;
@@ -20,10 +21,8 @@ use work_gate::Gate;
 
 /// Does what is ordered with the target that the settings choose.
 fn perform_chosen<W: Sink, E: Sink, H: Threads + Wait + Sync, G: Gate>(
-    rt: &H,
-    alloc: Global,
+    host: &Host<'_, G, H>,
     order: &Order,
-    gate: &G,
     choice: &Choice,
     settings: &CampaignSettings,
     output: &mut W,
@@ -36,18 +35,16 @@ fn perform_chosen<W: Sink, E: Sink, H: Threads + Wait + Sync, G: Gate>(
         (E.told faults.old) (E.told faults.new) (E.has_failed faults.new) }
     ensures minimal { OnWhole result (IfSome (campaign_for settings.now choice.now) (ReducesToMinimal order.now)) }
 {
-    match chosen_command(rt, alloc, order, gate, choice, settings, output, faults) {
+    match chosen_command(host, order, choice, settings, output, faults) {
         Ok(conclusion) => exit_of(conclusion),
-        Err(fault) => unanswered(alloc, &fault, faults),
+        Err(fault) => unanswered(host.alloc, &fault, faults),
     }
 }
 
 /// Does what is ordered, by the settings that a text gives.
 fn perform_text<W: Sink, E: Sink, H: Threads + Wait + Sync, G: Gate>(
-    rt: &H,
-    alloc: Global,
+    host: &Host<'_, G, H>,
     order: &Order,
-    gate: &G,
     text: &str,
     output: &mut W,
     faults: &mut E,
@@ -59,18 +56,12 @@ fn perform_text<W: Sink, E: Sink, H: Threads + Wait + Sync, G: Gate>(
         (E.told faults.old) (E.told faults.new) (E.has_failed faults.new) }
     ensures minimal { OnWhole result (TextReducesToMinimal order.now text.now) }
 {
-    match Settings::read(alloc, text) {
-        Ok(settings) => perform_chosen(
-            rt,
-            alloc,
-            order,
-            gate,
-            &settings.choice,
-            &settings.campaign,
-            output,
-            faults,
-        ),
-        Err(fault) => unset(alloc, &fault, faults),
+    match Settings::read(host.alloc, text) {
+        Ok(settings) => {
+            let campaign = &settings.campaign;
+            perform_chosen(host, order, &settings.choice, campaign, output, faults)
+        },
+        Err(fault) => unset(host.alloc, &fault, faults),
     }
 }
 
@@ -119,7 +110,10 @@ pub fn perform<R: Read, W: Sink, E: Sink, H: Threads + Wait + Sync, G: Gate>(
     ensures told { Tells order.now result (E.told faults.old) (E.told faults.new) (E.has_failed faults.new) }
 {
     match read_all(alloc, reader) {
-        Ok(text) => perform_text(rt, alloc, order, gate, text.as_str(), output, faults),
+        Ok(text) => {
+            let host = Host { rt, alloc, gate };
+            perform_text(&host, order, text.as_str(), output, faults)
+        },
         Err(fault) => unread(fault, faults),
     }
 }

@@ -29,6 +29,7 @@ fn values_if_missing(rt: HostRuntime) -> Result<(), Fail> {
     let settings = read(rt.alloc(), text)?;
     has_numbers(&rt, &settings.campaign, [0, 1, 1000, 0, 100, 0]);
     assert!(rt; !settings.campaign.pairs);
+    assert_eq!(rt; settings.campaign.depth, None);
     let Choice::Replace(ReplaceVariant::Sound, work) = &settings.choice else {
         return Err(Fail::from("another target"));
     };
@@ -53,6 +54,18 @@ fn values_that_are_given(rt: HostRuntime) -> Result<(), Fail> {
     };
     assert_eq!(rt; work.participants(), 2);
     assert_eq!(rt; work.len(), 1);
+    Ok(())
+}
+
+#[test]
+fn depths_that_are_given(rt: HostRuntime) -> Result<(), Fail> {
+    for (value, depth) in [("1", 1), ("64", 64)] {
+        let text = format!(in rt.alloc();
+            "target = 'maildir'\ndepth = {value}\n[maildir]\nmessages = []\n"
+        )?;
+        let settings = read(rt.alloc(), text.as_str())?;
+        assert_eq!(rt; settings.campaign.depth, Some(depth));
+    }
     Ok(())
 }
 

@@ -1,7 +1,7 @@
 //! Campaigns of the tests.
 ghost use Rattle.std.specs.Prelude.{◌≤◌, length};
 
-use campaign_core::{CampaignFault, campaign};
+use campaign_core::{CampaignFault, Host, Subject, campaign};
 use campaign_given::CampaignSettings;
 use scenario_grammar::Scenario;
 use std::alloc::Global;
@@ -42,6 +42,12 @@ where
     T::Workload: Sync,
 {
     let mut sink = Out::new(Vec::new(alloc));
-    let ending = campaign(rt, alloc, target, workload, settings, gate, &mut sink)?;
+    let host = Host { rt, alloc, gate };
+    let subject = Subject {
+        target,
+        workload,
+        settings,
+    };
+    let ending = campaign(&host, &subject, &mut sink)?;
     Ok((sink.into_writer(), ending.first))
 }

@@ -15,7 +15,7 @@ returns-in-Ok-clause-end g c =
     let new = c.target_text.new.output in
     let meaning = own_text_answer c.args.order.now (campaign_on g.T.Target c.args.target.now c.args.workload.now) in
     let P : Answer → Type 0 = λ a. EndsAs c.target_text.result a (W.told c.args.output.now) (W.told new) (W.has_failed new) in
-    read-answer meaning _ _ _ P c.as_str.ensures.value c.in-Ok.ensures.ok c.in-Ok.ensures.limit c.as_str.utf8 c.target_text.ensures.end
+    read-answer meaning _ _ _ P c.as_str-text.ensures.value c.in-Ok.ensures.ok c.in-Ok.ensures.limit c.as_str-text.utf8 c.target_text.ensures.end
 
 pub returns-in-Ok-clause-cause : goal.returns-in-Ok-clause-cause
 unfolding own_answer
@@ -27,8 +27,8 @@ returns-in-Ok-clause-cause g c =
     let failed = E.has_failed c.target_text.new.faults in
     let meaning = own_text_answer c.args.order.now (campaign_on g.T.Target c.args.target.now c.args.workload.now) in
     let P : Answer → Type 0 = λ a. IsRefused a old new failed in
-    let Q : Exit → Type 0 = λ e. TellsAs e (meaning c.as_str.result.now) old new failed in
-    read-answer meaning _ _ _ P c.as_str.ensures.value c.in-Ok.ensures.ok c.in-Ok.ensures.limit c.as_str.utf8 (inl (subst Q refused c.target_text.ensures.told))
+    let Q : Exit → Type 0 = λ e. TellsAs e (meaning c.as_str-text.result.now) old new failed in
+    read-answer meaning _ _ _ P c.as_str-text.ensures.value c.in-Ok.ensures.ok c.in-Ok.ensures.limit c.as_str-text.utf8 (inl (subst Q refused c.target_text.ensures.told))
 
 pub returns-in-Err-clause-cause : goal.returns-in-Err-clause-cause
 unfolding own_answer
@@ -44,10 +44,10 @@ returns-in-Err-clause-told g c = tells-unread c.args.order.now c.in-Err.fault c.
 pub returns-in-Ok-clause-minimal : goal.returns-in-Ok-clause-minimal
 returns-in-Ok-clause-minimal g c =
     let P : List ℕ → Type 0 = OwnReducesToMinimal c.args.order.now (campaign_on g.T.Target c.args.target.now c.args.workload.now) in
-    whole-map c.target_text.result _ _ (λ h. read-whole _ _ _ P c.as_str.ensures.value c.in-Ok.ensures.ok h) c.target_text.ensures.minimal
+    whole-map c.target_text.result _ _ (λ h. read-whole _ _ _ P c.as_str-text.ensures.value c.in-Ok.ensures.ok h) c.target_text.ensures.minimal
 
 pub returns-in-Ok-clause-told : goal.returns-in-Ok-clause-told
-returns-in-Ok-clause-told g c = some-tells _ _ _ c.args.order.now _ c.target_text.result (may-own c.args.order.now (campaign_on g.T.Target c.args.target.now c.args.workload.now) c.as_str.result.now) c.target_text.ensures.told
+returns-in-Ok-clause-told g c = some-tells _ _ _ c.args.order.now _ c.target_text.result (may-own c.args.order.now (campaign_on g.T.Target c.args.target.now c.args.workload.now) c.as_str-text.result.now) c.target_text.ensures.told
 
 pub returns-in-Ok-clause-noted : goal.returns-in-Ok-clause-noted
 unfolding own_answer
@@ -59,8 +59,8 @@ returns-in-Ok-clause-noted g c =
     let meaning = (own_text_answer c.args.order.now (campaign_on g.T.Target c.args.target.now c.args.workload.now)) in
     let P : Answer → Type 0 = λ a. TellsNotes a old new failed in
     whole-map c.target_text.result _ _
-    (λ h. read-answer meaning _ _ _ P c.as_str.ensures.value c.in-Ok.ensures.ok c.in-Ok.ensures.limit c.as_str.utf8 h)
-    (told-notes old new failed (meaning c.as_str.result.now) c.target_text.result c.target_text.ensures.told)
+    (λ h. read-answer meaning _ _ _ P c.as_str-text.ensures.value c.in-Ok.ensures.ok c.in-Ok.ensures.limit c.as_str-text.utf8 h)
+    (told-notes old new failed (meaning c.as_str-text.result.now) c.target_text.result c.target_text.ensures.told)
 
 pub returns-in-Err-clause-noted : goal.returns-in-Err-clause-noted
 returns-in-Err-clause-noted g c = refuses-whole _ c.unread.result _ _ _ _ c.unread.ensures.end
