@@ -55,7 +55,7 @@ Each option has an example.
     paklour map my.toml > map.svg
   draws a row of plans for each point, each plan in the colour of its verdict.
   $ paklour help report | grep -e --brief
-        --brief  Count the verdicts that pass, and write the scenario beside each other verdict
+        --brief   Count the verdicts that pass, and write the scenario beside each other verdict
     paklour report --brief my.toml < answers
 
 The help of the program names the keys of settings, their ranges and defaults, as settings.t and settings_tables.t show them, and the exit

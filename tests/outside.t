@@ -28,6 +28,7 @@ Answers may come in any order, more than once, in parts, and with some that nobo
   $ shuf --random-source="$TESTDIR/outside.t" answers > mixed
   $ { cat mixed mixed; printf 'unresolved\tcommit::nothing=return\n'; } > more
   $ paklour report outside.toml < more | cmp - outside.report
+  answers: line 395: no point is named commit::nothing
   $ sed 's/->/ -> /g; s/;/; ;/g' answers | paklour report outside.toml | cmp - outside.report
 
 A loop that was stopped goes on where it was: with some of the answers the rest is asked, and none that is there.

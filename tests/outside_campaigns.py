@@ -72,6 +72,15 @@ def answer(campaigns, own, scenario, known):
     return known[scenario]
 
 
+NOBODY = b"nobody::asked=return"
+
+
+def told(given):
+    """What the commands note of these answers: the lines whose scenario names a point that nobody has."""
+    lines = enumerate(given.splitlines(), 1)
+    return b"".join(b"answers: line %d: no point is named nobody::asked\n" % number for number, line in lines if line.endswith(NOBODY))
+
+
 def bundled(campaigns, name, more=""):
     """A bundled target as a component from outside: any part of what is asked, in any order, repeated, with answers that nobody asked."""
     with open(os.path.join(EXAMPLES, name), encoding="utf-8") as file:
@@ -83,14 +92,14 @@ def bundled(campaigns, name, more=""):
     campaigns.expect(f"{name}: plans", plans, campaigns.run(["plans", settings]))
     draw, known, answers, rounds = random.Random(7), {}, [], 0
     if b"%" not in own_text.encode():
-        answers.append(answer(campaigns, own, b"nobody::asked=return", known))
+        answers.append(answer(campaigns, own, NOBODY, known))
     while True:
         given = b"".join(answers)
         asked = campaigns.run(["asks", settings], given)
-        campaigns.expect(f"{name}: asks", (0, b""), (asked[0], asked[2]))
+        campaigns.expect(f"{name}: asks", (0, told(given)), (asked[0], asked[2]))
         lines = asked[1].splitlines()
         campaigns.expect(f"{name}: each once", len(lines), len(set(lines)))
-        campaigns.expect(f"{name}: none that is answered", set(), set(lines) & set(known) - {b"nobody::asked=return"})
+        campaigns.expect(f"{name}: none that is answered", set(), set(lines) & set(known) - {NOBODY})
         if not lines or asked[0] != 0:
             break
         refused = campaigns.run(["report", settings], given)
@@ -100,7 +109,8 @@ def bundled(campaigns, name, more=""):
         answers += draw.sample(answers, 1)
         draw.shuffle(answers)
         rounds += 1
-    campaigns.expect(f"{name}: report", (status, wanted, b""), campaigns.run(["report", settings], b"".join(answers)))
+    given = b"".join(answers)
+    campaigns.expect(f"{name}: report", (status, wanted, told(given)), campaigns.run(["report", settings], given))
 
 
 def size(campaigns):

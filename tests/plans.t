@@ -80,6 +80,7 @@ They come last, in the shortest form. With a limit of one hit there is one site,
   plan 5 none
   plan 6 none
   plan 7 replace::sync=25.5%print(hi);other=2*off->yield
+  settings: scenario 2: no point is named other
 
 The longest list
 ----------------

@@ -1,5 +1,6 @@
 The table that the clients of outside/points are held to is what `explain` tells, and the stored reports of outside/examples are of the
-settings beside them: the same plans, and each failing one with the scenario that it has.
+settings beside them: the same plans, and each failing one with the scenario that it has. Of procmail one listed scenario names a point that
+only a fault leads to, and so isn't among its points.
 
   $ points="$TESTDIR/../outside/points"
   $ "$points/make_table" paklour | cmp - "$points/table"
@@ -10,3 +11,4 @@ settings beside them: the same plans, and each failing one with the scenario tha
   >     plans_of "$report" | grep -vxF -f "$OLDPWD/plans"
   >     [ "$(wc -l < "$OLDPWD/plans")" = "$(sed -n 's/^plans //p' "$report")" ] || echo "$report has other plans"
   > done
+  settings: scenario 12: no point is named libc::ftruncate

@@ -10,7 +10,10 @@ A scenario has entries, a point's name and a chain of terms each, as `paklour he
 
 `printed` lists a text and shows the last plan, which is that one; `fault` tries and reduces it, which say the same.
 
-  $ printed() { printf "scenarios = ['''%s''']\n" "$1" | cat - settings.toml | paklour plans | tail -n 1; }
+  $ printed() {
+  >     printf "scenarios = ['''%s''']\n" "$1" | cat - settings.toml | paklour plans 2> err | tail -n 1
+  >     sed '/: no point is named /d' err
+  > }
   $ fault() {
   >     for command in try reduce; do
   >         paklour $command --scenario "$1" settings.toml

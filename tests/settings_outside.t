@@ -3,7 +3,9 @@ with lines before the table (--top), lines of the table in place of those of the
 
   $ repeat() { printf "%.0s$2" $(seq $1); }
   $ names() { seq -s ', ' -f "\"$1%g\"" 0 $(($2 - 1)); }
-  $ told() { paklour plans 2>&1 > /dev/null | sed 's/^too many plans$/accepted, but too many plans/' | grep . || echo accepted; }
+  $ told() {
+  >     paklour plans 2>&1 > /dev/null | sed 's/^too many plans$/accepted, but too many plans/' | grep -v ': no point is named ' || echo accepted
+  > }
   $ outside() {
   >     printf '%s\n' 'target = "outside"' > top
   >     printf '%s\n' 'label = "store 1"' 'codes = ["lost", "corrupt"]' 'points = ["io::open", "io::write"]' 'hits = [2, 0]' > table
