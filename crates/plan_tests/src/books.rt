@@ -143,7 +143,7 @@ fn put_others<'a>(
     course: &'a Course<'a, OneStep>,
     book: &mut Book,
 ) -> Result<(), Fail> {
-    let mut lists = Vec::new(alloc);
+    let mut lists: Vec<Vec<(u32, Row<'a, OneStep>)>> = Vec::new(alloc);
     lists.push(rows(rt, alloc, course, &[(1, 3), (2, 4), (4, 4)])?)?;
     lists.push(rows(rt, alloc, course, &[(0, 1)])?)?;
     put_all(book, lists);
