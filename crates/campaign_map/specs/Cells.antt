@@ -8,7 +8,7 @@ use Rattle.target_trait.specs.declared.judgement.Verdict.{Verdict}
 use Rattle.target_trait.specs.declared.judgement.Verdict.TheVariants as verdict
 use Rattle.report.specs.ReportText.{verdict_text, scenario_text}
 use Rattle.campaign_map.specs.Mapped.{Mapped}
-use Rattle.campaign_map.specs.Xml.{escaped}
+use Rattle.xml_text.specs.Xml.{escaped}
 use Rattle.campaign_map.specs.declared.cells.Line.{Line}
 
 -- up to so many plans, each is a rectangle of its own

@@ -1,4 +1,3 @@
-pub mod Xml
 pub mod Mapped
 pub mod Cells
 pub mod Layouts

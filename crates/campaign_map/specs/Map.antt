@@ -6,7 +6,7 @@ use Rattle.std.specs.Fmt.{decimal}
 use Rattle.target_trait.specs.declared.judgement.Verdict.{Verdict}
 use Rattle.target_trait.specs.declared.judgement.Verdict.TheVariants as verdict
 use Rattle.campaign_map.specs.Mapped.{Mapped}
-use Rattle.campaign_map.specs.Xml.{escaped}
+use Rattle.xml_text.specs.Xml.{escaped}
 use Rattle.campaign_map.specs.Cells.{shade, class, line_text}
 use Rattle.campaign_map.specs.Layouts.{layout_of, kind_line, both_line, second_line, strip_line}
 use Rattle.campaign_map.specs.declared.layout.Layout.{Layout}

@@ -2,18 +2,18 @@
 ghost use Rattle.std.specs.Prelude.{◌≡◌, ◌≤◌, ◌<◌, ◌+◌, ◌-◌, ◌==◌, ◌^◌, ◌++◌, string_bytes, OnOk, if◌then◌else◌, slice_index_or};
 ghost use Rattle.std.specs.List.{list_any};
 ghost use Rattle.report.specs.ReportText.{verdict_text, scenario_text};
-ghost use Rattle.campaign_map.specs.Xml.{escaped};
+ghost use Rattle.xml_text.specs.Xml.{escaped};
 ghost use Rattle.target_trait.specs.declared.judgement.Verdict.TheVariants as verdict;
 ghost use Rattle.campaign_map.specs.Cells.{shade, class, verdict_at, scenario_at, number_at, shade_at, is_joined, run_length, across, below};
 ghost use Rattle.campaign_map.specs.Cells.{rectangle_at, rectangle_size, cells_rectangle, plan_title, plans_title, title, frame, dot, mark, run_text, cell_text, line_text};
 ghost use Rattle.campaign_map.specs.inside.Lines.{IsShort};
 
-use crate::escaping::write_escaped;
 use crate::facts::MapFacts;
 use report::{Names, write_scenario, write_verdict};
 use std::alloc::{AllocError, Global};
 use std::fmt::Write;
 use target_trait::Verdict;
+use xml_text::write_escaped;
 
 /// Up to so many plans, each is a rectangle of its own.
 const MOST_ALONE: usize = 4000;

@@ -2,7 +2,6 @@
 #![tactic(auto)]
 
 mod cells;
-mod escaping;
 mod facts;
 mod layout;
 mod map;

@@ -9,13 +9,13 @@ ghost use Rattle.campaign_map.specs.Map.{style, size, view, label, numbers, head
 ghost use Rattle.campaign_map.specs.Map.{names_text, group, end, turned, heads, kind_text, kinds, pairs_text, square, row_text, strip, sites_part, pairs_head, pairs_part, strip_part, map_text};
 
 use crate::cells::{shade, write_class, write_line};
-use crate::escaping::write_escaped;
 use crate::facts::MapFacts;
 use crate::layout::{Layout, layout_of};
 use report::Names;
 use std::alloc::{AllocError, Global};
 use std::fmt::Write;
 use target_trait::Verdict;
+use xml_text::write_escaped;
 
 fn write_style(out: &mut String) -> Result<(), AllocError>
     ensures { OnOk result (string_bytes out.new ≡ string_bytes out.old ++ style) }

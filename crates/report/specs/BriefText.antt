@@ -17,6 +17,12 @@ is_unresolved verdict.Pass = false
 is_unresolved (verdict.Fail code) = false
 is_unresolved verdict.Unresolved = true
 
+-- whether a verdict is a failure, with whatever code
+abbrev pub is_fail : Verdict → Bool
+is_fail verdict.Pass = false
+is_fail (verdict.Fail code) = true
+is_fail verdict.Unresolved = false
+
 -- whether a verdict is a failure with this code
 abbrev pub is_fail_with : ℕ → Verdict → Bool
 is_fail_with code verdict.Pass = false

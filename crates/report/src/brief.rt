@@ -1,8 +1,9 @@
 //! The lines of a brief report.
 ghost use Rattle.std.specs.Prelude.{◌≡◌, ◌++◌, ◌∷◌, [], length, string_bytes, codes, count_by, flat_map, IfOk, IfSome, OnOk};
 ghost use Rattle.report.specs.ReportText.{ended, text_of};
-ghost use Rattle.report.specs.BriefText.{is_pass, is_unresolved, is_fail_with, code_count, counts_line, told_line, told_line_of, told_lines, brief_lines};
+ghost use Rattle.report.specs.BriefText.{is_fail_with, code_count, counts_line, told_line, told_line_of, told_lines, brief_lines};
 
+use crate::counts::{passing, unresolved};
 use crate::facts::{Finding, Report};
 use crate::lines::{write_end, write_front, write_scenario};
 use crate::names::Names;
@@ -19,24 +20,6 @@ fn is_fail_with(code: u32, verdict: Verdict) -> bool
         Verdict::Fail(other) => other == code,
         Verdict::Pass | Verdict::Unresolved => false,
     }
-}
-
-fn passing(verdicts: &[Verdict]) -> usize
-    ensures { result ≡ count_by is_pass verdicts.now }
-{
-    verdicts
-        .iter()
-        .filter(|verdict| matches!(verdict, Verdict::Pass))
-        .count()
-}
-
-fn unresolved(verdicts: &[Verdict]) -> usize
-    ensures { result ≡ count_by is_unresolved verdicts.now }
-{
-    verdicts
-        .iter()
-        .filter(|verdict| matches!(verdict, Verdict::Unresolved))
-        .count()
 }
 
 fn failing(verdicts: &[Verdict], code: u32) -> usize

@@ -2,6 +2,7 @@
 #![tactic(auto)]
 
 mod brief;
+mod counts;
 mod facts;
 mod growing;
 mod lines;
@@ -10,6 +11,7 @@ mod verdicts;
 mod writing;
 
 pub use brief::brief_text;
+pub use counts::{failures, passing, unresolved};
 pub use facts::{Cause, Finding, Growth, Report};
 pub use lines::{text, write_scenario};
 pub use names::Names;

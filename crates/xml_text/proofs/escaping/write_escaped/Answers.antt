@@ -1,8 +1,8 @@
 use Rattle.std.proofs.Common.{◌++◌, flat_map, sym, ap, ◌∙◌, map-id, string_bytes}
 use Rattle.std.proofs.lemmas.Iterator.{YieldsList-from_chars}
 use Rattle.std.proofs.lemmas.Iterator.Consumers.{YieldsList-end}
-use Rattle.campaign_map.specs.Xml.{escape}
-use Rattle.campaign_map.proofs.escaping.write_escaped.Goals as goal
+use Rattle.xml_text.specs.Xml.{escape}
+use Rattle.xml_text.proofs.escaping.write_escaped.Goals as goal
 
 pub returns : goal.returns
 returns c =

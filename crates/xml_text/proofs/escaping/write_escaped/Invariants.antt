@@ -1,6 +1,6 @@
 use Rattle.std.proofs.Common.{◌≡◌, ◌++◌, flat_map, string_bytes}
-use Rattle.campaign_map.specs.Xml.{escape}
-use Rattle.campaign_map.proofs.escaping.write_escaped.Given as goal
+use Rattle.xml_text.specs.Xml.{escape}
+use Rattle.xml_text.proofs.escaping.write_escaped.Given as goal
 
 abbrev pub invariant-loop-character : goal.invariant-loop-character
 invariant-loop-character l = string_bytes l.out ≡ string_bytes l.initial.out ++ flat_map escape l.yielded

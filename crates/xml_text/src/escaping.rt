@@ -1,8 +1,15 @@
 //! Texts inside XML.
 ghost use Rattle.std.specs.Prelude.{◌≡◌, ◌++◌, string_bytes, OnOk};
-ghost use Rattle.campaign_map.specs.Xml.{escape, escaped};
+ghost use Rattle.xml_text.specs.Xml.{is_forbidden, escape, escaped};
 
 use std::alloc::AllocError;
+
+/// Of the characters below a blank, tabs and ends of lines have been dealt with.
+fn is_forbidden(character: char) -> bool
+    ensures { result ≡ is_forbidden character }
+{
+    character < ' ' || character == '\u{fffe}' || character == '\u{ffff}'
+}
 
 fn write_character(out: &mut String, character: char) -> Result<(), AllocError>
     ensures { OnOk result (string_bytes out.new ≡ string_bytes out.old ++ escape character) }
@@ -13,11 +20,17 @@ fn write_character(out: &mut String, character: char) -> Result<(), AllocError>
         '>' => out.push_str("&gt;"),
         '"' => out.push_str("&quot;"),
         '\'' => out.push_str("&apos;"),
+        '\t' => out.push_str("&#9;"),
+        '\n' => out.push_str("&#10;"),
+        '\r' => out.push_str("&#13;"),
+        _ if is_forbidden(character) => out.push('\u{fffd}'),
         _ => out.push(character),
     }
 }
 
-/// Appends a text as XML says it: `&`, `<`, `>`, `"` and `'` by their names, each other character as it is.
+/// Appends a text as XML says it, in content and between quotes: `&`, `<`, `>`, `"` and `'` by their names, tabs and ends of lines by their
+/// numbers, and each other character as it is. Characters that XML 1.0 can't have at all, those below a blank and U+FFFE and U+FFFF, are
+/// lost: U+FFFD stands in place of each.
 ///
 /// An error means that memory was refused; the text may then have some of the bytes.
 pub fn write_escaped(out: &mut String, text: &str) -> Result<(), AllocError>

@@ -1,0 +1,122 @@
+//! Names, plans and findings of small reports, and their documents.
+ghost use Rattle.std.specs.Prelude.{◌≡◌, [], length, slice_index_or, IfSome};
+ghost use Rattle.action_eval.specs.Answers.{texts};
+
+use campaign_plans::CampaignPlans;
+use file_replace::Replace;
+use plan_gen::{Census, PlanList, PlanSettings, further_plans};
+use report::{Cause, Finding, Names, Report};
+use report_json::json_text;
+use report_junit::junit_text;
+use scenario_grammar::parse;
+use scenario_values::Scenario;
+use std::alloc::Global;
+use std::test::Fail;
+use target_trait::Target;
+
+/// The names of points and codes, in the order of their numbers.
+#[derive(Drop)]
+pub struct Words<'a> {
+    pub points: &'a [&'a str],
+    pub codes: &'a [&'a str],
+}
+
+impl<'a> Names for Words<'a> {
+    ghost points = { λ words. texts words.points.now };
+
+    ghost code_text = { λ words code. slice_index_or (texts words.codes.now) code [] };
+
+    fn point(&self, number: usize) -> &str {
+        self.points[number]
+    }
+
+    fn code(&self, code: u32) -> &str {
+        match self.codes.get(code as usize) {
+            Some(name) => name,
+            None => "",
+        }
+    }
+}
+
+/// The scenarios that these texts spell.
+pub fn scenarios(alloc: Global, texts: &[&str]) -> Result<Vec<Scenario>, Fail> {
+    let mut all = Vec::new(alloc);
+    for text in texts {
+        all.push(parse(alloc, text)?)?;
+    }
+    Ok(all)
+}
+
+/// A plan of each of these scenarios.
+pub fn plans(alloc: Global, scenarios: &[Scenario]) -> Result<PlanList<'_>, Fail> {
+    let census = Census {
+        counts: Vec::from_slice(alloc, &[0; 7])?,
+    };
+    let settings = PlanSettings {
+        pairs: false,
+        storms: 0,
+        rate: 0,
+        listed: scenarios,
+        seed: 7,
+    };
+    match further_plans(alloc, &census, Replace::catalogue(), &settings, 0) {
+        Ok(plans) => Ok(plans),
+        Err(_) => Err(Fail::from("no plans")),
+    }
+}
+
+/// A first failure.
+pub fn finding(
+    alloc: Global,
+    number: u32,
+    code: u32,
+    scenario: &str,
+    reduced: &str,
+    tests: u64,
+) -> Result<Finding, Fail> {
+    Ok(Finding {
+        number,
+        code,
+        scenario: parse(alloc, scenario)?,
+        reduced: parse(alloc, reduced)?,
+        tests,
+    })
+}
+
+/// A cause.
+pub fn cause(alloc: Global, number: u32, code: u32, scenario: &str) -> Result<Cause, Fail> {
+    Ok(Cause {
+        number,
+        code,
+        scenario: parse(alloc, scenario)?,
+    })
+}
+
+/// The JSON document of a report, where there is a verdict for each plan.
+pub fn json_of<N: Names>(
+    alloc: Global,
+    names: &N,
+    report: &Report<'_>,
+    plans: &PlanList<'_>,
+) -> Result<Vec<u8>, Fail>
+    requires counts { length report.now.census ≡ length (N.points names.now) }
+    requires reached { IfSome report.now.growth (λ growth. length growth.reached ≡ length (N.points names.now)) }
+{
+    if report.verdicts.len() != plans.len() {
+        return Err(Fail::from("no verdict for each plan"));
+    }
+    Ok(json_text(alloc, names, report, &CampaignPlans::by_census(plans))?)
+}
+
+/// The JUnit document of a report, where there is a verdict for each plan.
+pub fn junit_of<N: Names>(
+    alloc: Global,
+    names: &N,
+    report: &Report<'_>,
+    plans: &PlanList<'_>,
+) -> Result<Vec<u8>, Fail> {
+    if report.verdicts.len() != plans.len() {
+        return Err(Fail::from("no verdict for each plan"));
+    }
+    Ok(junit_text(alloc, names, report, &CampaignPlans::by_census(plans))?)
+}

@@ -1,0 +1,12 @@
+//! Tests of reports for machines, through calls of the library: the texts of small reports, and that a reader of JSON finds in a document
+//! what the report tells. What is expected was written by hand, from docs/MACHINES.md.
+#![tactic(auto)]
+
+#[cfg(test)]
+mod escaped;
+#[cfg(test)]
+mod given;
+#[cfg(test)]
+mod json_forms;
+#[cfg(test)]
+mod junit_forms;

@@ -1,0 +1,72 @@
+-- How deep a document nests, and that it is read back.
+use Rattle.std.proofs.Common.{◌≡◌, ◌≤◌, ℕ, ◌+◌, max, List, [], ◌∷◌, map, Option, Some, None, option_and_then, sym, ap, ◌∙◌, arith}
+use Rattle.std.proofs.lemmas.List.{append-nil}
+use Rattle.json.specs.Json.{Json, value, if_last, max_depth}
+use Rattle.json.specs.Layout.{pretty}
+use Rattle.json.specs.Lex.{tokens}
+use Rattle.json.specs.Token.{Token}
+use Rattle.json.specs.Tree.{json_tokens, depth, items_depth}
+use Rattle.json.specs.Value.{items_of}
+use Rattle.json.proofs.Printed.Trees.{value-json_tokens}
+use Rattle.scenario_values.specs.Scenario.{Entries}
+use Rattle.target_trait.specs.declared.judgement.Verdict.{Verdict}
+use Rattle.target_trait.specs.declared.judgement.Verdict.TheVariants as verdict
+use Rattle.report.specs.Reports.{GrowthFacts, ReportFacts}
+use Rattle.report_json.specs.Document.{whole, clean_value, point_values, told_values, finding_value, cause_value, growth_value, document_of, IsReadAs}
+
+both_shallow : (a b bound : ℕ) → a ≤ bound → b ≤ bound → max a b ≤ bound
+both_shallow a b bound h k = omega (arith, h, k)
+
+-- values of a list, each no deeper than this
+mapped : {A : Type 0} (bound : ℕ) (f : A → Json) (xs : List A) → ((x : A) → depth (f x) ≤ bound) → items_depth (items_of (map f xs)) ≤ bound
+mapped bound f [] h = omega arith
+mapped bound f (x ∷ xs) h = both_shallow (depth (f x)) (items_depth (items_of (map f xs))) bound (h x) (mapped bound f xs h)
+
+points_shallow : (names : List (List ℕ)) (counts : List ℕ) → items_depth (items_of (point_values names counts)) ≤ 1
+points_shallow [] counts = omega arith
+points_shallow (name ∷ names) [] = omega arith
+points_shallow (name ∷ names) (n ∷ counts) = both_shallow 1 (items_depth (items_of (point_values names counts))) 1 (omega arith) (points_shallow names counts)
+
+told_shallow : (code_name : ℕ → List ℕ) (n : ℕ) (verdicts : List Verdict) (plans : List Entries)
+    → items_depth (items_of (told_values code_name n verdicts plans)) ≤ 1
+told_shallow code_name n [] plans = omega arith
+told_shallow code_name n (v ∷ vs) [] = omega arith
+told_shallow code_name n (verdict.Pass ∷ vs) (plan ∷ plans) = told_shallow code_name (n + 1) vs plans
+told_shallow code_name n (verdict.Fail code ∷ vs) (plan ∷ plans) =
+    both_shallow 1 (items_depth (items_of (told_values code_name (n + 1) vs plans))) 1 (omega arith) (told_shallow code_name (n + 1) vs plans)
+told_shallow code_name n (verdict.Unresolved ∷ vs) (plan ∷ plans) =
+    both_shallow 1 (items_depth (items_of (told_values code_name (n + 1) vs plans))) 1 (omega arith) (told_shallow code_name (n + 1) vs plans)
+
+clean_shallow : (code_name : ℕ → List ℕ) (v : Verdict) → depth (clean_value code_name v) ≤ 1
+clean_shallow code_name verdict.Pass = omega arith
+clean_shallow code_name (verdict.Fail code) = omega arith
+clean_shallow code_name verdict.Unresolved = omega arith
+
+growth_shallow : (names : List (List ℕ)) (code_name : ℕ → List ℕ) (growth : Option GrowthFacts) → depth (growth_value names code_name growth) ≤ 3
+growth_shallow names code_name None = omega arith
+growth_shallow names code_name (Some growth) =
+    let levels = mapped 0 whole growth.levels (λ n. omega arith) in
+    let reached = points_shallow names growth.reached in
+    let causes = mapped 1 (cause_value code_name) growth.causes (λ cause. omega arith) in
+    omega (arith, levels, reached, causes)
+
+shallow : (names : List (List ℕ)) (code_name : ℕ → List ℕ) (report : ReportFacts) (plans : List Entries)
+    → depth (document_of names code_name report plans) ≤ max_depth
+shallow names code_name report plans =
+    let clean = clean_shallow code_name report.clean in
+    let census = points_shallow names report.census in
+    let told = told_shallow code_name 0 report.verdicts plans in
+    let findings = mapped 1 (finding_value code_name) report.findings (λ finding. omega arith) in
+    let growth = growth_shallow names code_name report.growth in
+    omega (arith, clean, census, told, findings, growth)
+
+-- a value is read back where the reader finds its tokens in its text
+read_back : (value : Json) → depth value ≤ max_depth → tokens (pretty (json_tokens value)) ≡ json_tokens value → IsReadAs value
+read_back v shallow found =
+    ap (λ (ts : List Token). option_and_then (λ p. if_last p.0 p.1) (value max_depth ts)) (found ∙ sym (append-nil (json_tokens v)))
+    ∙ ap (option_and_then (λ p. if_last p.0 p.1)) (value-json_tokens v max_depth [] shallow)
+
+pub document_read : (names : List (List ℕ)) (code_name : ℕ → List ℕ) (report : ReportFacts) (plans : List Entries)
+    → tokens (pretty (json_tokens (document_of names code_name report plans))) ≡ json_tokens (document_of names code_name report plans)
+    → IsReadAs (document_of names code_name report plans)
+document_read names code_name report plans found = read_back (document_of names code_name report plans) (shallow names code_name report plans) found

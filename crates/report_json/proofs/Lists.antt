@@ -1,0 +1,112 @@
+-- Tokens that a loop writes, and lists and objects of them.
+use Rattle.std.proofs.Common.{◌≡◌, ℕ, ◌+◌, ◌<◌, List, [], ◌∷◌, ◌++◌, drop, length, get_or, map, refl, ap, sym, ◌∙◌, append_assoc}
+use Rattle.std.proofs.lemmas.List.Concat.{flat_map-append}
+use Rattle.json.specs.Json.{Json}
+use Rattle.json.specs.Token.{Token, key, begin_array, end_array, begin_object, end_object}
+use Rattle.json.specs.Tree.{json_tokens, items_tokens}
+use Rattle.json.specs.Value.{items_of}
+use Rattle.scenario_values.specs.Scenario.{Entries}
+use Rattle.target_trait.specs.declared.judgement.Verdict.{Verdict}
+use Rattle.report.proofs.Written.{goes_on, next_of}
+use Rattle.report_json.specs.Document.{list_of, point_value, point_values, told_value, told_values}
+use Rattle.report_json.specs.inside.Tokens.{member_tokens, all_tokens}
+
+-- tokens are written, and then the rest
+join : (old first rest : List Token) {mid new : List Token} → mid ≡ old ++ first → new ≡ mid ++ rest → new ≡ old ++ (first ++ rest)
+join old first rest {mid} {new} begins ends = ends ∙ ap (λ (ts : List Token). ts ++ rest) begins ∙ append_assoc old first rest
+
+-- the same member, by what its value is
+pub as_value : (old : List Token) (name : List ℕ) {v w : Json} {new : List Token} → new ≡ old ++ member_tokens name v → v ≡ w
+    → new ≡ old ++ member_tokens name w
+as_value old name {v} {w} {new} added same = added ∙ ap (λ (u : Json). old ++ member_tokens name u) same
+
+-- a key, and then the tokens of its value
+pub key_first : (old : List Token) (name : List ℕ) (value : List Token) {mid new : List Token} → mid ≡ old ++ key name ∷ [] → new ≡ mid ++ value
+    → new ≡ old ++ key name ∷ value
+key_first old name value begins ends = join old (key name ∷ []) value begins ends
+
+-- an object, member by member
+pub two_members : (old : List Token) {begun m1 m2 new : List Token} (a b : List Token) → begun ≡ old ++ begin_object ∷ [] → m1 ≡ begun ++ a → m2 ≡ m1 ++ b
+    → new ≡ m2 ++ end_object ∷ [] → new ≡ old ++ begin_object ∷ (a ++ (b ++ end_object ∷ []))
+two_members old {begun} {m1} {m2} {new} a b begins h1 h2 ends =
+    join old (begin_object ∷ []) (a ++ (b ++ end_object ∷ [])) begins (join begun a (b ++ end_object ∷ []) h1 (join m1 b (end_object ∷ []) h2 ends))
+
+pub three_members : (old : List Token) {begun m1 m2 m3 new : List Token} (a b c : List Token) → begun ≡ old ++ begin_object ∷ [] → m1 ≡ begun ++ a → m2 ≡ m1 ++ b → m3 ≡ m2 ++ c
+    → new ≡ m3 ++ end_object ∷ [] → new ≡ old ++ begin_object ∷ (a ++ (b ++ (c ++ end_object ∷ [])))
+three_members old {begun} {m1} {m2} {m3} {new} a b c begins h1 h2 h3 ends =
+    join old (begin_object ∷ []) (a ++ (b ++ (c ++ end_object ∷ []))) begins (join begun a (b ++ (c ++ end_object ∷ [])) h1 (join m1 b (c ++ end_object ∷ []) h2 (join m2 c (end_object ∷ []) h3 ends)))
+
+pub four_members : (old : List Token) {begun m1 m2 m3 m4 new : List Token} (a b c d : List Token) → begun ≡ old ++ begin_object ∷ [] → m1 ≡ begun ++ a → m2 ≡ m1 ++ b → m3 ≡ m2 ++ c → m4 ≡ m3 ++ d
+    → new ≡ m4 ++ end_object ∷ [] → new ≡ old ++ begin_object ∷ (a ++ (b ++ (c ++ (d ++ end_object ∷ []))))
+four_members old {begun} {m1} {m2} {m3} {m4} {new} a b c d begins h1 h2 h3 h4 ends =
+    join old (begin_object ∷ []) (a ++ (b ++ (c ++ (d ++ end_object ∷ [])))) begins (join begun a (b ++ (c ++ (d ++ end_object ∷ []))) h1 (join m1 b (c ++ (d ++ end_object ∷ [])) h2 (join m2 c (d ++ end_object ∷ []) h3 (join m3 d (end_object ∷ []) h4 ends))))
+
+pub five_members : (old : List Token) {begun m1 m2 m3 m4 m5 new : List Token} (a b c d e : List Token) → begun ≡ old ++ begin_object ∷ [] → m1 ≡ begun ++ a → m2 ≡ m1 ++ b → m3 ≡ m2 ++ c → m4 ≡ m3 ++ d → m5 ≡ m4 ++ e
+    → new ≡ m5 ++ end_object ∷ [] → new ≡ old ++ begin_object ∷ (a ++ (b ++ (c ++ (d ++ (e ++ end_object ∷ [])))))
+five_members old {begun} {m1} {m2} {m3} {m4} {m5} {new} a b c d e begins h1 h2 h3 h4 h5 ends =
+    join old (begin_object ∷ []) (a ++ (b ++ (c ++ (d ++ (e ++ end_object ∷ []))))) begins (join begun a (b ++ (c ++ (d ++ (e ++ end_object ∷ [])))) h1 (join m1 b (c ++ (d ++ (e ++ end_object ∷ []))) h2 (join m2 c (d ++ (e ++ end_object ∷ [])) h3 (join m3 d (e ++ end_object ∷ []) h4 (join m4 e (end_object ∷ []) h5 ends)))))
+
+joined_six : (old a b c d e f : List Token) → (old ++ begin_object ∷ []) ++ a ++ b ++ c ++ d ++ e ++ f ++ end_object ∷ []
+    ≡ old ++ begin_object ∷ (a ++ (b ++ (c ++ (d ++ (e ++ (f ++ end_object ∷ []))))))
+joined_six old a b c d e f = simp append_assoc
+
+-- an object of four members and two more
+pub six_members : (old : List Token) {begun sized reached told new : List Token} (a b c d e f : List Token) → begun ≡ old ++ begin_object ∷ []
+    → sized ≡ begun ++ a ++ b ++ c ++ d → reached ≡ sized ++ e → told ≡ reached ++ f → new ≡ told ++ end_object ∷ []
+    → new ≡ old ++ begin_object ∷ (a ++ (b ++ (c ++ (d ++ (e ++ (f ++ end_object ∷ []))))))
+six_members old a b c d e f begins sizes fifth sixth ends =
+    ends ∙ ap (λ (ts : List Token). ts ++ end_object ∷ []) (sixth ∙ ap (λ (ts : List Token). ts ++ f) (fifth ∙ ap (λ (ts : List Token). ts ++ e)
+    (sizes ∙ ap (λ (ts : List Token). ts ++ a ++ b ++ c ++ d) begins))) ∙ joined_six old a b c d e f
+
+joined_nine : (old a b c d e f g h i : List Token) → (old ++ begin_object ∷ []) ++ a ++ b ++ c ++ d ++ e ++ f ++ g ++ h ++ i ++ end_object ∷ []
+    ≡ old ++ begin_object ∷ (a ++ (b ++ (c ++ (d ++ (e ++ (f ++ (g ++ (h ++ (i ++ end_object ∷ [])))))))))
+joined_nine old a b c d e f g h i = simp append_assoc
+
+-- an object of four members and five more
+pub nine_members : (old : List Token) {begun headed told new : List Token} (a b c d e f g h i : List Token) → begun ≡ old ++ begin_object ∷ []
+    → headed ≡ begun ++ a ++ b ++ c ++ d → told ≡ headed ++ e ++ f ++ g ++ h ++ i → new ≡ told ++ end_object ∷ []
+    → new ≡ old ++ begin_object ∷ (a ++ (b ++ (c ++ (d ++ (e ++ (f ++ (g ++ (h ++ (i ++ end_object ∷ [])))))))))
+nine_members old a b c d e f g h i begins heads tells ends =
+    ends ∙ ap (λ (ts : List Token). ts ++ end_object ∷ []) (tells ∙ ap (λ (ts : List Token). ts ++ e ++ f ++ g ++ h ++ i)
+    (heads ∙ ap (λ (ts : List Token). ts ++ a ++ b ++ c ++ d) begins)) ∙ joined_nine old a b c d e f g h i
+
+-- values and the bracket behind them
+closed : (values : List Json) → all_tokens values ++ end_array ∷ [] ≡ items_tokens (items_of values)
+closed [] = refl
+closed (value ∷ values) = append_assoc (json_tokens value) (all_tokens values) (end_array ∷ []) ∙ ap (λ ts. json_tokens value ++ ts) (closed values)
+
+-- a member that is a list, from its key to its bracket
+pub list_member : (old begun all new : List Token) (name : List ℕ) (values : List Json) → begun ≡ old ++ key name ∷ begin_array ∷ [] → all ≡ begun ++ all_tokens values
+    → new ≡ all ++ end_array ∷ [] → new ≡ old ++ member_tokens name (list_of values)
+list_member old begun all new name values begins goes ends =
+    ends ∙ ap (λ (ts : List Token). ts ++ end_array ∷ []) (goes ∙ ap (λ (ts : List Token). ts ++ all_tokens values) begins)
+    ∙ append_assoc (old ++ key name ∷ begin_array ∷ []) (all_tokens values) (end_array ∷ [])
+    ∙ append_assoc old (key name ∷ begin_array ∷ []) (all_tokens values ++ end_array ∷ [])
+    ∙ ap (λ (ts : List Token). old ++ key name ∷ begin_array ∷ ts) (closed values)
+
+-- the value of the next element is written
+pub value_next : {A : Type 0} (f : A → Json) (old new whole : List Token) (i : ℕ) (xs : List A) (x d : A) → i < length xs → x ≡ get_or xs i d
+    → new ≡ old ++ json_tokens (f x)
+    → old ++ all_tokens (map f (drop i xs)) ≡ whole → new ++ all_tokens (map f (drop (i + 1) xs)) ≡ whole
+value_next {A} f old new whole i xs x d lt is added h =
+    goes_on old new (json_tokens (f x)) (all_tokens (map f (drop (i + 1) xs))) whole
+    (ap (λ (l : List A). old ++ all_tokens (map f l)) (sym (next_of xs i d lt ∙ ap (λ (y : A). y ∷ drop (i + 1) xs) (sym is))) ∙ h) added
+
+-- the hits of the next point are written
+pub point_next : (old new : List Token) (name : List ℕ) (n : ℕ) (names rest : List (List ℕ)) (counts left : List ℕ) (whole : List Token) → names ≡ name ∷ rest
+    → counts ≡ n ∷ left → new ≡ old ++ json_tokens (point_value name n)
+    → old ++ all_tokens (point_values names counts) ≡ whole → new ++ all_tokens (point_values rest left) ≡ whole
+point_next old new name n names rest counts left whole a b added h =
+    goes_on old new (json_tokens (point_value name n)) (all_tokens (point_values rest left)) whole
+    (ap (λ (l : List ℕ). old ++ all_tokens (point_values (name ∷ rest) l)) (sym b)
+    ∙ ap (λ (l : List (List ℕ)). old ++ all_tokens (point_values l counts)) (sym a) ∙ h) added
+
+-- the next plan is written, or nothing of it
+pub told_next : (code_name : ℕ → List ℕ) (old new whole : List Token) (n : ℕ) (v : Verdict) (plan : Entries) (verdicts vs : List Verdict) (plans ps : List Entries)
+    → verdicts ≡ v ∷ vs → plans ≡ plan ∷ ps → new ≡ old ++ all_tokens (told_value code_name n v plan)
+    → old ++ all_tokens (told_values code_name n verdicts plans) ≡ whole → new ++ all_tokens (told_values code_name (n + 1) vs ps) ≡ whole
+told_next code_name old new whole n v plan verdicts vs plans ps vs_are ps_are added h =
+    goes_on old new (all_tokens (told_value code_name n v plan)) (all_tokens (told_values code_name (n + 1) vs ps)) whole
+    (ap (λ (ts : List Token). old ++ ts) (sym (flat_map-append json_tokens (told_value code_name n v plan) (told_values code_name (n + 1) vs ps)))
+    ∙ ap (λ (l : List Entries). old ++ all_tokens (told_values code_name n (v ∷ vs) l)) (sym ps_are)
+    ∙ ap (λ (l : List Verdict). old ++ all_tokens (told_values code_name n l plans)) (sym vs_are) ∙ h) added

@@ -1,0 +1,103 @@
+//! The document.
+ghost use Rattle.std.specs.Prelude.{◌≡◌, ◌++◌, length, map, codes, IfOk, IfSome, OnOk};
+ghost use Rattle.std.specs.Fmt.{decimal};
+ghost use Rattle.json.specs.Json.{string};
+ghost use Rattle.json.specs.Tree.{json_tokens};
+ghost use Rattle.report_json.specs.Document.{form, whole, list_of, clean_value, point_values, counts_value, told_values, finding_value, growth_value};
+ghost use Rattle.report_json.specs.Document.{document_of, text_of, IsReadAs};
+ghost use Rattle.report_json.specs.inside.Tokens.{member_tokens};
+
+use crate::growth::{write_growth, write_points};
+use crate::members::{write_number, write_text};
+use crate::plans::{write_clean, write_counts, write_findings, write_not_passed};
+use campaign_plans::CampaignPlans;
+use itoa::Buffer;
+use json::{Pretty, Token};
+use report::{Names, Report};
+use std::alloc::{AllocError, Global};
+
+/// The form of the document.
+const FORM: u64 = 1;
+
+/// The form, and what was run.
+fn write_head<N: Names>(out: &mut Pretty, names: &N, report: &Report<'_>) -> Result<(), AllocError>
+    ensures { OnOk result (out.new ≡ out.old
+        ++ member_tokens (codes "version") (whole form)
+        ++ member_tokens (codes "label") (string report.now.label)
+        ++ member_tokens (codes "seed") (string (decimal report.now.seed))
+        ++ member_tokens (codes "clean") (clean_value (N.code_text names.now) report.now.clean)) }
+{
+    let mut digits = Buffer::new();
+    write_number(out, "version", FORM)?;
+    write_text(out, "label", report.label)?;
+    write_text(out, "seed", digits.format(report.seed))?;
+    write_clean(out, names, report.clean)
+}
+
+/// What came of it.
+fn write_results<N: Names>(
+    alloc: Global,
+    out: &mut Pretty,
+    names: &N,
+    report: &Report<'_>,
+    plans: &CampaignPlans<'_>,
+) -> Result<(), AllocError>
+    requires counts { length report.now.census ≡ length (N.points names.now) }
+    requires reached { IfSome report.now.growth (λ growth. length growth.reached ≡ length (N.points names.now)) }
+    requires verdicts { length report.now.verdicts ≡ length plans.now }
+    ensures { OnOk result (out.new ≡ out.old
+        ++ member_tokens (codes "census") (list_of (point_values (N.points names.now) report.now.census))
+        ++ member_tokens (codes "counts") (counts_value report.now.verdicts)
+        ++ member_tokens (codes "not_passed") (list_of (told_values (N.code_text names.now) 0 report.now.verdicts plans.now))
+        ++ member_tokens (codes "findings") (list_of (map (finding_value (N.code_text names.now)) report.now.findings))
+        ++ member_tokens (codes "growth") (growth_value (N.points names.now) (N.code_text names.now) report.now.growth)) }
+{
+    write_points(out, "census", names, report.census)?;
+    write_counts(out, report.verdicts)?;
+    write_not_passed(alloc, out, names, report.verdicts, plans)?;
+    write_findings(alloc, out, names, &report.findings)?;
+    write_growth(alloc, out, names, &report.growth)
+}
+
+fn write_document<N: Names>(
+    alloc: Global,
+    out: &mut Pretty,
+    names: &N,
+    report: &Report<'_>,
+    plans: &CampaignPlans<'_>,
+) -> Result<(), AllocError>
+    requires counts { length report.now.census ≡ length (N.points names.now) }
+    requires reached { IfSome report.now.growth (λ growth. length growth.reached ≡ length (N.points names.now)) }
+    requires verdicts { length report.now.verdicts ≡ length plans.now }
+    ensures { OnOk result (out.new ≡ out.old ++ json_tokens (document_of (N.points names.now) (N.code_text names.now) report.now plans.now)) }
+{
+    out.token(Token::BeginObject)?;
+    write_head(out, names, report)?;
+    write_results(alloc, out, names, report, plans)?;
+    out.token(Token::EndObject)
+}
+
+/// The report over these plans as a JSON document, with a line for each item and member and a line feed at the end, by these names of points
+/// and codes. docs/MACHINES.md tells its members. It is UTF-8, the same for the same report and plans, and a reader of JSON finds that document
+/// in it, whatever characters the names have.
+///
+/// The census has to have a count for each of the points, and so has what is reached, of a campaign that has a depth; and there has to be a
+/// verdict for each plan. An error means that memory was refused.
+pub fn json_text<N: Names>(
+    alloc: Global,
+    names: &N,
+    report: &Report<'_>,
+    plans: &CampaignPlans<'_>,
+) -> Result<Vec<u8>, AllocError>
+    requires counts { length report.now.census ≡ length (N.points names.now) }
+    requires reached { IfSome report.now.growth (λ growth. length growth.reached ≡ length (N.points names.now)) }
+    requires verdicts { length report.now.verdicts ≡ length plans.now }
+    ensures text { IfOk result (λ text. text.items ≡ text_of (document_of (N.points names.now) (N.code_text names.now) report.now plans.now)) }
+    ensures reads { OnOk result (IsReadAs (document_of (N.points names.now) (N.code_text names.now) report.now plans.now)) }
+{
+    let mut out = Pretty::new(alloc);
+    write_document(alloc, &mut out, names, report, plans)?;
+    let mut text = out.into_inner();
+    text.push(b'\n')?;
+    Ok(text)
+}

@@ -1,0 +1,58 @@
+//! Members of objects.
+ghost use Rattle.std.specs.Prelude.{◌≡◌, ◌++◌, ◌∷◌, [], OnOk};
+ghost use Rattle.json.specs.Json.{string};
+ghost use Rattle.json.specs.Token.{key, begin_array};
+ghost use Rattle.json.specs.Tree.{json_tokens};
+ghost use Rattle.report_json.specs.Document.{whole, scenario_value};
+ghost use Rattle.report_json.specs.inside.Tokens.{member_tokens};
+
+use itoa::Buffer;
+use json::{Pretty, Token};
+use scenario_grammar::print;
+use scenario_values::Scenario;
+use std::alloc::{AllocError, Global};
+
+/// A whole number.
+pub fn write_whole(out: &mut Pretty, number: u64) -> Result<(), AllocError>
+    ensures { OnOk result (out.new ≡ out.old ++ json_tokens (whole number)) }
+{
+    let mut digits = Buffer::new();
+    out.token(Token::Number(digits.format(number)))
+}
+
+/// A member that is a whole number.
+pub fn write_number(out: &mut Pretty, name: &str, number: u64) -> Result<(), AllocError>
+    ensures { OnOk result (out.new ≡ out.old ++ member_tokens name.now (whole number)) }
+{
+    out.token(Token::Key(name))?;
+    write_whole(out, number)
+}
+
+/// A member that is a text.
+pub fn write_text(out: &mut Pretty, name: &str, text: &str) -> Result<(), AllocError>
+    ensures { OnOk result (out.new ≡ out.old ++ member_tokens name.now (string text.now)) }
+{
+    out.token(Token::Key(name))?;
+    out.token(Token::String(text))
+}
+
+/// A member that is a scenario.
+pub fn write_scenario(
+    alloc: Global,
+    out: &mut Pretty,
+    name: &str,
+    scenario: &Scenario,
+) -> Result<(), AllocError>
+    ensures { OnOk result (out.new ≡ out.old ++ member_tokens name.now (scenario_value scenario.now)) }
+{
+    let text = print(alloc, scenario)?;
+    write_text(out, name, text.as_str())
+}
+
+/// The beginning of a member that is a list.
+pub fn begin_list(out: &mut Pretty, name: &str) -> Result<(), AllocError>
+    ensures { OnOk result (out.new ≡ out.old ++ key name.now ∷ begin_array ∷ []) }
+{
+    out.token(Token::Key(name))?;
+    out.token(Token::BeginArray)
+}

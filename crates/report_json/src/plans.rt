@@ -1,0 +1,175 @@
+//! Verdicts, plans and what was found.
+ghost use Rattle.std.specs.Prelude.{◌≡◌, ◌++◌, length, map, codes, OnOk};
+ghost use Rattle.json.specs.Tree.{json_tokens};
+ghost use Rattle.report_json.specs.Document.{list_of, code_of, clean_value, counts_value, plan_value, told_value, told_values, finding_value, verdict_word};
+ghost use Rattle.report_json.specs.inside.Tokens.{member_tokens, all_tokens};
+
+use crate::members::{begin_list, write_number, write_scenario, write_text};
+use campaign_plans::{CampaignPlan, CampaignPlans};
+use json::{Pretty, Token};
+use report::{Finding, Names, failures, passing, unresolved};
+use std::alloc::{AllocError, Global};
+use target_trait::Verdict;
+
+fn write_code<N: Names>(out: &mut Pretty, names: &N, verdict: Verdict) -> Result<(), AllocError>
+    ensures { OnOk result (out.new ≡ out.old ++ member_tokens (codes "code") (code_of (N.code_text names.now) verdict)) }
+{
+    out.token(Token::Key("code"))?;
+    match verdict {
+        Verdict::Pass | Verdict::Unresolved => out.token(Token::Null),
+        Verdict::Fail(code) => out.token(Token::String(names.code(code))),
+    }
+}
+
+fn verdict_word(verdict: Verdict) -> &'static str
+    ensures { result.now ≡ verdict_word verdict }
+{
+    match verdict {
+        Verdict::Pass => "pass",
+        Verdict::Fail(_) => "fail",
+        Verdict::Unresolved => "unresolved",
+    }
+}
+
+/// The verdict of the run without faults.
+pub fn write_clean<N: Names>(
+    out: &mut Pretty,
+    names: &N,
+    verdict: Verdict,
+) -> Result<(), AllocError>
+    ensures { OnOk result (out.new ≡ out.old ++ member_tokens (codes "clean") (clean_value (N.code_text names.now) verdict)) }
+{
+    out.token(Token::Key("clean"))?;
+    out.token(Token::BeginObject)?;
+    write_text(out, "verdict", verdict_word(verdict))?;
+    write_code(out, names, verdict)?;
+    out.token(Token::EndObject)
+}
+
+/// How many plans there are, and how many of them have which verdict.
+pub fn write_counts(out: &mut Pretty, verdicts: &[Verdict]) -> Result<(), AllocError>
+    ensures { OnOk result (out.new ≡ out.old ++ member_tokens (codes "counts") (counts_value verdicts.now)) }
+{
+    out.token(Token::Key("counts"))?;
+    out.token(Token::BeginObject)?;
+    write_number(out, "plans", verdicts.len() as u64)?;
+    write_number(out, "pass", passing(verdicts) as u64)?;
+    write_number(out, "fail", failures(verdicts) as u64)?;
+    write_number(out, "unresolved", unresolved(verdicts) as u64)?;
+    out.token(Token::EndObject)
+}
+
+fn write_plan<N: Names>(
+    alloc: Global,
+    out: &mut Pretty,
+    names: &N,
+    number: usize,
+    verdict: Verdict,
+    plan: &CampaignPlan<'_>,
+) -> Result<(), AllocError>
+    ensures { OnOk result (out.new ≡ out.old ++ json_tokens (plan_value (N.code_text names.now) number verdict plan.now)) }
+{
+    out.token(Token::BeginObject)?;
+    write_number(out, "number", number as u64)?;
+    write_text(out, "verdict", verdict_word(verdict))?;
+    write_code(out, names, verdict)?;
+    write_scenario(alloc, out, "scenario", &plan.scenario(alloc)?)?;
+    out.token(Token::EndObject)
+}
+
+fn write_told<N: Names>(
+    alloc: Global,
+    out: &mut Pretty,
+    names: &N,
+    number: usize,
+    verdict: Verdict,
+    plan: &CampaignPlan<'_>,
+) -> Result<(), AllocError>
+    ensures { OnOk result (out.new ≡ out.old ++ all_tokens (told_value (N.code_text names.now) number verdict plan.now)) }
+{
+    match verdict {
+        Verdict::Pass => Ok(()),
+        Verdict::Fail(_) | Verdict::Unresolved => {
+            write_plan(alloc, out, names, number, verdict, plan)
+        }
+    }
+}
+
+fn write_each_told<N: Names>(
+    alloc: Global,
+    out: &mut Pretty,
+    names: &N,
+    verdicts: &[Verdict],
+    plans: &CampaignPlans<'_>,
+) -> Result<(), AllocError>
+    requires { length verdicts.now ≡ length plans.now }
+    ensures { OnOk result (out.new ≡ out.old ++ all_tokens (told_values (N.code_text names.now) 0 verdicts.now plans.now)) }
+{
+    for (number, verdict) in verdicts.iter().enumerate() {
+        write_told(alloc, out, names, number, *verdict, &plans.plan(number))?;
+    }
+    Ok(())
+}
+
+/// The plans that don't pass.
+pub fn write_not_passed<N: Names>(
+    alloc: Global,
+    out: &mut Pretty,
+    names: &N,
+    verdicts: &[Verdict],
+    plans: &CampaignPlans<'_>,
+) -> Result<(), AllocError>
+    requires { length verdicts.now ≡ length plans.now }
+    ensures { OnOk result (out.new ≡ out.old
+        ++ member_tokens (codes "not_passed") (list_of (told_values (N.code_text names.now) 0 verdicts.now plans.now))) }
+{
+    begin_list(out, "not_passed")?;
+    write_each_told(alloc, out, names, verdicts, plans)?;
+    out.token(Token::EndArray)
+}
+
+fn write_finding<N: Names>(
+    alloc: Global,
+    out: &mut Pretty,
+    names: &N,
+    finding: &Finding,
+) -> Result<(), AllocError>
+    ensures { OnOk result (out.new ≡ out.old ++ json_tokens (finding_value (N.code_text names.now) finding.now)) }
+{
+    out.token(Token::BeginObject)?;
+    write_number(out, "number", u64::from(finding.number))?;
+    write_text(out, "code", names.code(finding.code))?;
+    write_scenario(alloc, out, "scenario", &finding.scenario)?;
+    write_scenario(alloc, out, "reduced", &finding.reduced)?;
+    write_number(out, "tests", finding.tests)?;
+    out.token(Token::EndObject)
+}
+
+fn write_each_finding<N: Names>(
+    alloc: Global,
+    out: &mut Pretty,
+    names: &N,
+    findings: &[Finding],
+) -> Result<(), AllocError>
+    ensures { OnOk result (out.new ≡ out.old ++ all_tokens (map (finding_value (N.code_text names.now)) findings.now)) }
+{
+    for finding in findings {
+        write_finding(alloc, out, names, finding)?;
+    }
+    Ok(())
+}
+
+/// The first failure of each code.
+pub fn write_findings<N: Names>(
+    alloc: Global,
+    out: &mut Pretty,
+    names: &N,
+    findings: &[Finding],
+) -> Result<(), AllocError>
+    ensures { OnOk result (out.new ≡ out.old
+        ++ member_tokens (codes "findings") (list_of (map (finding_value (N.code_text names.now)) findings.now))) }
+{
+    begin_list(out, "findings")?;
+    write_each_finding(alloc, out, names, findings)?;
+    out.token(Token::EndArray)
+}

@@ -1,0 +1,6 @@
+//! Texts inside XML.
+#![tactic(auto)]
+
+mod escaping;
+
+pub use escaping::write_escaped;
