@@ -1,7 +1,7 @@
 # The commands of every day. The toolchain's `rt` has to be on the PATH (README.md).
 
 # The settings of the campaign that `make run` runs.
-FILE = examples/replace_late_sync.toml
+FILE = examples/replace_depth.toml
 
 # Where `make install` puts the program, its manual page and the completions for shells, and which program that is: the one that
 # `make build` makes, where none is named.
