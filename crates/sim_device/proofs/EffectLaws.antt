@@ -1,9 +1,9 @@
 -- Laws of effects.
-use Rattle.std.proofs.Common.{◌≡◌, ℕ, ◌+◌, ◌<◌, ◌≤◌, ◌==◌, Bool, true, false, cond, List, [], ◌∷◌, ◌++◌, Option, Some, None, refl, ap, ◌∙◌, arith}
+use Rattle.std.proofs.Common.{◌≡◌, ℕ, ◌+◌, ◌<◌, ◌≤◌, ◌==◌, Bool, true, false, cond, List, [], ◌∷◌, ◌++◌, take, Option, Some, None, refl, ap, ◌∙◌, arith}
 use Rattle.std.proofs.lemmas.Bool.{eq-eqb, ne_eqb}
 use Rattle.std.proofs.Common.{nat_eq}
 use Rattle.sim_device.specs.Later.{IsUntouched, HasNoSyncDir, IsUnnamed, IsUnsynced}
-use Rattle.sim_device.specs.FileEffects.{Effect, Create, Append, Sync, Rename, Link, Unlink, SyncDir, PowerCut, Side, Live, Lasting, created, leads, contents, is_file}
+use Rattle.sim_device.specs.FileEffects.{Effect, Create, Append, Write, Truncate, Sync, Rename, Link, Unlink, SyncDir, PowerCut, Side, Live, Lasting, created, leads, contents, is_file, overwritten}
 
 some_of : (b : Bool) (x y : Option ℕ) (f bound : ℕ) → (x ≡ Some f → f < bound) → (y ≡ Some f → f < bound) → cond b x y ≡ Some f → f < bound
 some_of true x y f bound p q e = p e
@@ -22,6 +22,8 @@ leads_created (Create m ∷ es) Live n f e =
     some_of (n == m) (Some (created es)) (leads es Live n) f (created es + 1) (this_of (created es) f) (λ e. let h : f < created es = leads_created es Live n f e in omega arith) e
 leads_created (Create m ∷ es) Lasting n f e = let h : f < created es = leads_created es Lasting n f e in omega arith
 leads_created (Append m bytes ∷ es) side n f e = leads_created es side n f e
+leads_created (Write m place bytes ∷ es) side n f e = leads_created es side n f e
+leads_created (Truncate m count ∷ es) side n f e = leads_created es side n f e
 leads_created (Sync m ∷ es) side n f e = leads_created es side n f e
 leads_created (Rename a b ∷ es) Live n f e =
     some_of (n == b) (leads es Live a) (cond (n == a) None (leads es Live n)) f (created es) (leads_created es Live a f)
@@ -40,6 +42,8 @@ created_more : (later before : List Effect) → created before ≤ created (late
 created_more [] before = omega arith
 created_more (Create m ∷ later) before = omega (arith, created_more later before)
 created_more (Append m bytes ∷ later) before = created_more later before
+created_more (Write m place bytes ∷ later) before = created_more later before
+created_more (Truncate m count ∷ later) before = created_more later before
 created_more (Sync m ∷ later) before = created_more later before
 created_more (Rename a b ∷ later) before = created_more later before
 created_more (Link a b ∷ later) before = created_more later before
@@ -68,6 +72,12 @@ stays (Create m ∷ later) before f x old u h =
 stays (Append m bytes ∷ later) before f x old u h =
     let k = stays later before f x old u.1 h in
     record { live = ap (λ b. cond b (contents (later ++ before) Live f ++ bytes) (contents (later ++ before) Live f)) u.0 ∙ k.live; lasting = k.lasting }
+stays (Write m place bytes ∷ later) before f x old u h =
+    let k = stays later before f x old u.1 h in
+    record { live = ap (λ b. cond b (overwritten place bytes (contents (later ++ before) Live f)) (contents (later ++ before) Live f)) u.0 ∙ k.live; lasting = k.lasting }
+stays (Truncate m count ∷ later) before f x old u h =
+    let k = stays later before f x old u.1 h in
+    record { live = ap (λ b. cond b (take count (contents (later ++ before) Live f)) (contents (later ++ before) Live f)) u.0 ∙ k.live; lasting = k.lasting }
 stays (Sync m ∷ later) before f x old u h =
     let k = stays later before f x old u h in
     record { live = k.live; lasting = sync_case (is_file f (leads (later ++ before) Live m)) (contents (later ++ before) Live f) (contents (later ++ before) Lasting f) x k.live k.lasting }
@@ -88,6 +98,8 @@ pub names_stay : (later before : List Effect) (n : ℕ) → HasNoSyncDir later �
 names_stay [] before n u = refl
 names_stay (Create m ∷ later) before n u = names_stay later before n u
 names_stay (Append m bytes ∷ later) before n u = names_stay later before n u
+names_stay (Write m place bytes ∷ later) before n u = names_stay later before n u
+names_stay (Truncate m count ∷ later) before n u = names_stay later before n u
 names_stay (Sync m ∷ later) before n u = names_stay later before n u
 names_stay (Rename a b ∷ later) before n u = names_stay later before n u
 names_stay (Link a b ∷ later) before n u = names_stay later before n u
@@ -99,6 +111,8 @@ pub names_alone : (later before : List Effect) (n : ℕ) → IsUnnamed n later �
 names_alone [] before n u = refl
 names_alone (Create m ∷ later) before n u = ap (λ b. cond b (Some (created (later ++ before))) (leads (later ++ before) Live n)) u.0 ∙ names_alone later before n u.1
 names_alone (Append m bytes ∷ later) before n u = names_alone later before n u
+names_alone (Write m place bytes ∷ later) before n u = names_alone later before n u
+names_alone (Truncate m count ∷ later) before n u = names_alone later before n u
 names_alone (Sync m ∷ later) before n u = names_alone later before n u
 names_alone (Rename a b ∷ later) before n u =
     ap (λ x. cond x (leads (later ++ before) Live a) (cond (n == a) None (leads (later ++ before) Live n))) u.1.0
@@ -115,6 +129,8 @@ contents_stay (Create m ∷ later) before f old u =
     let new : nat_eq f (created (later ++ before)) ≡ false = ne_eqb f (created (later ++ before)) (λ e. omega (arith, created_more later before)) in
     ap (λ b. cond b [] (contents (later ++ before) Lasting f)) new ∙ contents_stay later before f old u
 contents_stay (Append m bytes ∷ later) before f old u = contents_stay later before f old u
+contents_stay (Write m place bytes ∷ later) before f old u = contents_stay later before f old u
+contents_stay (Truncate m count ∷ later) before f old u = contents_stay later before f old u
 contents_stay (Sync m ∷ later) before f old u = ap (λ b. cond b (contents (later ++ before) Live f) (contents (later ++ before) Lasting f)) u.0 ∙ contents_stay later before f old u.1
 contents_stay (Rename a b ∷ later) before f old u = contents_stay later before f old u
 contents_stay (Link a b ∷ later) before f old u = contents_stay later before f old u
@@ -135,3 +151,14 @@ pub append_adds : (before : List Effect) (n f : ℕ) (bytes : List ℕ) → lead
 append_adds before n f bytes at =
     ap (λ o. cond (is_file f o) (contents before Live f ++ bytes) (contents before Live f)) at
     ∙ ap (λ b. cond b (contents before Live f ++ bytes) (contents before Live f)) (eq-eqb f f refl)
+
+pub truncate_cuts : (before : List Effect) (n f count : ℕ) → leads before Live n ≡ Some f → contents (Truncate n count ∷ before) Live f ≡ take count (contents before Live f)
+truncate_cuts before n f count at =
+    ap (λ o. cond (is_file f o) (take count (contents before Live f)) (contents before Live f)) at
+    ∙ ap (λ b. cond b (take count (contents before Live f)) (contents before Live f)) (eq-eqb f f refl)
+
+pub write_overwrites : (before : List Effect) (n f place : ℕ) (bytes : List ℕ) → leads before Live n ≡ Some f
+    → contents (Write n place bytes ∷ before) Live f ≡ overwritten place bytes (contents before Live f)
+write_overwrites before n f place bytes at =
+    ap (λ o. cond (is_file f o) (overwritten place bytes (contents before Live f)) (contents before Live f)) at
+    ∙ ap (λ b. cond b (overwritten place bytes (contents before Live f)) (contents before Live f)) (eq-eqb f f refl)

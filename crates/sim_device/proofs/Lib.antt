@@ -1,4 +1,5 @@
 pub mod Appends
 pub mod EffectLaws
 pub mod Keeping
+pub mod Overwrites
 pub mod LogLaws

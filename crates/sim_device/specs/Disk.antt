@@ -1,5 +1,5 @@
 -- A file device as contracts see it: for each name and each file, what is live and what lasts.
-use Rattle.std.specs.Prelude.{◌≡◌, ℕ, ◌<◌, ◌≤◌, ◌==◌, if◌then◌else◌, List, [], ◌∷◌, Option, Some, None, length, slice_index_or}
+use Rattle.std.specs.Prelude.{◌≡◌, ℕ, ◌<◌, ◌≤◌, ◌^◌, ◌==◌, is_some, if◌then◌else◌, true, false, List, [], ◌∷◌, Option, Some, None, length, slice_index_or}
 use Rattle.sim_device.specs.declared.names.Entry.{Entry}
 use Rattle.sim_device.specs.FileEffects.{Effect, Rename, Live, Lasting, leads, contents, created}
 
@@ -35,6 +35,15 @@ AddsEffect old new effect = (es : List Effect) → StandsFor old es → StandsFo
 -- the same for a rename, which is no effect where the names are equal
 abbrev pub AddsRename : Disk → Disk → ℕ → ℕ → Type 0
 AddsRename old new from to = (es : List Effect) → StandsFor old es → StandsFor new (if from == to then es else Rename from to ∷ es)
+
+-- none of the names from the first to before the end is there now
+abbrev pub IsNoneThere : List Entry → ℕ → ℕ → Type 0
+IsNoneThere names first end = (n : ℕ) → first ≤ n → n < end → is_some (entry_at names n).live ≡ false
+
+-- the least name that is there now, of this one and those above it. Names are numbers of 32 bits
+abbrev pub IsNext : List Entry → ℕ → Option ℕ → Type 0
+IsNext names from (Some n) = (from ≤ n) × ((is_some (entry_at names n).live ≡ true) × IsNoneThere names from n)
+IsNext names from None = IsNoneThere names from (2 ^ 32)
 
 -- the name leads to this file now, or to none, and all else is as before
 abbrev pub ChangesName : List Entry → List Entry → ℕ → Option ℕ → Type 0

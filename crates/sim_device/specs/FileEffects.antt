@@ -1,13 +1,17 @@
 -- What a list of effects on a file device means, the newest effect first: where names lead, and what files hold.
--- The device is a disk with a cache, as seen by a program that calls fsync(2), rename(2), link(2) and unlink(2) of Linux: what was
--- written to a file lasts once the file was synced, and a change of names lasts once the directory was synced.
+-- The device is a disk with a cache, as seen by a program that calls pwrite(2), ftruncate(2), fsync(2), rename(2), link(2) and unlink(2) of Linux: what was
+-- written to a file or cut off it lasts once the file was synced, and a change of names lasts once the directory was synced.
 -- The list holds what the device accepted since it was made or last cleared. A call that is refused, and a rename of a name to itself, add nothing.
-use Rattle.std.specs.Prelude.{ℕ, ◌+◌, ◌==◌, if◌then◌else◌, Bool, false, List, [], ◌∷◌, ◌++◌, Option, Some, None, option_map}
+use Rattle.std.specs.Prelude.{ℕ, ◌+◌, ◌==◌, if◌then◌else◌, Bool, false, List, [], ◌∷◌, ◌++◌, take, drop, length, replicate, Option, Some, None, option_map}
 
 -- one accepted call. Names are numbers
 pub data Effect : Type 0 where
   Create : ℕ → Effect
   Append : ℕ → List ℕ → Effect
+  -- bytes over those at a place
+  Write : ℕ → ℕ → List ℕ → Effect
+  -- how many bytes the file has at most from then on
+  Truncate : ℕ → ℕ → Effect
   Sync : ℕ → Effect
   Rename : ℕ → ℕ → Effect
   Link : ℕ → ℕ → Effect
@@ -25,6 +29,8 @@ abbrev pub created : List Effect → ℕ
 created [] = 0
 created (Create m ∷ before) = created before + 1
 created (Append m bytes ∷ before) = created before
+created (Write m place bytes ∷ before) = created before
+created (Truncate m count ∷ before) = created before
 created (Sync m ∷ before) = created before
 created (Rename a b ∷ before) = created before
 created (Link a b ∷ before) = created before
@@ -43,6 +49,8 @@ leads (Unlink m ∷ before) Live n = if n == m then None else leads before Live 
 leads (PowerCut ∷ before) Live n = leads before Lasting n
 leads (SyncDir ∷ before) Lasting n = leads before Live n
 leads (Append m bytes ∷ before) side n = leads before side n
+leads (Write m place bytes ∷ before) side n = leads before side n
+leads (Truncate m count ∷ before) side n = leads before side n
 leads (Sync m ∷ before) side n = leads before side n
 leads (SyncDir ∷ before) Live n = leads before Live n
 leads (Create m ∷ before) Lasting n = leads before Lasting n
@@ -56,13 +64,24 @@ abbrev pub is_file : ℕ → Option ℕ → Bool
 is_file f None = false
 is_file f (Some g) = g == f
 
--- what a file holds. Live contents are what lasted at the last power cut and all that was appended since; lasting contents are the live ones of
--- the file's last `Sync`
+-- bytes written at a place over what is held, as pwrite(2) does: what lies behind them stays, and between the end and the place come zeros. To write
+-- no bytes changes nothing
+abbrev pub overwritten : ℕ → List ℕ → List ℕ → List ℕ
+overwritten place [] old = old
+overwritten place (byte ∷ bytes) old = take place (old ++ replicate place 0) ++ (byte ∷ bytes) ++ drop (place + length (byte ∷ bytes)) old
+
+-- what a file holds. Live contents are what lasted at the last power cut, with all that was appended, written over and cut off since; lasting
+-- contents are the live ones of the file's last `Sync`
 abbrev pub contents : List Effect → Side → ℕ → List ℕ
 contents [] side f = []
 contents (Create m ∷ before) side f = if f == created before then [] else contents before side f
 contents (Append m bytes ∷ before) Live f = if is_file f (leads before Live m) then contents before Live f ++ bytes else contents before Live f
 contents (Append m bytes ∷ before) Lasting f = contents before Lasting f
+contents (Write m place bytes ∷ before) Live f =
+    if is_file f (leads before Live m) then overwritten place bytes (contents before Live f) else contents before Live f
+contents (Write m place bytes ∷ before) Lasting f = contents before Lasting f
+contents (Truncate m count ∷ before) Live f = if is_file f (leads before Live m) then take count (contents before Live f) else contents before Live f
+contents (Truncate m count ∷ before) Lasting f = contents before Lasting f
 contents (Sync m ∷ before) Live f = contents before Live f
 contents (Sync m ∷ before) Lasting f = if is_file f (leads before Live m) then contents before Live f else contents before Lasting f
 contents (PowerCut ∷ before) side f = contents before Lasting f

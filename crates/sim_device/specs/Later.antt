@@ -1,11 +1,13 @@
 -- What the laws of file effects speak of, the newest effect first.
 use Rattle.std.specs.Prelude.{◌≡◌, ℕ, ◌==◌, false, List, [], ◌∷◌, ◌++◌}
-use Rattle.sim_device.specs.FileEffects.{Effect, Create, Append, Sync, Rename, Link, Unlink, SyncDir, PowerCut, Live, leads, is_file}
+use Rattle.sim_device.specs.FileEffects.{Effect, Create, Append, Write, Truncate, Sync, Rename, Link, Unlink, SyncDir, PowerCut, Live, leads, is_file}
 
--- among the later effects no append went to a name that then led to this file
+-- among the later effects none wrote to or cut a name that then led to this file
 abbrev pub IsUntouched : ℕ → List Effect → List Effect → Type 0
 IsUntouched f [] before = Unit {0}
 IsUntouched f (Append m bytes ∷ later) before = (is_file f (leads (later ++ before) Live m) ≡ false) × IsUntouched f later before
+IsUntouched f (Write m place bytes ∷ later) before = (is_file f (leads (later ++ before) Live m) ≡ false) × IsUntouched f later before
+IsUntouched f (Truncate m count ∷ later) before = (is_file f (leads (later ++ before) Live m) ≡ false) × IsUntouched f later before
 IsUntouched f (Create m ∷ later) before = IsUntouched f later before
 IsUntouched f (Sync m ∷ later) before = IsUntouched f later before
 IsUntouched f (Rename a b ∷ later) before = IsUntouched f later before
@@ -19,6 +21,8 @@ abbrev pub HasNoSyncDir : List Effect → Type 0
 HasNoSyncDir [] = Unit {0}
 HasNoSyncDir (SyncDir ∷ later) = ⊥
 HasNoSyncDir (Append m bytes ∷ later) = HasNoSyncDir later
+HasNoSyncDir (Write m place bytes ∷ later) = HasNoSyncDir later
+HasNoSyncDir (Truncate m count ∷ later) = HasNoSyncDir later
 HasNoSyncDir (Create m ∷ later) = HasNoSyncDir later
 HasNoSyncDir (Sync m ∷ later) = HasNoSyncDir later
 HasNoSyncDir (Rename a b ∷ later) = HasNoSyncDir later
@@ -35,6 +39,8 @@ IsUnnamed n (Link a b ∷ later) = ((n == b) ≡ false) × IsUnnamed n later
 IsUnnamed n (Unlink m ∷ later) = ((n == m) ≡ false) × IsUnnamed n later
 IsUnnamed n (PowerCut ∷ later) = ⊥
 IsUnnamed n (Append m bytes ∷ later) = IsUnnamed n later
+IsUnnamed n (Write m place bytes ∷ later) = IsUnnamed n later
+IsUnnamed n (Truncate m count ∷ later) = IsUnnamed n later
 IsUnnamed n (Sync m ∷ later) = IsUnnamed n later
 IsUnnamed n (SyncDir ∷ later) = IsUnnamed n later
 
@@ -44,6 +50,8 @@ IsUnsynced f [] before = Unit {0}
 IsUnsynced f (Sync m ∷ later) before = (is_file f (leads (later ++ before) Live m) ≡ false) × IsUnsynced f later before
 IsUnsynced f (Create m ∷ later) before = IsUnsynced f later before
 IsUnsynced f (Append m bytes ∷ later) before = IsUnsynced f later before
+IsUnsynced f (Write m place bytes ∷ later) before = IsUnsynced f later before
+IsUnsynced f (Truncate m count ∷ later) before = IsUnsynced f later before
 IsUnsynced f (Rename a b ∷ later) before = IsUnsynced f later before
 IsUnsynced f (Link a b ∷ later) before = IsUnsynced f later before
 IsUnsynced f (Unlink m ∷ later) before = IsUnsynced f later before

@@ -1,6 +1,6 @@
 ghost use Rattle.std.specs.Prelude.{◌≡◌, ◌≤◌, ◌<◌, ◌+◌, ◌++◌, ℕ, List, [], ◌∷◌, length, take, OnOk, OnErr, MatchResult, is_some, is_none, slice_set, Some, None};
-ghost use Rattle.sim_device.specs.FileEffects.{Effect, Create, Append, Sync, Link, Unlink, SyncDir, PowerCut, Live, held};
-ghost use Rattle.sim_device.specs.Disk.{entry_at, held_at, StandsFor, AddsEffect, AddsRename};
+ghost use Rattle.sim_device.specs.FileEffects.{Effect, Create, Append, Write, Truncate, Sync, Link, Unlink, SyncDir, PowerCut, Live, held, overwritten};
+ghost use Rattle.sim_device.specs.Disk.{entry_at, held_at, StandsFor, AddsEffect, AddsRename, IsNext};
 ghost use Rattle.sim_device.specs.Refusals.{Refuses, RefusesOnly, RefusesLink};
 
 use crate::fault::DeviceFault;
@@ -45,6 +45,28 @@ fn append_at(files: &mut [File], file: usize, bytes: &[u8]) -> Result<(), AllocE
 {
     let file = &mut files[file];
     file.append(bytes)
+}
+
+/// Writes bytes at a place of one of these files.
+fn write_in(files: &mut [File], file: usize, place: usize, bytes: &[u8]) -> Result<(), AllocError>
+    requires { file < length files.old }
+    ensures ok { let old = held_at files.old file in
+        OnOk result (files.new ≡ slice_set files.old file (record { live = overwritten place bytes.now old.live; lasting = old.lasting })) }
+    ensures err { OnErr result (files.new ≡ files.old) }
+{
+    let file = &mut files[file];
+    file.write_at(place, bytes)
+}
+
+/// Leaves the first bytes of one of these files, at most `count`.
+fn truncate_at(files: &mut [File], file: usize, count: usize) -> Result<(), AllocError>
+    requires { file < length files.old }
+    ensures ok { let old = held_at files.old file in
+        OnOk result (files.new ≡ slice_set files.old file (record { live = take count old.live; lasting = old.lasting })) }
+    ensures err { OnErr result (files.new ≡ files.old) }
+{
+    let file = &mut files[file];
+    file.truncate(count)
 }
 
 /// Makes what a file holds last.
@@ -152,6 +174,42 @@ impl FileDevice {
         Ok(())
     }
 
+    /// Writes bytes at a place of a name's file, over those that are there, as pwrite(2) does: past its end the file grows, with zeros between
+    /// its end and the place. To write no bytes changes nothing. What lasts stays until the file is synced.
+    ///
+    /// # Errors
+    ///
+    /// `NotFound` where the name is not there, and else only `Memory`.
+    pub fn write_at(&mut self, name: u32, place: usize, bytes: &[u8]) -> Result<(), DeviceFault>
+        ensures ok { OnOk result (AddsEffect self.old self.new (Write name place bytes.now)) }
+        ensures err { OnErr result (self.new ≡ self.old) }
+        ensures fault { Refuses (is_none (entry_at self.old.names name).live) DeviceFault.NotFound result }
+    {
+        let Some(file) = self.directory.live(name) else {
+            return Err(DeviceFault::NotFound);
+        };
+        write_in(&mut self.files, file, place, bytes)?;
+        Ok(())
+    }
+
+    /// Leaves the first `count` bytes of a name's file, and all where there are no more. What lasts stays until the file is synced: a power cut
+    /// before it brings the bytes back that were cut off.
+    ///
+    /// # Errors
+    ///
+    /// `NotFound` where the name is not there, and else only `Memory`.
+    pub fn truncate(&mut self, name: u32, count: usize) -> Result<(), DeviceFault>
+        ensures ok { OnOk result (AddsEffect self.old self.new (Truncate name count)) }
+        ensures err { OnErr result (self.new ≡ self.old) }
+        ensures fault { Refuses (is_none (entry_at self.old.names name).live) DeviceFault.NotFound result }
+    {
+        let Some(file) = self.directory.live(name) else {
+            return Err(DeviceFault::NotFound);
+        };
+        truncate_at(&mut self.files, file, count)?;
+        Ok(())
+    }
+
     /// Makes what a name's file holds last. No name lasts by it. It takes no memory.
     ///
     /// # Errors
@@ -242,7 +300,7 @@ impl FileDevice {
         cut_files(&mut self.files, self.used);
     }
 
-    /// Lends what a name's file holds now. It takes no memory.
+    /// Lends what a name's file holds now, so its length and its parts too. It takes no memory.
     ///
     /// # Errors
     ///
@@ -256,6 +314,15 @@ impl FileDevice {
             return Err(DeviceFault::NotFound);
         };
         Ok(self.files[file].read())
+    }
+
+    /// The least name that is there now, of this one and those above it. It takes no memory, and a time by the names between the two.
+    ///
+    /// All names of the device are those from `next_name(0)` on, each asked for from the number after the last.
+    pub fn next_name(&self, from: u32) -> Option<u32>
+        ensures { IsNext self.now.names from result }
+    {
+        self.directory.next(from)
     }
 
     /// Whether a name is there now. It takes no memory.

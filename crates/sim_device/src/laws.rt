@@ -1,6 +1,6 @@
 //! Laws of devices, over every list of effects and so over every run.
-ghost use Rattle.std.specs.Prelude.{◌≡◌, ◌<◌, ℕ, List, [], ◌∷◌, ◌++◌, Some, Contains};
-ghost use Rattle.sim_device.specs.FileEffects.{Effect, Create, Append, Sync, Rename, Link, PowerCut, Side, Live, Lasting, created, leads, contents};
+ghost use Rattle.std.specs.Prelude.{◌≡◌, ◌<◌, ℕ, List, [], ◌∷◌, ◌++◌, Some, Contains, take};
+ghost use Rattle.sim_device.specs.FileEffects.{Effect, Create, Append, Write, Truncate, Sync, Rename, Link, PowerCut, Side, Live, Lasting, created, leads, contents, overwritten};
 ghost use Rattle.sim_device.specs.Later.{IsUntouched, HasNoSyncDir, IsUnnamed, IsUnsynced};
 ghost use Rattle.sim_device.specs.LogEffects.{LogEffect, Force, Restart, records, HasNoForce};
 
@@ -10,7 +10,7 @@ pub fn names_lead_to_files()
         leads effects side n ≡ Some f → f < created effects }
 {}
 
-/// Contents that were synced, and not appended to since, are what a power cut leaves.
+/// Contents that were synced, and neither written to nor cut since, are what a power cut leaves.
 pub fn synced_contents_stay()
     ensures { (later before : List Effect) (n f : ℕ) →
         leads before Live n ≡ Some f → IsUntouched f later (Sync n ∷ before) →
@@ -52,6 +52,20 @@ pub fn append_adds()
     ensures { (before : List Effect) (name f : ℕ) (bytes : List ℕ) →
         leads before Live name ≡ Some f →
         contents (Append name bytes ∷ before) Live f ≡ contents before Live f ++ bytes }
+{}
+
+/// What is written at a place lies over what the file held.
+pub fn write_overwrites()
+    ensures { (before : List Effect) (name f place : ℕ) (bytes : List ℕ) →
+        leads before Live name ≡ Some f →
+        contents (Write name place bytes ∷ before) Live f ≡ overwritten place bytes (contents before Live f) }
+{}
+
+/// What is cut leaves the first bytes, as many as it tells, or all where there are no more.
+pub fn truncate_cuts()
+    ensures { (before : List Effect) (name f count : ℕ) →
+        leads before Live name ≡ Some f →
+        contents (Truncate name count ∷ before) Live f ≡ take count (contents before Live f) }
 {}
 
 /// A link gives a file one more name.

@@ -16,6 +16,7 @@ pub use file::File;
 pub use laws::{
     append_adds, contents_last, create_names_a_new_file, forced_record_survives,
     forced_records_stay, link_adds_a_name, names_last, names_lead_to_files, new_files_are_empty,
-    rename_keeps_contents, synced_contents_stay, unforced_records_are_lost, unnamed_names_stay,
+    rename_keeps_contents, synced_contents_stay, truncate_cuts, unforced_records_are_lost,
+    unnamed_names_stay, write_overwrites,
 };
 pub use log::RecordLog;

@@ -1,7 +1,7 @@
 //! Calls of a file device that cannot be refused but for want of memory: who calls them knows which names are there.
 ghost use Rattle.std.specs.Prelude.{◌≡◌, OnOk, OnErr, IsOk, IsErr, IfErr, is_some, is_none, false};
 ghost use Rattle.sim_device.specs.declared.fault.DeviceFault.TheVariants.{Memory};
-ghost use Rattle.sim_device.specs.FileEffects.{Create, Append, Sync, Link, Unlink};
+ghost use Rattle.sim_device.specs.FileEffects.{Create, Append, Write, Truncate, Sync, Link, Unlink};
 ghost use Rattle.sim_device.specs.Disk.{entry_at, AddsEffect, AddsRename};
 
 use crate::device::FileDevice;
@@ -47,6 +47,32 @@ impl FileDevice {
         ensures err { OnErr result (self.new ≡ self.old) }
     {
         but_for_memory(self.append(name, bytes))
+    }
+
+    /// `write_at` of a name that is there.
+    ///
+    /// # Errors
+    ///
+    /// Only want of memory. The device is then as it was.
+    pub fn must_write_at(&mut self, name: u32, place: usize, bytes: &[u8]) -> Result<(), AllocError>
+        requires { is_none (entry_at self.old.names name).live ≡ false }
+        ensures ok { OnOk result (AddsEffect self.old self.new (Write name place bytes.now)) }
+        ensures err { OnErr result (self.new ≡ self.old) }
+    {
+        but_for_memory(self.write_at(name, place, bytes))
+    }
+
+    /// `truncate` of a name that is there.
+    ///
+    /// # Errors
+    ///
+    /// Only want of memory. The device is then as it was.
+    pub fn must_truncate(&mut self, name: u32, count: usize) -> Result<(), AllocError>
+        requires { is_none (entry_at self.old.names name).live ≡ false }
+        ensures ok { OnOk result (AddsEffect self.old self.new (Truncate name count)) }
+        ensures err { OnErr result (self.new ≡ self.old) }
+    {
+        but_for_memory(self.truncate(name, count))
     }
 
     /// `sync` of a name that is there. It takes no memory.

@@ -1,5 +1,5 @@
 ghost use Rattle.std.specs.Prelude.{◌≡◌, ◌≢◌, ◌<◌, ◌≤◌, ℕ, [], length, None, Some, OnOk, OnErr};
-ghost use Rattle.sim_device.specs.Disk.{entry_at, ChangesName, MovesName, IsSettledOutside};
+ghost use Rattle.sim_device.specs.Disk.{entry_at, ChangesName, IsNext, MovesName, IsSettledOutside};
 
 use std::alloc::{AllocError, Global};
 use std::marker::Model;
@@ -89,6 +89,18 @@ impl Directory {
             Some(entry) => entry.live,
             None => None,
         }
+    }
+
+    /// The least name that leads to a file now, of this one and those above it.
+    pub fn next(&self, from: u32) -> Option<u32>
+        ensures { IsNext self.now from result }
+    {
+        for place in from as usize..self.entries.len() {
+            if self.entries[place].live.is_some() {
+                return u32::try_from(place).ok();
+            }
+        }
+        None
     }
 
     /// Makes room for a name.

@@ -13,4 +13,6 @@ mod journals;
 #[cfg(test)]
 mod sinks;
 #[cfg(test)]
+mod stores;
+#[cfg(test)]
 mod transfers;
