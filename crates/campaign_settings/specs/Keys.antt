@@ -5,7 +5,7 @@ use Rattle.std.specs.Str.{bytes_eq}
 use Rattle.campaign_settings.specs.declared.keys.Key.{Key}
 use Rattle.campaign_settings.specs.declared.keys.Key.TheVariants as key
 use Rattle.campaign_settings.specs.declared.keys.Place.{Place}
-use Rattle.campaign_settings.specs.declared.keys.Place.TheVariants.{Top, Own, Within}
+use Rattle.campaign_settings.specs.declared.keys.Place.TheVariants.{Top, Own, Worded, Within}
 use Rattle.campaign_settings.specs.declared.keys.TargetName.{TargetName}
 use Rattle.campaign_settings.specs.declared.keys.TargetName.TheVariants.{Replace, Maildir, Commit, Outside}
 
@@ -30,6 +30,7 @@ key_name key.Storms = codes "storms"
 key_name key.Rate = codes "rate"
 key_name key.Depth = codes "depth"
 key_name key.Scenarios = codes "scenarios"
+key_name key.Own = codes "own"
 key_name (key.Table target) = target_name target
 key_name key.Old = codes "replace.old"
 key_name key.Replacements = codes "replace.replacements"
@@ -55,6 +56,10 @@ abbrev pub is_own_key : Text → Bool
 is_own_key name = list_any (bytes_eq name) (codes "seed" ∷ codes "workers" ∷ codes "max_hits" ∷ codes "pairs" ∷ codes "storms"
     ∷ codes "rate" ∷ codes "depth" ∷ codes "scenarios" ∷ [])
 
+-- those of one whose target takes words
+abbrev pub is_word_key : Text → Bool
+is_word_key name = list_any (bytes_eq name) (codes "variant" ∷ codes "own" ∷ [])
+
 abbrev pub is_key_of : TargetName → Text → Bool
 is_key_of Outside name = is_shared_key name
 is_key_of target name = is_shared_key name || is_bundled_key name
@@ -64,6 +69,7 @@ abbrev pub is_known : Place → Text → Bool
 is_known (Top None) name = is_shared_key name || is_bundled_key name
 is_known (Top (Some target)) name = is_key_of target name || bytes_eq name (target_name target)
 is_known Own name = is_own_key name
+is_known Worded name = is_own_key name || is_word_key name
 is_known (Within Replace) name = list_any (bytes_eq name) (codes "old" ∷ codes "replacements" ∷ [])
 is_known (Within Maildir) name = list_any (bytes_eq name) (codes "messages" ∷ [])
 is_known (Within Commit) name = list_any (bytes_eq name) (codes "participants" ∷ codes "transactions" ∷ [])
@@ -73,4 +79,5 @@ is_known (Within Outside) name = list_any (bytes_eq name) (codes "label" ∷ cod
 abbrev pub full_name : Place → Text → Text
 full_name (Top target) name = name
 full_name Own name = name
+full_name Worded name = name
 full_name (Within target) name = target_name target ++ codes "." ++ name

@@ -43,7 +43,7 @@ impl fmt::Display for SettingsFault {
         match self {
             SettingsFault::TooLong => f.write_str("settings: too long"),
             SettingsFault::NotToml => f.write_str("settings: not TOML"),
-            SettingsFault::UnknownKey(Place::Top(_) | Place::Own, name) => {
+            SettingsFault::UnknownKey(Place::Top(_) | Place::Own | Place::Worded, name) => {
                 write!(f, "settings: unknown key {name}")
             }
             SettingsFault::UnknownKey(Place::Within(target), name) => {

@@ -2,12 +2,13 @@
 ghost use Rattle.std.specs.Prelude.{◌≡◌, Some};
 ghost use Rattle.std.specs.List.{list_any};
 ghost use Rattle.std.specs.Str.{bytes_eq};
-ghost use Rattle.campaign_settings.specs.Keys.{is_bundled_key, is_key_of, is_known, is_own_key, is_shared_key, key_name, target_name};
+ghost use Rattle.campaign_settings.specs.Keys.{is_bundled_key, is_key_of, is_known, is_own_key, is_shared_key, is_word_key, key_name, target_name};
 ghost use Rattle.campaign_settings.specs.declared.keys.Place.TheVariants.{Within};
 
 use std::fmt;
 
-/// A key of the settings. `Table` is the key of a target's table; those after it stand in such a table.
+/// A key of the settings. `Own` is the table of a target's own words, `Table` the key of a bundled target's table; those after it stand in
+/// such a table.
 #[derive(Clone, Copy, Debug, PartialEq, Eq)]
 pub enum Key {
     Target,
@@ -20,6 +21,7 @@ pub enum Key {
     Rate,
     Depth,
     Scenarios,
+    Own,
     Table(TargetName),
     Old,
     Replacements,
@@ -49,12 +51,13 @@ pub enum TargetName {
     Outside,
 }
 
-/// A table of the settings: the whole, with the target that it names, or that of a program with a target of its own; or the table of a
-/// target.
+/// A table of the settings: the whole, with the target that it names, or that of a program with a target of its own, which takes words or
+/// doesn't; or the table of a target.
 #[derive(Clone, Copy, Debug)]
 pub enum Place {
     Top(Option<TargetName>),
     Own,
+    Worded,
     Within(TargetName),
 }
 
@@ -88,6 +91,7 @@ impl Key {
             Key::Rate => "rate",
             Key::Depth => "depth",
             Key::Scenarios => "scenarios",
+            Key::Own => "own",
             Key::Table(target) => target.name(),
             Key::Old => "replace.old",
             Key::Replacements => "replace.replacements",
@@ -127,6 +131,7 @@ impl Place {
             Place::Top(None) => is_shared_key(name) || is_bundled_key(name),
             Place::Top(Some(target)) => is_key_of(target, name) || name == target.name(),
             Place::Own => is_own_key(name),
+            Place::Worded => is_own_key(name) || is_word_key(name),
             Place::Within(target) => is_key_within(target, name),
         }
     }
@@ -177,6 +182,12 @@ fn is_own_key(name: &str) -> bool
             "scenarios",
         ],
     )
+}
+
+fn is_word_key(name: &str) -> bool
+    ensures { result ≡ is_word_key name.now }
+{
+    stands_in(name, &["variant", "own"])
 }
 
 fn is_key_of(target: TargetName, name: &str) -> bool

@@ -2,11 +2,12 @@
 ghost use Rattle.std.specs.Prelude.{◌≡◌, Ok, IfOk, IfErr};
 ghost use Rattle.toml.specs.View.{table_view};
 ghost use Rattle.campaign_settings.specs.Settings.{RefusedBy, members_of, settings_for, settings_in, settings_of};
-ghost use Rattle.campaign_settings.specs.Own.{own_settings_in, own_settings_of};
+ghost use Rattle.campaign_settings.specs.Own.{given_in, own_settings_in, own_settings_of, worded_settings_in, worded_settings_of};
 
 use crate::fault::SettingsFault;
 use crate::keys::{Key, Place, TargetName};
 use crate::numbers::{campaign_of, read_planning, read_planning_for, read_running};
+use crate::own::{OwnSettings, OwnWords, read_variant, read_words};
 use crate::scenarios::{read_listed, read_scenarios};
 use crate::settings::Settings;
 use crate::tables::{keyed, read_choice, refuse_unknown};
@@ -40,6 +41,17 @@ impl Settings {
         let table = read_toml(alloc, text)?;
         read_own_members(alloc, &table)
     }
+
+    /// The same of a program whose target takes words: beside the keys of `read_own` there may be a `variant`, a text, and a table `own` of
+    /// texts, whole numbers and flags under any names. `Err` is the first fault of the text in the order of `read_own`, where the variant
+    /// comes before all other keys and the table after them; a value of the table that is no word is of the wrong type.
+    pub fn read_worded(alloc: Global, text: &str) -> Result<OwnSettings, SettingsFault>
+        ensures ok { IfOk result (λ settings. worded_settings_of text.now ≡ Ok settings) }
+        ensures refused { IfErr result (RefusedBy (worded_settings_of text.now)) }
+    {
+        let table = read_toml(alloc, text)?;
+        read_worded_members(alloc, &table)
+    }
 }
 
 // The table of a text.
@@ -72,6 +84,28 @@ fn read_own_members(alloc: Global, table: &Table) -> Result<CampaignSettings, Se
     ensures refused { IfErr result (RefusedBy (own_settings_in (table_view table.now))) }
 {
     refuse_unknown(alloc, Place::Own, table)?;
+    read_given(alloc, table)
+}
+
+fn read_worded_members(alloc: Global, table: &Table) -> Result<OwnSettings, SettingsFault>
+    ensures ok { IfOk result (λ settings. worded_settings_in (table_view table.now) ≡ Ok settings) }
+    ensures refused { IfErr result (RefusedBy (worded_settings_in (table_view table.now))) }
+{
+    refuse_unknown(alloc, Place::Worded, table)?;
+    let variant = read_variant(alloc, value_at(table, "variant"))?;
+    let campaign = read_given(alloc, table)?;
+    let words = read_words(alloc, value_at(table, "own"))?;
+    Ok(OwnSettings {
+        words: OwnWords::new(variant, words),
+        campaign,
+    })
+}
+
+// What a campaign is given beside its target.
+fn read_given(alloc: Global, table: &Table) -> Result<CampaignSettings, SettingsFault>
+    ensures ok { IfOk result (λ settings. given_in (table_view table.now) ≡ Ok settings) }
+    ensures refused { IfErr result (RefusedBy (given_in (table_view table.now))) }
+{
     let running = read_running(table)?;
     let planning = read_planning(table)?;
     let scenarios = read_listed(alloc, value_at(table, "scenarios"))?;
