@@ -1,9 +1,8 @@
 -- Components that agree with a text of answers.
-use Rattle.std.proofs.Common.{◌≡◌, ℕ, ◌+◌, ◌<◌, List, [], ◌∷◌, ◌++◌, Bool, true, false, eqb, ltb, cond, length, Option, Some, None, Result, Ok, Err, refl, ap, sym, ◌∙◌, arith, subst, inl, inr, length-append}
+use Rattle.std.proofs.Common.{◌≡◌, ℕ, ◌+◌, List, [], ◌∷◌, ◌++◌, Bool, true, false, eqb, ltb, cond, length, Option, Some, None, Result, Ok, Err, refl, ap, sym, ◌∙◌, subst, inl, inr}
 use Rattle.std.proofs.Math.Path.{fun_ext}
 use Rattle.std.specs.Prelude.{option_map, unwrap_or, IfOk, codes, position}
 use Rattle.std.specs.List.{AllByRecursion, slice_split}
-use Rattle.std.specs.Map.{lookup}
 use Rattle.std.specs.Str.{is_utf8, bytes_eq}
 use Rattle.scenario_values.specs.Printed.{printed}
 use Rattle.scenario_values.specs.Scenario.{Entries, IsScenario}
@@ -12,17 +11,17 @@ use Rattle.scenario_grammar.specs.Words.{cut}
 use Rattle.target_trait.specs.declared.judgement.Verdict.{Verdict}
 use Rattle.target_trait.specs.declared.judgement.Verdict.TheVariants as verdict
 use Rattle.answer_text.specs.declared.fault.LineFault.{LineFault}
-use Rattle.answer_text.specs.declared.fault.LineFault.TheVariants.{NotUtf8, NoTab, UnknownVerdict, UnknownCode, ControlByte, Scenario, Contradicts}
+use Rattle.answer_text.specs.declared.fault.LineFault.TheVariants.{NotUtf8, NoTab, UnknownVerdict, ControlByte, Contradicts}
 use Rattle.answer_text.specs.declared.fault.AnswersFault.{AnswersFault}
 use Rattle.answer_text.specs.declared.fault.AnswersFault.TheVariants as faults
 use Rattle.answer_text.specs.declared.known.Told.{Told}
-use Rattle.answer_text.specs.Answers.{Answer, SpellsAnswer, SpellsAnswers, Says, has_control, most_bytes}
+use Rattle.answer_text.specs.Answers.{Answer, SpellsAnswers, Says, has_control, most_bytes}
 use Rattle.answer_text.specs.FirstFault.{same_verdict, told_from, with_answer, on_line, with_line, pieces_from, reading_of, answer_in, parts_in, verdict_in as verdict_of_word, scenario_in, or_fault, failed_by, failure_in, of_scenario}
 use Rattle.answer_text.specs.Known.{Book, verdict_in, known_of, known_by, Agrees, AgreesWithLine, AgreesWithText}
-use Rattle.answer_text.specs.inside.Books.{IsBookOf, Holds}
-use Rattle.answer_text.proofs.Members.{Has, same_as_itself, told_gives, told_has, same_printed, AreLawful, lawful_has, lawful_push, HasOne, told_is, has_left, has_right, has_either}
-use Rattle.answer_text.proofs.AnswerLaws.{line_gives, line_read, IsRead}
-use Rattle.answer_text.proofs.TextLaws.{Read, text_gives, text_read, Adds, with_line_gives}
+use Rattle.answer_text.specs.inside.Books.{Holds}
+use Rattle.answer_text.proofs.Members.{Has, same_as_itself, told_gives, told_has, same_printed, AreLawful, lawful_has, lawful_push, told_is, has_either}
+use Rattle.answer_text.proofs.AnswerLaws.{line_gives, line_read}
+use Rattle.answer_text.proofs.TextLaws.{Read, text_gives, text_read, with_line_gives}
 
 -- ---- what is known
 

@@ -1,6 +1,8 @@
 pub mod Lines
 pub mod Members
 pub mod Books
+pub mod HitReading
+pub mod RunReading
 pub mod AnswerLaws
 pub mod TextLaws
 pub mod TidyAgain

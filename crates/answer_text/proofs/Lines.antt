@@ -59,22 +59,31 @@ cut_range text n h =
     let rest : take (length text - (n + 1)) (drop (n + 1) text) ≡ drop (n + 1) text = take_all (length text - (n + 1)) (drop (n + 1) text) (omega (arith, length-drop (n + 1) text)) in
     ap (λ (r : List ℕ). Some (take n text, r)) rest ∙ cut_some text n h
 
-lacks_if_none : (text : List ℕ) → cut 10 text ≡ None → lacks 10 text ≡ true
-lacks_if_none [] h = refl
-lacks_if_none (b ∷ text) h = by_test (eqb b 10) (cut 10 text) refl (lacks_if_none text) h
+lacks_if_none : (c : ℕ) (text : List ℕ) → cut c text ≡ None → lacks c text ≡ true
+lacks_if_none c [] h = refl
+lacks_if_none c (b ∷ text) h = by_test (eqb b c) (cut c text) refl (lacks_if_none c text) h
   where
-    by_test : (t : Bool) (r : Option (List ℕ × List ℕ)) → eqb b 10 ≡ t → (r ≡ None → lacks 10 text ≡ true) → cond {A = Option (List ℕ × List ℕ)} t (Some ([], text)) (option_map (λ parts. (b ∷ parts.0, parts.1)) r) ≡ None → lacks 10 (b ∷ text) ≡ true
+    by_test : (t : Bool) (r : Option (List ℕ × List ℕ)) → eqb b c ≡ t → (r ≡ None → lacks c text ≡ true) → cond {A = Option (List ℕ × List ℕ)} t (Some ([], text)) (option_map (λ parts. (b ∷ parts.0, parts.1)) r) ≡ None → lacks c (b ∷ text) ≡ true
     by_test true r is ih k = absurd cc
-    by_test false None is ih k = and_both (not (eqb b 10)) (lacks 10 text) (rw is refl) (ih refl)
+    by_test false None is ih k = and_both (not (eqb b c)) (lacks c text) (rw is refl) (ih refl)
     by_test false (Some p) is ih k = absurd cc
 
+pub split_none_at : (c : ℕ) (text : List ℕ) → cut c text ≡ None → slice_split (λ b. eqb b c) text ≡ text ∷ []
+split_none_at c text h = byte_none c text (lacks_if_none c text h)
+
+pub split_first_at : (c : ℕ) (text front rest : List ℕ) → cut c text ≡ Some (front, rest) → slice_split (λ b. eqb b c) text ≡ front ∷ slice_split (λ b. eqb b c) rest
+split_first_at c text front rest h =
+    ap (slice_split (λ b. eqb b c)) (cut_gives c text front rest h)
+    ∙ byte_cut c front rest (same_byte c) (cut_front_lacks c text front rest h)
+
 pub split_one : (text : List ℕ) → cut 10 text ≡ None → slice_split (λ b. eqb b 10) text ≡ text ∷ []
-split_one text h = byte_none 10 text (lacks_if_none text h)
+split_one text h = split_none_at 10 text h
 
 pub split_first : (text front rest : List ℕ) → cut 10 text ≡ Some (front, rest) → slice_split (λ b. eqb b 10) text ≡ front ∷ slice_split (λ b. eqb b 10) rest
-split_first text front rest h =
-    ap (slice_split (λ b. eqb b 10)) (cut_gives 10 text front rest h)
-    ∙ byte_cut 10 front rest (same_byte 10) (cut_front_lacks 10 text front rest h)
+split_first text front rest h = split_first_at 10 text front rest h
+
+pub shorter_at : (c : ℕ) (text front rest : List ℕ) → cut c text ≡ Some (front, rest) → length rest < length text
+shorter_at c text front rest h = let e = cut_gives c text front rest h in rw e (simp length-append (omega arith))
 
 pub shorter : (text front rest : List ℕ) → cut 10 text ≡ Some (front, rest) → length rest < length text
-shorter text front rest h = let e = cut_gives 10 text front rest h in rw e (simp length-append (omega arith))
+shorter text front rest h = shorter_at 10 text front rest h

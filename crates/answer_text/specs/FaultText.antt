@@ -3,7 +3,7 @@ use Rattle.std.specs.Prelude.{ℕ, List, ◌++◌, codes}
 use Rattle.std.specs.Fmt.{decimal}
 use Rattle.scenario_grammar.specs.FaultText.{kind_text}
 use Rattle.answer_text.specs.declared.fault.LineFault.{LineFault}
-use Rattle.answer_text.specs.declared.fault.LineFault.TheVariants.{NotEnded, NotUtf8, NoTab, UnknownVerdict, UnknownCode, ControlByte, Scenario, Contradicts}
+use Rattle.answer_text.specs.declared.fault.LineFault.TheVariants.{NotEnded, NotUtf8, NoTab, UnknownVerdict, UnknownCode, ControlByte, Scenario, NoHits, UnknownPoint, BadCount, NotJoined, Contradicts}
 use Rattle.answer_text.specs.declared.fault.AnswersFault.{AnswersFault}
 use Rattle.answer_text.specs.declared.fault.AnswersFault.TheVariants as faults
 
@@ -15,6 +15,10 @@ fault_text UnknownVerdict = codes "unknown verdict"
 fault_text UnknownCode = codes "unknown code"
 fault_text ControlByte = codes "control byte"
 fault_text (Scenario kind entry term) = kind_text kind ++ codes " entry " ++ decimal entry ++ codes " term " ++ decimal term
+fault_text NoHits = codes "no hits"
+fault_text UnknownPoint = codes "unknown point"
+fault_text BadCount = codes "bad count"
+fault_text NotJoined = codes "not joined"
 fault_text (Contradicts line) = codes "contradicts line " ++ decimal line
 
 abbrev pub line_of : AnswersFault → List ℕ

@@ -27,7 +27,17 @@ pub enum LineFault {
     /// What stands after the tab spells no scenario: what is wrong, in which piece and in which term, both numbered from 1, as the
     /// grammar of scenarios tells it.
     Scenario { kind: Kind, entry: u32, term: u32 },
-    /// The line of this number, from 1, is the first to answer the same tidied scenario, and gives it another verdict.
+    /// The hits of the run are wanted, and the line has no second tab.
+    NoHits,
+    /// What stands between two `;` of the hits names no point, with or without a count before it.
+    UnknownPoint,
+    /// What stands before the `*` of hits in a row is no number from 2 to 4294967295 as it is written in decimals, or the line has more hits
+    /// than that in all.
+    BadCount,
+    /// The hits name one point twice in a row, where it takes a count.
+    NotJoined,
+    /// The line of this number, from 1, is the first to answer the same tidied scenario, and gives it another verdict, or where hits are told
+    /// other hits.
     Contradicts(u32),
 }
 
@@ -45,6 +55,10 @@ impl fmt::Display for LineFault {
             LineFault::Scenario { kind, entry, term } => {
                 write!(f, "{kind} entry {entry} term {term}")
             }
+            LineFault::NoHits => f.write_str("no hits"),
+            LineFault::UnknownPoint => f.write_str("unknown point"),
+            LineFault::BadCount => f.write_str("bad count"),
+            LineFault::NotJoined => f.write_str("not joined"),
             LineFault::Contradicts(line) => write!(f, "contradicts line {line}"),
         }
     }

@@ -19,7 +19,7 @@ fn has_control(text: &str) -> bool
 
 /// What stands before the first tab of a line, and what stands after it.
 #[tactic(auto, unfolding(crate::specs::FirstFault::parts_in))]
-fn parts_in(line: &[u8]) -> Result<(&str, &str), LineError>
+pub fn parts_in(line: &[u8]) -> Result<(&str, &str), LineError>
     ensures { Gives (λ x. (x.0.now, x.1.now)) result (parts_in line.now) }
 {
     let Ok(line) = str::from_utf8(line) else {
@@ -31,8 +31,9 @@ fn parts_in(line: &[u8]) -> Result<(&str, &str), LineError>
     }
 }
 
+/// The scenario that a text spells, before it is tidied.
 #[tactic(auto, unfolding(crate::specs::FirstFault::scenario_in))]
-fn scenario_in(alloc: Global, text: &str) -> Result<Scenario, LineError>
+pub fn scenario_in(alloc: Global, text: &str) -> Result<Scenario, LineError>
     ensures { Gives (λ s. s) result (scenario_in text.now) }
 {
     if text == "none" {

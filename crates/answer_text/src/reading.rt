@@ -24,7 +24,7 @@ fn line_feed(text: &[u8]) -> Option<usize>
 }
 
 /// The first line without its line feed, and what follows it, where a line feed ends it.
-fn cut_line(text: &[u8]) -> Option<(&[u8], &[u8])>
+pub fn cut_line(text: &[u8]) -> Option<(&[u8], &[u8])>
     ensures { option_map (λ x. (x.0.now, x.1.now)) result ≡ cut 10 text.now }
 {
     match line_feed(text) {
@@ -50,7 +50,7 @@ fn read_line(
 }
 
 /// What is wrong with a line, as the fault of the text.
-fn fault_at(number: u32, error: LineError) -> AnswersFault
+pub fn fault_at(number: u32, error: LineError) -> AnswersFault
     ensures { result ≡ fault_at number error }
 {
     match error {

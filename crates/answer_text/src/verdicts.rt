@@ -8,10 +8,11 @@ use scenario_grammar::cut_once;
 use scenario_values::Text;
 use target_trait::Verdict;
 
-fn place_of(name: &str, codes: &[Text]) -> Option<usize>
-    ensures { result ≡ position (bytes_eq name.now) codes.now }
+/// The place of a name among names.
+pub fn place_of(name: &str, names: &[Text]) -> Option<usize>
+    ensures { result ≡ position (bytes_eq name.now) names.now }
 {
-    codes.iter().position(|code| name == code.as_str())
+    names.iter().position(|other| name == other.as_str())
 }
 
 /// The verdict that a word names, where each code is named by its text.

@@ -1,0 +1,103 @@
+-- The hits of a run, as a line tells them: the points in order, joined by `;`, where n hits of one point in a row are written `n*point` for
+-- n > 1. No hits at all are the empty text. The format is this project's own.
+use Rattle.std.specs.Prelude.{ℕ, ◌+◌, ◌==◌, ◌&&◌, List, [], ◌∷◌, ◌++◌, Bool, true, false, Option, Some, None, Result, Ok, Err, position, length, ◌-◌, slice_get, slice_index_or, map, sum, nat_lt, nat_le, if◌then◌else◌, codes, replicate}
+use Rattle.std.specs.Fmt.{decimal}
+use Rattle.std.specs.List.{slice_split, flat_map}
+use Rattle.std.specs.Str.{bytes_eq}
+use Rattle.scenario_grammar.specs.Words.{cut}
+use Rattle.scenario_grammar.specs.FirstFault.{◌>>=◌, number_up_to}
+use Rattle.answer_text.specs.declared.fault.LineFault.{LineFault}
+use Rattle.answer_text.specs.declared.fault.LineFault.TheVariants.{UnknownPoint, BadCount, NotJoined}
+use Rattle.answer_text.specs.declared.hits.Stretch.{Stretch}
+use Rattle.answer_text.specs.FirstFault.{or_fault}
+
+-- so many hits of a point in a row
+abbrev pub stretch : ℕ → ℕ → Stretch
+stretch point count = record { point = point; count = count }
+
+-- the points of the hits, one for each, in order
+abbrev pub points_of : List Stretch → List ℕ
+points_of hits = flat_map (λ s. replicate s.count s.point) hits
+
+-- how many hits there are
+abbrev pub count_of : List Stretch → ℕ
+count_of hits = sum (map (λ s. s.count) hits)
+
+-- the most hits that a line tells
+abbrev pub most_hits : ℕ
+most_hits = 4294967295
+
+-- ---- the text of hits
+
+abbrev pub count_text : ℕ → List ℕ
+count_text count = if count == 1 then [] else decimal count ++ codes "*"
+
+abbrev pub stretch_text : List (List ℕ) → Stretch → List ℕ
+stretch_text points s = count_text s.count ++ slice_index_or points s.point []
+
+abbrev pub hits_text : List (List ℕ) → List Stretch → List ℕ
+hits_text points [] = []
+hits_text points (s ∷ []) = stretch_text points s
+hits_text points (s ∷ t ∷ more) = stretch_text points s ++ (59 ∷ hits_text points (t ∷ more))
+
+-- ---- a text of hits, read
+
+-- a number from 2 on, as it is written
+abbrev pub count_by : List ℕ → Option ℕ → Option ℕ
+count_by text None = None
+count_by text (Some n) = if nat_le 2 n && bytes_eq text (decimal n) then Some n else None
+
+abbrev pub count_in : List ℕ → Option ℕ
+count_in text = count_by text (number_up_to most_hits text)
+
+-- what counts hits in a row, and the name of their point
+abbrev pub counted_in : List (List ℕ) → Option (List ℕ × List ℕ) → Result Stretch LineFault
+counted_in points None = Err UnknownPoint
+counted_in points (Some parts) = or_fault BadCount (count_in parts.0) >>= λ count.
+    or_fault UnknownPoint (position (bytes_eq parts.1) points) >>= λ point. Ok (stretch point count)
+
+-- a point's whole name is one hit, also where it looks like counted hits of another
+abbrev pub item_by : List (List ℕ) → List ℕ → Option ℕ → Result Stretch LineFault
+item_by points item None = counted_in points (cut 42 item)
+item_by points item (Some point) = Ok (stretch point 1)
+
+unfoldable pub item_in : List (List ℕ) → List ℕ → Result Stretch LineFault
+item_in points item = item_by points item (position (bytes_eq item) points)
+
+-- whether the last of these hits are of a point
+abbrev pub is_of : Option Stretch → ℕ → Bool
+is_of None point = false
+is_of (Some s) point = s.point == point
+
+abbrev pub ends_with : List Stretch → ℕ → Bool
+ends_with hits point = is_of (slice_get hits (length hits - 1)) point
+
+-- the hits with those of one more item
+unfoldable pub with_item : List Stretch → Stretch → Result (List Stretch) LineFault
+with_item before s =
+    if ends_with before s.point then Err NotJoined
+    else if nat_lt most_hits (count_of before + s.count) then Err BadCount
+    else Ok (before ++ s ∷ [])
+
+-- the hits with those of the items between the `;`
+unfoldable pub items_from : List (List ℕ) → List Stretch → List (List ℕ) → Result (List Stretch) LineFault
+items_from points before [] = Ok before
+items_from points before (item ∷ items) = item_in points item >>= λ s. with_item before s >>= λ after. items_from points after items
+
+abbrev pub hits_in : List (List ℕ) → List ℕ → Result (List Stretch) LineFault
+hits_in points [] = Ok []
+hits_in points (b ∷ bs) = items_from points [] (slice_split (λ b. b == 59) (b ∷ bs))
+
+-- ---- hits compared
+
+abbrev pub are_same : List Stretch → List Stretch → Bool
+are_same [] [] = true
+are_same [] (t ∷ ts) = false
+are_same (s ∷ ss) [] = false
+are_same (s ∷ ss) (t ∷ ts) = (s.point == t.point) && (s.count == t.count) && are_same ss ts
+
+abbrev pub same_hits : Option (List Stretch) → Option (List Stretch) → Bool
+same_hits None None = true
+same_hits None (Some b) = false
+same_hits (Some a) None = false
+same_hits (Some a) (Some b) = are_same a b

@@ -1,0 +1,182 @@
+//! The hits of a run, read.
+ghost use Rattle.std.specs.Prelude.{◌≡◌, ◌≤◌, ◌<◌, ◌^◌, length, OnOk, IfOk};
+ghost use Rattle.std.specs.Char.{is_ascii_digit};
+ghost use Rattle.std.specs.List.{list_all};
+ghost use Rattle.scenario_grammar.specs.FirstFault.{number_up_to};
+ghost use Rattle.scenario_grammar.specs.Words.{is_number};
+ghost use Rattle.answer_text.specs.FirstFault.{Gives};
+ghost use Rattle.answer_text.specs.Hits.{are_same, count_in, count_of, ends_with, hits_in, item_in, most_hits, same_hits, with_item};
+
+use crate::fault::{LineError, LineFault};
+use crate::verdicts::place_of;
+use itoa::Buffer;
+use scenario_grammar::{Text, cut_once};
+use std::alloc::Global;
+use std::marker::Model;
+
+/// So many hits of a point, of which there is at least one, in a row. The point is a place among names.
+#[derive(Clone, Copy, Debug, PartialEq, Eq)]
+pub struct Stretch {
+    pub point: u32,
+    pub count: u32,
+}
+
+/// The hits of a run, in order, as stretches of hits of one point. Contracts see the list of the stretches.
+#[derive(Debug, Drop)]
+pub struct Hits {
+    stretches: Vec<Stretch>,
+}
+
+impl Model for Hits {
+    ghost use Rattle.std.specs.Prelude.{List};
+    ghost use Rattle.answer_text.specs.declared.hits.Stretch.{Stretch};
+
+    ghost Value = { List Stretch };
+
+    ghost view = { λ h. h.stretches.items };
+}
+
+impl Hits {
+    /// The stretches, no two in a row of one point.
+    pub fn stretches(&self) -> &[Stretch]
+        ensures { result.now ≡ self.now }
+    {
+        self.stretches.as_slice()
+    }
+}
+
+fn all_digits(bytes: &[u8]) -> bool
+    ensures { result ≡ list_all is_ascii_digit bytes.now }
+{
+    bytes.iter().all(|b| b.is_ascii_digit())
+}
+
+/// Whether the text is one or more digits.
+fn is_number(text: &str) -> bool
+    ensures { result ≡ is_number text.now }
+{
+    !text.is_empty() && all_digits(text.as_bytes())
+}
+
+/// The number, where the text is one or more digits and it fits.
+fn number_in(text: &str) -> Option<u32>
+    ensures { result ≡ number_up_to most_hits text.now }
+{
+    if !is_number(text) {
+        return None;
+    }
+    match text.parse::<u32>() {
+        Err(_) => None,
+        Ok(number) => Some(number),
+    }
+}
+
+/// The count of hits in a row, where the text is a number from 2 on, as it is written.
+fn count_in(text: &str) -> Option<u32>
+    ensures { result ≡ count_in text.now }
+{
+    let count = number_in(text)?;
+    let mut buffer = Buffer::new();
+    let written = buffer.format(count);
+    if count >= 2 && text == written {
+        Some(count)
+    } else {
+        None
+    }
+}
+
+/// The hits of an item: a point's name, or a count, a `*` and a point's name.
+#[tactic(auto, unfolding(crate::specs::Hits::item_in))]
+fn item_in(points: &[Text], item: &str) -> Result<Stretch, LineError>
+    requires { length points.now < 2 ^ 32 }
+    ensures { Gives (λ s. s) result (item_in points.now item.now) }
+{
+    if let Some(point) = place_of(item, points) {
+        return Ok(Stretch {
+            point: point as u32,
+            count: 1,
+        });
+    }
+    let Some((count, name)) = cut_once(item, '*') else {
+        return Err(LineError::Bad(LineFault::UnknownPoint));
+    };
+    let Some(count) = count_in(count) else {
+        return Err(LineError::Bad(LineFault::BadCount));
+    };
+    match place_of(name, points) {
+        Some(point) => Ok(Stretch {
+            point: point as u32,
+            count,
+        }),
+        None => Err(LineError::Bad(LineFault::UnknownPoint)),
+    }
+}
+
+/// Whether the last of these hits are of a point.
+fn ends_with(hits: &[Stretch], point: u32) -> bool
+    ensures { result ≡ ends_with hits.now point }
+{
+    match hits.last() {
+        Some(stretch) => stretch.point == point,
+        None => false,
+    }
+}
+
+/// Adds the hits of one more item to so many, and answers how many there are then. An `Err` changes nothing.
+#[tactic(auto, unfolding(crate::specs::Hits::with_item))]
+fn add(hits: &mut Vec<Stretch>, total: u32, stretch: Stretch) -> Result<u32, LineError>
+    requires { total ≡ count_of hits.old.items }
+    ensures added { Gives (λ _. hits.new.items) result (with_item hits.old.items stretch) }
+    ensures total { IfOk result (λ more. more ≡ count_of hits.new.items) }
+{
+    if ends_with(hits.as_slice(), stretch.point) {
+        return Err(LineError::Bad(LineFault::NotJoined));
+    }
+    let Some(more) = total.checked_add(stretch.count) else {
+        return Err(LineError::Bad(LineFault::BadCount));
+    };
+    hits.push(stretch)?;
+    Ok(more)
+}
+
+/// Whether two lists of stretches are the same.
+fn are_same(a: &[Stretch], b: &[Stretch]) -> bool
+    ensures { result ≡ are_same a.now b.now }
+{
+    a == b
+}
+
+/// Whether the same hits are told, or none are known either time.
+pub fn same_hits(a: &Option<Hits>, b: &Option<Hits>) -> bool
+    ensures { result ≡ same_hits a.now b.now }
+{
+    match (a, b) {
+        (None, None) => true,
+        (Some(a), Some(b)) => are_same(a.stretches(), b.stretches()),
+        _ => false,
+    }
+}
+
+/// The hits that a text tells: items joined by `;`, each the name of a point, or the count of hits of one point in a row, from 2 on, a `*`
+/// and its name. No hits are the empty text.
+///
+/// `Err` is the first fault from the left, as [`LineFault`] tells it: `UnknownPoint`, `BadCount` or `NotJoined`; or want of memory.
+pub fn hits_in(alloc: Global, points: &[Text], text: &str) -> Result<Hits, LineError>
+    requires { length points.now < 2 ^ 32 }
+    ensures { Gives (λ hits. hits) result (hits_in points.now text.now) }
+{
+    let mut hits = Vec::new(alloc);
+    if text.is_empty() {
+        return Ok(Hits { stretches: hits });
+    }
+    let mut total = 0;
+    let mut rest = text;
+    while let Some((item, after)) = cut_once(rest, ';') {
+        let stretch = item_in(points, item)?;
+        total = add(&mut hits, total, stretch)?;
+        rest = after;
+    }
+    let stretch = item_in(points, rest)?;
+    add(&mut hits, total, stretch)?;
+    Ok(Hits { stretches: hits })
+}

@@ -1,0 +1,7 @@
+pub mod Sites
+pub mod Listed
+pub mod Walked
+pub mod Steps
+pub mod Kept
+pub mod Ends
+pub mod Breaking

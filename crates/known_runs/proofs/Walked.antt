@@ -1,0 +1,265 @@
+-- A walk over known runs comes to the plan whose run rigged hits have.
+use Rattle.std.proofs.Common.{◌≡◌, ℕ, zero, suc, ◌+◌, ◌≤◌, ◌==◌, ◌&&◌, Bool, true, false, cond, List, [], ◌∷◌, ◌++◌, map, refl, ap, sym, ◌∙◌, subst, arith, append_assoc}
+use Rattle.std.specs.Prelude.{Contains, Option, Some, None, find}
+use Rattle.std.specs.Option.{option_map_or}
+use Rattle.std.specs.List.{AllByRecursion}
+use Rattle.std.proofs.lemmas.List.Elements.{Contains-append_left}
+use Rattle.std.proofs.lemmas.Bool.Decides.{nat_tests}
+use Rattle.action_eval.specs.declared.rig.Site.{Site}
+use Rattle.action_eval.specs.declared.rig.Rig.{Rig}
+use Rattle.action_eval.specs.declared.rig.Kind.{Kind}
+use Rattle.action_eval.specs.Answers.{Reply, Go, given_of}
+use Rattle.action_eval.specs.Rigging.{rig, rigging}
+use Rattle.target_trait.specs.Outcomes.{judged}
+use Rattle.plan_gen.specs.RiggedAnswers.{AreInOrder, acts_at, reply_by, rigged_reply}
+use Rattle.grown_plans.specs.Runs.{Met, met, run}
+use Rattle.grown_plans.specs.GrownPlans.{Subject, run_of_plan, hits_after, hits_past, grown_at, children, level, levels, onward}
+use Rattle.grown_plans.specs.AskedPoints.{sites_from, sites_past}
+use Rattle.grown_plans.specs.Promises.{IsLawful, KeepsPrefix}
+use Rattle.grown_plans.proofs.Members.{all_weaker, all_append, all_both, all_contains, contains_head, contains_tail, contains_map, contains_flat}
+use Rattle.grown_plans.proofs.Paths.{IsPath, Fresh, AnsweredBy, replies_of, hit_fresh, same_path}
+use Rattle.grown_plans.proofs.PlayedRuns.{run_path}
+use Rattle.grown_plans.proofs.PlanRuns.{plan_path, plan_judged, rigs_answered, rigs_judged}
+use Rattle.grown_plans.proofs.Levels.{IsGrown, hits_after_split, level_grown}
+use Rattle.grown_plans.proofs.Apart.{level_in_levels}
+use Rattle.grown_plans.proofs.AskedSites.{sites_of}
+use Rattle.known_runs.specs.Known.{Agrees, KnownRuns, hits_of}
+use Rattle.known_runs.specs.Walks.{acting_by, first_acting, next_of, next_told, walk_on, walk_from}
+use Rattle.known_runs.specs.Promises.{IsRunOf, WalksRight}
+use Rattle.known_runs.proofs.Sites.{past_told, hits_true}
+
+abbrev AllGo : List Met → Type 0
+AllGo ms = AllByRecursion (λ m. m.reply ≡ Go) ms
+
+-- what rigged hits answer at a site
+abbrev answers : List Rig → Site → Reply
+answers rigs s = rigged_reply rigs s.point s.hit
+
+-- ---- where a rigged hit acts first
+
+record Found (rigs : List Rig) (s : Site) (r : Rig) : Type 0 where
+  in' : Contains rigs r
+  acts : acts_at s.point s.hit r ≡ true
+
+found : (rigs : List Rig) (s : Site) (r : Rig) → find (acts_at s.point s.hit) rigs ≡ Some r → Found rigs s r
+found [] s r e = absurd cc
+found (x ∷ rigs) s r e = by_test (found rigs s r) (acts_at s.point s.hit x) refl e
+  where
+    by_test : (find (acts_at s.point s.hit) rigs ≡ Some r → Found rigs s r) → (b : Bool) → acts_at s.point s.hit x ≡ b → cond b (Some x) (find (acts_at s.point s.hit) rigs) ≡ Some r → Found (x ∷ rigs) s r
+    by_test later true h k = let same : x ≡ r = cc in subst (λ (y : Rig). Found (x ∷ rigs) s y) same (record { in' = contains_head x rigs; acts = h })
+    by_test later false h k = let f = later k in record { in' = contains_tail x r rigs f.in'; acts = f.acts }
+
+record FirstAt (rigs : List Rig) (ms : List Met) (r : Rig) : Type 0 where
+  before : List Met
+  here : Met
+  after : List Met
+  split : ms ≡ before ++ here ∷ after
+  site : here.site ≡ r.site
+  quiet : AllByRecursion (λ m. answers rigs m.site ≡ Go) before
+  acts : answers rigs here.site ≡ reply_by r.kind
+  rigged : Rig
+  found : Found rigs here.site rigged
+  kind : rigged.kind ≡ r.kind
+
+first_at : (rigs : List Rig) (ms : List Met) (r : Rig) → first_acting rigs (sites_of ms) ≡ Some r → FirstAt rigs ms r
+first_at rigs [] r e = absurd cc
+first_at rigs (m ∷ ms) r e = by_found (first_at rigs ms r) (find (acts_at m.site.point m.site.hit) rigs) refl e
+  where
+    by_found : (first_acting rigs (sites_of ms) ≡ Some r → FirstAt rigs ms r) → (o : Option Rig) → find (acts_at m.site.point m.site.hit) rigs ≡ o → acting_by m.site o (first_acting rigs (sites_of ms)) ≡ Some r → FirstAt rigs (m ∷ ms) r
+    by_found further None f k =
+        let later = further k in
+        record {
+          before = m ∷ later.before;
+          here = later.here;
+          after = later.after;
+          split = ap (λ (l : List Met). m ∷ l) later.split;
+          site = later.site;
+          quiet = (ap (λ (o : Option Rig). option_map_or (λ x. reply_by x.kind) o Go) f, later.quiet);
+          acts = later.acts;
+          rigged = later.rigged;
+          found = later.found;
+          kind = later.kind;
+        }
+    by_found further (Some x) f k =
+        let same : rig m.site x.kind ≡ r = cc in
+        record {
+          before = [];
+          here = m;
+          after = ms;
+          split = refl;
+          site = ap (λ (y : Rig). y.site) same;
+          quiet = tt;
+          acts = ap (λ (o : Option Rig). option_map_or (λ y. reply_by y.kind) o Go) f ∙ ap (λ (y : Rig). reply_by y.kind) same;
+          rigged = x;
+          found = found rigs m.site x f;
+          kind = ap (λ (y : Rig). y.kind) same;
+        }
+
+none_acts : (rigs : List Rig) (ms : List Met) → first_acting rigs (sites_of ms) ≡ None → AllByRecursion (λ m. answers rigs m.site ≡ Go) ms
+none_acts rigs [] e = tt
+none_acts rigs (m ∷ ms) e = by_found (none_acts rigs ms) (find (acts_at m.site.point m.site.hit) rigs) refl e
+  where
+    by_found : (first_acting rigs (sites_of ms) ≡ None → AllByRecursion (λ x. answers rigs x.site ≡ Go) ms) → (o : Option Rig) → find (acts_at m.site.point m.site.hit) rigs ≡ o → acting_by m.site o (first_acting rigs (sites_of ms)) ≡ None → AllByRecursion (λ x. answers rigs x.site ≡ Go) (m ∷ ms)
+    by_found later None f k = (ap (λ (o : Option Rig). option_map_or (λ x. reply_by x.kind) o Go) f, later k)
+    by_found later (Some x) f k = absurd cc
+
+-- ---- a plan whose run begins as that of rigged hits
+
+record Follows (t : Subject) (rigs plan : List Rig) : Type 0 where
+  early : List Met
+  late : List Met
+  runs : run_of_plan t plan ≡ early ++ late
+  past : hits_past plan (run_of_plan t plan) ≡ late
+  still : AllGo late
+  so : AnsweredBy (answers rigs) early
+
+begins : (t : Subject) (rigs : List Rig) → KeepsPrefix t [] → Follows t rigs []
+begins t rigs k = record { early = []; late = run_of_plan t []; runs = refl; past = refl; still = k; so = tt }
+
+-- a hit stands in a run at one place
+one_place : (b c : List Met) (m n : Met) (a e : List Met) → Fresh m.site b → Fresh n.site c → m.site ≡ n.site → b ++ m ∷ a ≡ c ++ n ∷ e → b ≡ c
+one_place [] [] m n a e f g s h = refl
+one_place [] (y ∷ c) m n a e f g s h = absurd (g.0 (let first : m ≡ y = cc in ap (λ (x : Met). x.site) (sym first) ∙ s))
+one_place (x ∷ b) [] m n a e f g s h = absurd (f.0 (let first : x ≡ n = cc in ap (λ (y : Met). y.site) first ∙ sym s))
+one_place (x ∷ b) (y ∷ c) m n a e f g s h =
+    let first : x ≡ y = cc in
+    let rest : b ++ m ∷ a ≡ c ++ n ∷ e = cc in
+    ap (λ (z : Met). z ∷ b) first ∙ ap (λ (l : List Met). y ∷ l) (one_place b c m n a e f.1 g.1 s rest)
+
+so_far : (rigs : List Rig) (ms : List Met) → AllGo ms → AllByRecursion (λ m. answers rigs m.site ≡ Go) ms → AnsweredBy (answers rigs) ms
+so_far rigs ms go quiet = all_weaker (λ (m : Met). (m.reply ≡ Go) × (answers rigs m.site ≡ Go)) (λ (m : Met). m.reply ≡ answers rigs m.site) (λ m h. h.0 ∙ sym h.1) ms (all_both _ _ ms go quiet)
+
+all_front : {A : Type 0} (P : A → Type 0) → (xs ys : List A) → AllByRecursion P (xs ++ ys) → AllByRecursion P xs
+all_front P [] ys a = tt
+all_front P (x ∷ xs) ys a = (a.0, all_front P xs ys a.1)
+
+goes_on : (t : Subject) (rigs plan : List Rig) (r : Rig) → (f : Follows t rigs plan) → FirstAt rigs f.late r → KeepsPrefix t (r ∷ plan) → Follows t rigs (r ∷ plan)
+goes_on t rigs plan r f h k =
+    let before : List Met = k.0 in
+    let past : List Met = k.1 in
+    let rest : List Met = k.2 in
+    let parent : run_of_plan t plan ≡ before ++ met r.site Go ∷ past = k.3 in
+    let child : run_of_plan t (r ∷ plan) ≡ before ++ met r.site (reply_by r.kind) ∷ rest = k.4 in
+    let path : IsPath t.asks t.limit [] (before ++ met r.site Go ∷ past) = subst (λ (l : List Met). IsPath t.asks t.limit [] l) parent (plan_path t plan) in
+    let fresh : Fresh r.site before = hit_fresh t.asks t.limit before (met r.site Go) past path in
+    let whole : run_of_plan t plan ≡ (f.early ++ h.before) ++ h.here ∷ h.after = f.runs ∙ ap (λ (l : List Met). f.early ++ l) h.split ∙ sym (append_assoc f.early h.before (h.here ∷ h.after)) in
+    let path' : IsPath t.asks t.limit [] ((f.early ++ h.before) ++ h.here ∷ h.after) = subst (λ (l : List Met). IsPath t.asks t.limit [] l) whole (plan_path t plan) in
+    let fresh' : Fresh h.here.site (f.early ++ h.before) = hit_fresh t.asks t.limit (f.early ++ h.before) h.here h.after path' in
+    let same : f.early ++ h.before ≡ before = one_place (f.early ++ h.before) before h.here (met r.site Go) h.after past fresh' fresh h.site (sym whole ∙ parent) in
+    let still : AllGo (h.before ++ h.here ∷ h.after) = subst AllGo h.split f.still in
+    let quiet : AnsweredBy (answers rigs) h.before = so_far rigs h.before (all_front (λ (m : Met). m.reply ≡ Go) h.before (h.here ∷ h.after) still) h.quiet in
+    let front : AnsweredBy (answers rigs) before = subst (AnsweredBy (answers rigs)) same (all_append (λ (m : Met). m.reply ≡ answers rigs m.site) f.early h.before f.so quiet) in
+    let here : reply_by r.kind ≡ answers rigs r.site = sym h.acts ∙ ap (answers rigs) h.site in
+    record {
+      early = before ++ met r.site (reply_by r.kind) ∷ [];
+      late = rest;
+      runs = child ∙ sym (append_assoc before (met r.site (reply_by r.kind) ∷ []) rest);
+      past = ap (hits_after r.site) child ∙ hits_after_split r.site before (met r.site (reply_by r.kind)) rest fresh refl;
+      still = k.5;
+      so = all_append (λ (m : Met). m.reply ≡ answers rigs m.site) before (met r.site (reply_by r.kind) ∷ []) front (here, tt);
+    }
+
+-- ---- the plan that it comes to
+
+abbrev AreTried : Subject → List Rig → Type 0
+AreTried t rigs = AllByRecursion (λ r. Contains (t.kinds r.site.point) r.kind) rigs
+
+acts_there : (p : ℕ) (r : Rig) (b : Bool) → ((r.site.point == p) && b) ≡ true → r.site.point ≡ p
+acts_there p r b e = by_test (r.site.point == p) refl e
+  where
+    by_test : (x : Bool) → (r.site.point == p) ≡ x → (x && b) ≡ true → r.site.point ≡ p
+    by_test true h k = grind (arith, nat_tests, h)
+    by_test false h k = absurd cc
+
+is_tried : (t : Subject) (rigs : List Rig) (ms : List Met) (r : Rig) → AreTried t rigs → (h : FirstAt rigs ms r) → Contains (t.kinds h.here.site.point) r.kind
+is_tried t rigs ms r a h =
+    let k : Contains (t.kinds h.rigged.site.point) h.rigged.kind = all_contains (λ (x : Rig). Contains (t.kinds x.site.point) x.kind) rigs h.rigged a h.found.in' in
+    let at : h.rigged.site.point ≡ h.here.site.point = acts_there h.here.site.point h.rigged _ h.found.acts in
+    let k' : Contains (t.kinds h.here.site.point) h.rigged.kind = subst (λ (p : ℕ). Contains (t.kinds p) h.rigged.kind) at k in
+    subst (λ (x : Kind). Contains (t.kinds h.here.site.point) x) h.kind k'
+
+at_place : {A : Type 0} (b : List A) (x : A) (a : List A) → Contains (b ++ x ∷ a) x
+at_place [] x a = contains_head x a
+at_place (y ∷ b) x a = contains_tail y x (b ++ x ∷ a) (at_place b x a)
+
+is_child : (t : Subject) (rigs plan : List Rig) (r : Rig) → AreTried t rigs → (f : Follows t rigs plan) → FirstAt rigs f.late r → Contains (children t plan) (r ∷ plan)
+is_child t rigs plan r a f h =
+    let there : Contains (hits_past plan (run_of_plan t plan)) h.here = subst (λ (l : List Met). Contains l h.here) (sym (f.past ∙ h.split)) (at_place h.before h.here h.after) in
+    let one : Contains (grown_at t plan h.here) (rig h.here.site r.kind ∷ plan) = contains_map (λ kind. rig h.here.site kind ∷ plan) (t.kinds h.here.site.point) r.kind (is_tried t rigs f.late r a h) in
+    let all : Contains (children t plan) (rig h.here.site r.kind ∷ plan) = contains_flat (grown_at t plan) (hits_past plan (run_of_plan t plan)) h.here (rig h.here.site r.kind ∷ plan) there one in
+    subst (λ (s : Site). Contains (children t plan) (rig s r.kind ∷ plan)) h.site all
+
+in_next : (t : Subject) (n : ℕ) (plan child : List Rig) → Contains (level t n) plan → Contains (children t plan) child → Contains (level t (suc n)) child
+unfolding level
+in_next t n plan child c k = contains_flat (children t) (level t n) plan child c k
+
+-- the run of a plan that follows rigged hits to its end is theirs
+is_run : (t : Subject) → IsLawful t → (n : ℕ) (rigs plan : List Rig) → AreInOrder (map (λ (r : Rig). r.site) rigs) → Contains (level t n) plan → (f : Follows t rigs plan) → first_acting rigs (sites_of f.late) ≡ None → IsRunOf t rigs plan
+is_run t l n rigs plan o c f none =
+    let late : AnsweredBy (answers rigs) f.late = so_far rigs f.late f.still (none_acts rigs f.late none) in
+    let all : AnsweredBy (answers rigs) (run_of_plan t plan) = subst (AnsweredBy (answers rigs)) (sym f.runs) (all_append (λ (m : Met). m.reply ≡ answers rigs m.site) f.early f.late f.so late) in
+    let grown : IsGrown t n plan = all_contains (IsGrown t n) (level t n) plan (level_grown t l n) c in
+    let runs : (seed stream : ℕ) → run t.asks (given_of (rigging t.names rigs) t.names seed stream t.limit) ≡ run_of_plan t plan =
+    λ seed stream. same_path t.asks (answers rigs) t.limit [] (run t.asks (given_of (rigging t.names rigs) t.names seed stream t.limit)) (run_of_plan t plan)
+    (run_path t.asks (given_of (rigging t.names rigs) t.names seed stream t.limit)) (plan_path t plan) (rigs_answered t l rigs o seed stream) all in
+    record {
+      runs = runs;
+      verdicts = λ seed stream. rigs_judged t rigs seed stream ∙ ap (λ (ms : List Met). judged (t.asks (replies_of ms))) (runs seed stream) ∙ sym (plan_judged t l plan grown.can seed stream);
+    }
+
+record Came (t : Subject) (d : ℕ) (rigs plan : List Rig) : Type 0 where
+  in' : Contains (levels t d) plan
+  is : IsRunOf t rigs plan
+
+abbrev nothing : Option (List Rig)
+nothing = None
+
+-- one step of a walk, from a plan that follows the rigged hits
+step : (t : Subject) → IsLawful t → (d : ℕ) (known : KnownRuns) → Agrees t d known → (rigs : List Rig) → AreInOrder (map (λ (r : Rig). r.site) rigs) → AreTried t rigs
+    → (n : ℕ) (plan last : List Rig) → n ≤ d → Contains (level t n) plan → Follows t rigs plan → (longer : List Rig → Option (List Rig))
+    → ((r : Rig) → Contains (level t (suc n)) (r ∷ plan) → Follows t rigs (r ∷ plan) → longer (r ∷ plan) ≡ Some last → Came t d rigs last)
+    → walk_on longer plan (next_told rigs plan (hits_of known plan)) ≡ Some last → Came t d rigs last
+step t l d known a rigs o k n plan last le c f longer further w = by_hits (hits_of known plan) refl w
+  where
+    there : Contains (levels t d) plan
+    there = level_in_levels t d n plan le c
+
+    by_first : (x : Option Rig) → first_acting rigs (sites_of f.late) ≡ x → walk_on longer plan (next_of x) ≡ Some last → Came t d rigs last
+    by_first None h w =
+        let one : plan ≡ last = cc in
+        subst (Came t d rigs) one (record { in' = there; is = is_run t l n rigs plan o c f h })
+    by_first (Some r) h w =
+        let first = first_at rigs f.late r h in
+        let c' : Contains (level t (suc n)) (r ∷ plan) = in_next t n plan (r ∷ plan) c (is_child t rigs plan r k f first) in
+        let grown : IsGrown t (suc n) (r ∷ plan) = all_contains (IsGrown t (suc n)) (level t (suc n)) (r ∷ plan) (level_grown t l (suc n)) c' in
+        further r c' (goes_on t rigs plan r f first grown.prefix) w
+
+    late_is : (hits : List ℕ) → hits_of known plan ≡ Some hits → sites_past plan (sites_from [] hits) ≡ sites_of f.late
+    late_is hits h = past_told t plan hits (hits_true t d known plan hits a (Contains-append_left (levels t d) (onward t d) plan there) h) ∙ ap sites_of f.past
+
+    by_hits : (x : Option (List ℕ)) → hits_of known plan ≡ x → walk_on longer plan (next_told rigs plan x) ≡ Some last → Came t d rigs last
+    by_hits None h w = absurd cc
+    by_hits (Some hits) h w =
+        by_first (first_acting rigs (sites_of f.late)) refl (ap (λ (ss : List Site). walk_on longer plan (next_of (first_acting rigs ss))) (sym (late_is hits h)) ∙ w)
+
+walked : (t : Subject) → IsLawful t → (d : ℕ) (known : KnownRuns) → Agrees t d known → (rigs : List Rig) → AreInOrder (map (λ (r : Rig). r.site) rigs) → AreTried t rigs
+    → (m n : ℕ) (plan last : List Rig) → m + n ≡ d → Contains (level t n) plan → Follows t rigs plan → walk_from known rigs m plan ≡ Some last → Came t d rigs last
+unfolding walk_from
+walked t l d known a rigs o k zero n plan last e c f w =
+    step t l d known a rigs o k n plan last (omega (arith, e)) c f (λ longer. None) (λ r c' f' w'. absurd (let none : nothing ≡ Some last = w' in never none)) w
+  where
+    never : nothing ≡ Some last → ⊥
+    never h = cc
+walked t l d known a rigs o k (suc m) n plan last e c f w =
+    step t l d known a rigs o k n plan last (omega (arith, e)) c f (walk_from known rigs m)
+    (λ r c' f' w'. walked t l d known a rigs o k m (suc n) (r ∷ plan) last (omega (arith, e)) c' f' w') w
+
+root_in : (t : Subject) → Contains (level t 0) []
+unfolding level
+root_in t = contains_head [] []
+
+pub walks_right : (t : Subject) → IsLawful t → (d : ℕ) (known : KnownRuns) → Agrees t d known → WalksRight t d known
+walks_right t l d known a rigs plan o k w =
+    let root : IsGrown t 0 [] = all_contains (IsGrown t 0) (level t 0) [] (level_grown t l 0) (root_in t) in
+    let came = walked t l d known a rigs o k d 0 [] plan (omega arith) (root_in t) (begins t rigs root.prefix) w in
+    (came.in', came.is)

@@ -1,0 +1,7 @@
+pub mod Known
+pub mod Looks
+pub mod KnownPart
+pub mod Walks
+pub mod Breaks
+pub mod Promises
+pub mod inside

@@ -1,0 +1,15 @@
+-- What a look into a table of runs tells.
+use Rattle.std.specs.Prelude.{◌≡◌, ℕ, List, Option, None, Some}
+use Rattle.target_trait.specs.declared.judgement.Verdict.{Verdict}
+use Rattle.known_runs.specs.Known.{Told}
+use Rattle.known_runs.specs.declared.table.Look.{Look}
+use Rattle.known_runs.specs.declared.table.Look.TheVariants as look
+
+abbrev pub told : Verdict → Option (List ℕ) → Told
+told verdict hits = record { verdict = verdict; hits = hits }
+
+-- what is told of a run, the points of whose hits are these, where they are told
+abbrev pub IsLook : Option Told → List ℕ → Look → Type 0
+IsLook o hits look.Unknown = o ≡ None
+IsLook o hits (look.Unseen verdict) = o ≡ Some (told verdict None)
+IsLook o hits (look.Seen verdict) = o ≡ Some (told verdict (Some hits))

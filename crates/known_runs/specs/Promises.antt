@@ -1,0 +1,33 @@
+-- What known runs tell of every subject that agrees with them.
+use Rattle.std.specs.Prelude.{◌≡◌, ◌≢◌, ℕ, List, [], Some, map, Contains}
+use Rattle.std.specs.List.{AllByRecursion}
+use Rattle.action_eval.specs.declared.rig.Rig.{Rig}
+use Rattle.action_eval.specs.Answers.{given_of}
+use Rattle.action_eval.specs.Rigging.{rigging}
+use Rattle.plan_gen.specs.RiggedAnswers.{AreInOrder}
+use Rattle.grown_plans.specs.Runs.{run}
+use Rattle.grown_plans.specs.GrownPlans.{Subject, run_of_plan, grown, levels}
+use Rattle.grown_plans.specs.Promises.{EachTwo, verdict_of_rigs, verdict_of_plan}
+use Rattle.known_runs.specs.Known.{KnownRuns, hits_of}
+use Rattle.known_runs.specs.KnownPart.{are_told, known_part, to_run}
+use Rattle.known_runs.specs.Walks.{walk}
+
+-- rigged hits have the run and the verdict of a plan, under every seed and stream number
+pub record IsRunOf (t : Subject) (rigs plan : List Rig) : Type 0 where
+  pub runs : (seed stream : ℕ) → run t.asks (given_of (rigging t.names rigs) t.names seed stream t.limit) ≡ run_of_plan t plan
+  pub verdicts : (seed stream : ℕ) → verdict_of_rigs t seed stream rigs ≡ verdict_of_plan t seed stream plan
+
+-- of rigged hits in order, each of a kind that is tried at its point, the plan that a walk comes to is one of the levels and has their run
+abbrev pub WalksRight : Subject → ℕ → KnownRuns → Type 0
+WalksRight t d known =
+    (rigs plan : List Rig) → AreInOrder (map (λ r. r.site) rigs) → AllByRecursion (λ r. Contains (t.kinds r.site.point) r.kind) rigs
+    → walk known rigs d ≡ Some plan → Contains (levels t d) plan × IsRunOf t rigs plan
+
+-- where nothing of the part that is known is left to be run, and the hits of each run that is told are, this part is the whole list
+abbrev pub EndsWhole : Subject → ℕ → KnownRuns → Type 0
+EndsWhole t d known =
+    to_run t d known ≡ [] → ((plan : List Rig) → are_told (known plan) ≡ are_told (hits_of known plan)) → known_part t d known ≡ grown t d
+
+-- no plan is to be run twice
+abbrev pub RunsEachOnce : Subject → ℕ → KnownRuns → Type 0
+RunsEachOnce t d known = EachTwo (λ a b. a ≢ b) (to_run t d known)

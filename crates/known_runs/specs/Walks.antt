@@ -1,0 +1,58 @@
+-- What rigged hits come to, by runs that are known: from the plan without faults a walk follows which rigged hit acts next in the run of the
+-- plan that it has come to.
+use Rattle.std.specs.Prelude.{ℕ, zero, suc, List, [], ◌∷◌, Option, None, Some, find}
+use Rattle.action_eval.specs.declared.rig.Site.{Site}
+use Rattle.action_eval.specs.declared.rig.Rig.{Rig}
+use Rattle.action_eval.specs.Rigging.{rig}
+use Rattle.plan_gen.specs.RiggedAnswers.{acts_at}
+use Rattle.grown_plans.specs.AskedPoints.{sites_from, sites_past}
+use Rattle.target_trait.specs.declared.judgement.Verdict.{Verdict}
+use Rattle.known_runs.specs.Known.{KnownRuns, Told, hits_of}
+
+-- at the first of these hits at which a rigged one acts, what it does there
+abbrev pub acting_by : Site → Option Rig → Option Rig → Option Rig
+acting_by s None later = later
+acting_by s (Some r) later = Some (rig s r.kind)
+
+abbrev pub first_acting : List Rig → List Site → Option Rig
+first_acting rigs [] = None
+first_acting rigs (s ∷ ss) = acting_by s (find (acts_at s.point s.hit) rigs) (first_acting rigs ss)
+
+-- the next fault that acts in the run of a plan: nobody knows, none, or this one
+pub data Next : Type 0 where
+  Unknown : Next
+  Nothing : Next
+  Acts : (fault : Rig) → Next
+
+abbrev pub next_of : Option Rig → Next
+next_of None = Nothing
+next_of (Some r) = Acts r
+
+abbrev pub next_told : List Rig → List Rig → Option (List ℕ) → Next
+next_told rigs plan None = Unknown
+next_told rigs plan (Some hits) = next_of (first_acting rigs (sites_past plan (sites_from [] hits)))
+
+-- the plan that rigged hits come to with at most so many more faults, where known runs lead there
+abbrev pub walk_on : (List Rig → Option (List Rig)) → List Rig → Next → Option (List Rig)
+walk_on further plan Unknown = None
+walk_on further plan Nothing = Some plan
+walk_on further plan (Acts r) = further (r ∷ plan)
+
+unfoldable pub walk_from : KnownRuns → List Rig → ℕ → List Rig → Option (List Rig)
+walk_from known rigs zero plan = walk_on (λ longer. None) plan (next_told rigs plan (hits_of known plan))
+walk_from known rigs (suc n) plan = walk_on (walk_from known rigs n) plan (next_told rigs plan (hits_of known plan))
+
+abbrev pub walk : KnownRuns → List Rig → ℕ → Option (List Rig)
+walk known rigs d = walk_from known rigs d []
+
+-- the verdict that rigged hits come to, where known runs tell it
+abbrev pub verdict_told : Option Told → Option Verdict
+verdict_told None = None
+verdict_told (Some told) = Some told.verdict
+
+abbrev pub verdict_at : KnownRuns → Option (List Rig) → Option Verdict
+verdict_at known None = None
+verdict_at known (Some plan) = verdict_told (known plan)
+
+abbrev pub verdict_walked : KnownRuns → List Rig → ℕ → Option Verdict
+verdict_walked known rigs d = verdict_at known (walk known rigs d)

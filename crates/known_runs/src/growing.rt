@@ -1,0 +1,233 @@
+//! Plans that grow from runs that are known.
+ghost use Rattle.std.specs.Prelude.{◌≡◌, ◌+◌, ◌-◌, ◌<◌, ◌≤◌, ◌++◌, ◌&&◌, [], length, map, slice_index_or, IfOk, OnOk, IsErrOf};
+ghost use Rattle.grown_plans.specs.GrownPlans.{Subject, usual_kinds};
+ghost use Rattle.grown_plans.specs.AskedPoints.{is_last_return, onward_if};
+ghost use Rattle.grown_plans.specs.Kept.{GrewFrom, plan_of};
+ghost use Rattle.grown_plans.specs.Promises.{IsLawful};
+ghost use Rattle.known_runs.specs.Known.{Agrees};
+ghost use Rattle.known_runs.specs.KnownPart.{known_part};
+ghost use Rattle.known_runs.specs.declared.growing.KnownFault.TheVariants.{Memory};
+ghost use Rattle.known_runs.specs.inside.Grown.{kept_known, kept_over, onward_known, onward_over};
+
+use crate::table::{Look, RunTable};
+use action_eval::Rig;
+use grown_plans::{Child, GrownPlans, add_children};
+use std::alloc::{AllocError, Global};
+
+/// Why there is no list of plans.
+#[derive(Clone, Copy, Debug, PartialEq, Eq)]
+pub enum KnownFault {
+    /// There are more than there may be.
+    TooManyPlans,
+    /// Memory was refused.
+    Memory,
+}
+
+impl From<AllocError> for KnownFault {
+    ghost from_gives = { λ _ fault. fault ≡ Memory };
+
+    fn from(_: AllocError) -> Self {
+        KnownFault::Memory
+    }
+}
+
+/// The lists that a look into a table needs.
+#[derive(Drop)]
+pub struct Workspace {
+    pub faults: Vec<Rig>,
+    pub hits: Vec<u32>,
+    pub counts: Vec<u32>,
+}
+
+impl Workspace {
+    pub fn new(alloc: Global) -> Self {
+        Workspace {
+            faults: Vec::new(alloc),
+            hits: Vec::new(alloc),
+            counts: Vec::new(alloc),
+        }
+    }
+}
+
+/// Adds the children of the plan of this number, where its hits are told.
+fn add_children_of<T: RunTable>(
+    table: &T,
+    plans: &GrownPlans,
+    number: usize,
+    workspace: &mut Workspace,
+    children: &mut Vec<Child>,
+) -> Result<(), AllocError>
+    requires within { number < length plans.now }
+    requires few { length plans.now ≤ 65536 }
+    ensures { OnOk result (children.new.items ≡ children.old.items ++ kept_known (T.known table.now) plans.now number) }
+{
+    plans.faults_of(number, &mut workspace.faults)?;
+    let faults = workspace.faults.as_slice();
+    match table.look(faults, &mut workspace.hits)? {
+        Look::Unknown | Look::Unseen(_) => Ok(()),
+        Look::Seen(_) => {
+            let hits = workspace.hits.as_slice();
+            add_children(children, &mut workspace.counts, number, faults, hits)?;
+            Ok(())
+        }
+    }
+}
+
+/// The children of the plans from this number on.
+fn children_from<T: RunTable>(
+    alloc: Global,
+    table: &T,
+    plans: &GrownPlans,
+    first: usize,
+) -> Result<Vec<Child>, AllocError>
+    requires within { first ≤ length plans.now }
+    requires few { length plans.now ≤ 65536 }
+    ensures { IfOk result (λ children. children.items ≡ kept_over (T.known table.now) plans.now first (length plans.now - first)) }
+{
+    let mut children = Vec::new(alloc);
+    let mut workspace = Workspace::new(alloc);
+    for number in first..plans.len() {
+        add_children_of(table, plans, number, &mut workspace, &mut children)?;
+    }
+    Ok(children)
+}
+
+/// Whether so many plans more may be added.
+fn check_room(most: usize, plans: usize, more: usize) -> Result<(), KnownFault>
+    ensures ok { OnOk result (plans + more ≤ most) }
+    ensures many { IsErrOf result KnownFault.TooManyPlans → most < plans + more }
+{
+    match most.checked_sub(plans) {
+        Some(room) if more <= room => Ok(()),
+        _ => Err(KnownFault::TooManyPlans),
+    }
+}
+
+/// Adds the children of the plans from this number on, and answers where they begin.
+fn add_level<T: RunTable>(
+    alloc: Global,
+    table: &T,
+    plans: &mut GrownPlans,
+    last: usize,
+    most: usize,
+) -> Result<usize, KnownFault>
+    requires last { last ≤ length plans.old }
+    requires few { length plans.old ≤ 65536 }
+    ensures next { IfOk result (λ next. next ≡ length plans.old) }
+    ensures added { OnOk result (plans.new ≡ plans.old ++ map (plan_of plans.old) (kept_over (T.known table.now) plans.old last (length plans.old - last))) }
+    ensures few { OnOk result (length plans.new ≤ most) }
+{
+    let end = plans.len();
+    let children = children_from(alloc, table, plans, last)?;
+    check_room(most, end, children.len())?;
+    plans.add(children.as_slice())?;
+    Ok(end)
+}
+
+/// Adds the plan of this number with its last fault from then on, where its hits are told and its run hits that fault's point once more.
+fn add_onward_of<T: RunTable>(
+    table: &T,
+    plans: &GrownPlans,
+    number: usize,
+    workspace: &mut Workspace,
+    scratch: &mut Vec<Child>,
+    onward: &mut Vec<Child>,
+) -> Result<(), AllocError>
+    requires within { number < length plans.now }
+    requires few { length plans.now ≤ 65536 }
+    ensures plans { OnOk result (map (plan_of plans.now) onward.new.items
+        ≡ map (plan_of plans.now) onward.old.items ++ onward_known (T.known table.now) plans.now number) }
+    ensures parents { OnOk result (GrewFrom (length plans.now) onward.old.items → GrewFrom (length plans.now) onward.new.items) }
+{
+    plans.faults_of(number, &mut workspace.faults)?;
+    let faults = workspace.faults.as_slice();
+    match table.look(faults, &mut workspace.hits)? {
+        Look::Unknown | Look::Unseen(_) => Ok(()),
+        Look::Seen(_) => {
+            let hits = workspace.hits.as_slice();
+            scratch.clear();
+            let is_again = add_children(scratch, &mut workspace.counts, number, faults, hits)?;
+            push_onward(plans, number, is_again, onward)
+        }
+    }
+}
+
+/// Adds the plan of this number with its last fault from then on, where that is a return and its point is hit again.
+fn push_onward(
+    plans: &GrownPlans,
+    number: usize,
+    is_again: bool,
+    onward: &mut Vec<Child>,
+) -> Result<(), AllocError>
+    requires { number < length plans.now }
+    ensures plans { OnOk result (map (plan_of plans.now) onward.new.items
+        ≡ map (plan_of plans.now) onward.old.items
+        ++ onward_if (is_last_return (slice_index_or plans.now number []) && is_again) (slice_index_or plans.now number [])) }
+    ensures parents { OnOk result (GrewFrom (length plans.now) onward.old.items → GrewFrom (length plans.now) onward.new.items) }
+{
+    if !is_again {
+        return Ok(());
+    }
+    if let Some(child) = plans.from_then_on(number) {
+        onward.push(child)?;
+    }
+    Ok(())
+}
+
+/// The plans from this number on that go onward, as they are kept.
+fn onward_from<T: RunTable>(
+    alloc: Global,
+    table: &T,
+    plans: &GrownPlans,
+    first: usize,
+) -> Result<Vec<Child>, AllocError>
+    requires within { first ≤ length plans.now }
+    requires few { length plans.now ≤ 65536 }
+    ensures plans { IfOk result (λ onward. map (plan_of plans.now) onward.items ≡ onward_over (T.known table.now) plans.now first (length plans.now - first)) }
+    ensures parents { IfOk result (λ onward. GrewFrom (length plans.now) onward.items) }
+{
+    let mut onward = Vec::new(alloc);
+    let mut scratch = Vec::new(alloc);
+    let mut workspace = Workspace::new(alloc);
+    for number in first..plans.len() {
+        add_onward_of(
+            table,
+            plans,
+            number,
+            &mut workspace,
+            &mut scratch,
+            &mut onward,
+        )?;
+    }
+    Ok(onward)
+}
+
+/// The plans of a list to a depth that are known by now, in its order: of each level the children of plans whose hits are told, and after the
+/// last one those of its plans with their last fault from then on. A plan is known once the hits of each plan that it grew from are, so
+/// levels wait for nothing; and of each lawful subject that agrees with the table they are the known part of its list.
+///
+/// There are at most so many plans, of at most 65536; they are refused as too many where a level, or those from then on, would make more.
+pub fn known_plans<T: RunTable>(
+    alloc: Global,
+    table: &T,
+    depth: u32,
+    most: usize,
+) -> Result<GrownPlans, KnownFault>
+    requires { most ≤ 65536 }
+    ensures known { IfOk result (λ plans. (t : Subject) → IsLawful t → t.kinds ≡ usual_kinds → Agrees t depth (T.known table.now)
+        → plans ≡ known_part t depth (T.known table.now)) }
+    ensures few { IfOk result (λ plans. length plans ≤ most) }
+{
+    if most == 0 {
+        return Err(KnownFault::TooManyPlans);
+    }
+    let mut plans = GrownPlans::new(alloc);
+    let mut last = 0;
+    for _ in 0..depth {
+        last = add_level(alloc, table, &mut plans, last, most)?;
+    }
+    let onward = onward_from(alloc, table, &plans, last)?;
+    check_room(most, plans.len(), onward.len())?;
+    plans.add(onward.as_slice())?;
+    Ok(plans)
+}

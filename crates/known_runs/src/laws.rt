@@ -1,0 +1,28 @@
+//! Laws on known runs, as contracts of functions that do nothing.
+ghost use Rattle.std.specs.Prelude.{ℕ};
+ghost use Rattle.grown_plans.specs.GrownPlans.{Subject};
+ghost use Rattle.grown_plans.specs.Promises.{IsLawful};
+ghost use Rattle.known_runs.specs.Breaks.{BreaksNever};
+ghost use Rattle.known_runs.specs.Known.{Agrees, KnownRuns};
+ghost use Rattle.known_runs.specs.Promises.{EndsWhole, RunsEachOnce, WalksRight};
+
+/// Of every lawful subject that agrees with what is known of runs, the plan that a walk over them comes to has the run, and so the verdict, of
+/// the rigged hits that it follows.
+pub fn known_runs_tell_others()
+    ensures { (t : Subject) → IsLawful t → (d : ℕ) (known : KnownRuns) → Agrees t d known → WalksRight t d known }
+{}
+
+/// Where nothing of the known part of a list is left to be run, and the hits of each run that is told are, this part is the whole list.
+pub fn nothing_to_run_is_the_whole_list()
+    ensures { (t : Subject) (d : ℕ) (known : KnownRuns) → EndsWhole t d known }
+{}
+
+/// No plan is to be run twice.
+pub fn each_plan_is_to_be_run_once()
+    ensures { (t : Subject) → IsLawful t → (d : ℕ) (known : KnownRuns) → RunsEachOnce t d known }
+{}
+
+/// The run of a plan of a lawful subject never breaks with that of the plan that it grew from.
+pub fn lawful_runs_never_break()
+    ensures { (t : Subject) → IsLawful t → (n : ℕ) → BreaksNever t n }
+{}
