@@ -11,22 +11,25 @@ use Rattle.grown_plans.specs.AskedPoints.{sites_from, sites_after, sites_past}
 use Rattle.grown_plans.specs.Kept.{Grew, GrewFrom, plan_of, kept_at, kept_children}
 use Rattle.grown_plans.proofs.Members.{all_append}
 use Rattle.grown_runs.specs.declared.course.Part.{Part}
-use Rattle.grown_runs.specs.declared.course.Part.TheVariants.{Inner, Last, Onward}
+use Rattle.grown_runs.specs.declared.course.Place.{Place}
+use Rattle.grown_runs.specs.declared.course.Place.TheVariants.{Inner, Last, Onward}
+use Rattle.grown_runs.specs.declared.course.Purpose.{Purpose}
+use Rattle.grown_runs.specs.declared.course.Purpose.TheVariants.{Plans, Report}
 use Rattle.grown_runs.specs.declared.kept.Growth.{Growth}
 use Rattle.grown_runs.specs.declared.levels.Outcomes.{Outcomes}
 use Rattle.grown_runs.specs.GrownRuns.{over, told, verdict_at, children_at, onward_at, hits_at, cause_at, AreMost}
-use Rattle.grown_runs.specs.inside.Growths.{if_inner, if_last, IsGrowth}
+use Rattle.grown_runs.specs.inside.Growths.{if_inner, if_last, if_report, IsGrowth}
 use Rattle.grown_runs.specs.inside.Levels.{AreTold}
 use Rattle.grown_runs.proofs.Overs.{over_parts, over_next, over_more, most_parts, most_single}
 
-inner_next : {A : Type 0} (part : Part) (f : ℕ → List Rig → List A) (plans : List (List Rig)) (first count n : ℕ) (old new : List A) → first + count ≡ n
-    → old ≡ if_inner part (over f plans first count) → new ≡ old ++ if_inner part (f n (get_or plans n [])) → new ≡ if_inner part (over f plans first (count + 1))
+inner_next : {A : Type 0} (place : Place) (f : ℕ → List Rig → List A) (plans : List (List Rig)) (first count n : ℕ) (old new : List A) → first + count ≡ n
+    → old ≡ if_inner place (over f plans first count) → new ≡ old ++ if_inner place (f n (get_or plans n [])) → new ≡ if_inner place (over f plans first (count + 1))
 inner_next Inner f plans first count n old new at so_far added = over_next f plans first count n old new (f n (get_or plans n [])) at so_far refl added
 inner_next Last f plans first count n old new at so_far added = added ∙ append-nil old ∙ so_far
 inner_next Onward f plans first count n old new at so_far added = added ∙ append-nil old ∙ so_far
 
-last_next : {A : Type 0} (part : Part) (f : ℕ → List Rig → List A) (plans : List (List Rig)) (first count n : ℕ) (old new : List A) → first + count ≡ n
-    → old ≡ if_last part (over f plans first count) → new ≡ old ++ if_last part (f n (get_or plans n [])) → new ≡ if_last part (over f plans first (count + 1))
+last_next : {A : Type 0} (place : Place) (f : ℕ → List Rig → List A) (plans : List (List Rig)) (first count n : ℕ) (old new : List A) → first + count ≡ n
+    → old ≡ if_last place (over f plans first count) → new ≡ old ++ if_last place (f n (get_or plans n [])) → new ≡ if_last place (over f plans first (count + 1))
 last_next Last f plans first count n old new at so_far added = over_next f plans first count n old new (f n (get_or plans n [])) at so_far refl added
 last_next Inner f plans first count n old new at so_far added = added ∙ append-nil old ∙ so_far
 last_next Onward f plans first count n old new at so_far added = added ∙ append-nil old ∙ so_far
@@ -41,32 +44,41 @@ most_next t seed plans first count n p was now at so_far raised =
     raised ∙ ap (λ k. max k (times p (told t seed n (get_or plans n [])).asked)) so_far
     ∙ ap (λ k. max (most (over (hits_at t seed p) plans first count)) k) (sym single) ∙ sym parts ∙ ap most whole
 
-inner_nil : {A : Type 0} (part : Part) → [] ≡ if_inner {A = A} part []
+inner_nil : {A : Type 0} (place : Place) → [] ≡ if_inner {A = A} place []
 inner_nil Inner = refl
 inner_nil Last = refl
 inner_nil Onward = refl
 
-last_nil : {A : Type 0} (part : Part) → [] ≡ if_last {A = A} part []
+last_nil : {A : Type 0} (place : Place) → [] ≡ if_last {A = A} place []
 last_nil Inner = refl
 last_nil Last = refl
 last_nil Onward = refl
+
+report_next : {A : Type 0} (purpose : Purpose) (f : ℕ → List Rig → List A) (plans : List (List Rig)) (first count n : ℕ) (old new : List A) → first + count ≡ n
+    → old ≡ if_report purpose (over f plans first count) → new ≡ old ++ if_report purpose (f n (get_or plans n [])) → new ≡ if_report purpose (over f plans first (count + 1))
+report_next Plans f plans first count n old new at so_far added = added ∙ append-nil old ∙ so_far
+report_next Report f plans first count n old new at so_far added = over_next f plans first count n old new (f n (get_or plans n [])) at so_far refl added
+
+pub report_nil : {A : Type 0} (purpose : Purpose) → [] ≡ if_report {A = A} purpose []
+report_nil Plans = refl
+report_nil Report = refl
 
 -- one plan more
 pub growth_next : (t : Subject) (seed : ℕ) (part : Part) (plans : List (List Rig)) (first count n : ℕ) (old new : Growth) → first + count ≡ n
     → IsGrowth t seed part plans first count old
     → new.verdicts.items ≡ old.verdicts.items ++ verdict_at t seed n (get_or plans n [])
-    → new.children.items ≡ old.children.items ++ if_inner part (children_at t seed n (get_or plans n []))
+    → new.children.items ≡ old.children.items ++ if_inner part.place (children_at t seed n (get_or plans n []))
     → new.child_count ≡ old.child_count + length (children_at t seed n (get_or plans n []))
-    → map (plan_of plans) new.onward.items ≡ map (plan_of plans) old.onward.items ++ if_last part (onward_at t seed n (get_or plans n []))
+    → map (plan_of plans) new.onward.items ≡ map (plan_of plans) old.onward.items ++ if_last part.place (onward_at t seed n (get_or plans n []))
     → GrewFrom (length plans) new.onward.items
-    → new.causes.items ≡ old.causes.items ++ cause_at t seed n (get_or plans n [])
+    → new.causes.items ≡ old.causes.items ++ if_report part.purpose (cause_at t seed n (get_or plans n []))
     → length new.hits.items ≡ length old.hits.items
     → ((p : ℕ) → p < length old.hits.items → get_or new.hits.items p 0 ≡ max (get_or old.hits.items p 0) (times p (told t seed n (get_or plans n [])).asked))
     → IsGrowth t seed part plans first (count + 1) new
 growth_next t seed part plans first count n old new at was verdicts children many onward from causes hits most =
     record {
       verdicts = over_next (verdict_at t seed) plans first count n old.verdicts.items new.verdicts.items _ at was.verdicts refl verdicts;
-      children = inner_next part (children_at t seed) plans first count n old.children.items new.children.items at was.children children;
+      children = inner_next part.place (children_at t seed) plans first count n old.children.items new.children.items at was.children children;
       many =
           let one : List Grew = children_at t seed n (get_or plans n []) in
           let before : List Grew = over (children_at t seed) plans first count in
@@ -74,9 +86,9 @@ growth_next t seed part plans first count n old new at was verdicts children man
           let long = length-append before one in
           let so_far = was.many in
           omega (arith, many, whole, long, so_far);
-      onward = last_next part (onward_at t seed) plans first count n (map (plan_of plans) old.onward.items) (map (plan_of plans) new.onward.items) at was.onward onward;
+      onward = last_next part.place (onward_at t seed) plans first count n (map (plan_of plans) old.onward.items) (map (plan_of plans) new.onward.items) at was.onward onward;
       from = from;
-      causes = over_next (cause_at t seed) plans first count n old.causes.items new.causes.items _ at was.causes refl causes;
+      causes = report_next part.purpose (cause_at t seed) plans first count n old.causes.items new.causes.items at was.causes causes;
       hits = hits ∙ was.hits;
       most = λ p lt.
           let low : p < length old.hits.items = omega (arith, lt, hits) in
@@ -85,19 +97,25 @@ growth_next t seed part plans first count n old new at was verdicts children man
 
 -- ---- two parts of a list
 
-inner_more : {A : Type 0} (part : Part) (f : ℕ → List Rig → List A) (plans : List (List Rig)) (first count more : ℕ) (old new further : List A)
-    → old ≡ if_inner part (over f plans first count) → further ≡ if_inner part (over f plans (first + count) more) → new ≡ old ++ further
-    → new ≡ if_inner part (over f plans first (count + more))
+inner_more : {A : Type 0} (place : Place) (f : ℕ → List Rig → List A) (plans : List (List Rig)) (first count more : ℕ) (old new further : List A)
+    → old ≡ if_inner place (over f plans first count) → further ≡ if_inner place (over f plans (first + count) more) → new ≡ old ++ further
+    → new ≡ if_inner place (over f plans first (count + more))
 inner_more Inner f plans first count more old new further so_far then_these added = over_more f plans first count more old new further so_far then_these added
 inner_more Last f plans first count more old new further so_far then_these added = added ∙ ap (λ l. l ++ further) so_far ∙ then_these
 inner_more Onward f plans first count more old new further so_far then_these added = added ∙ ap (λ l. l ++ further) so_far ∙ then_these
 
-last_more : {A : Type 0} (part : Part) (f : ℕ → List Rig → List A) (plans : List (List Rig)) (first count more : ℕ) (old new further : List A)
-    → old ≡ if_last part (over f plans first count) → further ≡ if_last part (over f plans (first + count) more) → new ≡ old ++ further
-    → new ≡ if_last part (over f plans first (count + more))
+last_more : {A : Type 0} (place : Place) (f : ℕ → List Rig → List A) (plans : List (List Rig)) (first count more : ℕ) (old new further : List A)
+    → old ≡ if_last place (over f plans first count) → further ≡ if_last place (over f plans (first + count) more) → new ≡ old ++ further
+    → new ≡ if_last place (over f plans first (count + more))
 last_more Last f plans first count more old new further so_far then_these added = over_more f plans first count more old new further so_far then_these added
 last_more Inner f plans first count more old new further so_far then_these added = added ∙ ap (λ l. l ++ further) so_far ∙ then_these
 last_more Onward f plans first count more old new further so_far then_these added = added ∙ ap (λ l. l ++ further) so_far ∙ then_these
+
+report_more : {A : Type 0} (purpose : Purpose) (f : ℕ → List Rig → List A) (plans : List (List Rig)) (first count more : ℕ) (old new further : List A)
+    → old ≡ if_report purpose (over f plans first count) → further ≡ if_report purpose (over f plans (first + count) more) → new ≡ old ++ further
+    → new ≡ if_report purpose (over f plans first (count + more))
+report_more Plans f plans first count more old new further so_far then_these added = added ∙ ap (λ l. l ++ further) so_far ∙ then_these
+report_more Report f plans first count more old new further so_far then_these added = over_more f plans first count more old new further so_far then_these added
 
 pub most_more : (t : Subject) (seed : ℕ) (plans : List (List Rig)) (first count more p was further now : ℕ) → was ≡ most (over (hits_at t seed p) plans first count)
     → further ≡ most (over (hits_at t seed p) plans (first + count) more) → now ≡ max was further → now ≡ most (over (hits_at t seed p) plans first (count + more))
@@ -119,7 +137,7 @@ pub growth_joined : (t : Subject) (seed : ℕ) (part : Part) (plans : List (List
 growth_joined t seed part plans first count more old further new was then_these verdicts children many onward causes hits most =
     record {
       verdicts = over_more (verdict_at t seed) plans first count more old.verdicts.items new.verdicts.items further.verdicts.items was.verdicts then_these.verdicts verdicts;
-      children = inner_more part (children_at t seed) plans first count more old.children.items new.children.items further.children.items was.children then_these.children children;
+      children = inner_more part.place (children_at t seed) plans first count more old.children.items new.children.items further.children.items was.children then_these.children children;
       many =
           let whole = ap length (over_parts (children_at t seed) plans first count more) in
           let long = length-append (over (children_at t seed) plans first count) (over (children_at t seed) plans (first + count) more) in
@@ -127,10 +145,10 @@ growth_joined t seed part plans first count more old further new was then_these 
           let b = then_these.many in
           omega (arith, many, whole, long, a, b);
       onward =
-          last_more part (onward_at t seed) plans first count more (map (plan_of plans) old.onward.items) (map (plan_of plans) new.onward.items) (map (plan_of plans) further.onward.items)
+          last_more part.place (onward_at t seed) plans first count more (map (plan_of plans) old.onward.items) (map (plan_of plans) new.onward.items) (map (plan_of plans) further.onward.items)
           was.onward then_these.onward (ap (map (plan_of plans)) onward ∙ map-append (plan_of plans) old.onward.items further.onward.items);
       from = subst (GrewFrom (length plans)) (sym onward) (all_append (λ (g : Grew). g.parent < length plans) old.onward.items further.onward.items was.from then_these.from);
-      causes = over_more (cause_at t seed) plans first count more old.causes.items new.causes.items further.causes.items was.causes then_these.causes causes;
+      causes = report_more part.purpose (cause_at t seed) plans first count more old.causes.items new.causes.items further.causes.items was.causes then_these.causes causes;
       hits = hits ∙ was.hits;
       most = λ p lt.
           let low : p < length old.hits.items = omega (arith, lt, hits) in
@@ -141,12 +159,12 @@ growth_joined t seed part plans first count more old further new was then_these 
     }
 
 pub told_joined : (t : Subject) (seed : ℕ) (part : Part) (plans : List (List Rig)) (count more : ℕ) (old new : Outcomes) (further : Growth)
-    → AreTold t seed plans count old → IsGrowth t seed part plans count more further
+    → AreTold t seed part.purpose plans count old → IsGrowth t seed part plans count more further
     → new.verdicts.items ≡ old.verdicts.items ++ further.verdicts.items
     → new.causes.items ≡ old.causes.items ++ further.causes.items
     → length new.hits.items ≡ length old.hits.items
     → ((p : ℕ) → p < length old.hits.items → get_or new.hits.items p 0 ≡ max (get_or old.hits.items p 0) (get_or further.hits.items p 0))
-    → AreTold t seed plans (count + more) new
+    → AreTold t seed part.purpose plans (count + more) new
 told_joined t seed part plans count more old new further was then_these verdicts causes hits raised =
     let zeroth : count ≡ 0 + count = omega arith in
     record {
@@ -154,8 +172,8 @@ told_joined t seed part plans count more old new further was then_these verdicts
           over_more (verdict_at t seed) plans 0 count more old.verdicts.items new.verdicts.items further.verdicts.items was.verdicts
           (then_these.verdicts ∙ ap (λ k. over (verdict_at t seed) plans k more) zeroth) verdicts;
       causes =
-          over_more (cause_at t seed) plans 0 count more old.causes.items new.causes.items further.causes.items was.causes
-          (then_these.causes ∙ ap (λ k. over (cause_at t seed) plans k more) zeroth) causes;
+          report_more part.purpose (cause_at t seed) plans 0 count more old.causes.items new.causes.items further.causes.items was.causes
+          (then_these.causes ∙ ap (λ k. if_report part.purpose (over (cause_at t seed) plans k more)) zeroth) causes;
       hits = hits ∙ was.hits;
       most = λ p lt.
           let low : p < length old.hits.items = omega (arith, lt, hits) in
@@ -171,11 +189,11 @@ pub growth_none : (t : Subject) (seed : ℕ) (part : Part) (plans : List (List R
 growth_none t seed part plans first g verdicts children many onward causes hits zeros =
     record {
       verdicts = verdicts;
-      children = children ∙ inner_nil part;
+      children = children ∙ inner_nil part.place;
       many = many;
-      onward = ap (map (plan_of plans)) onward ∙ last_nil part;
+      onward = ap (map (plan_of plans)) onward ∙ last_nil part.place;
       from = subst (GrewFrom (length plans)) (sym onward) tt;
-      causes = causes;
+      causes = causes ∙ report_nil part.purpose;
       hits = hits;
       most = λ p lt. zeros p;
     }

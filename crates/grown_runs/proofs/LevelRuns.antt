@@ -19,7 +19,9 @@ use Rattle.grown_plans.proofs.AskedSites.{grows_by_asked, goes_onward_by_asked, 
 use Rattle.grown_plans.proofs.Rigged.{grown_can_be_rigged}
 use Rattle.grown_runs.specs.GrownRuns.{over, told, children_at, onward_at, hits_at, verdict_at, cause_at, AreMost}
 use Rattle.grown_runs.specs.Grown.{level_sizes, reached_each}
-use Rattle.grown_runs.specs.inside.Levels.{AreTold}
+use Rattle.grown_runs.specs.inside.Levels.{AreTold, LastLevel}
+use Rattle.grown_runs.specs.inside.Growths.{if_report}
+use Rattle.grown_runs.specs.declared.course.Purpose.{Purpose}
 use Rattle.grown_runs.specs.declared.levels.Outcomes.{Outcomes}
 use Rattle.grown_runs.proofs.Overs.{over_same}
 
@@ -83,10 +85,6 @@ pub levels_start : (t : Subject) → (([] ∷ []) ≡ levels t 0) × (length (le
 unfolding levels level
 levels_start t = (refl, refl)
 
-pub record LastLevel (t : Subject) (n last : ℕ) (plans : List (List Rig)) : Type 0 where
-  pub are : plans ≡ levels t n
-  pub count : last + length (level t n) ≡ length plans
-
 pub record Split (t : Subject) (n last : ℕ) (plans : List (List Rig)) : Type 0 where
   pub before : List (List Rig)
   pub is : plans ≡ before ++ level t n
@@ -134,7 +132,7 @@ next_last asks names limit seed n last plans new lawful l added =
     let same : length (level t (n + 1)) ≡ length (level t (suc n)) = ap (λ k. length (level t k)) (sym one) in
     record { are = whole ∙ ap (levels t) one; count = omega (arith, long, before, same) }
 
-levels_more : (t : Subject) (n k : ℕ) → length (levels t n) ≤ length (levels t (n + k))
+pub levels_more : (t : Subject) (n k : ℕ) → length (levels t n) ≤ length (levels t (n + k))
 unfolding levels
 levels_more t n zero = let e : length (levels t n) ≡ length (levels t (n + 0)) = ap (λ m. length (levels t m)) (let z : n ≡ n + 0 = omega arith in z) in omega (arith, e)
 levels_more t n (suc k) =
@@ -143,21 +141,19 @@ levels_more t n (suc k) =
     let same : length (levels t (suc (n + k))) ≡ length (levels t (n + suc k)) = ap (λ m. length (levels t m)) (let e : suc (n + k) ≡ n + suc k = omega arith in e) in
     omega (arith, more, here, same)
 
--- a level that is too large makes the list too long
-pub too_many : (asks : List Reply → Move) (names : List (List ℕ)) (limit seed n last depth bound : ℕ) (plans : List (List Rig)) → IsLawful (usual_subject asks names limit)
-    → LastLevel (usual_subject asks names limit) n last plans → n < depth
+-- a level that is too large makes too many
+pub too_many : (asks : List Reply → Move) (names : List (List ℕ)) (limit seed n last bound : ℕ) (plans : List (List Rig)) → IsLawful (usual_subject asks names limit)
+    → LastLevel (usual_subject asks names limit) n last plans
     → bound < length plans + length (over (children_at (usual_subject asks names limit) seed) plans last (length plans - last))
-    → bound < length (grown (usual_subject asks names limit) depth)
+    → bound < length (levels (usual_subject asks names limit) (n + 1))
 unfolding levels
-too_many asks names limit seed n last depth bound plans lawful l lt many =
+too_many asks names limit seed n last bound plans lawful l many =
     let t : Subject = usual_subject asks names limit in
     let next = next_many asks names limit seed n last plans lawful l in
     let here = length-append (levels t n) (level t (suc n)) in
     let before = ap length l.are in
-    let more = levels_more t (suc n) (depth - suc n) in
-    let last_one : length (levels t (suc n + (depth - suc n))) ≡ length (levels t depth) = ap (λ m. length (levels t m)) (let e : suc n + (depth - suc n) ≡ depth = omega (arith, lt) in e) in
-    let whole = length-append (levels t depth) (onward t depth) in
-    omega (arith, many, next, here, before, more, last_one, whole)
+    let same : length (levels t (suc n)) ≡ length (levels t (n + 1)) = ap (λ m. length (levels t m)) (let e : suc n ≡ n + 1 = omega arith in e) in
+    omega (arith, many, next, here, before, same)
 
 -- ---- those that go onward
 
@@ -200,13 +196,13 @@ reached_by t seed d counts lawful many at =
 
 -- ---- plans that come behind make no difference
 
-pub told_more : (t : Subject) (seed count : ℕ) (plans more new : List (List Rig)) (o : Outcomes) → count ≤ length plans → new ≡ plans ++ more → AreTold t seed plans count o
-    → AreTold t seed new count o
-told_more t seed count plans more new o le is was =
-    subst (λ ps. AreTold t seed ps count o) (sym is)
+pub told_more : (t : Subject) (seed : ℕ) (purpose : Purpose) (count : ℕ) (plans more new : List (List Rig)) (o : Outcomes) → count ≤ length plans → new ≡ plans ++ more
+    → AreTold t seed purpose plans count o → AreTold t seed purpose new count o
+told_more t seed purpose count plans more new o le is was =
+    subst (λ ps. AreTold t seed purpose ps count o) (sym is)
     (record {
       verdicts = was.verdicts ∙ sym (over_same (verdict_at t seed) plans more 0 count (omega (arith, le)));
-      causes = was.causes ∙ sym (over_same (cause_at t seed) plans more 0 count (omega (arith, le)));
+      causes = was.causes ∙ ap (if_report purpose) (sym (over_same (cause_at t seed) plans more 0 count (omega (arith, le))));
       hits = was.hits;
       most = λ p lt. was.most p lt ∙ ap most (sym (over_same (hits_at t seed p) plans more 0 count (omega (arith, le))));
     })

@@ -4,3 +4,4 @@ pub mod Lesser
 pub mod Growing
 pub mod RowParts
 pub mod LevelRuns
+pub mod Begun

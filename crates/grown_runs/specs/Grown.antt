@@ -1,10 +1,16 @@
 -- Plans that grew to a depth, and what their runs came to.
-use Rattle.std.specs.Prelude.{◌≡◌, ℕ, ◌+◌, List, map, length}
+use Rattle.std.specs.Prelude.{◌≡◌, ℕ, zero, suc, ◌+◌, nat_le, if◌then◌else◌, List, map, length}
 use Rattle.std.specs.List.{range_with_len}
 use Rattle.action_eval.specs.declared.rig.Rig.{Rig}
-use Rattle.grown_plans.specs.GrownPlans.{Subject, level, onward, grown, beyond, reached}
+use Rattle.grown_plans.specs.GrownPlans.{Subject, level, levels, onward, grown, beyond, reached}
+use Rattle.target_trait.specs.declared.target.Target.{Ghosts}
+use Rattle.grown_runs.specs.declared.parts.Conditions.{Conditions}
 use Rattle.grown_runs.specs.declared.levels.Grown.{Grown}
-use Rattle.grown_runs.specs.GrownRuns.{over, verdict_at, cause_at}
+use Rattle.grown_runs.specs.GrownRuns.{subject_of, over, verdict_at, cause_at}
+
+-- what plans are run on, by what a caller gives
+abbrev pub subject_in : {T W G R : Type 0} → Ghosts T W → Conditions T G R W → Subject
+subject_in target on = subject_of target on.target.now on.workload.now on.limits.max_hits
 
 -- how many plans each of the first so many levels has
 abbrev pub level_sizes : Subject → ℕ → List ℕ
@@ -23,3 +29,13 @@ pub record HasGrown (t : Subject) (seed d : ℕ) (g : Grown) : Type 0 where
   pub verdicts : g.outcomes.verdicts.items ≡ over (verdict_at t seed) (grown t d) 0 (length (grown t d))
   pub causes : g.outcomes.causes.items ≡ over (cause_at t seed) (grown t d) 0 (length (grown t d))
   pub reached : g.outcomes.hits.items ≡ reached_each t d
+
+-- the plans with which a list begins: levels 0 to n, where these are as many as are asked for, else those to n + 1, and so on for k levels
+-- more; where the last of them are still fewer, all grown plans
+unfoldable pub begun_from : Subject → ℕ → ℕ → ℕ → List (List Rig)
+begun_from t count n zero = if nat_le count (length (levels t n)) then levels t n else grown t n
+begun_from t count n (suc k) = if nat_le count (length (levels t n)) then levels t n else begun_from t count (suc n) k
+
+-- of a depth, as many plans as are asked for at least, or all
+abbrev pub begun : Subject → ℕ → ℕ → List (List Rig)
+begun t d count = begun_from t count 0 d

@@ -8,10 +8,15 @@ use Rattle.target_trait.specs.Outcomes.{Told, outcome}
 use Rattle.target_trait.specs.declared.judgement.Verdict.{Verdict}
 use Rattle.target_trait.specs.declared.judgement.Verdict.TheVariants as verdict
 use Rattle.plan_gen.specs.LoopRuns.{times}
-use Rattle.grown_plans.specs.GrownPlans.{Subject, rigs_of, most}
+use Rattle.target_trait.specs.declared.target.Target.{Ghosts}
+use Rattle.grown_plans.specs.GrownPlans.{Subject, usual_subject, rigs_of, most}
 use Rattle.grown_plans.specs.AskedPoints.{onward_by}
 use Rattle.grown_plans.specs.Kept.{Grew, kept_children}
 use Rattle.grown_plans.specs.Promises.{lesser}
+
+-- what plans are run on: what a target asks on a workload, with the names of its points and at a limit of hits
+abbrev pub subject_of : {T W : Type 0} → Ghosts T W → T → W → ℕ → Subject
+subject_of target setup workload limit = usual_subject (target.asks setup workload) target.names limit
 
 -- what so many plans give, one after another, from a number on: each by its number and its faults
 abbrev pub over : {A : Type 0} → (ℕ → List Rig → List A) → List (List Rig) → ℕ → ℕ → List A

@@ -2,9 +2,9 @@
 ghost use Rattle.std.specs.Prelude.{◌≡◌, ◌<◌, ◌++◌, ◌+◌, length, slice_range, IfOk, OnOk};
 ghost use Rattle.action_eval.specs.Rigging.{CanBeRigged};
 ghost use Rattle.grown_runs.specs.GrownRuns.{fails_with, is_least, cause_by, causes_by};
-ghost use Rattle.grown_runs.specs.inside.Growths.{subject_on};
+ghost use Rattle.grown_runs.specs.inside.Growths.{if_report, subject_on};
 
-use crate::course::GrownCourse;
+use crate::course::{GrownCourse, Purpose};
 use crate::stage::Stage;
 use action_eval::Rig;
 use std::alloc::AllocError;
@@ -62,8 +62,9 @@ fn is_cause<T: Target>(
     Ok(true)
 }
 
-/// The code of a run that is a cause: it fails, and where any one of its rigged hits is left out it doesn't fail with this code. `less` is a
-/// list to work in. An error means that memory was refused. The target keeps its setup, after an error too.
+/// The code of a run that is a cause: it fails, and where any one of its rigged hits is left out it doesn't fail with this code. Where runs are
+/// made for the plans alone nothing is tested, and it has none. `less` is a list to work in. An error means that memory was refused. The target
+/// keeps its setup, after an error too.
 pub fn cause_of<T: Target>(
     stage: &mut Stage,
     less: &mut Vec<Rig>,
@@ -72,11 +73,11 @@ pub fn cause_of<T: Target>(
     ran: &Ran<'_>,
 ) -> Result<Option<u32>, AllocError>
     requires { CanBeRigged ran.now.rigs.now }
-    ensures cause { IfOk result (λ cause. causes_by ran.now.number cause
-        ≡ cause_by (subject_on T.Target target.old course.now) course.now.limits.seed ran.now.number ran.now.rigs.now ran.now.verdict) }
+    ensures cause { IfOk result (λ cause. causes_by ran.now.number cause ≡ if_report course.now.part.purpose
+        (cause_by (subject_on T.Target target.old course.now) course.now.limits.seed ran.now.number ran.now.rigs.now ran.now.verdict)) }
     ensures setup { target.new ≡ target.old }
 {
-    let Verdict::Fail(code) = ran.verdict else {
+    let (Purpose::Report, Verdict::Fail(code)) = (course.part.purpose, ran.verdict) else {
         return Ok(None);
     };
     if is_cause(stage, less, target, course, ran, code)? {

@@ -24,15 +24,31 @@ pub struct Limits {
     ghost workers_low: { 1 ≤ workers },
 }
 
-/// Which part of a list is run, and so what is kept of its runs.
+/// What plans are run for.
 #[derive(Clone, Copy, Debug, PartialEq, Eq)]
-pub enum Part {
+pub enum Purpose {
+    /// For the list of plans alone.
+    Plans,
+    /// For what a report tells as well: of each plan that fails it is tested whether it is a cause.
+    Report,
+}
+
+/// Where in a list plans stand, and so what is kept of their runs.
+#[derive(Clone, Copy, Debug, PartialEq, Eq)]
+pub enum Place {
     /// A level before the last one: the children of its plans are kept.
     Inner,
     /// The last level: its children are counted, and it is kept which of its plans go onward.
     Last,
     /// The plans with a fault from then on.
     Onward,
+}
+
+/// A part of a list that is run, and what for.
+#[derive(Clone, Copy, Debug, PartialEq, Eq)]
+pub struct Part {
+    pub place: Place,
+    pub purpose: Purpose,
 }
 
 /// A workload and a part of the plans that have grown so far, with how they are run. Runs on any thread borrow it.

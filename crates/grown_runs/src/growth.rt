@@ -9,7 +9,7 @@ ghost use Rattle.grown_runs.specs.GrownRuns.{causes_by};
 ghost use Rattle.grown_runs.specs.inside.Growths.{if_inner, if_last, IsGrowth, IsGrowthOn};
 
 use crate::causes::{Ran, cause_of};
-use crate::course::{GrownCourse, Part};
+use crate::course::{GrownCourse, Place};
 use crate::kept::Growth;
 use crate::stage::Stage;
 use action_eval::Rig;
@@ -58,10 +58,10 @@ pub fn raise(hits: &mut Vec<u32>, counts: &[u32])
 }
 
 /// Keeps the children of a level that isn't the last one.
-fn keep_children(part: Part, kept: &mut Vec<Child>, children: &[Child]) -> Result<(), AllocError>
-    ensures { OnOk result (kept.new.items ≡ kept.old.items ++ if_inner part children.now) }
+fn keep_children(place: Place, kept: &mut Vec<Child>, children: &[Child]) -> Result<(), AllocError>
+    ensures { OnOk result (kept.new.items ≡ kept.old.items ++ if_inner place children.now) }
 {
-    if part == Part::Inner {
+    if place == Place::Inner {
         kept.extend_from_slice(children)?;
     }
     Ok(())
@@ -69,7 +69,7 @@ fn keep_children(part: Part, kept: &mut Vec<Child>, children: &[Child]) -> Resul
 
 /// Keeps a plan of the last level from then on, where its last fault is a return whose point its run hits again.
 fn keep_onward(
-    part: Part,
+    place: Place,
     onward: &mut Vec<Child>,
     plans: &GrownPlans,
     number: usize,
@@ -77,10 +77,10 @@ fn keep_onward(
 ) -> Result<(), AllocError>
     requires { number < length plans.now }
     ensures ok { OnOk result (map (plan_of plans.now) onward.new.items ≡ map (plan_of plans.now) onward.old.items
-        ++ if_last part (onward_if (is_last_return (slice_index_or plans.now number []) && is_again) (slice_index_or plans.now number []))) }
+        ++ if_last place (onward_if (is_last_return (slice_index_or plans.now number []) && is_again) (slice_index_or plans.now number []))) }
     ensures from { GrewFrom (length plans.now) onward.old.items → GrewFrom (length plans.now) onward.new.items }
 {
-    if part == Part::Last && is_again {
+    if place == Place::Last && is_again {
         if let Some(child) = plans.from_then_on(number) {
             onward.push(child)?;
         }
@@ -138,14 +138,9 @@ fn run_one<T: Target>(
     growth.verdicts.push(verdict)?;
     growth.child_count += children.len() as u64;
     raise(&mut growth.hits, counts.as_slice());
-    keep_children(course.part, &mut growth.children, children.as_slice())?;
-    keep_onward(
-        course.part,
-        &mut growth.onward,
-        course.plans,
-        number,
-        is_again,
-    )?;
+    let place = course.part.place;
+    keep_children(place, &mut growth.children, children.as_slice())?;
+    keep_onward(place, &mut growth.onward, course.plans, number, is_again)?;
     let number = number as u32;
     let ran = Ran {
         rigs,

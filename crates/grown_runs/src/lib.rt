@@ -7,8 +7,10 @@ mod grower;
 mod growth;
 mod kept;
 mod levels;
+mod parts;
 mod run;
 mod stage;
 
 pub use course::Limits;
-pub use levels::{GrowFault, Grown, grow};
+pub use levels::{GrowFault, Grown, grow, grow_list};
+pub use parts::Conditions;

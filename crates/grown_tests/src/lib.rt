@@ -3,10 +3,14 @@
 #![tactic(auto)]
 
 #[cfg(test)]
+mod clean_up;
+#[cfg(test)]
 mod commits;
 #[cfg(test)]
 mod deliveries;
 #[cfg(test)]
 mod growing;
+#[cfg(test)]
+mod lists;
 #[cfg(test)]
 mod replacements;

@@ -1,38 +1,46 @@
 -- What a worker hands back of plans that it has run, one after another.
 use Rattle.std.specs.Prelude.{◌≡◌, ℕ, ◌+◌, ◌*◌, ◌≤◌, ◌^◌, List, [], map, length}
 use Rattle.action_eval.specs.declared.rig.Rig.{Rig}
-use Rattle.grown_plans.specs.GrownPlans.{Subject, usual_subject}
+use Rattle.grown_plans.specs.GrownPlans.{Subject}
 use Rattle.target_trait.specs.declared.target.Target.{Ghosts}
 use Rattle.grown_plans.specs.Kept.{Grew, GrewFrom, plan_of}
 use Rattle.grown_runs.specs.declared.course.Part.{Part}
-use Rattle.grown_runs.specs.declared.course.Part.TheVariants.{Inner, Last, Onward}
+use Rattle.grown_runs.specs.declared.course.Place.{Place}
+use Rattle.grown_runs.specs.declared.course.Place.TheVariants.{Inner, Last, Onward}
+use Rattle.grown_runs.specs.declared.course.Purpose.{Purpose}
+use Rattle.grown_runs.specs.declared.course.Purpose.TheVariants.{Plans, Report}
 use Rattle.grown_runs.specs.declared.course.GrownCourse.{GrownCourse}
 use Rattle.grown_runs.specs.declared.kept.Growth.{Growth}
-use Rattle.grown_runs.specs.GrownRuns.{over, verdict_at, children_at, onward_at, cause_at, AreMost}
+use Rattle.grown_runs.specs.GrownRuns.{subject_of, over, verdict_at, children_at, onward_at, cause_at, AreMost}
 
 -- what is kept of the runs of a part of the list: the children of a level that isn't the last, and what goes onward of the last one
-abbrev pub if_inner : {A : Type 0} → Part → List A → List A
+abbrev pub if_inner : {A : Type 0} → Place → List A → List A
 if_inner Inner xs = xs
 if_inner Last xs = []
 if_inner Onward xs = []
 
-abbrev pub if_last : {A : Type 0} → Part → List A → List A
+abbrev pub if_last : {A : Type 0} → Place → List A → List A
 if_last Inner xs = []
 if_last Last xs = xs
 if_last Onward xs = []
 
+-- causes are told for a report alone
+abbrev pub if_report : {A : Type 0} → Purpose → List A → List A
+if_report Plans xs = []
+if_report Report xs = xs
+
 -- what plans are run on: a target's subject
 abbrev pub subject_on : {T W : Type 0} → (target : Ghosts T W) → T → GrownCourse T W target → Subject
-subject_on target setup course = usual_subject (target.asks setup course.workload.now) target.names course.limits.max_hits
+subject_on target setup course = subject_of target setup course.workload.now course.limits.max_hits
 
 -- of plans from a number on, as many as there are verdicts
 pub record IsGrowth (t : Subject) (seed : ℕ) (part : Part) (plans : List (List Rig)) (first count : ℕ) (growth : Growth) : Type 0 where
   pub verdicts : growth.verdicts.items ≡ over (verdict_at t seed) plans first count
-  pub children : growth.children.items ≡ if_inner part (over (children_at t seed) plans first count)
+  pub children : growth.children.items ≡ if_inner part.place (over (children_at t seed) plans first count)
   pub many : growth.child_count ≡ length (over (children_at t seed) plans first count)
-  pub onward : map (plan_of plans) growth.onward.items ≡ if_last part (over (onward_at t seed) plans first count)
+  pub onward : map (plan_of plans) growth.onward.items ≡ if_last part.place (over (onward_at t seed) plans first count)
   pub from : GrewFrom (length plans) growth.onward.items
-  pub causes : growth.causes.items ≡ over (cause_at t seed) plans first count
+  pub causes : growth.causes.items ≡ if_report part.purpose (over (cause_at t seed) plans first count)
   pub hits : length growth.hits.items ≡ length t.names
   pub most : AreMost t seed plans first count growth.hits.items
 

@@ -8,7 +8,7 @@ use Rattle.grown_plans.specs.GrownPlans.{Subject, rigs_of}
 use Rattle.grown_plans.specs.Kept.{kept_children, plan_of}
 use Rattle.grown_plans.specs.AskedPoints.{is_last_return, is_asked_again, onward_if}
 use Rattle.grown_runs.specs.GrownRuns.{told, told_of_rigs, children_at, cause_by}
-use Rattle.grown_runs.specs.inside.Growths.{subject_on, if_inner, if_last}
+use Rattle.grown_runs.specs.inside.Growths.{subject_on, if_inner, if_last, if_report}
 use Rattle.grown_runs.proofs.Numbers.{asked_few}
 use Rattle.grown_runs.proofs.Growing.{growth_next, kept_few}
 use Rattle.grown_runs.proofs.growth.run_one.Goals as goal
@@ -55,16 +55,18 @@ returns-clause-grown g c = λ first count at was.
     ∙ ap (λ (p : List Rig). kept_children n p c.as_slice-asked.result.now) faults_too ∙ ap (kept_children n plan) asked_is in
     growth_next t seed course.part course.plans.now first count n _ _ at was
     (c.in_ok-push.ensures.items ∙ ap (λ v. c.args.growth.now.verdicts.items ++ v ∷ []) verdict_is)
-    (c.in_ok-keep_children.ensures ∙ ap (λ l. c.args.growth.now.children.items ++ if_inner course.part l) (c.as_slice-4.ensures.value ∙ children_is))
+    (c.in_ok-keep_children.ensures ∙ ap (λ l. c.args.growth.now.children.items ++ if_inner course.part.place l) (c.as_slice-4.ensures.value ∙ children_is))
     (ap (λ k. c.args.growth.now.child_count + k) (c.len.ensures ∙ c.add_children.new.children.ok.0 ∙ ap length children_is))
     (c.in_ok-keep_onward.ensures.ok
-    ∙ ap (λ (b : Bool). map (plan_of course.plans.now) c.args.growth.now.onward.items ++ if_last course.part (onward_if (is_last_return plan && b) plan))
+    ∙ ap (λ (b : Bool). map (plan_of course.plans.now) c.args.growth.now.onward.items ++ if_last course.part.place (onward_if (is_last_return plan && b) plan))
     (c.in_ok-is_again.ensures.again ∙ ap (λ (p : List Rig). is_asked_again p c.as_slice-asked.result.now) faults_too ∙ ap (is_asked_again plan) asked_is))
     (c.keep_onward.ensures.from was.from)
     (c.in_ok-keep_cause.ensures
     ∙ ap (λ l. c.args.growth.now.causes.items ++ l)
-    (c.in_ok-cause.ensures.cause ∙ ap (λ s. cause_by (subject_on g.T.Target s course) seed n c.as_slice-rigs.result.now c.in_ok-verdict.verdict) c.run.ensures.setup
-    ∙ ap (λ (rs : List Rig). cause_by t seed n rs c.in_ok-verdict.verdict) rigs_is ∙ ap (cause_by t seed n (rigs_of plan)) verdict_is))
+    (c.in_ok-cause.ensures.cause
+    ∙ ap (if_report course.part.purpose)
+    (ap (λ s. cause_by (subject_on g.T.Target s course) seed n c.as_slice-rigs.result.now c.in_ok-verdict.verdict) c.run.ensures.setup
+    ∙ ap (λ (rs : List Rig). cause_by t seed n rs c.in_ok-verdict.verdict) rigs_is ∙ ap (cause_by t seed n (rigs_of plan)) verdict_is)))
     c.raise.ensures.many
     (λ p lt.
     let few = g.met.T.Target.lawful.few in

@@ -1,7 +1,7 @@
 use Rattle.std.proofs.Common.{refl, length, ap, ◌+◌, ◌∙◌}
 use Rattle.std.proofs.lemmas.List.{length_push}
 use Rattle.grown_runs.proofs.Overs.{same_push}
-use Rattle.grown_runs.proofs.levels.growers.Goals as goal
+use Rattle.grown_runs.proofs.parts.growers.Goals as goal
 
 pub loop-preserved : goal.loop-preserved
 loop-preserved g c =

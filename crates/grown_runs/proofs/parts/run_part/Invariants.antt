@@ -1,13 +1,13 @@
 use Rattle.std.proofs.Common.{◌≡◌, ◌++◌, length, ◌-◌}
-use Rattle.grown_plans.specs.GrownPlans.{usual_subject}
+use Rattle.grown_runs.specs.Grown.{subject_in}
 use Rattle.plan_rows.specs.Rows.{row_start}
 use Rattle.grown_runs.specs.inside.Growths.{IsGrowth}
-use Rattle.grown_runs.proofs.levels.run_part.Given as goal
+use Rattle.grown_runs.proofs.parts.run_part.Given as goal
 
 abbrev pub invariant-loop-growth : goal.invariant-loop-growth
 invariant-loop-growth g l = record {
   parts : l.yielded ++ l.growth-iterator.rest.items ≡ l.initial.growth-iterator.rest.items;
   grown :
-      IsGrowth (usual_subject (g.T.Target.asks l.ground.target.now l.ground.workload.now) g.T.Target.names l.ground.limits.max_hits) l.ground.limits.seed l.fn.part l.plans l.first
+      IsGrowth (subject_in g.T.Target l.on) l.on.limits.seed l.fn.part l.plans l.first
       (row_start l.count (length l.yielded)) l.whole;
 }

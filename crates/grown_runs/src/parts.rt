@@ -1,0 +1,90 @@
+//! Runs of a part of a list on workers.
+ghost use Rattle.std.specs.Prelude.{◌≡◌, ℕ, ◌-◌, ◌≤◌, ◌<◌, length, slice_index_or, [], All, IfOk};
+ghost use Rattle.action_eval.specs.Rigging.{CanBeRigged};
+ghost use Rattle.grown_plans.specs.GrownPlans.{rigs_of};
+ghost use Rattle.grown_runs.specs.Grown.{subject_in};
+ghost use Rattle.grown_runs.specs.inside.Growths.{IsGrowth};
+
+use crate::course::{GrownCourse, Limits, Part};
+use crate::grower::Grower;
+use crate::growth::Workspace;
+use crate::kept::Growth;
+use grown_plans::GrownPlans;
+use plan_rows::rows_in_order;
+use std::alloc::{AllocError, Global};
+use std::sync::Wait;
+use std::thread::Threads;
+use target_trait::Target;
+use work_gate::{Gate, Phase};
+
+/// What plans are run on and with: the threads that workers are, the memory, the gate at which workers arrive, the target, twins of which are run,
+/// and the workload of each run.
+#[derive(Drop)]
+pub struct Conditions<'a, T: Target, G: Gate, R: Threads + Wait + Sync> {
+    pub rt: &'a R,
+    pub alloc: Global,
+    pub gate: &'a G,
+    pub target: &'a T,
+    pub workload: &'a T::Workload,
+    pub limits: Limits,
+}
+
+/// A job for each worker, with a twin of the target. An error means that memory was refused.
+fn growers<'a, T: Target + Send>(
+    alloc: Global,
+    target: &T,
+    course: &'a GrownCourse<'a, T>,
+) -> Result<Vec<Grower<'a, T>>, AllocError>
+where
+    T::Workload: Sync,
+    ensures many { IfOk result (λ growers. length growers.items ≡ course.now.limits.workers) }
+    ensures same { IfOk result (λ growers. All (λ g. (g.target ≡ target.now) × (g.course.now ≡ course.now)) growers.items) }
+{
+    let mut all = Vec::new(alloc);
+    for _ in 0..course.limits.workers {
+        let target = target.twin()?;
+        all.push(Grower {
+            target,
+            course,
+            workspace: Workspace::new(alloc),
+            alloc,
+        })?;
+    }
+    Ok(all)
+}
+
+/// Runs the plans of a part of a list, from `first` on, with a thread for each worker. What they come to is what one thread would find. An
+/// error means that memory was refused.
+pub fn run_part<T: Target + Send, G: Gate, R: Threads + Wait + Sync>(
+    on: &Conditions<'_, T, G, R>,
+    plans: &GrownPlans,
+    part: Part,
+    first: usize,
+) -> Result<Growth, AllocError>
+where
+    T::Workload: Sync,
+    requires within { first ≤ length plans.now }
+    requires few { length plans.now ≤ 65536 }
+    requires rigs { (n : ℕ) → n < length plans.now → CanBeRigged (rigs_of (slice_index_or plans.now n [])) }
+    ensures { IfOk result (λ growth. IsGrowth (subject_in T.Target on.now) on.now.limits.seed part plans.now first (length plans.now - first) growth) }
+{
+    let end = plans.len();
+    let course = GrownCourse {
+        workload: on.workload,
+        plans,
+        limits: on.limits,
+        part,
+        first,
+        end,
+    };
+    let alloc = on.alloc;
+    let jobs = growers(alloc, on.target, &course)?;
+    on.gate.expect(Phase::Plans, end as u32);
+    let count = (end - first) as u32;
+    let rows = rows_in_order(on.rt, alloc, on.gate, jobs, first as u32, count)?;
+    let mut whole = Growth::none(alloc, T::catalogue().len())?;
+    for growth in rows {
+        whole.absorb(growth)?;
+    }
+    Ok(whole)
+}
