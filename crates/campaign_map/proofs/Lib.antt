@@ -1,3 +1,5 @@
 pub mod Joined
 pub mod Runs
 pub mod Counted
+pub mod WorstCells
+pub mod Places

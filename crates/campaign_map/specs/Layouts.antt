@@ -1,7 +1,10 @@
 -- Where everything stands. Grids are counted in cells; the rest in pixels, from the corner of the picture.
-use Rattle.std.specs.Prelude.{ℕ, ◌+◌, ◌-◌, ◌*◌, ◌/◌, nat_lt, min, max, true, false, if◌then◌else◌, length}
+use Rattle.std.specs.Prelude.{ℕ, ◌+◌, ◌-◌, ◌*◌, ◌/◌, nat_lt, min, max, Bool, true, false, if◌then◌else◌, List, length}
 use Rattle.plan_gen.specs.Census.{sites_of}
+use Rattle.plan_gen.specs.Counts.{total_of}
 use Rattle.campaign_map.specs.Mapped.{Mapped}
+use Rattle.campaign_map.specs.GrownCells.{square_step}
+use Rattle.campaign_map.specs.declared.fronts.Front.{Front}
 use Rattle.campaign_map.specs.declared.cells.Line.{Line}
 use Rattle.campaign_map.specs.declared.layout.Layout.{Layout}
 
@@ -19,7 +22,7 @@ strip_cells = 64
 abbrev pub strip_cell : ℕ
 strip_cell = 10
 
--- the pixels of a cell: the square has up to 640 of them, and more from 214 sites on
+-- the pixels of a cell: the square has up to 640 of them where there are up to 213 sites
 abbrev pub cell_of : ℕ → ℕ
 cell_of sites = if nat_lt 160 sites then 3 else if nat_lt 80 sites then 4 else if nat_lt 40 sites then 8 else 16
 
@@ -31,27 +34,51 @@ name_room sites points = if nat_lt 40 sites then 12 * points else 0
 abbrev pub site_count : Mapped → ℕ
 site_count m = length (sites_of m.census)
 
--- the number of the first plan after those of the sites and pairs
-abbrev pub strip_first : Mapped → ℕ
-strip_first m = 1 + 3 * site_count m + (if m.pairs then site_count m * (site_count m - 1) else 0)
+-- a campaign with a depth has plans that grew, the one without faults at least
+abbrev pub has_grown : List Front → Bool
+has_grown fs = nat_lt 0 (length fs)
 
-unfoldable pub layout_of : Mapped → Layout
-layout_of m =
+-- the number of the first plan of the strip: after those of the sites and pairs, or after the levels of those that grew
+abbrev pub strip_first : Mapped → List Front → ℕ
+strip_first m fs =
+    if has_grown fs then length fs - m.onward
+    else 1 + 3 * site_count m + (if m.pairs then site_count m * (site_count m - 1) else 0)
+
+-- how many rows there are: above the sites the plan without faults stands alone, of those that grew
+abbrev pub rows_of : Mapped → List Front → ℕ
+rows_of m fs = if has_grown fs then site_count m + 1 else site_count m
+
+-- how many columns the squares of pairs have
+abbrev pub columns_of : Mapped → List Front → List ℕ → ℕ
+columns_of m fs counts = if has_grown fs then 2 * square_step counts else site_count m
+
+abbrev pub widest : Mapped → List Front → List ℕ → ℕ
+widest m fs counts = if has_grown fs then max (site_count m + 1) (total_of counts) else site_count m
+
+-- what stands above the grids, without the rows of the legend for codes; and to the right of the squares
+abbrev pub room_above : List Front → ℕ
+room_above fs = if has_grown fs then 245 else 140
+
+abbrev pub margin : List Front → ℕ
+margin fs = if has_grown fs then 120 else 40
+
+unfoldable pub layout_of : Mapped → List Front → List ℕ → Layout
+layout_of m fs counts =
     let sites = site_count m in
-    let cell = cell_of sites in
-    let top = 140 + 15 * length m.firsts in
-    let strip_top = top + cell * sites + name_room sites (length m.census) + 24 in
-    let rest = length m.verdicts - strip_first m in
+    let cell = cell_of (widest m fs counts) in
+    let top = room_above fs + 15 * length m.firsts in
+    let strip_top = top + cell * rows_of m fs + name_room (rows_of m fs) (length m.census) + 24 in
+    let rest = length m.verdicts - strip_first m fs in
     let rows = (rest + 63) / strip_cells in
     record {
       sites = sites;
       cell = cell;
       top = top;
       strip_top = strip_top;
-      strip_first = strip_first m;
+      strip_first = strip_first m fs;
       rest = rest;
       rows = rows;
-      width = square_left + max 640 (cell * sites) + 40;
+      width = square_left + max 400 (cell * columns_of m fs counts) + margin fs;
       height = strip_top + strip_cell * rows + 20;
     }
 

@@ -1,5 +1,7 @@
 pub mod Mapped
 pub mod Cells
+pub mod GrownCells
+pub mod Labels
 pub mod Layouts
 pub mod Map
 pub mod inside

@@ -1,27 +1,33 @@
 -- The map of a campaign: an SVG 1.1 picture. Top down: the label, the legend, the sites with the ways in which each is done alone and the
 -- square of pairs, and the strip of storms and listed scenarios.
-use Rattle.std.specs.Prelude.{ℕ, ◌+◌, ◌*◌, ◌==◌, max, if◌then◌else◌, List, [], ◌∷◌, ◌++◌, length, codes, flat_map, count_by}
+use Rattle.std.specs.Prelude.{ℕ, ◌+◌, ◌*◌, ◌==◌, true, false, if◌then◌else◌, List, [], ◌∷◌, ◌++◌, length, codes, flat_map, count_by}
 use Rattle.std.specs.List.{range_with_len}
 use Rattle.std.specs.Fmt.{decimal}
 use Rattle.target_trait.specs.declared.judgement.Verdict.{Verdict}
 use Rattle.target_trait.specs.declared.judgement.Verdict.TheVariants as verdict
 use Rattle.campaign_map.specs.Mapped.{Mapped}
 use Rattle.xml_text.specs.Xml.{escaped}
-use Rattle.campaign_map.specs.Cells.{shade, class, line_text}
-use Rattle.campaign_map.specs.Layouts.{layout_of, kind_line, both_line, second_line, strip_line}
+use Rattle.plan_gen.specs.Counts.{total_of}
+use Rattle.report.specs.ReportText.{scenario_text}
+use Rattle.campaign_map.specs.Cells.{shade, class, scenario_at, line_text}
+use Rattle.campaign_map.specs.GrownCells.{fronts, columns, square_step, single_text, pair_text}
+use Rattle.campaign_map.specs.Labels.{row_name, turned, names_text}
+use Rattle.campaign_map.specs.Layouts.{has_grown, layout_of, kind_line, both_line, second_line, strip_line}
 use Rattle.campaign_map.specs.declared.layout.Layout.{Layout}
+use Rattle.campaign_map.specs.declared.fronts.Front.{Front}
+use Rattle.campaign_map.specs.declared.names.Axis.{Axis}
 
 -- ---- the style: colours that differ in lightness too, and others on a dark ground
 
 unfoldable pub style : List ℕ
 style =
-    codes "<style>svg{font:11px system-ui,sans-serif;color:#1d2429;background:#fff}text{fill:currentColor}rect{stroke:#fff;stroke-width:.1}\n"
+    codes "<style>svg{font:11px system-ui,sans-serif;color:#222;background:#fff}text{fill:currentColor}rect{stroke:#fff;stroke-width:.1}.ground{fill:#f6f8f9}\n"
     ++ codes ".end{text-anchor:end;dominant-baseline:hanging}.label{font-size:16px;font-weight:600}.rule{fill:none;stroke:currentColor;opacity:.5}\n"
     ++ codes ".frame,.dot{fill:none;stroke:currentColor;stroke-width:2px;vector-effect:non-scaling-stroke}.dot{stroke-width:7px;stroke-linecap:round}\n"
-    ++ codes ".pass{fill:#e3e9ed}.unresolved{fill:#a3b0b9}.fail0{fill:#b3122a}.fail1{fill:#f0a030}.fail2{fill:#5b2a86}.fail3{fill:#2fa37c}\n"
+    ++ codes ".pass{fill:#dbe3e8}.unresolved{fill:#a3b0b9}.fail0{fill:#b3122a}.fail1{fill:#f0a030}.fail2{fill:#5b2a86}.fail3{fill:#2fa37c}\n"
     ++ codes ".fail4{fill:#96602f}.fail5{fill:#3f7fc4}@media(prefers-color-scheme:dark){svg{color:#e6eaed;background:#14181b}rect{stroke:#14181b}\n"
-    ++ codes ".pass{fill:#28313a}.unresolved{fill:#66747f}.fail0{fill:#f0525f}.fail1{fill:#ffc872}.fail2{fill:#a97fe0}.fail3{fill:#48cba0}\n"
-    ++ codes ".fail4{fill:#c08550}.fail5{fill:#5b9be6}}</style>\n"
+    ++ codes ".pass{fill:#2c363f}.unresolved{fill:#66747f}.fail0{fill:#f0525f}.fail1{fill:#ffc872}.fail2{fill:#a97fe0}.fail3{fill:#48cba0}\n"
+    ++ codes ".fail4{fill:#c08550}.fail5{fill:#5b9be6}.ground{fill:#1a1f23}}</style>\n"
 
 -- ---- the head and the legend
 
@@ -50,42 +56,30 @@ legend_row m row v name =
     codes "<rect class='" ++ class v ++ codes "' x='20' y='" ++ decimal (60 + 15 * row) ++ codes "' width='11' height='11'/><text x='38' y='"
     ++ decimal (70 + 15 * row) ++ codes "'>" ++ escaped name ++ codes " " ++ decimal (count_of m.verdicts v)
 
-unfoldable pub first_text : ℕ → List ℕ
-first_text number = codes ", first: plan " ++ decimal number ++ codes "</text>\n"
+unfoldable pub first_text : Mapped → ℕ → List ℕ
+first_text m number =
+    codes ", first: plan " ++ decimal number ++ codes ", " ++ escaped (scenario_text (scenario_at m number)) ++ codes "</text>\n"
 
--- a row for a code, with the number of its first failure
+-- a row for a code, with the number and the scenario of its first failure
 unfoldable pub code_row : (ℕ → List ℕ) → Mapped → ℕ → ℕ × ℕ → List ℕ
-code_row code_name m row first = legend_row m row (verdict.Fail first.1) (code_name first.1) ++ first_text first.0
+code_row code_name m row first = legend_row m row (verdict.Fail first.1) (code_name first.1) ++ first_text m first.0
 
 unfoldable pub code_rows : (ℕ → List ℕ) → Mapped → ℕ → List (ℕ × ℕ) → List ℕ
 code_rows code_name m row [] = []
 code_rows code_name m row (first ∷ firsts) = code_row code_name m row first ++ code_rows code_name m (row + 1) firsts
 
-unfoldable pub legend : (ℕ → List ℕ) → Mapped → List ℕ
-legend code_name m =
+-- a row for the places that no plan has, where plans grew
+unfoldable pub ground_row : ℕ → List ℕ
+ground_row row =
+    codes "<rect class='ground' x='20' y='" ++ decimal (60 + 15 * row) ++ codes "' width='11' height='11'/><text x='38' y='"
+    ++ decimal (70 + 15 * row) ++ codes "'>no such plan</text>\n"
+
+unfoldable pub legend : (ℕ → List ℕ) → Mapped → List Front → List ℕ
+legend code_name m fs =
     legend_row m 0 verdict.Pass (codes "pass") ++ codes "</text>\n" ++ legend_row m 1 verdict.Unresolved (codes "unresolved") ++ codes "</text>\n"
-    ++ code_rows code_name m 2 m.firsts
+    ++ code_rows code_name m 2 m.firsts ++ (if has_grown fs then ground_row (2 + length m.firsts) else [])
 
--- ---- the names of the points, and the heads
-
--- the name of a point, at y, with a rule to the point's first row
-unfoldable pub name_text : List ℕ → ℕ → ℕ → List ℕ
-name_text name y row =
-    codes "<text class='end' y='" ++ decimal y ++ codes "'>" ++ escaped name ++ codes "</text><path class='rule' d='M2 " ++ decimal y
-    ++ codes "m0 6L10 " ++ decimal row ++ codes "'/>\n"
-
--- a point that has sites; `free` is where there is room for its name
-unfoldable pub point_text : List ℕ → ℕ → ℕ → ℕ → ℕ → List ℕ
-point_text name cell site free count = if count == 0 then [] else name_text name (max free (cell * site)) (cell * site)
-
-abbrev pub next_free : ℕ → ℕ → ℕ → ℕ → ℕ
-next_free cell site free count = if count == 0 then free else max free (cell * site) + 12
-
-unfoldable pub names_text : ℕ → ℕ → ℕ → List (List ℕ) → List ℕ → List ℕ
-names_text cell site free [] counts = []
-names_text cell site free (name ∷ names) [] = []
-names_text cell site free (name ∷ names) (count ∷ counts) =
-    point_text name cell site free count ++ names_text cell (site + count) (next_free cell site free count) names counts
+-- ---- groups, and the heads
 
 -- a group of what follows, moved and scaled
 unfoldable pub group : ℕ → ℕ → ℕ → ℕ → List ℕ
@@ -95,12 +89,18 @@ group x y wide high =
 abbrev pub end : List ℕ
 end = codes "</g>\n"
 
--- the head of a column, turned
-unfoldable pub turned : ℕ → List ℕ → List ℕ
-turned x name = codes "<text transform='translate(" ++ decimal x ++ codes " -6) rotate(-50)'>" ++ name ++ codes "</text>\n"
-
 abbrev pub heads : List ℕ
 heads = turned 10 (codes "once") ++ turned 26 (codes "onward") ++ turned 42 (codes "panic")
+
+abbrev pub grown_heads : List ℕ
+grown_heads = turned 10 (codes "return") ++ turned 26 (codes "panic")
+
+-- the rows of the sites, after so many others, and the columns of second faults
+abbrev pub down : ℕ → ℕ → Axis
+down cell before = record { cell = cell; is_turned = false; before = before }
+
+abbrev pub across : ℕ → Axis
+across cell = record { cell = cell; is_turned = true; before = 0 }
 
 -- ---- the grids
 
@@ -123,11 +123,23 @@ row_text code_name m l row = line_text code_name m (strip_line l row)
 unfoldable pub strip : (ℕ → List ℕ) → Mapped → Layout → List ℕ
 strip code_name m l = flat_map (row_text code_name m l) (range_with_len 0 l.rows)
 
+-- the cells of plans that grew, of those before the strip
+unfoldable pub singles : (ℕ → List ℕ) → Mapped → List Front → Layout → List ℕ
+singles code_name m fs l = flat_map (single_text code_name m fs) (range_with_len 0 l.strip_first)
+
+unfoldable pub matrix : (ℕ → List ℕ) → Mapped → List Front → List ℕ → Layout → List ℕ
+matrix code_name m fs counts l = flat_map (pair_text code_name m fs counts) (range_with_len 0 l.strip_first)
+
+-- where a square may have cells
+unfoldable pub ground : ℕ → ℕ → ℕ → List ℕ
+ground x wide high =
+    codes "<rect class='ground' x='" ++ decimal x ++ codes "' y='1' width='" ++ decimal wide ++ codes "' height='" ++ decimal high ++ codes "'/>\n"
+
 -- ---- the picture
 
 unfoldable pub sites_part : List (List ℕ) → (ℕ → List ℕ) → Mapped → Layout → List ℕ
 sites_part points code_name m l =
-    group 228 l.top 1 1 ++ names_text l.cell 0 0 points m.census ++ end
+    group 228 l.top 1 1 ++ names_text (down l.cell 0) 0 0 points m.census ++ end
     ++ group 240 l.top 1 1 ++ heads ++ end
     ++ group 240 l.top 16 l.cell ++ kinds code_name m l ++ end
 
@@ -142,15 +154,57 @@ pairs_part code_name m l =
     ++ group 320 l.top l.cell l.cell ++ square code_name m l ++ end
     else []
 
--- nothing where there is no storm and no listed scenario
-unfoldable pub strip_part : (ℕ → List ℕ) → Mapped → Layout → List ℕ
-strip_part code_name m l =
+-- the head of the strip, which begins with the plans from then on, where plans grew
+abbrev pub strip_name : List Front → List ℕ
+strip_name fs = if has_grown fs then codes "from then on, storms, listed" else codes "storms, listed"
+
+unfoldable pub strip_head : List Front → Layout → List ℕ
+strip_head fs l = group 228 l.strip_top 1 1 ++ codes "<text class='end'>" ++ strip_name fs ++ codes "</text>\n" ++ end
+
+-- nothing where there is no storm and no listed scenario, nor a plan from then on
+unfoldable pub strip_part : (ℕ → List ℕ) → Mapped → List Front → Layout → List ℕ
+strip_part code_name m fs l =
     if l.rows == 0 then []
-    else group 228 l.strip_top 1 1 ++ codes "<text class='end'>storms, listed</text>\n" ++ end
-    ++ group 240 l.strip_top 10 10 ++ strip code_name m l ++ end
+    else strip_head fs l ++ group 240 l.strip_top 10 10 ++ strip code_name m l ++ end
+
+-- the sites, of plans that grew
+unfoldable pub levels_part : List (List ℕ) → (ℕ → List ℕ) → Mapped → List Front → Layout → List ℕ
+levels_part points code_name m fs l =
+    group 228 l.top 1 1 ++ row_name (codes "none") 0 0 ++ names_text (down l.cell 1) 1 12 points m.census ++ end
+    ++ group 240 l.top 1 1 ++ grown_heads ++ end
+    ++ group 240 l.top 16 l.cell ++ singles code_name m fs l ++ end
+
+-- what stands over a square
+unfoldable pub square_title : List ℕ → List ℕ
+square_title name = codes "<text y='-116'>" ++ name ++ codes "</text>\n"
+
+unfoldable pub square_head : List (List ℕ) → Layout → List ℕ → ℕ → List ℕ → List ℕ
+square_head points l counts x name = group x l.top 1 1 ++ square_title name ++ names_text (across l.cell) 0 0 points counts ++ end
+
+unfoldable pub square_heads : List (List ℕ) → Layout → List ℕ → List ℕ
+square_heads points l counts =
+    square_head points l counts 320 (codes "then a return") ++ square_head points l counts (320 + l.cell * square_step counts) (codes "then a panic")
+
+unfoldable pub squares : (ℕ → List ℕ) → Mapped → List Front → List ℕ → Layout → List ℕ
+squares code_name m fs counts l =
+    group 320 l.top l.cell l.cell ++ ground 0 (total_of counts) l.sites ++ ground (square_step counts) (total_of counts) l.sites
+    ++ matrix code_name m fs counts l ++ end
+
+-- nothing where no plan has two faults
+unfoldable pub matrix_part : List (List ℕ) → (ℕ → List ℕ) → Mapped → List Front → List ℕ → Layout → List ℕ
+matrix_part points code_name m fs counts l =
+    if total_of counts == 0 then [] else square_heads points l counts ++ squares code_name m fs counts l
+
+-- the grids, of a campaign with a depth and of one without
+abbrev pub grids : List (List ℕ) → (ℕ → List ℕ) → Mapped → List Front → List ℕ → Layout → List ℕ
+grids points code_name m fs counts l =
+    if has_grown fs then levels_part points code_name m fs l ++ matrix_part points code_name m fs counts l
+    else sites_part points code_name m l ++ pairs_part code_name m l
 
 -- the map, by the names of the points and codes
 unfoldable pub map_text : List (List ℕ) → (ℕ → List ℕ) → Mapped → List ℕ
 map_text points code_name m =
-    let l = layout_of m in
-    head m l ++ legend code_name m ++ sites_part points code_name m l ++ pairs_part code_name m l ++ strip_part code_name m l ++ codes "</svg>\n"
+    let fs = fronts m in
+    let counts = columns m in
+    let l = layout_of m fs counts in
+    head m l ++ legend code_name m fs ++ grids points code_name m fs counts l ++ strip_part code_name m fs l ++ codes "</svg>\n"

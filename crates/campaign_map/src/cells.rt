@@ -63,7 +63,8 @@ pub fn write_class(out: &mut String, verdict: Verdict) -> Result<(), AllocError>
     }
 }
 
-fn verdict_at(facts: &MapFacts<'_>, number: usize) -> Verdict
+/// The verdict of the plan of this number.
+pub fn verdict_at(facts: &MapFacts<'_>, number: usize) -> Verdict
     ensures { result ≡ verdict_at facts.now number }
 {
     if number < facts.verdicts.len() {
@@ -142,7 +143,12 @@ fn run_length(facts: &MapFacts<'_>, line: &Line, i: usize) -> usize
 }
 
 #[tactic(auto, unfolding(crate::specs::Cells::rectangle_at))]
-fn write_corner(out: &mut String, verdict: Verdict, x: usize, y: usize) -> Result<(), AllocError>
+pub fn write_corner(
+    out: &mut String,
+    verdict: Verdict,
+    x: usize,
+    y: usize,
+) -> Result<(), AllocError>
     ensures { OnOk result (string_bytes out.new ≡ string_bytes out.old ++ rectangle_at (class verdict) x y) }
 {
     out.push_str("<rect class='")?;
@@ -151,7 +157,7 @@ fn write_corner(out: &mut String, verdict: Verdict, x: usize, y: usize) -> Resul
 }
 
 #[tactic(auto, unfolding(crate::specs::Cells::rectangle_size))]
-fn write_size(out: &mut String, wide: usize, high: usize) -> Result<(), AllocError>
+pub fn write_size(out: &mut String, wide: usize, high: usize) -> Result<(), AllocError>
     ensures { OnOk result (string_bytes out.new ≡ string_bytes out.old ++ rectangle_size wide high) }
 {
     write!(out, "' width='{wide}' height='{high}'><title>")
@@ -179,7 +185,7 @@ fn write_cells(
 }
 
 /// Appends a verdict as XML says it.
-fn write_verdict_escaped<N: Names>(
+pub fn write_verdict_escaped<N: Names>(
     alloc: Global,
     out: &mut String,
     names: &N,
@@ -193,7 +199,7 @@ fn write_verdict_escaped<N: Names>(
 }
 
 /// Appends the scenario of a plan as XML says it.
-fn write_scenario_escaped(
+pub fn write_scenario_escaped(
     alloc: Global,
     out: &mut String,
     facts: &MapFacts<'_>,
@@ -212,7 +218,7 @@ fn write_scenario_escaped(
 
 /// Appends a plan's number, scenario and verdict.
 #[tactic(auto, unfolding(crate::specs::Cells::plan_title))]
-fn write_plan_title<N: Names>(
+pub fn write_plan_title<N: Names>(
     alloc: Global,
     out: &mut String,
     names: &N,
@@ -281,14 +287,14 @@ fn is_first(firsts: &[(u32, u32)], number: usize) -> bool
 }
 
 #[tactic(auto, unfolding(crate::specs::Cells::frame))]
-fn write_frame(out: &mut String, x: usize, y: usize) -> Result<(), AllocError>
+pub fn write_frame(out: &mut String, x: usize, y: usize) -> Result<(), AllocError>
     ensures { OnOk result (string_bytes out.new ≡ string_bytes out.old ++ frame x y) }
 {
     write!(out, "<path class='frame' d='M{x}.1 {y}.1h.8v.8h-.8z'/>")
 }
 
 #[tactic(auto, unfolding(crate::specs::Cells::dot))]
-fn write_dot(out: &mut String, x: usize, y: usize) -> Result<(), AllocError>
+pub fn write_dot(out: &mut String, x: usize, y: usize) -> Result<(), AllocError>
     ensures { OnOk result (string_bytes out.new ≡ string_bytes out.old ++ dot x y) }
 {
     writeln!(out, "<path class='dot' d='M{x} {y}.5h0'/>")

@@ -1,6 +1,7 @@
 //! What a map shows.
 
-use plan_gen::PlanList;
+use campaign_plans::CampaignPlans;
+use grown_plans::GrownPlans;
 use std::marker::Model;
 use target_trait::Verdict;
 
@@ -14,7 +15,11 @@ pub struct MapFacts<'a> {
     /// Whether each two sites make two plans.
     pub pairs: bool,
     /// The plans, in the order of their numbers, from 0.
-    pub plans: &'a PlanList<'a>,
+    pub plans: &'a CampaignPlans<'a>,
+    /// Those that grew, of a campaign with a depth. They come first among the plans.
+    pub grown: Option<&'a GrownPlans>,
+    /// How many of those have their last fault from then on. They come last of those that grew.
+    pub onward: usize,
     /// The verdict of each plan.
     pub verdicts: &'a [Verdict],
     /// For each code with which a plan fails, the least number of one that does, and the code.
@@ -22,6 +27,8 @@ pub struct MapFacts<'a> {
 }
 
 impl<'a> Model for MapFacts<'a> {
+    ghost use Rattle.std.specs.Prelude.{option_copied};
+    ghost use Rattle.campaign_plans.specs.GrownScenarios.{grown_among};
     ghost use Rattle.campaign_map.specs.Mapped.{Mapped};
 
     ghost Value = { Mapped };
@@ -31,6 +38,8 @@ impl<'a> Model for MapFacts<'a> {
       census = f.census.now;
       pairs = f.pairs;
       plans = f.plans.now;
+      grown = grown_among (option_copied f.grown);
+      onward = f.onward;
       verdicts = f.verdicts.now;
       firsts = f.firsts.now;
     } };

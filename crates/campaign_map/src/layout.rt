@@ -1,12 +1,15 @@
 //! Where everything stands.
-ghost use Rattle.std.specs.Prelude.{◌≡◌, ◌≤◌, ◌<◌, ◌^◌, length};
+ghost use Rattle.std.specs.Prelude.{◌≡◌, ◌≤◌, ◌<◌, ◌+◌, ◌*◌, ◌^◌, max, length, if◌then◌else◌};
 ghost use Rattle.plan_gen.specs.Census.{sites_of};
 ghost use Rattle.plan_gen.specs.PlanList.{most_plans};
 ghost use Rattle.campaign_map.specs.inside.Lines.{IsShort, IsSmall};
-ghost use Rattle.campaign_map.specs.Layouts.{cell_of, strip_first, layout_of, kind_line, both_line, second_line, strip_line};
+ghost use Rattle.plan_gen.specs.Counts.{total_of};
+ghost use Rattle.campaign_map.specs.GrownCells.{square_step};
+ghost use Rattle.campaign_map.specs.Layouts.{cell_of, has_grown, room_above, margin, strip_first, layout_of, kind_line, both_line, second_line, strip_line};
 
 use crate::cells::Line;
 use crate::facts::MapFacts;
+use crate::fronts::{Front, square_step, total};
 
 /// Where everything stands, in pixels from the picture's corner.
 #[derive(Clone, Copy, Debug)]
@@ -51,11 +54,14 @@ fn cell_of(sites: usize) -> usize
     }
 }
 
-fn strip_first(facts: &MapFacts<'_>, sites: usize) -> usize
+fn strip_first(facts: &MapFacts<'_>, fronts: &[Front], sites: usize) -> usize
     requires few { sites ≤ most_plans }
     requires are { sites ≡ length (sites_of facts.now.census) }
-    ensures { result ≡ strip_first facts.now }
+    ensures { result ≡ strip_first facts.now fronts.now }
 {
+    if !fronts.is_empty() {
+        return fronts.len().saturating_sub(facts.onward);
+    }
     let singles = 1 + 3 * sites;
     if facts.pairs && sites > 0 {
         singles + sites * (sites - 1)
@@ -64,24 +70,64 @@ fn strip_first(facts: &MapFacts<'_>, sites: usize) -> usize
     }
 }
 
+/// How many cells the grids have down and across, and what stands above and beside them.
+#[derive(Clone, Copy, Debug)]
+struct Extent {
+    rows: usize,
+    columns: usize,
+    widest: usize,
+    above: usize,
+    margin: usize,
+}
+
+fn extent_of(fronts: &[Front], counts: &[u32], sites: usize) -> Extent
+    requires few { sites ≤ most_plans }
+    requires counts { length counts.now ≤ 64 }
+    ensures rows { result.rows ≡ (if has_grown fronts.now then sites + 1 else sites) }
+    ensures columns { result.columns ≡ (if has_grown fronts.now then 2 * square_step counts.now else sites) }
+    ensures widest { result.widest ≡ (if has_grown fronts.now then max (sites + 1) (total_of counts.now) else sites) }
+    ensures above { result.above ≡ room_above fronts.now }
+    ensures margin { result.margin ≡ margin fronts.now }
+    ensures small { (result.rows ≤ 65537) × (result.columns ≤ 2 ^ 40) × (result.above ≤ 245) × (result.margin ≤ 120) }
+{
+    if fronts.is_empty() {
+        return Extent {
+            rows: sites,
+            columns: sites,
+            widest: sites,
+            above: 140,
+            margin: 40,
+        };
+    }
+    Extent {
+        rows: sites + 1,
+        columns: 2 * square_step(counts),
+        widest: total(counts).max(sites + 1),
+        above: 245,
+        margin: 120,
+    }
+}
+
 /// Where everything stands in the map of a campaign.
 #[tactic(auto, unfolding(crate::specs::Layouts::layout_of))]
-pub fn layout_of(facts: &MapFacts<'_>) -> Layout
+pub fn layout_of(facts: &MapFacts<'_>, fronts: &[Front], counts: &[u32]) -> Layout
     requires points { length facts.now.census ≤ 64 }
     requires few { length (sites_of facts.now.census) ≤ most_plans }
-    ensures layout { result ≡ layout_of facts.now }
+    requires counts { length counts.now ≤ 64 }
+    ensures layout { result ≡ layout_of facts.now fronts.now counts.now }
     ensures small { IsSmall result }
 {
     let sites = sites_of(facts.census);
-    let cell = cell_of(sites);
-    let top = 140 + 15 * facts.firsts.len();
-    let name_room = if sites <= 40 {
+    let extent = extent_of(fronts, counts, sites);
+    let cell = cell_of(extent.widest);
+    let top = extent.above + 15 * facts.firsts.len();
+    let name_room = if extent.rows <= 40 {
         0
     } else {
         12 * facts.census.len()
     };
-    let strip_top = top + cell * sites + name_room + 24;
-    let strip_first = strip_first(facts, sites);
+    let strip_top = top + cell * extent.rows + name_room + 24;
+    let strip_first = strip_first(facts, fronts, sites);
     let rest = facts.verdicts.len().saturating_sub(strip_first);
     let rows = (rest + 63) / 64;
     Layout {
@@ -92,7 +138,7 @@ pub fn layout_of(facts: &MapFacts<'_>) -> Layout
         strip_first,
         rest,
         rows,
-        width: 360 + (cell * sites).max(640),
+        width: 320 + (cell * extent.columns).max(400) + extent.margin,
         height: strip_top + 10 * rows + 20,
     }
 }

@@ -3,8 +3,11 @@
 
 mod cells;
 mod facts;
+mod fronts;
+mod grown;
 mod layout;
 mod map;
+mod names;
 
 pub use facts::MapFacts;
 pub use map::map_text;

@@ -5,12 +5,17 @@ ghost use Rattle.plan_gen.specs.Census.{sites_of};
 ghost use Rattle.plan_gen.specs.Counts.{total_of};
 ghost use Rattle.plan_gen.specs.PlanList.{most_plans};
 ghost use Rattle.campaign_map.specs.inside.Lines.{IsSmall};
-ghost use Rattle.campaign_map.specs.Map.{style, size, view, label, numbers, head, count_of, legend_row, first_text, code_row, code_rows, legend, name_text, point_text, next_free};
-ghost use Rattle.campaign_map.specs.Map.{names_text, group, end, turned, heads, kind_text, kinds, pairs_text, square, row_text, strip, sites_part, pairs_head, pairs_part, strip_part, map_text};
+ghost use Rattle.campaign_map.specs.Map.{style, size, view, label, numbers, head, count_of, legend_row, first_text, code_row, code_rows};
+ghost use Rattle.campaign_map.specs.Map.{ground_row, legend, group, end, heads, grown_heads, down, across, kind_text, kinds, pairs_text};
+ghost use Rattle.campaign_map.specs.Map.{square, row_text, strip, sites_part, pairs_head, pairs_part, strip_name, strip_head, strip_part};
+ghost use Rattle.campaign_map.specs.Map.{singles, matrix, ground, levels_part, square_title, square_head, square_heads, squares, matrix_part, grids, map_text};
 
-use crate::cells::{shade, write_class, write_line};
+use crate::cells::{shade, write_class, write_line, write_scenario_escaped};
 use crate::facts::MapFacts;
+use crate::fronts::{Front, columns_of, fronts_of, square_step, total};
+use crate::grown::{write_pair, write_single};
 use crate::layout::{Layout, layout_of};
+use crate::names::{Axis, write_names, write_row_name, write_turned};
 use report::Names;
 use std::alloc::{AllocError, Global};
 use std::fmt::Write;
@@ -21,7 +26,7 @@ fn write_style(out: &mut String) -> Result<(), AllocError>
     ensures { OnOk result (string_bytes out.new ≡ string_bytes out.old ++ style) }
 {
     out.push_str(
-        "<style>svg{font:11px system-ui,sans-serif;color:#1d2429;background:#fff}text{fill:currentColor}rect{stroke:#fff;stroke-width:.1}\n",
+        "<style>svg{font:11px system-ui,sans-serif;color:#222;background:#fff}text{fill:currentColor}rect{stroke:#fff;stroke-width:.1}.ground{fill:#f6f8f9}\n",
     )?;
     out.push_str(
         ".end{text-anchor:end;dominant-baseline:hanging}.label{font-size:16px;font-weight:600}.rule{fill:none;stroke:currentColor;opacity:.5}\n",
@@ -30,15 +35,15 @@ fn write_style(out: &mut String) -> Result<(), AllocError>
         ".frame,.dot{fill:none;stroke:currentColor;stroke-width:2px;vector-effect:non-scaling-stroke}.dot{stroke-width:7px;stroke-linecap:round}\n",
     )?;
     out.push_str(
-        ".pass{fill:#e3e9ed}.unresolved{fill:#a3b0b9}.fail0{fill:#b3122a}.fail1{fill:#f0a030}.fail2{fill:#5b2a86}.fail3{fill:#2fa37c}\n",
+        ".pass{fill:#dbe3e8}.unresolved{fill:#a3b0b9}.fail0{fill:#b3122a}.fail1{fill:#f0a030}.fail2{fill:#5b2a86}.fail3{fill:#2fa37c}\n",
     )?;
     out.push_str(
         ".fail4{fill:#96602f}.fail5{fill:#3f7fc4}@media(prefers-color-scheme:dark){svg{color:#e6eaed;background:#14181b}rect{stroke:#14181b}\n",
     )?;
     out.push_str(
-        ".pass{fill:#28313a}.unresolved{fill:#66747f}.fail0{fill:#f0525f}.fail1{fill:#ffc872}.fail2{fill:#a97fe0}.fail3{fill:#48cba0}\n",
+        ".pass{fill:#2c363f}.unresolved{fill:#66747f}.fail0{fill:#f0525f}.fail1{fill:#ffc872}.fail2{fill:#a97fe0}.fail3{fill:#48cba0}\n",
     )?;
-    out.push_str(".fail4{fill:#c08550}.fail5{fill:#5b9be6}}</style>\n")?;
+    out.push_str(".fail4{fill:#c08550}.fail5{fill:#5b9be6}.ground{fill:#1a1f23}}</style>\n")?;
     Ok(())
 }
 
@@ -127,14 +132,23 @@ fn write_legend_row(
 }
 
 #[tactic(auto, unfolding(crate::specs::Map::first_text))]
-fn write_first(out: &mut String, number: u32) -> Result<(), AllocError>
-    ensures { OnOk result (string_bytes out.new ≡ string_bytes out.old ++ first_text number) }
+fn write_first(
+    alloc: Global,
+    out: &mut String,
+    facts: &MapFacts<'_>,
+    number: u32,
+) -> Result<(), AllocError>
+    ensures { OnOk result (string_bytes out.new ≡ string_bytes out.old ++ first_text facts.now number) }
 {
-    writeln!(out, ", first: plan {number}</text>")
+    write!(out, ", first: plan {number}, ")?;
+    write_scenario_escaped(alloc, out, facts, number as usize)?;
+    out.push_str("</text>\n")?;
+    Ok(())
 }
 
 #[tactic(auto, unfolding(crate::specs::Map::code_row))]
 fn write_code_row<N: Names>(
+    alloc: Global,
     out: &mut String,
     names: &N,
     facts: &MapFacts<'_>,
@@ -146,11 +160,12 @@ fn write_code_row<N: Names>(
 {
     let (number, code) = first;
     write_legend_row(out, facts, row, Verdict::Fail(code), names.code(code))?;
-    write_first(out, number)
+    write_first(alloc, out, facts, number)
 }
 
 #[tactic(auto, unfolding(crate::specs::Map::code_rows))]
 fn write_code_rows<N: Names>(
+    alloc: Global,
     out: &mut String,
     names: &N,
     facts: &MapFacts<'_>,
@@ -158,82 +173,43 @@ fn write_code_rows<N: Names>(
     ensures { OnOk result (string_bytes out.new ≡ string_bytes out.old ++ code_rows (N.code_text names.now) facts.now 2 facts.now.firsts) }
 {
     for (place, first) in facts.firsts.iter().enumerate() {
-        write_code_row(out, names, facts, place + 2, *first)?;
+        write_code_row(alloc, out, names, facts, place + 2, *first)?;
     }
+    Ok(())
+}
+
+#[tactic(auto, unfolding(crate::specs::Map::ground_row))]
+fn write_ground_row(out: &mut String, row: usize) -> Result<(), AllocError>
+    requires { row ≤ 2 ^ 60 + 2 }
+    ensures { OnOk result (string_bytes out.new ≡ string_bytes out.old ++ ground_row row) }
+{
+    let top = 60 + 15 * row;
+    let base = 70 + 15 * row;
+    write!(out, "<rect class='ground' x='20' y='{top}")?;
+    write!(out, "' width='11' height='11'/><text x='38' y='{base}")?;
+    out.push_str("'>no such plan</text>\n")?;
     Ok(())
 }
 
 #[tactic(auto, unfolding(crate::specs::Map::legend))]
 fn write_legend<N: Names>(
+    alloc: Global,
     out: &mut String,
     names: &N,
     facts: &MapFacts<'_>,
+    fronts: &[Front],
 ) -> Result<(), AllocError>
-    ensures { OnOk result (string_bytes out.new ≡ string_bytes out.old ++ legend (N.code_text names.now) facts.now) }
+    ensures { OnOk result (string_bytes out.new ≡ string_bytes out.old ++ legend (N.code_text names.now) facts.now fronts.now) }
 {
     write_legend_row(out, facts, 0, Verdict::Pass, "pass")?;
     out.push_str("</text>\n")?;
     write_legend_row(out, facts, 1, Verdict::Unresolved, "unresolved")?;
     out.push_str("</text>\n")?;
-    write_code_rows(out, names, facts)
-}
-
-#[tactic(auto, unfolding(crate::specs::Map::name_text))]
-fn write_name(out: &mut String, name: &str, y: usize, row: usize) -> Result<(), AllocError>
-    ensures { OnOk result (string_bytes out.new ≡ string_bytes out.old ++ name_text name.now y row) }
-{
-    write!(out, "<text class='end' y='{y}'>")?;
-    write_escaped(out, name)?;
-    write!(out, "</text><path class='rule' d='M2 {y}m0 6L10 {row}'/>\n")
-}
-
-/// Appends the name of a point that has sites, and answers where there is room for the next.
-#[tactic(auto, unfolding(crate::specs::Map::point_text))]
-fn write_point(
-    out: &mut String,
-    name: &str,
-    cell: usize,
-    site: usize,
-    free: usize,
-    count: usize,
-) -> Result<usize, AllocError>
-    requires cell { cell ≤ 16 }
-    requires site { site ≤ most_plans }
-    requires free { free ≤ 2 ^ 32 }
-    ensures text { OnOk result (string_bytes out.new ≡ string_bytes out.old ++ point_text name.now cell site free count) }
-    ensures free { IfOk result (λ room. room ≡ next_free cell site free count) }
-{
-    if count == 0 {
-        return Ok(free);
+    write_code_rows(alloc, out, names, facts)?;
+    if fronts.is_empty() {
+        return Ok(());
     }
-    let row = cell * site;
-    let y = free.max(row);
-    write_name(out, name, y, row)?;
-    Ok(y + 12)
-}
-
-/// Appends the names of the points.
-#[tactic(auto, unfolding(crate::specs::Map::names_text))]
-fn write_names<N: Names>(
-    out: &mut String,
-    names: &N,
-    census: &[u32],
-    cell: usize,
-) -> Result<(), AllocError>
-    requires counts { length census.now ≡ length (N.points names.now) }
-    requires points { length census.now ≤ 64 }
-    requires few { total_of census.now ≤ most_plans }
-    requires small { cell ≤ 16 }
-    ensures { OnOk result (string_bytes out.new ≡ string_bytes out.old ++ names_text cell 0 0 (N.points names.now) census.now) }
-{
-    let mut site = 0;
-    let mut free = 0;
-    for (point, count) in census.iter().enumerate() {
-        let count = *count as usize;
-        free = write_point(out, names.point(point), cell, site, free, count)?;
-        site += count;
-    }
-    Ok(())
+    write_ground_row(out, 2 + facts.firsts.len())
 }
 
 #[tactic(auto, unfolding(crate::specs::Map::group))]
@@ -250,23 +226,41 @@ fn write_group(
     write!(out, " scale({wide} {high})'>\n")
 }
 
-/// Appends the head of a column, turned.
-#[tactic(auto, unfolding(crate::specs::Map::turned))]
-fn write_turned(out: &mut String, x: usize, name: &str) -> Result<(), AllocError>
-    ensures { OnOk result (string_bytes out.new ≡ string_bytes out.old ++ turned x name.now) }
-{
-    writeln!(
-        out,
-        "<text transform='translate({x} -6) rotate(-50)'>{name}</text>"
-    )
-}
-
 fn write_heads(out: &mut String) -> Result<(), AllocError>
     ensures { OnOk result (string_bytes out.new ≡ string_bytes out.old ++ heads) }
 {
     write_turned(out, 10, "once")?;
     write_turned(out, 26, "onward")?;
     write_turned(out, 42, "panic")
+}
+
+fn write_grown_heads(out: &mut String) -> Result<(), AllocError>
+    ensures { OnOk result (string_bytes out.new ≡ string_bytes out.old ++ grown_heads) }
+{
+    write_turned(out, 10, "return")?;
+    write_turned(out, 26, "panic")
+}
+
+/// The rows of the sites, after so many others.
+fn down(cell: usize, before: usize) -> Axis
+    ensures { result ≡ down cell before }
+{
+    Axis {
+        cell,
+        is_turned: false,
+        before,
+    }
+}
+
+/// The columns of second faults.
+fn across(cell: usize) -> Axis
+    ensures { result ≡ across cell }
+{
+    Axis {
+        cell,
+        is_turned: true,
+        before: 0,
+    }
 }
 
 #[tactic(auto, unfolding(crate::specs::Map::kind_text))]
@@ -384,7 +378,7 @@ fn write_sites_part<N: Names>(
     ensures { OnOk result (string_bytes out.new ≡ string_bytes out.old ++ sites_part (N.points names.now) (N.code_text names.now) facts.now layout.now) }
 {
     write_group(out, 228, layout.top, 1, 1)?;
-    write_names(out, names, facts.census, layout.cell)?;
+    write_names(out, names, down(layout.cell, 0), facts.census)?;
     out.push_str("</g>\n")?;
     write_group(out, 240, layout.top, 1, 1)?;
     write_heads(out)?;
@@ -423,33 +417,263 @@ fn write_pairs_part<N: Names>(
     out.push_str("</g>\n")
 }
 
+/// The head of the strip, which begins with the plans from then on, where plans grew.
+fn strip_name(fronts: &[Front]) -> &'static str
+    ensures { result.now ≡ strip_name fronts.now }
+{
+    if fronts.is_empty() {
+        "storms, listed"
+    } else {
+        "from then on, storms, listed"
+    }
+}
+
+#[tactic(auto, unfolding(crate::specs::Map::strip_head))]
+fn write_strip_head(out: &mut String, fronts: &[Front], layout: &Layout) -> Result<(), AllocError>
+    ensures { OnOk result (string_bytes out.new ≡ string_bytes out.old ++ strip_head fronts.now layout.now) }
+{
+    write_group(out, 228, layout.strip_top, 1, 1)?;
+    out.push_str("<text class='end'>")?;
+    out.push_str(strip_name(fronts))?;
+    out.push_str("</text>\n")?;
+    out.push_str("</g>\n")
+}
+
 #[tactic(auto, unfolding(crate::specs::Map::strip_part))]
 fn write_strip_part<N: Names>(
     alloc: Global,
     out: &mut String,
     names: &N,
     facts: &MapFacts<'_>,
+    fronts: &[Front],
     layout: &Layout,
 ) -> Result<(), AllocError>
     requires { IsSmall layout.now }
-    ensures { OnOk result (string_bytes out.new ≡ string_bytes out.old ++ strip_part (N.code_text names.now) facts.now layout.now) }
+    ensures { OnOk result (string_bytes out.new ≡ string_bytes out.old ++ strip_part (N.code_text names.now) facts.now fronts.now layout.now) }
 {
     if layout.rows == 0 {
         return Ok(());
     }
-    write_group(out, 228, layout.strip_top, 1, 1)?;
-    out.push_str("<text class='end'>storms, listed</text>\n</g>\n")?;
+    write_strip_head(out, fronts, layout)?;
     write_group(out, 240, layout.strip_top, 10, 10)?;
     write_strip(alloc, out, names, facts, layout)?;
     out.push_str("</g>\n")
 }
 
+/// Appends the cells of the plans that grew with one fault at most.
+#[tactic(auto, unfolding(crate::specs::Map::singles))]
+fn write_singles<N: Names>(
+    alloc: Global,
+    out: &mut String,
+    names: &N,
+    facts: &MapFacts<'_>,
+    fronts: &[Front],
+    layout: &Layout,
+) -> Result<(), AllocError>
+    requires { length facts.now.census ≤ 64 }
+    ensures { OnOk result (string_bytes out.new ≡ string_bytes out.old ++ singles (N.code_text names.now) facts.now fronts.now layout.now) }
+{
+    for number in 0..layout.strip_first {
+        write_single(alloc, out, names, facts, fronts, number)?;
+    }
+    Ok(())
+}
+
+/// Appends the cells of the plans that grew with two faults.
+#[tactic(auto, unfolding(crate::specs::Map::matrix))]
+fn write_matrix<N: Names>(
+    alloc: Global,
+    out: &mut String,
+    names: &N,
+    facts: &MapFacts<'_>,
+    fronts: &[Front],
+    counts: &[u32],
+    layout: &Layout,
+) -> Result<(), AllocError>
+    requires points { length facts.now.census ≤ 64 }
+    requires columns { length counts.now ≤ 64 }
+    ensures { OnOk result (string_bytes out.new ≡ string_bytes out.old ++ matrix (N.code_text names.now) facts.now fronts.now counts.now layout.now) }
+{
+    for number in 0..layout.strip_first {
+        write_pair(alloc, out, names, facts, fronts, counts, number)?;
+    }
+    Ok(())
+}
+
+#[tactic(auto, unfolding(crate::specs::Map::ground))]
+fn write_ground(out: &mut String, x: usize, wide: usize, high: usize) -> Result<(), AllocError>
+    ensures { OnOk result (string_bytes out.new ≡ string_bytes out.old ++ ground x wide high) }
+{
+    write!(out, "<rect class='ground' x='{x}' y='1' width='{wide}")?;
+    write!(out, "' height='{high}'/>\n")?;
+    Ok(())
+}
+
+#[tactic(auto, unfolding(crate::specs::Map::levels_part))]
+fn write_levels_part<N: Names>(
+    alloc: Global,
+    out: &mut String,
+    names: &N,
+    facts: &MapFacts<'_>,
+    fronts: &[Front],
+    layout: &Layout,
+) -> Result<(), AllocError>
+    requires counts { length facts.now.census ≡ length (N.points names.now) }
+    requires points { length facts.now.census ≤ 64 }
+    requires few { total_of facts.now.census ≤ most_plans }
+    requires small { IsSmall layout.now }
+    ensures { OnOk result (string_bytes out.new ≡ string_bytes out.old
+        ++ levels_part (N.points names.now) (N.code_text names.now) facts.now fronts.now layout.now) }
+{
+    write_group(out, 228, layout.top, 1, 1)?;
+    write_row_name(out, "none", 0, 0)?;
+    write_names(out, names, down(layout.cell, 1), facts.census)?;
+    out.push_str("</g>\n")?;
+    write_group(out, 240, layout.top, 1, 1)?;
+    write_grown_heads(out)?;
+    out.push_str("</g>\n")?;
+    write_group(out, 240, layout.top, 16, layout.cell)?;
+    write_singles(alloc, out, names, facts, fronts, layout)?;
+    out.push_str("</g>\n")
+}
+
+#[tactic(auto, unfolding(crate::specs::Map::square_title))]
+fn write_square_title(out: &mut String, name: &str) -> Result<(), AllocError>
+    ensures { OnOk result (string_bytes out.new ≡ string_bytes out.old ++ square_title name.now) }
+{
+    out.push_str("<text y='-116'>")?;
+    out.push_str(name)?;
+    out.push_str("</text>\n")?;
+    Ok(())
+}
+
+/// Appends what stands over a square of plans with two faults.
+#[tactic(auto, unfolding(crate::specs::Map::square_head))]
+fn write_square_head<N: Names>(
+    out: &mut String,
+    names: &N,
+    layout: &Layout,
+    counts: &[u32],
+    x: usize,
+    name: &str,
+) -> Result<(), AllocError>
+    requires counts { length counts.now ≡ length (N.points names.now) }
+    requires points { length counts.now ≤ 64 }
+    requires few { total_of counts.now ≤ 2 ^ 38 }
+    requires small { IsSmall layout.now }
+    ensures { OnOk result (string_bytes out.new ≡ string_bytes out.old ++ square_head (N.points names.now) layout.now counts.now x name.now) }
+{
+    write_group(out, x, layout.top, 1, 1)?;
+    write_square_title(out, name)?;
+    write_names(out, names, across(layout.cell), counts)?;
+    out.push_str("</g>\n")
+}
+
+#[tactic(auto, unfolding(crate::specs::Map::square_heads))]
+fn write_square_heads<N: Names>(
+    out: &mut String,
+    names: &N,
+    layout: &Layout,
+    counts: &[u32],
+) -> Result<(), AllocError>
+    requires counts { length counts.now ≡ length (N.points names.now) }
+    requires points { length counts.now ≤ 64 }
+    requires few { total_of counts.now ≤ 2 ^ 38 }
+    requires small { IsSmall layout.now }
+    ensures { OnOk result (string_bytes out.new ≡ string_bytes out.old ++ square_heads (N.points names.now) layout.now counts.now) }
+{
+    let second = 320 + layout.cell * square_step(counts);
+    write_square_head(out, names, layout, counts, 320, "then a return")?;
+    write_square_head(out, names, layout, counts, second, "then a panic")?;
+    Ok(())
+}
+
+/// Appends the squares of the plans with two faults.
+#[tactic(auto, unfolding(crate::specs::Map::squares))]
+fn write_squares<N: Names>(
+    alloc: Global,
+    out: &mut String,
+    names: &N,
+    facts: &MapFacts<'_>,
+    fronts: &[Front],
+    counts: &[u32],
+    layout: &Layout,
+) -> Result<(), AllocError>
+    requires points { length counts.now ≤ 64 }
+    requires census { length facts.now.census ≤ 64 }
+    ensures { OnOk result (string_bytes out.new ≡ string_bytes out.old ++ squares (N.code_text names.now) facts.now fronts.now counts.now layout.now) }
+{
+    let columns = total(counts);
+    write_group(out, 320, layout.top, layout.cell, layout.cell)?;
+    write_ground(out, 0, columns, layout.sites)?;
+    write_ground(out, square_step(counts), columns, layout.sites)?;
+    write_matrix(alloc, out, names, facts, fronts, counts, layout)?;
+    out.push_str("</g>\n")
+}
+
+#[tactic(auto, unfolding(crate::specs::Map::matrix_part))]
+fn write_matrix_part<N: Names>(
+    alloc: Global,
+    out: &mut String,
+    names: &N,
+    facts: &MapFacts<'_>,
+    fronts: &[Front],
+    counts: &[u32],
+    layout: &Layout,
+) -> Result<(), AllocError>
+    requires counts { length counts.now ≡ length (N.points names.now) }
+    requires points { length counts.now ≤ 64 }
+    requires census { length facts.now.census ≤ 64 }
+    requires small { IsSmall layout.now }
+    ensures { OnOk result (string_bytes out.new ≡ string_bytes out.old
+        ++ matrix_part (N.points names.now) (N.code_text names.now) facts.now fronts.now counts.now layout.now) }
+{
+    if total(counts) == 0 {
+        Ok(())
+    } else {
+        write_square_heads(out, names, layout, counts)?;
+        write_squares(alloc, out, names, facts, fronts, counts, layout)
+    }
+}
+
+/// Appends the grids, of a campaign with a depth or of one without.
+fn write_grids<N: Names>(
+    alloc: Global,
+    out: &mut String,
+    names: &N,
+    facts: &MapFacts<'_>,
+    fronts: &[Front],
+    counts: &[u32],
+    layout: &Layout,
+) -> Result<(), AllocError>
+    requires counts { length facts.now.census ≡ length (N.points names.now) }
+    requires columns { length counts.now ≡ length (N.points names.now) }
+    requires points { length facts.now.census ≤ 64 }
+    requires few { total_of facts.now.census ≤ most_plans }
+    requires small { IsSmall layout.now }
+    ensures { OnOk result (string_bytes out.new ≡ string_bytes out.old
+        ++ grids (N.points names.now) (N.code_text names.now) facts.now fronts.now counts.now layout.now) }
+{
+    if fronts.is_empty() {
+        write_sites_part(alloc, out, names, facts, layout)?;
+        write_pairs_part(alloc, out, names, facts, layout)
+    } else {
+        write_levels_part(alloc, out, names, facts, fronts, layout)?;
+        write_matrix_part(alloc, out, names, facts, fronts, counts, layout)
+    }
+}
+
 /// The map of a campaign: the text of an SVG file, by the names of the points and codes. A cell for each plan tells by its colour the
 /// plan's verdict, and its title the number, scenario and verdict. The sites stand down, and across the three ways in which each is done
 /// alone; with pairs, a square has for each two sites the plan in which both fail, above the diagonal, and that in which the second
-/// panics, below it; storms and listed scenarios are a strip. The legend counts the plans of each verdict, and the first failure of each
-/// code is marked. In a campaign of more than 4000 plans equal cells next to each other are one rectangle, whose title tells the numbers
-/// from and to in place of the scenarios, so the text has at most one element a plan; nothing else is left out.
+/// panics, below it; storms and listed scenarios are a strip. The legend counts the plans of each verdict, and tells the first failure of
+/// each code, which is marked. In a campaign of more than 4000 plans equal cells next to each other are one rectangle, whose title tells the
+/// numbers from and to in place of the scenarios, so the text has at most one element a plan; nothing else is left out.
+///
+/// Of plans that grew those of two faults or fewer have cells. Such a cell shows the worst verdict among its plan and those that grew from
+/// it: a failure before what is unresolved, and of failures that of the least number; its title tells both. One square has the plans whose
+/// second fault is a return, one those where it's a panic: the first fault stands down, the second one across. Those with a fault from then
+/// on stand in the strip. It compares each cell with each plan that grew.
 ///
 /// The census has to have a count for each of the points, at most 64, and at most 65536 sites, as that of each list of plans has. An error
 /// means that memory was refused.
@@ -464,13 +688,22 @@ pub fn map_text<N: Names>(
     requires few { length (sites_of facts.now.census) ≤ most_plans }
     ensures { IfOk result (λ text. string_bytes text ≡ map_text (N.points names.now) (N.code_text names.now) facts.now) }
 {
-    let layout = layout_of(facts);
+    let fronts = fronts_of(alloc, facts)?;
+    let counts = columns_of(alloc, fronts.as_slice(), facts.census.len())?;
+    let layout = layout_of(facts, fronts.as_slice(), counts.as_slice());
     let mut out = String::new(alloc);
     write_head(&mut out, facts, &layout)?;
-    write_legend(&mut out, names, facts)?;
-    write_sites_part(alloc, &mut out, names, facts, &layout)?;
-    write_pairs_part(alloc, &mut out, names, facts, &layout)?;
-    write_strip_part(alloc, &mut out, names, facts, &layout)?;
+    write_legend(alloc, &mut out, names, facts, fronts.as_slice())?;
+    write_grids(
+        alloc,
+        &mut out,
+        names,
+        facts,
+        fronts.as_slice(),
+        counts.as_slice(),
+        &layout,
+    )?;
+    write_strip_part(alloc, &mut out, names, facts, fronts.as_slice(), &layout)?;
     out.push_str("</svg>\n")?;
     Ok(out)
 }

@@ -13,6 +13,6 @@ pub record IsShort (line : Line) : Type 0 where
 pub record IsSmall (layout : Layout) : Type 0 where
   pub sites : layout.sites ≤ 65536
   pub cell : layout.cell ≤ 16
-  pub top : layout.top ≤ 2 ^ 63 + 2 ^ 62 + 2 ^ 61 + 2 ^ 60 + 140
+  pub top : layout.top ≤ 2 ^ 63 + 2 ^ 62 + 2 ^ 61 + 2 ^ 60 + 280
   pub strip_first : layout.strip_first ≤ 2 ^ 61
   pub rows : 64 * layout.rows ≤ 2 ^ 61 + 64
