@@ -14,7 +14,7 @@ use Rattle.clap.specs.declared.error.Error.{Error}
 use Rattle.clap.specs.declared.error.kind.ErrorKind.TheVariants.{ArgumentConflict, DisplayHelp, DisplayVersion, MissingRequiredArgument, OutOfMemory}
 use Rattle.clap.specs.declared.parser.matches.Found.{Found}
 use Rattle.command_words.specs.declared.words.Form.{Form}
-use Rattle.command_words.specs.declared.words.Form.TheVariants.{Whole, Brief}
+use Rattle.command_words.specs.declared.words.Form.TheVariants.{Whole, Brief, Json, Junit}
 use Rattle.command_words.specs.declared.words.Line.{Line}
 use Rattle.command_words.specs.declared.words.Line.TheVariants.{Own, Outside}
 use Rattle.command_words.specs.declared.words.Order.{Order}
@@ -56,6 +56,14 @@ plan_rule = value_rule (codes "plan")
 abbrev pub brief_rule : Rule
 brief_rule = flag_rule (codes "brief")
 
+-- --json, a flag
+abbrev pub json_rule : Rule
+json_rule = flag_rule (codes "json")
+
+-- --junit, a flag
+abbrev pub junit_rule : Rule
+junit_rule = flag_rule (codes "junit")
+
 -- --progress, a flag
 abbrev pub progress_rule : Rule
 progress_rule = flag_rule (codes "progress")
@@ -74,9 +82,13 @@ recheck_rule = flag_rule (codes "recheck")
 abbrev pub file_app : Text → App
 file_app name = with_rule (new_app name) file_rule
 
--- a command that writes a report, whole or in brief, on which it may be strict
+-- a command that writes a report, whole, in brief, as JSON or as JUnit's XML
+abbrev pub formed_app : App → App
+formed_app app = with_rule (with_rule (with_rule app brief_rule) json_rule) junit_rule
+
+-- one of these that may be strict on it
 abbrev pub report_app : Text → App
-report_app name = with_rule (with_rule (with_rule (new_app name) brief_rule) strict_rule) file_rule
+report_app name = with_rule (with_rule (formed_app (new_app name)) strict_rule) file_rule
 
 -- a command that takes a scenario, by its text or as the plan of a number
 abbrev pub scenario_app : Text → App
@@ -133,6 +145,8 @@ pub record Values : Type 0 where
   pub scenario : Option Text
   pub plan : Option Text
   pub brief : Option Text
+  pub json : Option Text
+  pub junit : Option Text
   pub strict : Option Text
   pub recheck : Option Text
   pub progress : Option Text
@@ -143,6 +157,8 @@ values_in rows = record {
   scenario = first_of (codes "scenario") rows;
   plan = first_of (codes "plan") rows;
   brief = first_of (codes "brief") rows;
+  json = first_of (codes "json") rows;
+  junit = first_of (codes "junit") rows;
   strict = first_of (codes "strict") rows;
   recheck = first_of (codes "recheck") rows;
   progress = first_of (codes "progress") rows;
@@ -155,6 +171,8 @@ values_of f = record {
   scenario = first_value f (codes "scenario");
   plan = first_value f (codes "plan");
   brief = first_value f (codes "brief");
+  json = first_value f (codes "json");
+  junit = first_value f (codes "junit");
   strict = first_value f (codes "strict");
   recheck = first_value f (codes "recheck");
   progress = first_value f (codes "progress");
@@ -174,14 +192,23 @@ IsWhich v (Plan number) = (v.scenario ≡ None) × ((text : Text) × (v.plan ≡
 abbrev pub is_set : Option Text → Bool
 is_set value = option_map_or (bytes_eq (codes "true")) value false
 
--- the form of a report
-abbrev pub form_of : Values → Form
-form_of v = if is_set v.brief then Brief else Whole
+-- the form of a report, by whether --brief, --json and --junit were given: one of them at most, and whole where none was
+abbrev pub form_by : Bool → Bool → Bool → Option Form
+form_by false false false = Some Whole
+form_by true false false = Some Brief
+form_by false true false = Some Json
+form_by false false true = Some Junit
+form_by true true junit = None
+form_by true false true = None
+form_by false true true = None
+
+abbrev pub form_of : Values → Option Form
+form_of v = form_by (is_set v.brief) (is_set v.json) (is_set v.junit)
 
 -- the order that a command's name and its values give
 abbrev pub IsOrder : Text → Values → Order → Type 0
 IsOrder name v (order.Run form strict recheck) =
-    (name ≡ codes "run") × (form ≡ form_of v) × (strict ≡ is_set v.strict) × (recheck ≡ is_set v.recheck)
+    (name ≡ codes "run") × (form_of v ≡ Some form) × (strict ≡ is_set v.strict) × (recheck ≡ is_set v.recheck)
 IsOrder name v order.Plans = name ≡ codes "plans"
 IsOrder name v order.Map = name ≡ codes "map"
 IsOrder name v (order.Try which) = (name ≡ codes "try") × IsWhich v which
@@ -191,7 +218,7 @@ IsOrder name v (order.Explain which) = (name ≡ codes "explain") × IsWhich v w
 -- the question that a command's name and its values give
 abbrev pub IsQuestion : Text → Values → Question → Type 0
 IsQuestion name v Asks = name ≡ codes "asks"
-IsQuestion name v (Report form strict) = (name ≡ codes "report") × (form ≡ form_of v) × (strict ≡ is_set v.strict)
+IsQuestion name v (Report brief strict) = (name ≡ codes "report") × (brief ≡ is_set v.brief) × (strict ≡ is_set v.strict)
 
 -- the order of no command is Run, with the whole report, on the settings that come from standard input, and nothing more is shown
 abbrev pub IsRun : Line → Type 0
@@ -246,16 +273,22 @@ which_kinds (Some text) None = []
 which_kinds None (Some number) = value_kinds false (Unsigned 0 65535) number
 which_kinds (Some text) (Some number) = ArgumentConflict ∷ []
 
+-- which kind a refusal of the flags has that name a form: there is none of two of them
+abbrev pub form_kinds : Option Form → Kinds
+form_kinds (Some form) = []
+form_kinds None = ArgumentConflict ∷ []
+
 -- the same of a command's name and its values
 abbrev pub choice_kinds : Text → Values → Kinds
-choice_kinds name v = if takes_scenario name then which_kinds v.scenario v.plan else []
+choice_kinds name v =
+    if takes_scenario name then which_kinds v.scenario v.plan else (if bytes_eq name (codes "run") then form_kinds (form_of v) else [])
 
 -- the same of the matches
 abbrev pub choice_fault : Option (Text × List Row) → Kinds
 choice_fault None = []
 choice_fault (Some p) = choice_kinds p.0 (values_in p.1)
 
--- the kinds of refusal that the words may come to: what clap finds, and else what is wrong with TEXT and N
+-- the kinds of refusal that the words may come to: what clap finds, and else what is wrong with TEXT and N, or with the flags
 abbrev pub words_fault : List Text → Kinds
 words_fault words = or_else (fault_of paklour words) (choice_fault (subcommand_of paklour words))
 

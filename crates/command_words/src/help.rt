@@ -16,8 +16,12 @@ Examples:
   paklour run my.toml             the verdict of each plan, and what the first failures come down to
   paklour run < my.toml           settings from standard input
   paklour run --brief my.toml     no line for a verdict that passes, and scenarios beside the others
+  paklour run --json my.toml      a JSON document, for programs that read the report
+  paklour run --junit my.toml     JUnit's XML, which CI servers show as tests
   paklour run --strict my.toml    the same report; what it doesn't show is told on standard error
-  paklour run --progress my.toml  the same report; meanwhile `plans 12 of 65025` on standard error";
+  paklour run --progress my.toml  the same report; meanwhile `plans 12 of 65025` on standard error
+
+Of --brief, --json and --junit one at most is given.";
 
 /// How a campaign is drawn.
 pub const MAP_EXAMPLES: &str = "\
@@ -51,6 +55,10 @@ pub const SCENARIO: &str = "The scenario, as 'POINT=TERM->TERM;POINT=TERM'";
 
 pub const BRIEF: &str =
     "Count the verdicts that pass, and write the scenario beside each other verdict";
+
+pub const JSON: &str = "Write a JSON document with all that the report tells";
+
+pub const JUNIT: &str = "Write JUnit's XML, with a case for each plan";
 
 pub const STRICT: &str = "Tell on standard error what the report doesn't show, and end with 5 then";
 

@@ -1,7 +1,7 @@
 ghost use Rattle.std.specs.Prelude.{◌≡◌, ◌↔◌, ◌∷◌, [], IsTrue, Some, None, option_map, is_some, true, false, IfOk, IfErr, IfSome, map, codes, string_bytes};
 ghost use Rattle.clap.specs.Words.{app_of, fault_of, first_value, found_of, rule_of, subcommand_of, takes};
 ghost use Rattle.clap.specs.declared.builder.command.Command.TheViews.{out-Command as fields_of};
-ghost use Rattle.command_words.specs.Words.{AsksToSee, HasAlso, HasNeeded, IsFaultOf, IsLine, IsLineOf, IsName, IsOrder, IsOrderName, IsQuestion, IsQuestionName, IsRefusedFor, IsScenarioName, IsWhich, Spells, bare_app, campaign_commands, choice_fault, choice_kinds, file_app, file_rule, flag_rule, form_of, needed_file_rule, paklour, is_set, question_app, question_commands, question_report_app, rechecked_app, report_app, scenario_app, scenario_commands, shown_app, value_rule, values_of, which_kinds, with_commands, words_fault};
+ghost use Rattle.command_words.specs.Words.{AsksToSee, HasAlso, HasNeeded, IsFaultOf, IsLine, IsLineOf, IsName, IsOrder, IsOrderName, IsQuestion, IsQuestionName, IsRefusedFor, IsScenarioName, IsWhich, Spells, bare_app, campaign_commands, choice_fault, choice_kinds, file_app, file_rule, flag_rule, form_kinds, form_of, formed_app, needed_file_rule, paklour, is_set, question_app, question_commands, question_report_app, rechecked_app, report_app, scenario_app, scenario_commands, shown_app, value_rule, values_of, which_kinds, with_commands, words_fault};
 ghost use Rattle.command_words.specs.declared.words.WordsFault.TheVariants.{Memory};
 ghost use Rattle.clap.specs.Kinds.{value_kinds};
 ghost use Rattle.clap.specs.declared.builder.value_parser.ValueParser.TheVariants.{Unsigned};
@@ -25,13 +25,17 @@ pub enum Which {
     Plan(u16),
 }
 
-/// How much a report tells.
+/// In which form a report is written.
 #[derive(Clone, Copy, Debug)]
 pub enum Form {
-    /// The verdict of each plan.
+    /// A text with the verdict of each plan.
     Whole,
-    /// One line of counts for all verdicts that pass, and the scenario beside each other verdict.
+    /// The text with one line of counts for all verdicts that pass, and the scenario beside each other verdict.
     Brief,
+    /// A JSON document.
+    Json,
+    /// JUnit's XML.
+    Junit,
 }
 
 /// What the program is to do.
@@ -61,8 +65,9 @@ pub enum Order {
 pub enum Question {
     /// Which scenarios are still to be tried.
     Asks,
-    /// The campaign's report. Where `strict` is set, what makes it say less than it seems to is told beside it.
-    Report { form: Form, strict: bool },
+    /// The text of the campaign's report, in brief where `brief` is set. Where `strict` is set, what makes it say less than it seems to is
+    /// told beside it.
+    Report { brief: bool, strict: bool },
 }
 
 /// What the words ask for.
@@ -181,6 +186,18 @@ fn file_command<'a>(
         .arg(file_arg(alloc))
 }
 
+// The command with the flags that name the form of a report, of which one at most may be given.
+fn with_forms<'a>(alloc: Global, command: Command<'a>) -> Result<Command<'a>, AllocError>
+    requires { (fields_of command).has_globals ≡ false }
+    ensures app { IfOk result (λ more. app_of more ≡ formed_app (app_of command.entry)) }
+    ensures local { IfOk result (λ more. (fields_of more).has_globals ≡ false) }
+{
+    command
+        .arg(flag_arg(alloc, "brief", help::BRIEF))?
+        .arg(flag_arg(alloc, "json", help::JSON))?
+        .arg(flag_arg(alloc, "junit", help::JUNIT))
+}
+
 fn report_command<'a>(
     alloc: Global,
     name: &'a str,
@@ -190,10 +207,8 @@ fn report_command<'a>(
     ensures app { IfOk result (λ command. app_of command ≡ report_app name.entry.now) }
     ensures local { IfOk result (λ command. (fields_of command).has_globals ≡ false) }
 {
-    Command::new(alloc, name)
-        .about(about)
-        .after_help(examples)
-        .arg(flag_arg(alloc, "brief", help::BRIEF))?
+    let command = Command::new(alloc, name).about(about).after_help(examples);
+    with_forms(alloc, command)?
         .arg(flag_arg(alloc, "strict", help::STRICT))?
         .arg(file_arg(alloc))
 }
@@ -407,22 +422,43 @@ fn question_of<'a>(name: &str, own: &ArgMatches<'a>) -> Option<Question>
     match name {
         "asks" => Some(Question::Asks),
         "report" => Some(Question::Report {
-            form: form_of(own),
+            brief: is_set(own, "brief"),
             strict: is_strict(own),
         }),
         _ => None,
     }
 }
 
-// The form of the report that a command writes.
-fn form_of<'a>(own: &ArgMatches<'a>) -> Form
-    ensures { result ≡ form_of (values_of (found_of own.now)) }
+// The form of the report that `run` writes, which one flag at most names.
+fn form_of<'a>(alloc: Global, own: &ArgMatches<'a>) -> Result<Form, WordsFault>
+    ensures ok { IfOk result (λ form. form_of (values_of (found_of own.now)) ≡ Some form) }
+    ensures taken { IfOk result (λ _. form_kinds (form_of (values_of (found_of own.now))) ≡ []) }
+    ensures refused { IfErr result (IsRefusedFor (form_kinds (form_of (values_of (found_of own.now))))) }
 {
-    if is_set(own, "brief") {
-        Form::Brief
-    } else {
-        Form::Whole
+    let (brief, json, junit) = (
+        is_set(own, "brief"),
+        is_set(own, "json"),
+        is_set(own, "junit"),
+    );
+    match (brief, json, junit) {
+        (false, false, false) => Ok(Form::Whole),
+        (true, false, false) => Ok(Form::Brief),
+        (false, true, false) => Ok(Form::Json),
+        (false, false, true) => Ok(Form::Junit),
+        (true, true, _) => Err(two_forms(alloc, "--brief", "--json")),
+        (true, false, true) => Err(two_forms(alloc, "--brief", "--junit")),
+        (false, true, true) => Err(two_forms(alloc, "--json", "--junit")),
     }
+}
+
+// The refusal of two flags that each name a form.
+fn two_forms(alloc: Global, one: &str, other: &str) -> WordsFault
+    ensures { IsRefusedFor (ErrorKind.ArgumentConflict ∷ []) result }
+{
+    let Ok(message) = format!(in alloc; "the argument '{one}' cannot be used with '{other}'") else {
+        return WordsFault::Memory;
+    };
+    unfit(alloc, "run", ErrorKind::ArgumentConflict, message.as_str())
 }
 
 // Whether the report is to be strict.
@@ -448,7 +484,7 @@ fn order_of<'a>(alloc: Global, name: &str, own: &ArgMatches<'a>) -> Result<Order
 {
     match name {
         "run" => Ok(Order::Run {
-            form: form_of(own),
+            form: form_of(alloc, own)?,
             strict: is_strict(own),
             recheck: is_set(own, "recheck"),
         }),
@@ -523,9 +559,10 @@ fn unfit(alloc: Global, name: &str, kind: ErrorKind, message: &str) -> WordsFaul
     }
 }
 
-// How a command that takes a scenario is used.
+// How a command is used whose options the reader of command lines can't refuse by itself.
 fn usage(name: &str) -> &'static str {
     match name {
+        "run" => "paklour run [OPTIONS] [FILE]",
         "try" => "paklour try <--scenario <TEXT>|--plan <N>> [FILE]",
         "explain" => "paklour explain <--scenario <TEXT>|--plan <N>> [FILE]",
         _ => "paklour reduce [OPTIONS] <--scenario <TEXT>|--plan <N>> [FILE]",
