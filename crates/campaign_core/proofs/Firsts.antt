@@ -12,7 +12,6 @@ use Rattle.result_book.specs.Verdicts.{verdicts_from, numbered}
 use Rattle.result_book.specs.FirstFailure.{FailsAt}
 use Rattle.result_book.specs.FirstFailures.{first_failures, AreFirstFailures}
 use Rattle.report.specs.Reports.{FindingFacts, GrowthFacts, ReportFacts}
-use Rattle.campaign_map.specs.Mapped.{Mapped}
 use Rattle.campaign_core.specs.FaultTest.{fails_with}
 use Rattle.campaign_core.specs.Findings.{finding, reduced, reduction, report_of, IsFailure, ReducesToMinimal}
 use Rattle.campaign_core.proofs.Minimal.{reduced_minimal}
@@ -89,25 +88,3 @@ pub first_is : (say : ℕ → Entries → Verdict) (given plans : List Entries) 
     → number ≡ option_map (λ (f : ℕ × ℕ). f.0) (slice_get (first_failures (numbered (verdicts_from say 0 plans))) 0)
 first_is say given plans firsts number is are same =
     is ∙ ap (λ (fs : List (ℕ × ℕ)). option_map (λ (f : ℕ × ℕ). f.0) (slice_get fs 0)) (are ∙ ap (λ ps. first_failures (numbered (verdicts_from say 0 ps))) same)
-
--- what a map is made of is what the definition says
-pub mapped_is : (say : ℕ → Entries → Verdict) (label : List ℕ) (census : List ℕ) (pairs : Bool) (plans : List Entries)
-    (name : List ℕ) (counts : List ℕ) (shown given : List Entries) (vs : List Verdict) (firsts : List (ℕ × ℕ))
-    → name ≡ label → counts ≡ census → shown ≡ plans → given ≡ plans → vs ≡ verdicts_from say 0 given
-    → firsts ≡ first_failures (numbered (verdicts_from say 0 given))
-    → (let m : Mapped = record { label = name; census = counts; pairs = pairs; plans = shown; verdicts = vs; firsts = firsts } in m)
-    ≡ record {
-      label = label;
-      census = census;
-      pairs = pairs;
-      plans = plans;
-      verdicts = verdicts_from say 0 plans;
-      firsts = first_failures
-          (numbered (verdicts_from say 0 plans));
-    }
-mapped_is say label census pairs plans name counts shown given vs firsts same_name same_counts same_shown same_given same are =
-    let made : List ℕ → List ℕ → List Entries → List Verdict → List (ℕ × ℕ) → Mapped =
-    λ n c p v f. record { label = n; census = c; pairs = pairs; plans = p; verdicts = v; firsts = f } in
-    ap (λ n. made n counts shown vs firsts) same_name ∙ ap (λ k. made label k shown vs firsts) same_counts ∙ ap (λ p. made label census p vs firsts) same_shown
-    ∙ ap (λ v. made label census plans v firsts) (same ∙ ap (verdicts_from say 0) same_given)
-    ∙ ap (made label census plans (verdicts_from say 0 plans)) (are ∙ ap (λ ps. first_failures (numbered (verdicts_from say 0 ps))) same_given)

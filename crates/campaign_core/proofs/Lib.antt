@@ -4,5 +4,10 @@ pub mod PlanNames
 pub mod Gathered
 pub mod PlanRows
 pub mod Sites
+pub mod Shown
 pub mod FirstLevel
 pub mod Grown
+pub mod Causes
+pub mod Begun
+pub mod Tried
+pub mod Unlisted

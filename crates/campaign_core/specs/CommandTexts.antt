@@ -1,5 +1,5 @@
 -- What the commands write: the list of plans, one scenario tried, one scenario reduced.
-use Rattle.std.specs.Prelude.{◌≡◌, ◌≤◌, ◌<◌, ℕ, ◌+◌, Bool, true, false, List, [], ◌∷◌, ◌++◌, Option, length, codes, take}
+use Rattle.std.specs.Prelude.{◌≡◌, ◌≤◌, ◌<◌, ℕ, ◌+◌, Bool, true, false, List, [], ◌∷◌, ◌++◌, Option, None, Some, length, codes, take}
 use Rattle.std.specs.Fmt.{decimal}
 use Rattle.std.specs.Io.KnownBytes.{Appends}
 use Rattle.scenario_values.specs.Scenario.{Entries}
@@ -12,7 +12,8 @@ use Rattle.plan_gen.specs.declared.list.PlanFault.{PlanFault}
 use Rattle.plan_gen.specs.declared.list.PlanFault.TheVariants as plan_faults
 use Rattle.report.specs.ReportText.{scenario_text, verdict_text, text_of}
 use Rattle.campaign_core.specs.Findings.{reduced, reduction, IsMinimal}
-use Rattle.campaign_core.specs.Headline.{Campaign, say, plans}
+use Rattle.campaign_core.specs.Headline.{Campaign, grower, say, plans}
+use Rattle.grown_runs.specs.Grown.{begun}
 use Rattle.campaign_core.specs.declared.ending.CampaignFault.{CampaignFault}
 use Rattle.campaign_core.specs.declared.ending.CampaignFault.TheVariants as fault
 
@@ -29,7 +30,26 @@ plan_lines n (plan ∷ plans) = plan_line n plan ∷ plan_lines (n + 1) plans
 abbrev pub plans_text : Campaign → List ℕ
 plans_text c = text_of (plan_lines 0 (plans c))
 
--- why a plan isn't looked up: the list is too long, or memory was refused
+-- how many plans a list has in which so many grew: storms and listed scenarios stand behind them
+abbrev pub with_rest : Campaign → ℕ → ℕ
+with_rest c n = n + c.plans.storms + length c.plans.listed
+
+-- how many plans are counted where the list is looked at for so many: without a depth all; else the levels of these, and what stands behind
+abbrev pub counted_to : Campaign → ℕ → Option ℕ → ℕ
+counted_to c count None = length (plans c)
+counted_to c count (Some depth) = with_rest c (length (begun (grower c) depth count))
+
+-- where the plan of this number is looked up
+abbrev pub counted : Campaign → ℕ → ℕ
+counted c number = counted_to c (number + 1) c.depth
+
+-- why it isn't: those that are counted are too many, or memory was refused
+abbrev pub IsUnfound : Campaign → ℕ → CampaignFault → Type 0
+IsUnfound c number fault.TooManyPlans = most_plans < counted c number
+IsUnfound c number fault.Memory = Unit {0}
+IsUnfound c number (fault.Write n) = ⊥
+
+-- why a list isn't made: it is too long, or memory was refused
 abbrev pub IsUnlisted : Campaign → CampaignFault → Type 0
 IsUnlisted c fault.TooManyPlans = most_plans < length (plans c)
 IsUnlisted c fault.Memory = Unit {0}

@@ -12,7 +12,9 @@ use Rattle.result_book.specs.FirstFailures.{first_failures}
 use Rattle.ddmin_parallel.specs.Ddmin.{Reduced, ddmin}
 use Rattle.ddmin_parallel.specs.OneMinimal.{IsOneMinimal}
 use Rattle.report.specs.Reports.{FindingFacts, CauseFacts, GrowthFacts, ReportFacts}
-use Rattle.grown_plans.specs.GrownPlans.{Subject, onward, grown, beyond}
+use Rattle.action_eval.specs.declared.rig.Rig.{Rig}
+use Rattle.grown_plans.specs.GrownPlans.{Subject, scenario_of, onward, grown, beyond}
+use Rattle.grown_plans.specs.Promises.{IsCause}
 use Rattle.grown_runs.specs.GrownRuns.{over, cause_at}
 use Rattle.grown_runs.specs.Grown.{level_sizes, reached_each}
 use Rattle.campaign_core.specs.FaultTest.{fails_with, fault_test}
@@ -43,6 +45,13 @@ finding say plans first = record {
 -- a cause among these plans, by its number and code
 abbrev pub cause_of : List Entries → ℕ × ℕ → CauseFacts
 cause_of plans cause = record { number = cause.0; code = cause.1; scenario = plan_at plans cause.0 }
+
+-- what is told of a cause is so of these plans under a seed: the plan of its number has its scenario, fails with its code, and without any one
+-- of its faults doesn't, with its number as the stream number
+pub record IsCauseAmong (t : Subject) (seed : ℕ) (plans : List (List Rig)) (cause : CauseFacts) : Type 0 where
+  pub among : cause.number < length plans
+  pub scenario : cause.scenario ≡ scenario_of t (slice_index_or plans cause.number [])
+  pub least : IsCause t seed cause.number cause.code (slice_index_or plans cause.number [])
 
 -- how plans grew under a seed, of a list that begins with them, where there is a depth
 abbrev pub growth_of : Subject → ℕ → List Entries → Option ℕ → Option GrowthFacts

@@ -1,14 +1,15 @@
 -- What a campaign comes to, by what its target asks and by its settings.
-use Rattle.std.specs.Prelude.{ℕ, List, Option, None, Some, IfSome, All, slice_get}
+use Rattle.std.specs.Prelude.{ℕ, List, [], Option, None, Some, IfSome, All, length, slice_get}
 use Rattle.scenario_values.specs.Scenario.{Entries}
 use Rattle.action_eval.specs.Answers.{Reply}
+use Rattle.action_eval.specs.declared.rig.Rig.{Rig}
 use Rattle.target_trait.specs.declared.judgement.Verdict.{Verdict}
 use Rattle.target_trait.specs.declared.target.Target.{Ghosts}
 use Rattle.target_trait.specs.Outcomes.{verdict_with}
 use Rattle.target_trait.specs.Play.{Move}
 use Rattle.plan_gen.specs.Census.{census_of, sites_of}
 use Rattle.plan_gen.specs.PlanList.{Asked, plan_list}
-use Rattle.grown_plans.specs.GrownPlans.{usual_subject, grown_list}
+use Rattle.grown_plans.specs.GrownPlans.{usual_subject, grown, onward, grown_list}
 use Rattle.grown_plans.specs.GrownPlans.{Subject as Grower}
 use Rattle.grown_plans.specs.Promises.{SkipsNothing, RunsNothingTwice, TriesOnward, IsLeast, IsWhole, HasCauses}
 use Rattle.campaign_given.specs.Given.{Given}
@@ -20,7 +21,7 @@ use Rattle.report.specs.Reports.{GrowthFacts, ReportFacts}
 use Rattle.campaign_map.specs.Mapped.{Mapped}
 use Rattle.campaign_map.specs.Map.{map_text}
 use Rattle.campaign_core.specs.declared.subject.Subject.{Subject}
-use Rattle.campaign_core.specs.Findings.{report_of, growth_of, ReducesToMinimal}
+use Rattle.campaign_core.specs.Findings.{report_of, growth_of, ReducesToMinimal, IsCauseAmong}
 
 -- what a campaign is given: what its target asks on the workload, the names of the points and of the codes, the target's label, how many
 -- hits of a run are answered, with up to how many faults each behaviour is tried, where its plans grow, and what is asked of the list of
@@ -114,17 +115,33 @@ pub record KeepsPromises (t : Grower) (depth : ℕ) : Type 0 where
   pub whole : IsWhole t depth
   pub causes : HasCauses t depth
 
--- of a campaign with a depth, what its plans promise
-abbrev pub EachIsTried : Campaign → Type 0
-EachIsTried c = IfSome c.depth (KeepsPromises (grower c))
+-- each cause that the report lists is one
+abbrev pub EachIsCause : Campaign → Type 0
+EachIsCause c = IfSome (report c).growth (λ growth. All (IsCauseAmong (grower c) c.plans.seed (grown (grower c) growth.depth)) growth.causes)
 
--- what the map shows, of a campaign without a depth
+-- of a campaign with a depth, what its plans promise, and that the causes are causes
+pub record EachIsTried (c : Campaign) : Type 0 where
+  pub promises : IfSome c.depth (KeepsPromises (grower c))
+  pub causes : EachIsCause c
+
+-- the plans that grow to a depth, where there is one, and how many of them have their last fault from then on
+abbrev pub grown_to : Campaign → Option ℕ → List (List Rig)
+grown_to c None = []
+grown_to c (Some depth) = grown (grower c) depth
+
+abbrev pub onward_to : Campaign → Option ℕ → ℕ
+onward_to c None = 0
+onward_to c (Some depth) = length (onward (grower c) depth)
+
+-- what the map shows
 abbrev pub mapped : Campaign → Mapped
 mapped c = record {
   label = c.label;
   census = census c;
   pairs = c.plans.pairs;
   plans = plans c;
+  grown = grown_to c c.depth;
+  onward = onward_to c c.depth;
   verdicts = verdicts_from (say c) 0 (plans c);
   firsts = first_failures c;
 }

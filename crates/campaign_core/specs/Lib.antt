@@ -3,4 +3,5 @@ pub mod Findings
 pub mod Headline
 pub mod Planned
 pub mod CommandTexts
+pub mod Machines
 pub mod inside

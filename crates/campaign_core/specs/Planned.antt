@@ -1,5 +1,5 @@
 -- What a campaign's plans are kept in.
-use Rattle.std.specs.Prelude.{◌≡◌, ◌≤◌, ◌<◌, ℕ, List, Option, None, Some, length}
+use Rattle.std.specs.Prelude.{◌≡◌, ◌+◌, ◌≤◌, ◌<◌, ℕ, List, Option, None, Some, length}
 use Rattle.std.specs.List.{AllByRecursion}
 use Rattle.scenario_values.specs.Scenario.{Entries}
 use Rattle.target_trait.specs.declared.judgement.Verdict.{Verdict}
@@ -7,9 +7,11 @@ use Rattle.action_eval.specs.Rigging.{CanBeRigged}
 use Rattle.plan_gen.specs.PlanList.{most_plans, plan_list, further_list}
 use Rattle.grown_plans.specs.GrownPlans.{grown, rigs_of}
 use Rattle.grown_runs.specs.declared.levels.Grown.{Grown}
-use Rattle.grown_runs.specs.Grown.{HasGrown}
+use Rattle.action_eval.specs.declared.rig.Rig.{Rig}
+use Rattle.grown_runs.specs.Grown.{HasGrown, begun}
 use Rattle.result_book.specs.Rows.{AreSaid}
 use Rattle.campaign_core.specs.Headline.{Campaign, census, grower, plans, say}
+use Rattle.campaign_core.specs.CommandTexts.{with_rest}
 use Rattle.campaign_core.specs.declared.planned.Planned.{Planned}
 
 -- plans that grew, each of which can be rigged
@@ -22,6 +24,37 @@ IsGrownTo c None None = Unit {0}
 IsGrownTo c None (Some g) = ⊥
 IsGrownTo c (Some depth) None = ⊥
 IsGrownTo c (Some depth) (Some g) = IsGrown c depth g
+
+-- how many plans that grew have their last fault from then on
+abbrev pub onward_among : Option Grown → ℕ
+onward_among None = 0
+onward_among (Some g) = g.onward
+
+-- the plans that grew with which a list begins that is looked at for so many
+pub record IsBegun (c : Campaign) (depth count : ℕ) (plans : List (List Rig)) : Type 0 where
+  pub same : plans ≡ begun (grower c) depth count
+  pub rigs : AllByRecursion (λ plan. CanBeRigged (rigs_of plan)) plans
+  pub few : with_rest c (length plans) ≤ most_plans
+  pub deep : 1 ≤ depth
+
+abbrev pub AreBegun : Campaign → Option ℕ → ℕ → Option (List (List Rig)) → Type 0
+AreBegun c None count None = Unit {0}
+AreBegun c None count (Some plans) = ⊥
+AreBegun c (Some depth) count None = ⊥
+AreBegun c (Some depth) count (Some plans) = IsBegun c depth count plans
+
+-- all plans that grew
+pub record IsAll (c : Campaign) (depth : ℕ) (plans : List (List Rig)) : Type 0 where
+  pub same : plans ≡ grown (grower c) depth
+  pub rigs : AllByRecursion (λ plan. CanBeRigged (rigs_of plan)) plans
+  pub few : with_rest c (length plans) ≤ most_plans
+  pub deep : 1 ≤ depth
+
+abbrev pub AreGrown : Campaign → Option ℕ → Option (List (List Rig)) → Type 0
+AreGrown c None None = Unit {0}
+AreGrown c None (Some plans) = ⊥
+AreGrown c (Some depth) None = ⊥
+AreGrown c (Some depth) (Some plans) = IsAll c depth plans
 
 -- the plans that don't grow
 abbrev pub listed_to : Campaign → Option ℕ → List Entries

@@ -3,7 +3,7 @@ ghost use Rattle.std.specs.Prelude.{ℕ, All};
 ghost use Rattle.scenario_values.specs.Scenario.{Entries, DistinctNames};
 ghost use Rattle.action_eval.specs.Catalogue.{HasDistinct};
 ghost use Rattle.campaign_given.specs.Given.{Given};
-ghost use Rattle.campaign_core.specs.Headline.{Campaign, campaign_on, grower, EachIsMinimal, KeepsPromises};
+ghost use Rattle.campaign_core.specs.Headline.{Campaign, campaign_on, grower, EachIsCause, EachIsMinimal, KeepsPromises};
 ghost use Rattle.campaign_core.specs.CommandTexts.{IsReducedToMinimal};
 
 use grown_plans::{
@@ -23,9 +23,11 @@ pub fn reduced_scenarios_are_minimal()
     ensures reduce { (c : Campaign) (stream : ℕ) (scenario : Entries) → DistinctNames scenario → IsReducedToMinimal c stream scenario }
 {}
 
-/// The plans of a campaign of a target keep what is promised of plans that grow, to whatever depth.
+/// The plans of a campaign of a target keep what is promised of plans that grow, to whatever depth, and each cause that a report lists is one: the
+/// plan of its number has its scenario, fails with its code, and without any one of its faults doesn't fail with it.
 pub fn each_behaviour_is_tried<T: Target>()
-    ensures { (setup : T) (workload : T.Workload) (given : Given) (depth : ℕ)
+    ensures causes { (c : Campaign) → EachIsCause c }
+    ensures promises { (setup : T) (workload : T.Workload) (given : Given) (depth : ℕ)
         → KeepsPromises (grower (campaign_on T.Target setup workload given)) depth }
 {
     each_target_is_a_lawful_subject::<T>();

@@ -1,15 +1,23 @@
 //! The list of a campaign's plans.
-ghost use Rattle.std.specs.Prelude.{◌≡◌, ◌++◌, ◌≤◌, false, length, slice_get, string_bytes, IfOk, IfErr, OnOk};
+ghost use Rattle.std.specs.Prelude.{◌≡◌, ◌++◌, ◌≤◌, ◌<◌, false, length, slice_get, string_bytes, IfOk, IfErr, OnOk, IsErrOf};
 ghost use Rattle.std.specs.Io.KnownBytes.{Appends};
+ghost use Rattle.std.specs.List.{AllByRecursion};
+ghost use Rattle.action_eval.specs.Answers.{texts};
+ghost use Rattle.action_eval.specs.Catalogue.{IsCatalogue};
+ghost use Rattle.action_eval.specs.Rigging.{CanBeRigged};
+ghost use Rattle.grown_plans.specs.GrownPlans.{rigs_of};
+ghost use Rattle.campaign_plans.specs.GrownScenarios.{grown_among, grown_scenarios};
 ghost use Rattle.plan_gen.specs.PlanList.{most_plans};
 ghost use Rattle.report.specs.ReportText.{ended, text_of};
 ghost use Rattle.campaign_core.specs.Headline.{campaign_in, plans};
-ghost use Rattle.campaign_core.specs.CommandTexts.{plan_line, plan_lines, plans_text, IsFault, IsUnlisted};
+ghost use Rattle.campaign_core.specs.CommandTexts.{counted, plan_line, plan_lines, plans_text, IsFault, IsUnfound};
 
 use crate::ending::CampaignFault;
-use crate::planned::{plan_campaign, plans_of};
+use crate::planned::{begin_list, end_list, plans_with};
 use crate::subject::{Host, Subject};
 use campaign_plans::CampaignPlans;
+use grown_plans::{GrownPlans, rigs_of};
+use plan_gen::scenario_of;
 use report::{write_report, write_scenario};
 use scenario_values::Scenario;
 use std::alloc::{AllocError, Global};
@@ -48,10 +56,38 @@ pub fn plans_text(alloc: Global, plans: &CampaignPlans<'_>) -> Result<String, Al
     Ok(text)
 }
 
+/// The scenario of a plan that grew, where there is one of this number. An error means that memory was refused.
+fn grown_plan(
+    alloc: Global,
+    catalogue: &'static [&'static str],
+    grown: &Option<GrownPlans>,
+    number: usize,
+) -> Result<Option<Scenario>, AllocError>
+    requires lawful { IsCatalogue (texts catalogue.now) }
+    requires rigs { AllByRecursion (λ plan. CanBeRigged (rigs_of plan)) (grown_among grown.now) }
+    ensures { IfOk result (λ plan. plan ≡ slice_get (grown_scenarios (texts catalogue.now) (grown_among grown.now)) number) }
+{
+    let Some(plans) = grown else {
+        return Ok(None);
+    };
+    if number >= plans.len() {
+        return Ok(None);
+    }
+    let mut faults = Vec::new(alloc);
+    let mut ordered = Vec::new(alloc);
+    let mut rigs = Vec::new(alloc);
+    plans.faults_of(number, &mut faults)?;
+    rigs_of(&mut rigs, &mut ordered, faults.as_slice())?;
+    Ok(Some(scenario_of(alloc, catalogue, rigs.as_slice())?))
+}
+
 /// The scenario of the plan of this number of a campaign; `None` where the list has no such number.
 ///
-/// Runs of twins of the target tell the list: one without faults, and to a depth each of those that grow. The caller's target isn't
-/// touched. The answer is `TooManyPlans` only where the list has more than 65536 plans, otherwise an error is `Memory`.
+/// Runs of twins of the target tell the plan: where the campaign has a depth, those of the levels before the one that has it, of a plan from
+/// then on, of a storm and of a listed scenario those of all levels. The caller's target isn't touched.
+///
+/// No further level is counted either, so a list of more than 65536 plans is answered where the levels up to the plan have fewer. The answer is
+/// `TooManyPlans` only where the list has more than 65536 plans, otherwise an error is `Memory`.
 pub fn plan_scenario<T: Target + Send, G: Gate, R: Threads + Wait + Sync>(
     host: &Host<'_, G, R>,
     subject: &Subject<'_, T>,
@@ -60,12 +96,19 @@ pub fn plan_scenario<T: Target + Send, G: Gate, R: Threads + Wait + Sync>(
 where
     T::Workload: Sync,
     ensures plan { IfOk result (λ plan. plan ≡ slice_get (plans (campaign_in T.Target subject.now)) number) }
-    ensures few { OnOk result (length (plans (campaign_in T.Target subject.now)) ≤ most_plans) }
-    ensures fault { IfErr result (IsUnlisted (campaign_in T.Target subject.now)) }
+    ensures few { OnOk result (counted (campaign_in T.Target subject.now) number ≤ most_plans) }
+    ensures fault { IfErr result (IsUnfound (campaign_in T.Target subject.now) number) }
+    ensures many { IsErrOf result CampaignFault.TooManyPlans → most_plans < length (plans (campaign_in T.Target subject.now)) }
 {
-    let planned = plan_campaign(host, subject)?;
-    let plans = plans_of(subject, &planned);
     let number = number as usize;
+    let grown = begin_list(host, subject, number + 1)?;
+    let found = grown_plan(host.alloc, T::catalogue(), &grown, number)?;
+    if let Some(scenario) = found {
+        return Ok(Some(scenario));
+    }
+    let before = grown.as_ref();
+    let (_, listed) = end_list(host.alloc, subject, before)?;
+    let plans = plans_with(subject, before, &listed);
     if number >= plans.len() {
         return Ok(None);
     }
@@ -73,7 +116,7 @@ where
 }
 
 /// Writes the list of plans of a campaign, a line for each: its number and its scenario. Runs of twins of the target tell the list: one
-/// without faults, and to a depth each of those that grow. The caller's target isn't touched.
+/// without faults, and to a depth those of all levels. The caller's target isn't touched.
 ///
 /// Nothing is written before the whole text stands. The answer is `TooManyPlans` only where the list has more than 65536 plans, and then,
 /// and where memory was refused, the sink is as it was and hasn't failed; `Write` tells how many bytes of the text, fewer than all, went
@@ -92,8 +135,10 @@ where
     ensures fault { IfErr result (let c = campaign_in T.Target subject.now in
         IsFault c (plans_text c) (W.told sink.old) (W.told sink.new) (W.has_failed sink.new)) }
 {
-    let planned = plan_campaign(host, subject)?;
-    let plans = plans_of(subject, &planned);
+    let grown = begin_list(host, subject, usize::MAX)?;
+    let before = grown.as_ref();
+    let (_, listed) = end_list(host.alloc, subject, before)?;
+    let plans = plans_with(subject, before, &listed);
     let text = plans_text(host.alloc, &plans)?;
     write_report(text.as_bytes(), sink)?;
     Ok(())

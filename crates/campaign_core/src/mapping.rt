@@ -1,23 +1,67 @@
 //! The map of a whole campaign.
-ghost use Rattle.std.specs.Prelude.{◌≡◌, ◌≤◌, None, false, length, option_map, IfOk, IfErr, OnOk};
+ghost use Rattle.std.specs.Prelude.{◌≡◌, ◌≤◌, false, length, option_copied, option_map, string_bytes, IfOk, IfErr, OnOk};
 ghost use Rattle.std.specs.Io.KnownBytes.{Appends};
 ghost use Rattle.plan_gen.specs.PlanList.{most_plans};
 ghost use Rattle.campaign_core.specs.Headline.{campaign_in, plans, campaign_map_text, first_failure};
 ghost use Rattle.campaign_core.specs.CommandTexts.{IsFault};
+ghost use Rattle.campaign_core.specs.inside.Results.{IsRan};
+ghost use Rattle.campaign_core.specs.Planned.{onward_among};
 
 use crate::ending::{CampaignFault, Ending};
-use crate::ran::run_campaign;
+use crate::planned::{Planned, plans_of};
+use crate::ran::{Ran, run_campaign};
 use crate::subject::{Host, Subject};
 use campaign_map::{MapFacts, map_text};
+use grown_plans::{GrownPlans, each_target_is_a_lawful_subject};
 use report::write_report;
+use std::alloc::{AllocError, Global};
 use std::sync::Wait;
 use std::thread::Threads;
 use target_trait::{Sink, Target};
 use work_gate::Gate;
 
-/// Runs the plans of a campaign without a depth as `campaign` does, reduces nothing, and writes the map of all plans, an SVG picture: a cell
-/// for each plan, coloured by its verdict, and the first failure of each code marked. The caller's target isn't touched, and the map is that
-/// of one thread. The ending and the faults are as of `campaign`; `Write` counts the bytes of the map.
+/// The plans that grew, where any did, and how many of them have their last fault from then on.
+fn grown_part<'p>(planned: &'p Planned<'_>) -> (Option<&'p GrownPlans>, usize)
+    ensures plans { option_copied result.0 ≡ option_map (λ g. g.plans) planned.now.grown }
+    ensures onward { result.1 ≡ onward_among planned.now.grown }
+{
+    match &planned.grown {
+        Some(grown) => (Some(&grown.plans), grown.onward as usize),
+        None => (None, 0),
+    }
+}
+
+/// What a campaign whose plans have run comes to, as a map shows it.
+fn map_of<T: Target + Send>(
+    alloc: Global,
+    subject: &Subject<'_, T>,
+    ran: &Ran<'_>,
+) -> Result<String, AllocError>
+    requires { IsRan (campaign_in T.Target subject.now) ran.now }
+    ensures { IfOk result (λ text. string_bytes text ≡ campaign_map_text (campaign_in T.Target subject.now)) }
+{
+    each_target_is_a_lawful_subject::<T>();
+    let Ran { planned, results } = ran;
+    let settings = subject.settings;
+    let plans = plans_of(subject, planned);
+    let (grown, onward) = grown_part(planned);
+    let facts = MapFacts {
+        label: subject.target.label(),
+        census: planned.census.counts.as_slice(),
+        pairs: settings.pairs,
+        plans: &plans,
+        grown,
+        onward,
+        verdicts: results.verdicts.as_slice(),
+        firsts: results.firsts.as_slice(),
+    };
+    map_text(alloc, subject.target, &facts)
+}
+
+/// Runs a campaign's plans as `campaign` does, reduces nothing, and writes its map, an SVG picture: a cell for each plan, coloured by its
+/// verdict, and the first failure of each code marked. With a depth it shows the levels 0 to 2 of the plans that grew, a cell's colour the
+/// worst verdict among its plan and those that grew from it, and the other plans behind them. The caller's target isn't touched, and the
+/// map is that of one thread. The ending and the faults are as of `campaign`; `Write` counts the bytes of the map.
 pub fn map_campaign<T: Target + Send, G: Gate, W: Sink, R: Threads + Wait + Sync>(
     host: &Host<'_, G, R>,
     subject: &Subject<'_, T>,
@@ -25,8 +69,7 @@ pub fn map_campaign<T: Target + Send, G: Gate, W: Sink, R: Threads + Wait + Sync
 ) -> Result<Ending, CampaignFault>
 where
     T::Workload: Sync,
-    requires good { W.has_failed sink.old ≡ false }
-    requires census { subject.now.settings.now.depth ≡ None }
+    requires { W.has_failed sink.old ≡ false }
     ensures text { IfOk result (λ _. Appends (W.told sink.old) (W.told sink.new) (campaign_map_text (campaign_in T.Target subject.now))) }
     ensures first { IfOk result (λ ending. ending.first ≡ option_map (λ f. f.0) (first_failure (campaign_in T.Target subject.now))) }
     ensures few { OnOk result (length (plans (campaign_in T.Target subject.now)) ≤ most_plans) }
@@ -35,18 +78,7 @@ where
         IsFault c (campaign_map_text c) (W.told sink.old) (W.told sink.new) (W.has_failed sink.new)) }
 {
     let ran = run_campaign(host, subject)?;
-    let planned = &ran.planned;
-    let results = &ran.results;
-    let settings = subject.settings;
-    let facts = MapFacts {
-        label: subject.target.label(),
-        census: planned.census.counts.as_slice(),
-        pairs: settings.pairs,
-        plans: &planned.listed,
-        verdicts: results.verdicts.as_slice(),
-        firsts: results.firsts.as_slice(),
-    };
-    let text = map_text(host.alloc, subject.target, &facts)?;
+    let text = map_of(host.alloc, subject, &ran)?;
     write_report(text.as_bytes(), sink)?;
-    Ok(results.ending())
+    Ok(ran.results.ending())
 }

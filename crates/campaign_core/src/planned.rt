@@ -3,13 +3,15 @@ ghost use Rattle.std.specs.Prelude.{◌≡◌, ◌+◌, ◌<◌, ◌≤◌, leng
 ghost use Rattle.plan_gen.specs.PlanList.{most_plans};
 ghost use Rattle.campaign_core.specs.Headline.{campaign_in, census, grower, plans, say};
 ghost use Rattle.grown_plans.specs.GrownPlans.{grown};
-ghost use Rattle.campaign_core.specs.Planned.{IsGrown, IsPlanned, AreKnown};
+ghost use Rattle.grown_runs.specs.Grown.{subject_in, begun};
+ghost use Rattle.campaign_core.specs.CommandTexts.{counted_to, with_rest};
+ghost use Rattle.campaign_core.specs.Planned.{listed_to, IsGrown, IsPlanned, IsBegun, AreBegun, AreGrown, AreKnown};
 
 use crate::subject::{Host, Subject};
 use campaign_given::CampaignSettings;
 use campaign_plans::CampaignPlans;
 use grown_plans::{GrownPlans, each_plan_can_be_rigged, each_target_is_a_lawful_subject};
-use grown_runs::{GrowFault, Grown, Limits, grow};
+use grown_runs::{Conditions, GrowFault, Grown, Limits, grow, grow_list};
 use plan_gen::{Census, PlanFault, PlanList, by_census, further_plans, plans};
 use std::alloc::{AllocError, Global};
 use std::sync::Wait;
@@ -51,6 +53,46 @@ fn room_to_grow(settings: &CampaignSettings) -> u32
     MOST_PLANS - settings.storms - settings.scenarios.len() as u32
 }
 
+/// What the plans of a campaign grow on, and how, to this depth.
+fn conditions<'s, T: Target, G: Gate, R: Threads + Wait + Sync>(
+    host: &Host<'s, G, R>,
+    subject: &Subject<'s, T>,
+    depth: u32,
+) -> Conditions<'s, T, G, R>
+    requires { depth ≤ 64 }
+    ensures grower { subject_in T.Target result ≡ grower (campaign_in T.Target subject.now) }
+    ensures seed { result.limits.seed ≡ (campaign_in T.Target subject.now).plans.seed }
+    ensures depth { result.limits.depth ≡ depth }
+    ensures room { with_rest (campaign_in T.Target subject.now) result.limits.most_plans ≡ most_plans }
+{
+    let settings = subject.settings;
+    let limits = Limits {
+        seed: settings.seed,
+        max_hits: settings.max_hits,
+        depth,
+        most_plans: room_to_grow(settings),
+        workers: settings.workers,
+    };
+    Conditions {
+        rt: host.rt,
+        alloc: host.alloc,
+        gate: host.gate,
+        target: subject.target,
+        workload: subject.workload,
+        limits,
+    }
+}
+
+/// Why a campaign has no list of plans where they don't grow.
+fn planning_fault(fault: GrowFault) -> PlanFault
+    ensures { result ≡ PlanFault.TooManyPlans → fault ≡ GrowFault.TooManyPlans }
+{
+    match fault {
+        GrowFault::TooManyPlans => PlanFault::TooManyPlans,
+        GrowFault::Memory => PlanFault::Memory,
+    }
+}
+
 /// The plans that grow to this depth, with what their runs come to.
 fn grown_to<T: Target + Send, G: Gate, R: Threads + Wait + Sync>(
     host: &Host<'_, G, R>,
@@ -61,28 +103,94 @@ where
     T::Workload: Sync,
     requires { depth ≤ 64 }
     ensures grown { IfOk result (IsGrown (campaign_in T.Target subject.now) depth) }
-    ensures few { OnOk result (length (grown (grower (campaign_in T.Target subject.now)) depth)
-        + subject.now.settings.now.plans.storms + length subject.now.settings.now.plans.listed ≤ most_plans) }
+    ensures few { IfOk result (λ g. with_rest (campaign_in T.Target subject.now) (length g.plans) ≤ most_plans) }
     ensures many { IsErrOf result PlanFault.TooManyPlans
-        → most_plans < length (grown (grower (campaign_in T.Target subject.now)) depth)
-        + subject.now.settings.now.plans.storms + length subject.now.settings.now.plans.listed }
+        → most_plans < with_rest (campaign_in T.Target subject.now) (length (grown (grower (campaign_in T.Target subject.now)) depth)) }
 {
     each_target_is_a_lawful_subject::<T>();
     each_plan_can_be_rigged();
-    let settings = subject.settings;
-    let limits = Limits {
-        seed: settings.seed,
-        max_hits: settings.max_hits,
-        depth,
-        most_plans: room_to_grow(settings),
-        workers: settings.workers,
-    };
-    let Host { rt, alloc, gate } = host;
-    match grow(*rt, *alloc, *gate, subject.target, subject.workload, limits) {
+    match grow(&conditions(host, subject, depth)) {
         Ok(grown) => Ok(grown),
-        Err(GrowFault::TooManyPlans) => Err(PlanFault::TooManyPlans),
-        Err(GrowFault::Memory) => Err(PlanFault::Memory),
+        Err(fault) => Err(planning_fault(fault)),
     }
+}
+
+/// The plans that grow to this depth with which the list begins, where it is looked at for so many.
+fn begun_to<T: Target + Send, G: Gate, R: Threads + Wait + Sync>(
+    host: &Host<'_, G, R>,
+    subject: &Subject<'_, T>,
+    depth: u32,
+    count: usize,
+) -> Result<GrownPlans, PlanFault>
+where
+    T::Workload: Sync,
+    requires low { 1 ≤ depth }
+    requires high { depth ≤ 64 }
+    ensures begun { IfOk result (IsBegun (campaign_in T.Target subject.now) depth count) }
+    ensures many { IsErrOf result PlanFault.TooManyPlans
+        → most_plans < with_rest (campaign_in T.Target subject.now) (length (begun (grower (campaign_in T.Target subject.now)) depth count)) }
+{
+    each_target_is_a_lawful_subject::<T>();
+    each_plan_can_be_rigged();
+    match grow_list(&conditions(host, subject, depth), count) {
+        Ok(plans) => Ok(plans),
+        Err(fault) => Err(planning_fault(fault)),
+    }
+}
+
+/// Of a campaign with a depth the plans that grow with which its list begins, where it is looked at for so many. No more is run than that takes.
+///
+/// The answer is `TooManyPlans` only where these and what stands behind make more than 65536 plans; otherwise an error is `Memory`.
+pub fn begin_list<T: Target + Send, G: Gate, R: Threads + Wait + Sync>(
+    host: &Host<'_, G, R>,
+    subject: &Subject<'_, T>,
+    count: usize,
+) -> Result<Option<GrownPlans>, PlanFault>
+where
+    T::Workload: Sync,
+    ensures begun { IfOk result (λ grown. AreBegun (campaign_in T.Target subject.now) (campaign_in T.Target subject.now).depth count grown) }
+    ensures many { IsErrOf result PlanFault.TooManyPlans
+        → most_plans < counted_to (campaign_in T.Target subject.now) count (campaign_in T.Target subject.now).depth }
+{
+    let settings = subject.settings;
+    let Some(depth) = settings.depth else {
+        return Ok(None);
+    };
+    let begun = begun_to(host, subject, depth, count)?;
+    Ok(Some(begun))
+}
+
+/// The census of a campaign, by a run of a twin of the target, and those of its plans that don't grow: where it has a depth, what stands behind
+/// these plans that did.
+///
+/// The answer is `TooManyPlans` only where there are more than 65536 plans; otherwise an error is `Memory`.
+pub fn end_list<'a, T: Target>(
+    alloc: Global,
+    subject: &Subject<'a, T>,
+    grown: Option<&GrownPlans>,
+) -> Result<(Census, PlanList<'a>), PlanFault>
+    requires { AreGrown (campaign_in T.Target subject.now) (campaign_in T.Target subject.now).depth (option_copied grown) }
+    ensures census { IfOk result (λ r. r.0.counts.items ≡ census (campaign_in T.Target subject.now)) }
+    ensures counts { IfOk result (λ r. length r.0.counts.items ≡ length T.names) }
+    ensures points { length T.names ≤ 64 }
+    ensures listed { IfOk result (λ r. r.1 ≡ listed_to (campaign_in T.Target subject.now) (campaign_in T.Target subject.now).depth) }
+    ensures few { OnOk result (length (plans (campaign_in T.Target subject.now)) ≤ most_plans) }
+    ensures some { OnOk result (0 < length (plans (campaign_in T.Target subject.now))) }
+    ensures many { IsErrOf result PlanFault.TooManyPlans → most_plans < length (plans (campaign_in T.Target subject.now)) }
+{
+    each_target_is_a_lawful_subject::<T>();
+    let Ok(census) = census_of(alloc, subject) else {
+        return Err(PlanFault::Memory);
+    };
+    let settings = subject.settings;
+    let settings = settings.plan_settings();
+    let catalogue = T::catalogue();
+    let Some(grown) = grown else {
+        let listed = plans(alloc, &census, catalogue, &settings)?;
+        return Ok((census, listed));
+    };
+    let listed = further_plans(alloc, &census, catalogue, &settings, grown.len())?;
+    Ok((census, listed))
 }
 
 /// A campaign's census and its plans: those of the census, or those that grow from each other's runs, which are run for it.
@@ -98,18 +206,9 @@ where
     ensures few { OnOk result (length (plans (campaign_in T.Target subject.now)) ≤ most_plans) }
     ensures many { IsErrOf result PlanFault.TooManyPlans → most_plans < length (plans (campaign_in T.Target subject.now)) }
 {
-    each_target_is_a_lawful_subject::<T>();
-    let Ok(census) = census_of(host.alloc, subject) else {
-        return Err(PlanFault::Memory);
-    };
     let settings = subject.settings;
     let Some(depth) = settings.depth else {
-        let listed = plans(
-            host.alloc,
-            &census,
-            T::catalogue(),
-            &settings.plan_settings(),
-        )?;
+        let (census, listed) = end_list(host.alloc, subject, None)?;
         return Ok(Planned {
             census,
             grown: None,
@@ -117,14 +216,7 @@ where
         });
     };
     let grown = grown_to(host, subject, depth)?;
-    let before = grown.plans.len();
-    let listed = further_plans(
-        host.alloc,
-        &census,
-        T::catalogue(),
-        &settings.plan_settings(),
-        before,
-    )?;
+    let (census, listed) = end_list(host.alloc, subject, Some(&grown.plans))?;
     Ok(Planned {
         census,
         grown: Some(grown),
@@ -140,6 +232,21 @@ fn grown_plans(grown: &Option<Grown>) -> Option<&GrownPlans>
         Some(grown) => Some(&grown.plans),
         None => None,
     }
+}
+
+/// The plans of a campaign, by those that grew, where any did, and those that don't grow.
+pub fn plans_with<'p, T: Target>(
+    subject: &Subject<'_, T>,
+    grown: Option<&'p GrownPlans>,
+    listed: &'p PlanList<'_>,
+) -> CampaignPlans<'p>
+    requires grown { AreGrown (campaign_in T.Target subject.now) (campaign_in T.Target subject.now).depth (option_copied grown) }
+    requires listed { listed.now ≡ listed_to (campaign_in T.Target subject.now) (campaign_in T.Target subject.now).depth }
+    requires few { length (plans (campaign_in T.Target subject.now)) ≤ most_plans }
+    ensures { result ≡ plans (campaign_in T.Target subject.now) }
+{
+    let _ = subject;
+    CampaignPlans::grown(grown, T::catalogue(), listed)
 }
 
 /// The plans of a campaign, by what they are kept in.

@@ -1,11 +1,13 @@
-use Rattle.std.proofs.Common.{◌≡◌, ◌≤◌, ◌<◌, ◌+◌, ℕ, List, Option, Some, IfSome, length, ap, sym, subst, ◌∙◌, arith, rules}
+use Rattle.std.proofs.Common.{rules, ◌≡◌, ◌≤◌, ◌<◌, ◌+◌, ℕ, List, Option, None, Some, length, ap, sym, subst, ◌∙◌, arith}
+use Rattle.std.specs.List.{AllByRecursion}
+use Rattle.action_eval.specs.declared.rig.Rig.{Rig}
+use Rattle.action_eval.specs.Rigging.{CanBeRigged}
+use Rattle.grown_plans.specs.GrownPlans.{rigs_of}
+use Rattle.scenario_values.specs.Scenario.{Entries}
 use Rattle.campaign_given.specs.Given.{Given}
-use Rattle.plan_gen.specs.Census.{sites_of}
-use Rattle.grown_plans.specs.GrownPlans.{Subject}
-use Rattle.campaign_core.specs.Headline.{Campaign, campaign_in, census, grower, plans}
-use Rattle.campaign_core.specs.Planned.{IsGrownTo, listed_to}
-use Rattle.campaign_core.proofs.FirstLevel.{few_sites_grow, first_grows}
-use Rattle.campaign_core.proofs.Grown.{listed_is, plans_counted, plans_some}
+use Rattle.campaign_core.specs.Headline.{Campaign, campaign_in}
+use Rattle.campaign_core.specs.Planned.{AreGrown, IsGrownTo}
+use Rattle.campaign_core.proofs.Grown.{plans_counted}
 use Rattle.campaign_core.proofs.planned.plan_campaign.Goals as goal
 
 pub returns-in_err-grown-clause-many : goal.returns-in_err-grown-clause-many
@@ -16,26 +18,37 @@ returns-in_err-grown-clause-many g c = λ h.
     let many = c.in_err-grown.ensures.many (search (h, rules)) in
     omega (arith, counted, many)
 
-pub further_plans-requires-clause-sites : goal.further_plans-requires-clause-sites
-further_plans-requires-clause-sites g c =
+pub end_list-requires : goal.end_list-requires
+end_list-requires g c =
     let k : Campaign = campaign_in g.T.Target c.args.subject.now in
-    let lawful = c.each_target_is_a_lawful_subject.ensures c.args.subject.now.target.now c.args.subject.now.workload.now k.max_hits in
-    let few = c.in_ok-grown.ensures.few in
-    subst (λ (counts : List ℕ). length (sites_of counts) < 65536) (sym c.in-Ok.ensures.census)
-    (few_sites_grow k.asks k.points k.max_hits k.plans.seed c.in-Some.depth (first_grows (grower k) lawful) (search rules) (omega (arith, few)))
+    let none : c.settings.inside.depth ≡ None = search rules in
+    let depth : k.depth ≡ None = sym (ap (λ (s : Given). s.depth) c.settings.view_is) ∙ none in
+    subst (λ (o : Option ℕ). AreGrown k o None) (sym depth) tt
+
+pub end_list-requires-2 : goal.end_list-requires-2
+end_list-requires-2 g c =
+    let k : Campaign = campaign_in g.T.Target c.args.subject.now in
+    let depth : k.depth ≡ Some c.in-Some.depth = sym (ap (λ (s : Given). s.depth) c.settings.view_is) ∙ c.in-Some.is in
+    let is = c.in_ok-grown.ensures.grown in
+    subst (λ (o : Option ℕ). AreGrown k o (Some c.in_ok-grown.grown.plans)) (sym depth)
+    (record {
+      same = is.has_grown.plans;
+      rigs = subst (AllByRecursion (λ (plan : List Rig). CanBeRigged (rigs_of plan))) (sym is.has_grown.plans) is.rigs;
+      few = c.in_ok-grown.ensures.few;
+      deep = search rules;
+    })
 
 pub returns-clause-planned : goal.returns-clause-planned
 returns-clause-planned g c =
     let k : Campaign = campaign_in g.T.Target c.args.subject.now in
     let depth : k.depth ≡ Some c.in-Some.depth = sym (ap (λ (s : Given). s.depth) c.settings.view_is) ∙ c.in-Some.is in
-    let counted = plans_counted k k.depth c.in-Some.depth depth in
-    let few = c.in_ok-grown.ensures.few in
+    let end = c.in_ok-census-2.ensures in
     record {
-      census = c.in-Ok.ensures.census;
-      counts = c.in-Ok.ensures.counts;
-      points = c.in-Ok.ensures.points;
+      census = end.census;
+      counts = end.counts;
+      points = c.end_list-2.ensures.points;
       grown = subst (λ (o : Option ℕ). IsGrownTo k o (Some c.in_ok-grown.grown)) (sym depth) c.in_ok-grown.ensures.grown;
-      listed = c.in_ok-listed-2.ensures.ok ∙ listed_is k k.depth c.in-Some.depth _ _ _ depth (sym c.catalogue-2.ensures) c.in-Ok.ensures.census c.plan_settings-2.ensures.asked;
-      few = omega (arith, counted, few);
-      some = plans_some k k.depth c.in-Some.depth depth;
+      listed = end.listed;
+      few = end.few;
+      some = end.some;
     }

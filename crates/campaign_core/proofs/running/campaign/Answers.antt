@@ -3,6 +3,7 @@ use Rattle.report.specs.Reports.{GrowthFacts, ReportFacts}
 use Rattle.campaign_core.specs.Headline.{Campaign, campaign_in, plans, say}
 use Rattle.campaign_core.proofs.Firsts.{first_is}
 use Rattle.campaign_core.proofs.Grown.{reached_counts}
+use Rattle.campaign_core.proofs.Tried.{tried_by}
 use Rattle.campaign_core.proofs.running.campaign.Goals as goal
 
 pub returns-clause-first : goal.returns-clause-first
@@ -16,3 +17,9 @@ text-requires-clause-reached g c =
     let k : Campaign = campaign_in g.T.Target c.args.subject.now in
     subst (λ (r : ReportFacts). IfSome r.growth (λ (x : GrowthFacts). length x.reached ≡ length k.points)) (sym c.in_ok-report.ensures.report)
     (reached_counts k k.depth)
+
+pub returns-clause-promises : goal.returns-clause-promises
+returns-clause-promises g c =
+    let subject = c.args.subject.now in
+    tried_by (campaign_in g.T.Target subject) (c.each_behaviour_is_tried.ensures.promises subject.target.now subject.workload.now subject.settings.now)
+    (c.each_behaviour_is_tried.ensures.causes (campaign_in g.T.Target subject))

@@ -1,0 +1,33 @@
+-- Why a list of plans isn't made, and a plan isn't found.
+use Rattle.std.proofs.Common.{◌≡◌, ◌<◌, ℕ, Bool, false, List, Option, Result, Ok, Err, IfErr, IsErrAnd, length, refl, sym, ◌∙◌, subst}
+use Rattle.std.specs.Prelude.{IsErrOf}
+use Rattle.plan_gen.specs.PlanList.{most_plans}
+use Rattle.plan_gen.specs.declared.list.PlanFault.{PlanFault}
+use Rattle.plan_gen.specs.declared.list.PlanFault.TheVariants as planning
+use Rattle.campaign_core.specs.declared.ending.CampaignFault.{CampaignFault}
+use Rattle.campaign_core.specs.declared.ending.CampaignFault.TheVariants as fault
+use Rattle.campaign_core.specs.CommandTexts.{counted, plan_fault, IsFault, IsUnfound}
+use Rattle.campaign_core.specs.Headline.{Campaign, plans}
+
+module _ {A : Type 0} where
+  pub passed_on : (result : Result A CampaignFault) (f : PlanFault) → IsErrAnd result (λ x. x ≡ plan_fault f) → (P : CampaignFault → Type 0) → P (plan_fault f)
+      → IfErr result P
+  passed_on (Ok a) f is P h = absurd is
+  passed_on (Err e) f is P h = subst P (sym is) h
+
+  pub too_many : (result : Result A CampaignFault) (f : PlanFault) → IsErrAnd result (λ x. x ≡ plan_fault f) → IsErrOf result fault.TooManyPlans
+      → f ≡ planning.TooManyPlans
+  too_many (Ok a) f is h = absurd is
+  too_many (Err e) planning.TooManyPlans is h = refl
+  too_many (Err e) planning.Memory is h =
+      let told : e ≡ fault.TooManyPlans = subst (λ r. IsErrAnd r (λ x. x ≡ fault.TooManyPlans)) (sym h) refl in
+      absurd (let same : fault.Memory ≡ fault.TooManyPlans = sym is ∙ told in cc)
+
+pub unfound : (k : Campaign) (n : ℕ) (f : PlanFault) → (f ≡ planning.TooManyPlans → most_plans < counted k n) → IsUnfound k n (plan_fault f)
+unfound k n planning.TooManyPlans many = many refl
+unfound k n planning.Memory many = tt
+
+pub unlisted : (k : Campaign) (text : List ℕ) (old : Option (List ℕ)) (failed : Bool) (f : PlanFault) → failed ≡ false
+    → (f ≡ planning.TooManyPlans → most_plans < length (plans k)) → IsFault k text old old failed (plan_fault f)
+unlisted k text old failed planning.TooManyPlans sound many = (refl, sound, many refl)
+unlisted k text old failed planning.Memory sound many = (refl, sound)
