@@ -234,16 +234,13 @@ Storms and listed scenarios stand behind the plans that grow.
   plans 16
   counts pass 16 unresolved 0
 
-A depth is 1 to 64, and goes with no pairs; a map isn't drawn of plans that grow.
+A depth is 1 to 64, and goes with no pairs.
 
   $ sed 's/depth = 1/depth = 0/' small.toml | paklour run
   settings: out of range depth
   [2]
   $ sed '4a pairs = true' small.toml | paklour run
   settings: out of range pairs
-  [2]
-  $ paklour map small.toml
-  settings: depth: no map
   [2]
 
 A level that would make more than 65536 plans isn't run, and nothing is written.

@@ -18,6 +18,8 @@ No line of it is longer than 100 letters, as has just been seen. It says what ea
   
   Options:
         --brief     Count the verdicts that pass, and write the scenario beside each other verdict
+        --json      Write a JSON document with all that the report tells
+        --junit     Write JUnit's XML, with a case for each plan
         --strict    Tell on standard error what the report doesn't show, and end with 5 then
         --recheck   Run each failing plan once more first, and refuse a target that says otherwise
         --progress  Show on standard error, in one line, how far plans or a reduction are
@@ -27,8 +29,12 @@ No line of it is longer than 100 letters, as has just been seen. It says what ea
     paklour run my.toml             the verdict of each plan, and what the first failures come down to
     paklour run < my.toml           settings from standard input
     paklour run --brief my.toml     no line for a verdict that passes, and scenarios beside the others
+    paklour run --json my.toml      a JSON document, for programs that read the report
+    paklour run --junit my.toml     JUnit's XML, which CI servers show as tests
     paklour run --strict my.toml    the same report; what it doesn't show is told on standard error
     paklour run --progress my.toml  the same report; meanwhile `plans 12 of 65025` on standard error
+  
+  Of --brief, --json and --junit one at most is given.
   $ paklour help try | grep -e ^Usage: -e ' --scenario <' -e ' --plan <' -e '^A scenario has '
   Usage: paklour try <--scenario <TEXT>|--plan <N>> [FILE]
         --scenario <TEXT>  The scenario, as 'POINT=TERM->TERM;POINT=TERM'

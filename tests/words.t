@@ -60,6 +60,12 @@ What words ask for
   $ asks run f --brief
   target maildir link_first
   seed 0
+  $ asks run --json f
+  {
+    "version": 1,
+  $ asks run --junit -
+  <?xml version="1.0" encoding="UTF-8"?>
+  <testsuites>
   $ asks map f | cut -c 1-4
   <svg
   <sty
@@ -149,6 +155,16 @@ What is wrong is told on standard error, and nothing is on standard output.
   error: the argument '--brief' cannot be used multiple times
   $ refused run --brief=true f
   error: unexpected value 'true' for '--brief' found; no more were expected
+  $ refused run --json --junit
+  error: the argument '--json' cannot be used with '--junit'
+  $ refused run --json --json
+  error: the argument '--json' cannot be used multiple times
+  $ refused run --junit=true f
+  error: unexpected value 'true' for '--junit' found; no more were expected
+  $ refused report --json f
+  error: unexpected argument '--json' found
+  $ refused --junit
+  error: unexpected argument '--junit' found
   $ refused plans --brief
   error: unexpected argument '--brief' found
   $ refused asks --brief f

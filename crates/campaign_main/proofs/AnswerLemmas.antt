@@ -6,7 +6,7 @@ use Rattle.scenario_values.specs.Scenario.{Entries}
 use Rattle.scenario_grammar.specs.declared.fault.ScenarioFault.TheVariants as scenario
 use Rattle.plan_gen.specs.PlanList.{most_plans}
 use Rattle.campaign_core.specs.Headline.{Campaign, say, plans, campaign_map_text, first_failure}
-use Rattle.campaign_core.specs.CommandTexts.{IsFault, IsReducedToMinimal, IsUnlisted, LeavesOnly, plan_lines, plans_text, reduce_text, tried, try_text}
+use Rattle.campaign_core.specs.CommandTexts.{counted, IsFault, IsReducedToMinimal, IsUnfound, IsUnlisted, LeavesOnly, plan_lines, plans_text, reduce_text, tried, try_text}
 use Rattle.campaign_core.specs.declared.ending.CampaignFault.{CampaignFault}
 use Rattle.campaign_core.specs.declared.ending.CampaignFault.TheVariants as campaign
 use Rattle.command_words.specs.declared.words.Form.{Form}
@@ -20,7 +20,7 @@ use Rattle.campaign_main.specs.declared.fault.CommandFault.TheVariants as faults
 use Rattle.campaign_main.specs.declared.exit.Conclusion.{Conclusion}
 use Rattle.campaign_main.specs.declared.exit.Conclusion.TheVariants.{Clean}
 use Rattle.campaign_main.specs.Exit.{concluded}
-use Rattle.campaign_main.specs.Commands.{Answer, Refusal, explain_answer, map_answer, map_to, no_map, numbered, of_few_plans, of_verdict, outside_answer, planned, plans_answer, reduce_answer, report_in, run_answer, taken_answer, too_many_plans, try_answer}
+use Rattle.campaign_main.specs.Commands.{Answer, Refusal, explain_answer, map_answer, numbered, of_few_plans, of_verdict, outside_answer, planned, plans_answer, reduce_answer, report_in, run_answer, taken_answer, too_many_plans, try_answer}
 use Rattle.campaign_main.specs.Notes.{is_doubted, listed_notes, notes_of, report_notes}
 use Rattle.campaign_main.specs.Ends.{ComesTo, FallsShort, IsCutOff, IsNoted, IsUntaken, IsUntouched, IsWritten, TellsNotes}
 
@@ -142,16 +142,16 @@ module _ (c : Campaign) where
   listed = listed_notes c.points c.plans.listed
 
   module _ (old new : Option (List ℕ)) where
-    pub map-written : c.depth ≡ None → (failed : Bool) (found : Conclusion) (first : Option ℕ) (some : Bool) → length (plans c) ≤ most_plans → Appends old new (campaign_map_text c) → failed ≡ false
+    pub map-written : (failed : Bool) (found : Conclusion) (first : Option ℕ) (some : Bool) → length (plans c) ≤ most_plans → Appends old new (campaign_map_text c) → failed ≡ false
         → found ≡ concluded some false → some ≡ is_some first → first ≡ option_map (λ f. f.0) (first_failure c) → IsWritten (map_answer c) old new failed found
     unfolding map_answer
-    map-written plain failed found first some few written sound is has first-is =
+    map-written failed found first some few written sound is has first-is =
         let f : Bool → Conclusion = λ b. concluded b false in
-        of_campaign c (map_answer c) (campaign_map_text c) false listed (ap (map_to c) plain) old new failed found first few written sound (is ∙ ap f has) first-is
+        of_campaign c (map_answer c) (campaign_map_text c) false listed refl old new failed found first few written sound (is ∙ ap f has) first-is
 
-    pub map-short : c.depth ≡ None → (failed : Bool) (f : CampaignFault) → IsFault c (campaign_map_text c) old new failed f → FallsShort (map_answer c) old new failed (faults.Campaign f)
+    pub map-short : (failed : Bool) (f : CampaignFault) → IsFault c (campaign_map_text c) old new failed f → FallsShort (map_answer c) old new failed (faults.Campaign f)
     unfolding map_answer
-    map-short plain failed f h = short_of_plans c (map_answer c) (campaign_map_text c) (concluded (is_some (first_failure c)) false) listed (ap (map_to c) plain) old new failed f h
+    map-short failed f h = short_of_plans c (map_answer c) (campaign_map_text c) (concluded (is_some (first_failure c)) false) listed refl old new failed f h
 
     pub plans-written : (failed : Bool) → length (plans c) ≤ most_plans → Appends old new (plans_text c) → failed ≡ false → IsWritten (plans_answer c) old new failed Clean
     unfolding plans_answer
@@ -161,19 +161,10 @@ module _ (c : Campaign) where
     unfolding plans_answer
     plans-short failed f h = short_of_plans c (plans_answer c) (plans_text c) Clean listed refl old new failed f h
 
-  pub map-noted : c.depth ≡ None → (lines : List ℕ) (told told' : Option (List ℕ)) (broken : Bool) → length (plans c) ≤ most_plans → lines ≡ listed → IsNoted lines told told' broken
+  pub map-noted : (lines : List ℕ) (told told' : Option (List ℕ)) (broken : Bool) → length (plans c) ≤ most_plans → lines ≡ listed → IsNoted lines told told' broken
       → TellsNotes (map_answer c) told told' broken
   unfolding map_answer
-  map-noted plain = noted_plans (plans c) (map_answer c) (campaign_map_text c) (concluded (is_some (first_failure c)) false) listed (ap (map_to c) plain)
-
-  -- plans that grow have no map
-  map-to-grown : (depth : Option ℕ) → is_some depth ≡ true → map_to c depth ≡ Err no_map
-  map-to-grown None some = absurd (false≢true some)
-  map-to-grown (Some d) some = refl
-
-  pub map-grown : is_some c.depth ≡ true → map_answer c ≡ Err no_map
-  unfolding map_answer
-  map-grown some = map-to-grown c.depth some
+  map-noted = noted_plans (plans c) (map_answer c) (campaign_map_text c) (concluded (is_some (first_failure c)) false) listed refl
 
   pub plans-noted : (lines : List ℕ) (told told' : Option (List ℕ)) (broken : Bool) → length (plans c) ≤ most_plans → lines ≡ listed → IsNoted lines told told' broken
       → TellsNotes (plans_answer c) told told' broken
@@ -246,19 +237,19 @@ module _ (c : Campaign) (read : Result (ℕ × Entries) Refusal) (t : ℕ × Ent
 
 -- ---- the scenario that a command takes
 
-module _ (plans : List Entries) (number : ℕ) where
-  pub planned-few : (plan : Option Entries) → length plans ≤ most_plans → plan ≡ slice_get plans number → planned number plans ≡ numbered number plan
+module _ (c : Campaign) (number : ℕ) where
+  pub planned-few : (plan : Option Entries) → counted c number ≤ most_plans → plan ≡ slice_get (plans c) number → planned c number ≡ numbered number plan
   planned-few plan few is =
-      let f : Bool → Result (ℕ × Entries) Refusal = λ b. if b then Err too_many_plans else numbered number (slice_get plans number) in
-      ap f (le-ltb most_plans (length plans) few) ∙ ap (numbered number) (sym is)
+      let f : Bool → Result (ℕ × Entries) Refusal = λ b. if b then Err too_many_plans else numbered number (slice_get (plans c) number) in
+      ap f (le-ltb most_plans (counted c number) few) ∙ ap (numbered number) (sym is)
 
-  planned-many : most_plans < length plans → planned number plans ≡ Err too_many_plans
+  planned-many : most_plans < counted c number → planned c number ≡ Err too_many_plans
   planned-many many =
-      let f : Bool → Result (ℕ × Entries) Refusal = λ b. if b then Err too_many_plans else numbered number (slice_get plans number) in
-      ap f (lt-ltb most_plans (length plans) many)
+      let f : Bool → Result (ℕ × Entries) Refusal = λ b. if b then Err too_many_plans else numbered number (slice_get (plans c) number) in
+      ap f (lt-ltb most_plans (counted c number) many)
 
-pub unplanned : (c : Campaign) (number : ℕ) (f : CampaignFault) → IsUnlisted c f → IsUntaken (planned number (plans c)) (faults.Campaign f)
-unplanned c number campaign.TooManyPlans h = planned-many (plans c) number h
+pub unplanned : (c : Campaign) (number : ℕ) (f : CampaignFault) → IsUnfound c number f → IsUntaken (planned c number) (faults.Campaign f)
+unplanned c number campaign.TooManyPlans h = planned-many c number h
 unplanned c number campaign.Memory h = tt
 unplanned c number (campaign.Write n) h = absurd h
 
@@ -277,7 +268,6 @@ untaken-short answer read old failed (faults.Campaign campaign.TooManyPlans) sou
 untaken-short answer read old failed (faults.Campaign campaign.Memory) sound h = (refl, sound)
 untaken-short answer read old failed (faults.Campaign (campaign.Write n)) sound h = absurd h
 untaken-short answer read old failed (faults.Unsteady line) sound h = absurd h
-untaken-short answer read old failed faults.Unmapped sound h = absurd h
 untaken-short answer read old failed faults.Outside sound h = absurd h
 
 -- ---- the plans of a component that somebody else runs

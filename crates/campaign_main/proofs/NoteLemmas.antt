@@ -17,7 +17,7 @@ use Rattle.command_words.specs.declared.words.Which.{Which}
 use Rattle.campaign_main.specs.declared.exit.Exit.{Exit}
 use Rattle.campaign_main.specs.declared.exit.Exit.TheVariants as exit
 use Rattle.campaign_main.specs.declared.fault.CommandFault.{CommandFault}
-use Rattle.campaign_main.specs.Commands.{Answer, Refusal, choice_answer, explain_answer, given_answer, map_answer, map_to, of_few_plans, order_answer, outside_answer, plans_answer, reduce_answer, run_answer, taken, taken_answer, text_answer, too_many_plans, try_answer}
+use Rattle.campaign_main.specs.Commands.{Answer, Refusal, choice_answer, explain_answer, given_answer, map_answer, of_few_plans, order_answer, outside_answer, plans_answer, reduce_answer, run_answer, taken, taken_answer, text_answer, too_many_plans, try_answer}
 use Rattle.campaign_main.specs.Ends.{IsNoted, IsTold, Noted, OnWhole, TellsANote, TellsARefusal, TellsAs, TellsNotes, TellsRefusal, Tells}
 use Rattle.campaign_main.specs.declared.exit.Conclusion.{Conclusion}
 use Rattle.campaign_main.specs.declared.exit.Conclusion.TheVariants.{Clean, Failed, Doubtful}
@@ -55,13 +55,9 @@ module _ (c : Campaign) where
   unfolding run_answer
   may-run form strict recheck = of-few (MayNote (order.Run form strict recheck)) _ _ (c, refl)
 
-  may-map-to : (depth : Option ℕ) → NotesFor order.Map (map_to c depth)
-  may-map-to None = of-few (MayNote order.Map) _ _ (c.points, (c.plans.listed, refl))
-  may-map-to (Some d) = tt
-
   may-map : NotesFor order.Map (map_answer c)
   unfolding map_answer
-  may-map = may-map-to c.depth
+  may-map = of-few (MayNote order.Map) _ _ (c.points, (c.plans.listed, refl))
 
   may-plans : NotesFor order.Plans (plans_answer c)
   unfolding plans_answer

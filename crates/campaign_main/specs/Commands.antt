@@ -21,9 +21,11 @@ use Rattle.campaign_settings.specs.declared.choice.Choice.{Choice}
 use Rattle.campaign_settings.specs.declared.choice.Choice.TheVariants as choice
 use Rattle.campaign_settings.specs.declared.settings.Settings.{Settings}
 use Rattle.campaign_core.specs.Headline.{Campaign, campaign_of, say, plans, report_text, brief_report_text, campaign_map_text, first_failure}
-use Rattle.campaign_core.specs.CommandTexts.{plan_lines, plans_text, try_text, tried, reduce_text}
+use Rattle.campaign_core.specs.CommandTexts.{counted, plan_lines, plans_text, try_text, tried, reduce_text}
+use Rattle.campaign_core.specs.Machines.{machine_text}
+use Rattle.campaign_core.specs.declared.machines.MachineForm.TheVariants as machine
 use Rattle.command_words.specs.declared.words.Form.{Form}
-use Rattle.command_words.specs.declared.words.Form.TheVariants.{Whole, Brief}
+use Rattle.command_words.specs.declared.words.Form.TheVariants.{Whole, Brief, Json, Junit}
 use Rattle.command_words.specs.declared.words.Order.{Order}
 use Rattle.command_words.specs.declared.words.Order.TheVariants as order
 use Rattle.command_words.specs.declared.words.Which.{Which}
@@ -37,15 +39,14 @@ use Rattle.campaign_main.specs.Notes.{is_doubted, listed_notes, notes_of, report
 -- ---- answers
 
 -- why a command is refused: its settings are no UTF-8 or have a fault, its scenario has one, there are too many plans, or none of this
--- number; it would draw a map of plans that grow; it would run a component from outside, or asks about a target that isn't from outside;
--- the answers have a fault, or lack this scenario
+-- number; it would run a component from outside, or asks about a target that isn't from outside; the answers have a fault, or lack this
+-- scenario
 pub data Refusal : Type 0 where
   not_text : Refusal
   bad_settings : Cause → Refusal
   bad_scenario : Fault → Refusal
   too_many_plans : Refusal
   no_plan : ℕ → Refusal
-  no_map : Refusal
   outside_target : Refusal
   bundled_target : Refusal
   bad_answers : AnswersFault → Refusal
@@ -65,20 +66,18 @@ of_few_plans plans text = if nat_lt most_plans (length plans) then Err too_many_
 abbrev pub report_in : Form → Campaign → List ℕ
 report_in Whole c = report_text c
 report_in Brief c = brief_report_text c
+report_in Json c = machine_text machine.Json c
+report_in Junit c = machine_text machine.Junit c
 
 -- the report, whether a plan fails, and what is noted, which counts where the report is to be strict
 unfoldable pub run_answer : Form → Bool → Campaign → Answer
 run_answer form strict c =
     of_few_plans (plans c) (report_in form c, concluded (is_some (first_failure c)) (is_doubted strict (report_notes strict c)), report_notes strict c)
 
--- the map, whether a plan fails, and what is noted of the listed scenarios; plans that grow have none
-abbrev pub map_to : Campaign → Option ℕ → Answer
-map_to c None =
-    of_few_plans (plans c) (campaign_map_text c, concluded (is_some (first_failure c)) false, listed_notes c.points c.plans.listed)
-map_to c (Some depth) = Err no_map
-
+-- the map, whether a plan fails, and what is noted of the listed scenarios
 unfoldable pub map_answer : Campaign → Answer
-map_answer c = map_to c c.depth
+map_answer c =
+    of_few_plans (plans c) (campaign_map_text c, concluded (is_some (first_failure c)) false, listed_notes c.points c.plans.listed)
 
 -- the list of plans, and the same notes
 unfoldable pub plans_answer : Campaign → Answer
@@ -115,12 +114,12 @@ abbrev pub numbered : ℕ → Option Entries → Result (ℕ × Entries) Refusal
 numbered number (Some scenario) = Ok (number, scenario)
 numbered number None = Err (no_plan number)
 
-abbrev pub planned : ℕ → List Entries → Result (ℕ × Entries) Refusal
-planned number plans = if nat_lt most_plans (length plans) then Err too_many_plans else numbered number (slice_get plans number)
+abbrev pub planned : Campaign → ℕ → Result (ℕ × Entries) Refusal
+planned c number = if nat_lt most_plans (counted c number) then Err too_many_plans else numbered number (slice_get (plans c) number)
 
 abbrev pub taken : Campaign → Which → Result (ℕ × Entries) Refusal
 taken c (Scenario text) = spelled (reading (string_bytes text))
-taken c (Plan number) = planned number (plans c)
+taken c (Plan number) = planned c number
 
 -- what comes of it
 abbrev pub taken_answer : (ℕ → Entries → Answer) → Result (ℕ × Entries) Refusal → Answer

@@ -12,8 +12,8 @@ use Rattle.campaign_main.specs.declared.exit.Exit.TheVariants.{Kept, Found, Refu
 use Rattle.campaign_main.specs.declared.exit.Conclusion.{Conclusion}
 use Rattle.campaign_main.specs.declared.exit.Conclusion.TheVariants.{Clean, Failed, Doubtful}
 use Rattle.campaign_main.specs.declared.fault.CommandFault.{CommandFault}
-use Rattle.campaign_main.specs.declared.fault.CommandFault.TheVariants.{Scenario, Plan, Campaign, Unsteady, Unmapped, Outside}
-use Rattle.campaign_main.specs.Commands.{Answer, Refusal, bad_scenario, no_map, no_plan, outside_target, too_many_plans}
+use Rattle.campaign_main.specs.declared.fault.CommandFault.TheVariants.{Scenario, Plan, Campaign, Unsteady, Outside}
+use Rattle.campaign_main.specs.Commands.{Answer, Refusal, bad_scenario, no_plan, outside_target, too_many_plans}
 use Rattle.campaign_main.specs.Notes.{MayNote}
 use Rattle.campaign_main.specs.FaultLines.{cut_off_line, memory_line, refusal_line, scenario_line, unreadable_line}
 
@@ -69,7 +69,6 @@ FallsShort answer old new failed (Campaign campaign.TooManyPlans) = IsUntouched 
 FallsShort answer old new failed (Campaign campaign.Memory) = IsUntouched old new failed
 FallsShort answer old new failed (Campaign (campaign.Write written)) = IsCutOff answer old new failed written
 FallsShort answer old new failed (Unsteady line) = ⊥
-FallsShort answer old new failed Unmapped = IsUntouched old new failed × (answer ≡ Err no_map)
 FallsShort answer old new failed Outside = IsUntouched old new failed × (answer ≡ Err outside_target)
 
 -- why a command takes no scenario
@@ -81,7 +80,6 @@ IsUntaken taken (Campaign campaign.TooManyPlans) = taken ≡ Err too_many_plans
 IsUntaken taken (Campaign campaign.Memory) = Unit {0}
 IsUntaken taken (Campaign (campaign.Write written)) = ⊥
 IsUntaken taken (Unsteady line) = ⊥
-IsUntaken taken Unmapped = ⊥
 IsUntaken taken Outside = ⊥
 
 -- what a command came to: what its text comes to, or a fault
@@ -163,7 +161,6 @@ IsEndOf (Campaign campaign.TooManyPlans) end old new failed = (end ≡ Refused) 
 IsEndOf (Campaign campaign.Memory) end old new failed = (end ≡ Memory) × IsTold memory_line old new failed
 IsEndOf (Campaign (campaign.Write written)) end old new failed = (end ≡ Write written) × IsTold (cut_off_line written) old new failed
 IsEndOf (Unsteady line) end old new failed = (end ≡ Refused) × IsTold (string_bytes line) old new failed
-IsEndOf Unmapped end old new failed = (end ≡ Refused) × IsTold (refusal_line no_map) old new failed
 IsEndOf Outside end old new failed = (end ≡ Refused) × IsTold (refusal_line outside_target) old new failed
 
 -- ---- words

@@ -15,7 +15,7 @@ use Rattle.campaign_settings.specs.declared.fault.SettingsFault.TheVariants as s
 use Rattle.campaign_settings.specs.declared.keys.KeyFault.TheVariants as fault
 use Rattle.campaign_main.specs.declared.input.ReadFault.{ReadFault}
 use Rattle.campaign_main.specs.declared.input.ReadFault.TheVariants as read
-use Rattle.campaign_main.specs.Commands.{Refusal, not_text, bad_settings, bad_scenario, no_plan, no_map, too_many_plans, outside_target, bundled_target, bad_answers, not_answered}
+use Rattle.campaign_main.specs.Commands.{Refusal, not_text, bad_settings, bad_scenario, no_plan, too_many_plans, outside_target, bundled_target, bad_answers, not_answered}
 
 -- what is wrong with the settings
 abbrev pub settings_line : SettingsFault → List ℕ
@@ -60,7 +60,6 @@ refusal_line (bad_settings cause) = cause_line cause
 refusal_line (bad_scenario f) = scenario_line (Bad f.kind f.entry f.term)
 refusal_line too_many_plans = codes "too many plans\n"
 refusal_line (no_plan number) = ended (codes "plan: out of range " ++ decimal number)
-refusal_line no_map = codes "settings: depth: no map\n"
 refusal_line outside_target = codes "settings: target outside: only plans, asks and report\n"
 refusal_line bundled_target = codes "settings: target not outside: only run, plans, map, try, reduce and explain\n"
 refusal_line (bad_answers f) = ended (answers_line_of f)

@@ -11,6 +11,8 @@ use Rattle.plan_survey.specs.Runs.{runs_from, unreached_in, unresolved_in}
 use Rattle.campaign_core.specs.CommandTexts.{tried}
 use Rattle.campaign_core.specs.Headline.{Campaign, census, plans, say}
 use Rattle.campaign_main.specs.declared.notes.Doubts.{Doubts}
+use Rattle.campaign_main.specs.declared.notes.Origin.{Origin}
+use Rattle.campaign_main.specs.declared.notes.Origin.TheVariants.{Taken, Listed, Answered}
 use Rattle.command_words.specs.declared.words.Order.{Order}
 use Rattle.command_words.specs.declared.words.Order.TheVariants as order
 
@@ -18,26 +20,32 @@ use Rattle.command_words.specs.declared.words.Order.TheVariants as order
 abbrev pub is_point : List (List ℕ) → List ℕ → Bool
 is_point points name = list_any (λ point. bytes_eq point name) points
 
--- the line for a name that no point has, after words that say which scenario it stands in
-abbrev pub stranger_line : List ℕ → List ℕ → List ℕ
-stranger_line which name = which ++ codes ": no point is named " ++ name
+-- the words that say which scenario a note is of
+abbrev pub origin_text : Origin → List ℕ
+origin_text Taken = codes "scenario"
+origin_text (Listed number) = codes "settings: scenario " ++ decimal number
+origin_text (Answered number) = codes "answers: line " ++ decimal number
 
-abbrev pub stranger_of : List (List ℕ) → List ℕ → List ℕ → List (List ℕ)
-stranger_of points which name = if is_point points name then [] else stranger_line which name ∷ []
+-- the line for a name that no point has, by the scenario in which it stands
+abbrev pub stranger_line : Origin → List ℕ → List ℕ
+stranger_line origin name = origin_text origin ++ codes ": no point is named " ++ name
+
+abbrev pub stranger_of : List (List ℕ) → Origin → List ℕ → List (List ℕ)
+stranger_of points origin name = if is_point points name then [] else stranger_line origin name ∷ []
 
 -- the lines for the names of a scenario, in its order
-abbrev pub strangers_in : List (List ℕ) → List ℕ → Entries → List (List ℕ)
-strangers_in points which scenario = flat_map (λ e. stranger_of points which e.0) scenario
+abbrev pub strangers_in : List (List ℕ) → Origin → Entries → List (List ℕ)
+strangers_in points origin scenario = flat_map (λ e. stranger_of points origin e.0) scenario
 
 -- what is noted of the scenario that a command takes
 abbrev pub notes_of : List (List ℕ) → Entries → List ℕ
-notes_of points scenario = text_of (strangers_in points (codes "scenario") scenario)
+notes_of points scenario = text_of (strangers_in points Taken scenario)
 
 -- what is noted of scenarios that the settings list, numbered from n on
 abbrev pub listed_from : List (List ℕ) → ℕ → List Entries → List ℕ
 listed_from points n [] = []
 listed_from points n (scenario ∷ more) =
-    text_of (strangers_in points (codes "settings: scenario " ++ decimal n) scenario) ++ listed_from points (n + 1) more
+    text_of (strangers_in points (Listed n) scenario) ++ listed_from points (n + 1) more
 
 -- of all of them
 abbrev pub listed_notes : List (List ℕ) → List Entries → List ℕ

@@ -1,7 +1,6 @@
 -- What is noted beside the answer to a question on a component that somebody else runs: names in listed scenarios and in answers that no
 -- point of it has; and what makes a report say less than it seems to.
 use Rattle.std.specs.Prelude.{ℕ, ◌+◌, ◌==◌, ◌++◌, Bool, true, false, List, [], ◌∷◌, Result, Ok, Err, codes, count_by, length, if◌then◌else◌}
-use Rattle.std.specs.Fmt.{decimal}
 use Rattle.std.specs.List.{slice_split}
 use Rattle.std.specs.Option.{option_map_or}
 use Rattle.scenario_values.specs.Scenario.{Entries}
@@ -19,12 +18,13 @@ use Rattle.command_words.specs.declared.words.Question.TheVariants.{Asks, Report
 use Rattle.campaign_main.specs.Commands.{outside_plans}
 use Rattle.campaign_main.specs.Notes.{doubt_notes, draws_nothing, is_doubted, is_unhit, listed_notes, strangers_in}
 use Rattle.campaign_main.specs.declared.notes.Doubts.{Doubts}
+use Rattle.campaign_main.specs.declared.notes.Origin.TheVariants.{Answered}
 
 -- ---- names that no point has
 
 -- the lines for the names of the scenario in the line of answers of this number, which is tidied; a line that says no answer has none
 abbrev pub answer_strangers : List (List ℕ) → ℕ → Result Told LineFault → List (List ℕ)
-answer_strangers points number (Ok answer) = strangers_in points (codes "answers: line " ++ decimal number) answer.0
+answer_strangers points number (Ok answer) = strangers_in points (Answered number) answer.0
 answer_strangers points number (Err fault) = []
 
 -- of lines of answers that are numbered from one on, by the names of the points and of the codes
@@ -78,9 +78,9 @@ answered_doubts true given outside answers =
 
 abbrev pub question_notes : Question → Given → Description → List ℕ → List ℕ
 question_notes Asks given outside answers = name_notes given outside answers
-question_notes (Report form strict) given outside answers = name_notes given outside answers ++ answered_doubts strict given outside answers
+question_notes (Report brief strict) given outside answers = name_notes given outside answers ++ answered_doubts strict given outside answers
 
 -- whether something is noted that is to count
 abbrev pub is_question_doubted : Question → List ℕ → Bool
 is_question_doubted Asks notes = false
-is_question_doubted (Report form strict) notes = is_doubted strict notes
+is_question_doubted (Report brief strict) notes = is_doubted strict notes

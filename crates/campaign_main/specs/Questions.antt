@@ -19,8 +19,6 @@ use Rattle.campaign_settings.specs.declared.choice.Choice.TheVariants as choice
 use Rattle.campaign_settings.specs.declared.settings.Settings.{Settings}
 use Rattle.campaign_core.specs.Findings.{report_of}
 use Rattle.campaign_core.specs.declared.ending.CampaignFault.TheVariants as campaign
-use Rattle.command_words.specs.declared.words.Form.{Form}
-use Rattle.command_words.specs.declared.words.Form.TheVariants.{Whole, Brief}
 use Rattle.command_words.specs.declared.words.Question.{Question}
 use Rattle.command_words.specs.declared.words.Question.TheVariants.{Asks, Report}
 use Rattle.outside_campaign.specs.Outside.{Component, say}
@@ -73,11 +71,11 @@ untried_of s answers = untried (known_by s.1.codes answers) (outside_plans s.0 s
 abbrev pub asks_text : Subject → List ℕ → List ℕ
 asks_text s answers = text_of (lines_for (untried_of s answers))
 
--- the report of a component, in a form
-abbrev pub told_text : Form → Subject → Component → List ℕ
-told_text Whole s component = text_of (report_lines s.1.points (code_name s.1.codes)
+-- the text of a component's report, which may be brief
+abbrev pub told_text : Bool → Subject → Component → List ℕ
+told_text false s component = text_of (report_lines s.1.points (code_name s.1.codes)
     (report_of (say component) s.1.label s.0.plans.seed s.1.hits (outside_plans s.0 s.1) None))
-told_text Brief s component = text_of (brief_lines s.1.points (code_name s.1.codes)
+told_text true s component = text_of (brief_lines s.1.points (code_name s.1.codes)
     (report_of (say component) s.1.label s.0.plans.seed s.1.hits (outside_plans s.0 s.1) None) (outside_plans s.0 s.1))
 
 -- whether a plan fails
@@ -96,8 +94,8 @@ pub record IsAsked (s : Subject) (answers : List ℕ) (old new : Option (List �
   pub said : (all : List Told) × Says s.1.codes answers all
 
 -- the report was written that each component has which agrees with the answers, and some component does; nothing is still to be tried
-pub record IsReported (form : Form) (s : Subject) (answers : List ℕ) (old new : Option (List ℕ)) (failed found : Bool) : Type 0 where
-  pub text : (component : Component) → AgreesWithText s.1.codes answers component → Appends old new (told_text form s component)
+pub record IsReported (brief : Bool) (s : Subject) (answers : List ℕ) (old new : Option (List ℕ)) (failed found : Bool) : Type 0 where
+  pub text : (component : Component) → AgreesWithText s.1.codes answers component → Appends old new (told_text brief s component)
   pub first : (component : Component) → AgreesWithText s.1.codes answers component → found ≡ is_found s component
   pub some : (component : Component) × AgreesWithText s.1.codes answers component
   pub all : untried_of s answers ≡ []
@@ -106,13 +104,13 @@ pub record IsReported (form : Form) (s : Subject) (answers : List ℕ) (old new 
 
 abbrev pub IsAnswered : Question → Subject → List ℕ → Option (List ℕ) → Option (List ℕ) → Bool → Bool → Type 0
 IsAnswered Asks s answers old new failed found = IsAsked s answers old new failed found
-IsAnswered (Report form strict) s answers old new failed found = IsReported form s answers old new failed found
+IsAnswered (Report brief strict) s answers old new failed found = IsReported brief s answers old new failed found
 
 -- so many bytes of that text, and not all, were written before the sink failed
 abbrev pub IsPart : Question → Subject → List ℕ → Option (List ℕ) → Option (List ℕ) → Bool → ℕ → Type 0
 IsPart Asks s answers old new failed n = IsCut old new (asks_text s answers) n × (failed ≡ true)
-IsPart (Report form strict) s answers old new failed n =
-    ((component : Component) → AgreesWithText s.1.codes answers component → IsCut old new (told_text form s component) n) × (failed ≡ true)
+IsPart (Report brief strict) s answers old new failed n =
+    ((component : Component) → AgreesWithText s.1.codes answers component → IsCut old new (told_text brief s component) n) × (failed ≡ true)
 
 -- the text was written whole, and this is what it comes to
 abbrev pub IsConcluded : Question → Subject → List ℕ → Option (List ℕ) → Option (List ℕ) → Bool → Conclusion → Type 0
@@ -160,7 +158,7 @@ IsUnnoted s answers (outside.Campaign (campaign.Write n)) = ⊥
 -- a report waits for the first of what is still to be tried
 abbrev pub IsWaitedFor : Question → Subject → List ℕ → Entries → Type 0
 IsWaitedFor Asks s answers t = ⊥
-IsWaitedFor (Report form strict) s answers t = (more : List Entries) × (untried_of s answers ≡ t ∷ more)
+IsWaitedFor (Report brief strict) s answers t = (more : List Entries) × (untried_of s answers ≡ t ∷ more)
 
 -- why a question is refused, by the answers
 abbrev pub RefusesAnswers : Question → Subject → List ℕ → Refusal → Type 0

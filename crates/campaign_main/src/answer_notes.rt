@@ -1,18 +1,16 @@
 //! What is noted beside the answer to a question on a component that somebody else runs.
-ghost use Rattle.std.specs.Prelude.{◌≡◌, ◌<◌, ◌==◌, ◌++◌, [], true, codes, count_by, length, slice_index_or, string_bytes, IfErr, IfOk, OnOk, if◌then◌else◌};
-ghost use Rattle.std.specs.Fmt.{decimal};
+ghost use Rattle.std.specs.Prelude.{◌≡◌, ◌<◌, ◌==◌, ◌++◌, [], true, count_by, length, slice_index_or, string_bytes, IfErr, IfOk, OnOk, if◌then◌else◌};
 ghost use Rattle.std.specs.List.{slice_split};
 ghost use Rattle.action_eval.specs.Answers.{texts};
 ghost use Rattle.report.specs.ReportText.{ended, text_of};
 ghost use Rattle.answer_text.specs.FirstFault.{answer_in};
 ghost use Rattle.answer_text.specs.Known.{verdict_in};
 ghost use Rattle.campaign_main.specs.Commands.{outside_plans};
-ghost use Rattle.campaign_main.specs.Notes.{strangers_in};
 ghost use Rattle.campaign_main.specs.QuestionNotes.{answer_strangers, answered_doubts, doubts_by, is_left_open, is_question_doubted, name_notes, question_notes, strangers_from, unhit_line, unhit_lines, unhit_of};
 ghost use Rattle.campaign_main.specs.Questions.{IsUnnoted};
 
 use crate::notes::{
-    Doubts, draws_nothing, is_doubted, is_unhit, listed_on, write_doubts, write_strangers,
+    Doubts, Origin, draws_nothing, is_doubted, is_unhit, listed_on, write_doubts, write_strangers,
 };
 use answer_text::{Known, LineError, answer_in, read};
 use campaign_given::{CampaignSettings, Outside};
@@ -25,22 +23,7 @@ use std::alloc::{AllocError, Global};
 use std::fmt::Write;
 use target_trait::Verdict;
 
-/// A line for each name that no point has, of the scenario that a line of answers gives.
-fn write_answered(
-    alloc: Global,
-    out: &mut String,
-    points: &[&str],
-    number: usize,
-    scenario: &Scenario,
-) -> Result<(), AllocError>
-    ensures { OnOk result (string_bytes out.new ≡ string_bytes out.old
-        ++ text_of (strangers_in (texts points.now) (codes "answers: line " ++ decimal number) scenario.now)) }
-{
-    let which = format!(in alloc; "answers: line {number}")?;
-    write_strangers(out, points, which.as_str(), scenario)
-}
-
-/// The same of a line of answers, by its number; a line that gives no answer has none.
+/// A line for each name that no point has, of the scenario in the line of answers of this number; a line that gives no answer has none.
 fn write_line_strangers(
     alloc: Global,
     out: &mut String,
@@ -53,7 +36,7 @@ fn write_line_strangers(
         ++ text_of (answer_strangers (texts points.now) number (answer_in outside.now.codes line.now))) }
 {
     match answer_in(alloc, outside.codes.as_slice(), line) {
-        Ok((scenario, _)) => write_answered(alloc, out, points, number, &scenario),
+        Ok((scenario, _)) => write_strangers(out, points, Origin::Answered(number), &scenario),
         Err(LineError::Bad(_)) => Ok(()),
         Err(LineError::Memory) => Err(AllocError),
     }

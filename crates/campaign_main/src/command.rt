@@ -15,8 +15,8 @@ use crate::lines::note;
 use crate::notes::{is_doubted, listed_of, notes_on, report_notes_on};
 use crate::steady::check_steady;
 use campaign_core::{
-    CampaignFault, Ending, Host, Subject, brief_campaign, campaign, map_campaign, plan_list,
-    plan_scenario, reduce_one, try_one,
+    CampaignFault, Ending, Host, MachineForm, Subject, brief_campaign, campaign, machine_campaign,
+    map_campaign, plan_list, plan_scenario, reduce_one, try_one,
 };
 use command_words::{Form, Order, Which};
 use run_explained::explain_one;
@@ -48,6 +48,8 @@ where
     match form {
         Form::Whole => campaign(host, subject, output),
         Form::Brief => brief_campaign(host, subject, output),
+        Form::Json => machine_campaign(host, subject, MachineForm::Json, output),
+        Form::Junit => machine_campaign(host, subject, MachineForm::Junit, output),
     }
 }
 
@@ -93,11 +95,7 @@ where
     ensures noted { Noted (map_answer (campaign_in T.Target subject.now))
         (E.told faults.old) (E.told faults.new) (E.has_failed faults.new) result }
 {
-    let settings = subject.settings;
-    if settings.depth.is_some() {
-        return Err(CommandFault::Unmapped);
-    }
-    let notes = listed_of::<T>(host.alloc, settings)?;
+    let notes = listed_of::<T>(host.alloc, subject.settings)?;
     let ending = map_campaign(host, subject, output)?;
     note(notes.as_str(), faults);
     Ok(concluded(ending.first.is_some(), false))

@@ -18,8 +18,6 @@ pub enum CommandFault {
     Campaign(CampaignFault),
     /// The target's verdict on a plan isn't the same twice, as this line says, which ends in its line feed. Nothing was written.
     Unsteady(String),
-    /// The command would draw a map, and the campaign has a depth. Nothing was written.
-    Unmapped,
     /// Somebody else runs the component, and the command would run it. Nothing was written.
     Outside,
 }

@@ -21,14 +21,17 @@ pub use campaign_core::{
     CampaignFault, Ending, Host, Subject, campaign, plan_list, plan_scenario, reduce_one, try_one,
 };
 pub use campaign_given::{CampaignSettings, Outside};
-pub use campaign_settings::{Choice, Key, LIMIT, Place, Settings, SettingsFault, TargetName};
+pub use campaign_settings::{
+    Choice, Key, LIMIT, OwnSettings, OwnValue, OwnWord, OwnWords, Place, Settings, SettingsFault,
+    TargetName,
+};
 pub use command_words::{Form, Line, Order, Question, VERSION, Which, WordsFault, read_words};
 pub use commit_target::{Transactions, Variant as CommitVariant, Vote, Votes};
 pub use exit::{Exit, status};
 pub use file_replace::{Chunks, Replacements, Variant as ReplaceVariant};
 pub use input::{ReadFault, read_all};
 pub use maildir_target::{Messages, Variant as MaildirVariant};
-pub use own::perform_target;
+pub use own::{perform_settings, perform_target, read_own_settings, refuse_own_words};
 pub use performing::perform;
 pub use questions::perform_outside;
 pub use refusals::{refuse_words, unreadable_settings, unreadable_words};

@@ -66,7 +66,7 @@ pub fn unlawful<E: Sink>(alloc: Global, law: BrokenLaw, faults: &mut E) -> Exit
 }
 
 /// Ends as refused with a line, or for want of the memory that it takes.
-fn refused_by<E: Sink>(line: Result<String, AllocError>, faults: &mut E) -> Exit
+pub fn refused_by<E: Sink>(line: Result<String, AllocError>, faults: &mut E) -> Exit
     requires { E.has_failed faults.old ≡ false }
     ensures { (text : List ℕ) → IfOk line (λ l. string_bytes l ≡ text)
         → RefusesWith text result (E.told faults.old) (E.told faults.new) (E.has_failed faults.new) }
@@ -178,7 +178,6 @@ pub fn unanswered<E: Sink>(alloc: Global, fault: &CommandFault, faults: &mut E) 
         CommandFault::Plan(number) => refused_by(plan_line(alloc, *number), faults),
         CommandFault::Campaign(cause) => unwritten(*cause, faults),
         CommandFault::Unsteady(line) => refused(line.as_str(), faults),
-        CommandFault::Unmapped => refused("settings: depth: no map\n", faults),
         CommandFault::Outside => refused(
             "settings: target outside: only plans, asks and report\n",
             faults,

@@ -1,14 +1,13 @@
 //! What is noted beside a command's text: names of scenarios that no point of a target has, and what makes a report say less than it seems
 //! to.
-ghost use Rattle.std.specs.Prelude.{◌≡◌, ◌<◌, ◌++◌, [], All, codes, length, nat_lt, slice_index_or, string_bytes, IfErr, IfOk, OnOk};
-ghost use Rattle.std.specs.Fmt.{decimal};
+ghost use Rattle.std.specs.Prelude.{◌≡◌, ◌<◌, ◌++◌, [], All, Some, length, nat_lt, slice_index_or, string_bytes, IfErr, IfOk, OnOk};
 ghost use Rattle.action_eval.specs.Answers.{texts};
 ghost use Rattle.report.specs.BriefText.{is_unresolved};
 ghost use Rattle.report.specs.ReportText.{ended, text_of};
 ghost use Rattle.plan_survey.specs.Runs.{runs_from, unreached_in, unresolved_in};
 ghost use Rattle.campaign_core.specs.CommandTexts.{IsUnlisted, tried};
 ghost use Rattle.campaign_core.specs.Headline.{campaign_in, campaign_on, say};
-ghost use Rattle.campaign_main.specs.Notes.{doubt_notes, draws_nothing, is_doubted, is_point, is_unhit, listed_notes, notes_of, report_notes, stranger_line, stranger_of, strangers_in, strict_notes, text_if, unreached_line, unreached_lines, unresolved_line};
+ghost use Rattle.campaign_main.specs.Notes.{doubt_notes, draws_nothing, is_doubted, is_point, is_unhit, listed_notes, notes_of, origin_text, report_notes, stranger_line, stranger_of, strangers_in, strict_notes, text_if, unreached_line, unreached_lines, unresolved_line};
 
 use campaign_core::{CampaignFault, Host, Subject, plan_campaign, plans_of};
 use campaign_given::{CampaignSettings, Outside};
@@ -18,7 +17,7 @@ use plan_survey::{Survey, survey_plans};
 use scenario_grammar::Scenario;
 use scenario_values::build;
 use std::alloc::{AllocError, Global};
-use std::fmt::Write;
+use std::fmt::{self, Write};
 use std::sync::Wait;
 use std::thread::Threads;
 use target_trait::{Target, Verdict, run_verdict};
@@ -39,6 +38,29 @@ pub struct Doubts {
     pub unstormed: bool,
 }
 
+/// Which scenario a note is of.
+#[derive(Clone, Copy, Debug)]
+pub enum Origin {
+    /// The one that a command takes.
+    Taken,
+    /// The one of this number, from 1, that the settings list.
+    Listed(usize),
+    /// The one in the line of answers of this number, from 1.
+    Answered(usize),
+}
+
+impl fmt::Display for Origin {
+    ghost output = { λ origin. Some (origin_text origin) };
+
+    fn fmt<W: fmt::Write>(&self, f: &mut fmt::Formatter<W>) -> fmt::Result {
+        match self {
+            Origin::Taken => f.write_str("scenario"),
+            Origin::Listed(number) => write!(f, "settings: scenario {number}"),
+            Origin::Answered(number) => write!(f, "answers: line {number}"),
+        }
+    }
+}
+
 /// Whether a point has this name.
 fn is_point(points: &[&str], name: &str) -> bool
     ensures { result ≡ is_point (texts points.now) name.now }
@@ -51,37 +73,37 @@ fn is_point(points: &[&str], name: &str) -> bool
     false
 }
 
-fn write_strange(out: &mut String, which: &str, name: &str) -> Result<(), AllocError>
-    ensures { OnOk result (string_bytes out.new ≡ string_bytes out.old ++ ended (stranger_line which.now name.now)) }
+fn write_strange(out: &mut String, origin: Origin, name: &str) -> Result<(), AllocError>
+    ensures { OnOk result (string_bytes out.new ≡ string_bytes out.old ++ ended (stranger_line origin name.now)) }
 {
-    writeln!(out, "{which}: no point is named {name}")
+    writeln!(out, "{origin}: no point is named {name}")
 }
 
 fn write_if_strange(
     out: &mut String,
     points: &[&str],
-    which: &str,
+    origin: Origin,
     name: &str,
 ) -> Result<(), AllocError>
-    ensures { OnOk result (string_bytes out.new ≡ string_bytes out.old ++ text_of (stranger_of (texts points.now) which.now name.now)) }
+    ensures { OnOk result (string_bytes out.new ≡ string_bytes out.old ++ text_of (stranger_of (texts points.now) origin name.now)) }
 {
     if is_point(points, name) {
         return Ok(());
     }
-    write_strange(out, which, name)
+    write_strange(out, origin, name)
 }
 
-/// A line for each name of the scenario that no point has, in the scenario's order, after words that say which scenario it is.
+/// A line for each name of the scenario that no point has, in the scenario's order.
 pub fn write_strangers(
     out: &mut String,
     points: &[&str],
-    which: &str,
+    origin: Origin,
     scenario: &Scenario,
 ) -> Result<(), AllocError>
-    ensures { OnOk result (string_bytes out.new ≡ string_bytes out.old ++ text_of (strangers_in (texts points.now) which.now scenario.now)) }
+    ensures { OnOk result (string_bytes out.new ≡ string_bytes out.old ++ text_of (strangers_in (texts points.now) origin scenario.now)) }
 {
     for (name, _) in scenario.entries() {
-        write_if_strange(out, points, which, name.as_str())?;
+        write_if_strange(out, points, origin, name.as_str())?;
     }
     Ok(())
 }
@@ -91,23 +113,8 @@ pub fn notes_on(alloc: Global, points: &[&str], scenario: &Scenario) -> Result<S
     ensures { IfOk result (λ lines. string_bytes lines ≡ notes_of (texts points.now) scenario.now) }
 {
     let mut lines = String::new(alloc);
-    write_strangers(&mut lines, points, "scenario", scenario)?;
+    write_strangers(&mut lines, points, Origin::Taken, scenario)?;
     Ok(lines)
-}
-
-/// The same of a scenario that the settings list, by its number.
-fn write_listed(
-    alloc: Global,
-    out: &mut String,
-    points: &[&str],
-    number: usize,
-    scenario: &Scenario,
-) -> Result<(), AllocError>
-    ensures { OnOk result (string_bytes out.new ≡ string_bytes out.old
-        ++ text_of (strangers_in (texts points.now) (codes "settings: scenario " ++ decimal number) scenario.now)) }
-{
-    let which = format!(in alloc; "settings: scenario {number}")?;
-    write_strangers(out, points, which.as_str(), scenario)
 }
 
 /// What is noted of the scenarios that the settings list, numbered from 1.
@@ -116,7 +123,12 @@ pub fn listed_on(alloc: Global, points: &[&str], listed: &[Scenario]) -> Result<
 {
     let mut lines = String::new(alloc);
     for place in 0..listed.len() {
-        write_listed(alloc, &mut lines, points, place + 1, &listed[place])?;
+        write_strangers(
+            &mut lines,
+            points,
+            Origin::Listed(place + 1),
+            &listed[place],
+        )?;
     }
     Ok(lines)
 }

@@ -1,18 +1,19 @@
 //! The commands over a target that the program brings itself, by any reader and any sinks.
-ghost use Rattle.std.specs.Prelude.{◌≡◌, false, IfSome};
+ghost use Rattle.std.specs.Prelude.{◌≡◌, ℕ, List, false, IfErr, IfOk, IfSome, OnOk, string_bytes};
 ghost use Rattle.campaign_core.specs.Headline.{campaign_on};
-ghost use Rattle.campaign_main.specs.Commands.{order_answer};
-ghost use Rattle.campaign_main.specs.Ends.{EndsAs, IsRefused, Leaves, OnWhole, Tells, TellsAs, TellsNotes};
+ghost use Rattle.campaign_settings.specs.declared.own.OwnSettings.{OwnSettings};
+ghost use Rattle.campaign_main.specs.Commands.{Answer, order_answer};
+ghost use Rattle.campaign_main.specs.Ends.{EndsAs, IsRefused, Leaves, OnWhole, RefusesWith, Tells, TellsAs, TellsNotes, TellsRefusal};
 ghost use Rattle.campaign_main.specs.Minimal.{ReducesToMinimal};
-ghost use Rattle.campaign_main.specs.OwnTarget.{OwnReducesToMinimal, own_answer, own_text_answer};
+ghost use Rattle.campaign_main.specs.OwnTarget.{OwnReducesToMinimal, own_answer, own_text_answer, own_words_line, worded_answer, worded_text_answer};
 
 use crate::command::command;
 use crate::exit::{Exit, exit_of};
 use crate::input::read_all;
-use crate::lines::{no_memory, unanswered, unlawful, unread, unset};
+use crate::lines::{no_memory, refused_by, unanswered, unlawful, unread, unset};
 use campaign_core::{Host, Subject};
 use campaign_given::CampaignSettings;
-use campaign_settings::Settings;
+use campaign_settings::{OwnSettings, Settings};
 use command_words::Order;
 use std::alloc::{AllocError, Global};
 use std::io::Read;
@@ -22,8 +23,11 @@ use target_laws::broken_law;
 use target_trait::{Sink, Target};
 use work_gate::Gate;
 
-/// Does what is ordered with this target, unless it is seen to break a law, which none does that is proved.
-fn target_command<T: Target + Send, W: Sink, E: Sink, H: Threads + Wait + Sync, G: Gate>(
+/// Does what is ordered with this target on this workload, under these settings, and writes the command's text to the output: what
+/// [`perform_target`] does once it has read settings, with the same lines and ends.
+///
+/// The target is looked at first, as there: where it is seen to break a law, which none does that is proved, the command is refused.
+pub fn perform_settings<T: Target + Send, W: Sink, E: Sink, H: Threads + Wait + Sync, G: Gate>(
     host: &Host<'_, G, H>,
     order: &Order,
     target: &mut T,
@@ -80,7 +84,7 @@ where
     ensures minimal { OnWhole result (OwnReducesToMinimal order.now (campaign_on T.Target target.old workload.now) text.now) }
 {
     match Settings::read_own(host.alloc, text) {
-        Ok(settings) => target_command(host, order, target, workload, &settings, output, faults),
+        Ok(settings) => perform_settings(host, order, target, workload, &settings, output, faults),
         Err(fault) => unset(host.alloc, &fault, faults),
     }
 }
@@ -139,4 +143,64 @@ where
         },
         Err(fault) => unread(fault, faults),
     }
+}
+
+/// Reads the settings of a target that takes words, up to the reader's end: those of [`perform_target`], and beside them a `variant` and a
+/// table `own` ([`Settings::read_worded`]). The program makes its target and its workload of the words, or refuses them by
+/// [`refuse_own_words`], and goes on with [`perform_settings`].
+///
+/// `Err` is the end of the command where the settings can't be read or are refused, and its line is told then. Where the answer is `Ok`
+/// nothing is told. A reader that tells its bytes is left at its end then.
+pub fn read_own_settings<R: Read, E: Sink>(
+    alloc: Global,
+    reader: &mut R,
+    faults: &mut E,
+) -> Result<OwnSettings, Exit>
+    requires { E.has_failed faults.old ≡ false }
+    ensures ok { (answer : OwnSettings → Answer) → IfOk result (λ settings. IfSome (R.remaining reader.old)
+        (λ bytes. worded_answer answer bytes ≡ answer settings)) }
+    ensures untold { OnOk result (faults.new ≡ faults.old) }
+    ensures told { IfErr result (λ end. (line : List ℕ)
+        × RefusesWith line end (E.told faults.old) (E.told faults.new) (E.has_failed faults.new)) }
+    ensures cause { (answer : OwnSettings → Answer) → IfErr result (λ end. end ≡ Exit.Refused → IfSome (R.remaining reader.old)
+        (λ bytes. IsRefused (worded_answer answer bytes) (E.told faults.old) (E.told faults.new) (E.has_failed faults.new))) }
+{
+    match read_all(alloc, reader) {
+        Ok(text) => {
+            let text = text.as_str();
+            read_worded_text(alloc, text, faults)
+        },
+        Err(fault) => Err(unread(fault, faults)),
+    }
+}
+
+/// The settings that a text gives to a target that takes words, or the end of a command that is refused.
+fn read_worded_text<E: Sink>(alloc: Global, text: &str, faults: &mut E) -> Result<OwnSettings, Exit>
+    requires { E.has_failed faults.old ≡ false }
+    ensures ok { (answer : OwnSettings → Answer) → IfOk result (λ settings. worded_text_answer answer text.now ≡ answer settings) }
+    ensures untold { OnOk result (faults.new ≡ faults.old) }
+    ensures told { IfErr result (λ end. (line : List ℕ)
+        × RefusesWith line end (E.told faults.old) (E.told faults.new) (E.has_failed faults.new)) }
+    ensures cause { (answer : OwnSettings → Answer) → IfErr result (λ end. end ≡ Exit.Refused
+        → TellsRefusal (worded_text_answer answer text.now) (E.told faults.old) (E.told faults.new) (E.has_failed faults.new)) }
+{
+    match Settings::read_worded(alloc, text) {
+        Ok(settings) => Ok(settings),
+        Err(fault) => Err(unset(alloc, &fault, faults)),
+    }
+}
+
+/// Ends as refused where a program takes other words than the settings have: `settings: own: ` and the reason are told, or that memory was
+/// refused. The reason is a line without its line feed.
+pub fn refuse_own_words<E: Sink>(alloc: Global, reason: &str, faults: &mut E) -> Exit
+    requires { E.has_failed faults.old ≡ false }
+    ensures { RefusesWith (own_words_line reason.now) result (E.told faults.old) (E.told faults.new) (E.has_failed faults.new) }
+{
+    refused_by(own_words_line(alloc, reason), faults)
+}
+
+fn own_words_line(alloc: Global, reason: &str) -> Result<String, AllocError>
+    ensures { IfOk result (λ line. string_bytes line ≡ own_words_line reason.now) }
+{
+    format!(in alloc; "settings: own: {reason}\n")
 }

@@ -1,5 +1,5 @@
 //! Questions on a component that somebody else runs, over any readers and any sinks.
-ghost use Rattle.std.specs.Prelude.{◌≡◌, false, IfSome, Ok, Some};
+ghost use Rattle.std.specs.Prelude.{◌≡◌, true, false, IfSome, Ok, Some};
 ghost use Rattle.campaign_main.specs.Ends.{IsNoted, Leaves, OnWhole, TellsOf};
 ghost use Rattle.campaign_main.specs.QuestionNotes.{question_notes};
 ghost use Rattle.campaign_main.specs.Questions.{ComesToText, ConcludesText, EndsAnswered, EndsQuestion, IsNotAnswered, NotesQuestion, NotesText, TellsOfQuestion, TellsWhy, chosen_subject, subject_of, text_subject};
@@ -11,7 +11,7 @@ use crate::lines::{bundled, note, unread, unread_answers, unset, untold};
 use answer_text::LIMIT;
 use campaign_given::{CampaignSettings, Outside};
 use campaign_settings::{Choice, Settings};
-use command_words::{Form, Question};
+use command_words::Question;
 use outside_campaign::{OutsideFault, write_asks, write_brief, write_told};
 use std::alloc::Global;
 use std::io::Read;
@@ -42,7 +42,7 @@ fn write_reported<W: Sink>(
     output: &mut W,
 ) -> Result<bool, OutsideFault>
     requires { W.has_failed output.old ≡ false }
-    ensures { ComesToText (Question.Report Form.Whole false) (settings.now, outside.now) answers.now (W.told output.old) (W.told output.new)
+    ensures { ComesToText (Question.Report false false) (settings.now, outside.now) answers.now (W.told output.old) (W.told output.new)
         (W.has_failed output.new) result }
 {
     let ending = write_told(alloc, outside, settings, answers, output)?;
@@ -58,7 +58,7 @@ fn write_brief_reported<W: Sink>(
     output: &mut W,
 ) -> Result<bool, OutsideFault>
     requires { W.has_failed output.old ≡ false }
-    ensures { ComesToText (Question.Report Form.Brief false) (settings.now, outside.now) answers.now (W.told output.old) (W.told output.new)
+    ensures { ComesToText (Question.Report true false) (settings.now, outside.now) answers.now (W.told output.old) (W.told output.new)
         (W.has_failed output.new) result }
 {
     let told = write_brief(alloc, outside, settings, answers, output)?;
@@ -80,14 +80,12 @@ fn write_answer<W: Sink>(
 {
     match question {
         Question::Asks => write_asked(alloc, outside, settings, answers, output),
-        Question::Report {
-            form: Form::Whole,
-            ..
-        } => write_reported(alloc, outside, settings, answers, output),
-        Question::Report {
-            form: Form::Brief,
-            ..
-        } => write_brief_reported(alloc, outside, settings, answers, output),
+        Question::Report { brief: false, .. } => {
+            write_reported(alloc, outside, settings, answers, output)
+        }
+        Question::Report { brief: true, .. } => {
+            write_brief_reported(alloc, outside, settings, answers, output)
+        }
     }
 }
 

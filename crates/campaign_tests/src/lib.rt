@@ -19,6 +19,8 @@ mod given;
 #[cfg(test)]
 mod late_sync;
 #[cfg(test)]
+mod looked_up;
+#[cfg(test)]
 mod maildir_judgements;
 #[cfg(test)]
 mod many_plans;
@@ -26,6 +28,8 @@ mod many_plans;
 mod meet;
 #[cfg(test)]
 mod outside_runs;
+#[cfg(test)]
+mod own_words;
 #[cfg(test)]
 mod reading;
 #[cfg(test)]

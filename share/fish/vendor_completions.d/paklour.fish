@@ -12,6 +12,8 @@ complete -c paklour -n 'not __fish_seen_subcommand_from run plans map try reduce
 complete -c paklour -n 'not __fish_seen_subcommand_from run plans map try reduce explain asks report help' -s h -l help -d 'Print help'
 complete -c paklour -n 'not __fish_seen_subcommand_from run plans map try reduce explain asks report help' -s V -l version -d 'Print version'
 complete -c paklour -n '__fish_seen_subcommand_from run' -l brief -d 'Count the verdicts that pass, and write the scenario beside each other verdict'
+complete -c paklour -n '__fish_seen_subcommand_from run' -l json -d 'Write a JSON document with all that the report tells'
+complete -c paklour -n '__fish_seen_subcommand_from run' -l junit -d 'Write JUnit\'s XML, with a case for each plan'
 complete -c paklour -n '__fish_seen_subcommand_from run' -l strict -d 'Tell on standard error what the report doesn\'t show, and end with 5 then'
 complete -c paklour -n '__fish_seen_subcommand_from run' -l recheck -d 'Run each failing plan once more first, and refuse a target that says otherwise'
 complete -c paklour -n '__fish_seen_subcommand_from run' -l progress -d 'Show on standard error, in one line, how far plans or a reduction are'

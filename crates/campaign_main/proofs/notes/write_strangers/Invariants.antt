@@ -7,5 +7,5 @@ use Rattle.campaign_main.proofs.notes.write_strangers.Given as goal
 
 abbrev pub invariant-loop-name : goal.invariant-loop-name
 invariant-loop-name l =
-    string_bytes l.out ++ text_of (strangers_in (texts l.points) l.which l.name-iterator)
-    ≡ string_bytes l.fn.out ++ text_of (strangers_in (texts l.points) l.which l.scenario)
+    string_bytes l.out ++ text_of (strangers_in (texts l.points) l.origin l.name-iterator)
+    ≡ string_bytes l.fn.out ++ text_of (strangers_in (texts l.points) l.origin l.scenario)

@@ -9,18 +9,18 @@ use Rattle.campaign_main.proofs.own.target_text.Goals as goal
 pub returns-in-Ok-clause-end : goal.returns-in-Ok-clause-end
 returns-in-Ok-clause-end g c =
     let W = g.W.Sink in
-    let new = c.target_command.new.output in
-    let P : Answer → Type 0 = λ a. EndsAs c.target_command.result a (W.told c.args.output.now) (W.told new) (W.has_failed new) in
-    subst P (sym (own-answered _ (campaign_on g.T.Target c.args.target.now c.args.workload.now) _ c.in-Ok.settings c.in-Ok.ensures.ok)) c.target_command.ensures.end
+    let new = c.perform_settings.new.output in
+    let P : Answer → Type 0 = λ a. EndsAs c.perform_settings.result a (W.told c.args.output.now) (W.told new) (W.has_failed new) in
+    subst P (sym (own-answered _ (campaign_on g.T.Target c.args.target.now c.args.workload.now) _ c.in-Ok.settings c.in-Ok.ensures.ok)) c.perform_settings.ensures.end
 
 pub returns-in-Ok-clause-told : goal.returns-in-Ok-clause-told
 returns-in-Ok-clause-told g c =
     let E = g.E.Sink in
     let old = E.told c.args.faults.now in
-    let new = E.told c.target_command.new.faults in
-    let failed = E.has_failed c.target_command.new.faults in
-    let P : Answer → Type 0 = λ a. TellsAs c.target_command.result a old new failed in
-    subst P (sym (own-answered _ (campaign_on g.T.Target c.args.target.now c.args.workload.now) _ c.in-Ok.settings c.in-Ok.ensures.ok)) c.target_command.ensures.told
+    let new = E.told c.perform_settings.new.faults in
+    let failed = E.has_failed c.perform_settings.new.faults in
+    let P : Answer → Type 0 = λ a. TellsAs c.perform_settings.result a old new failed in
+    subst P (sym (own-answered _ (campaign_on g.T.Target c.args.target.now c.args.workload.now) _ c.in-Ok.settings c.in-Ok.ensures.ok)) c.perform_settings.ensures.told
 
 pub returns-in-Err-clause-told : goal.returns-in-Err-clause-told
 returns-in-Err-clause-told g c =

@@ -1,5 +1,4 @@
-use Rattle.std.proofs.Common.{◌∙◌, ap, is_some}
-use Rattle.command_words.specs.declared.words.Form.TheVariants.{Brief}
+use Rattle.std.proofs.Common.{◌∙◌, ap, is_some, true}
 use Rattle.campaign_main.proofs.QuestionLemmas.{report-up}
 use Rattle.campaign_main.proofs.questions.write_brief_reported.Goals as goal
 
@@ -14,4 +13,4 @@ returns g c = record {
 }
 
 pub returns-in_err-told : goal.returns-in_err-told
-returns-in_err-told g c = report-up c.args.settings.now c.args.outside.now c.args.answers.now _ _ _ Brief _ c.in_err-told.field-0.0 c.from_residual.ensures.1 c.in_err-told.ensures.fault
+returns-in_err-told g c = report-up c.args.settings.now c.args.outside.now c.args.answers.now _ _ _ true _ c.in_err-told.field-0.0 c.from_residual.ensures.1 c.in_err-told.ensures.fault

@@ -1,5 +1,4 @@
-use Rattle.std.proofs.Common.{◌∙◌, ap, is_some}
-use Rattle.command_words.specs.declared.words.Form.TheVariants.{Whole}
+use Rattle.std.proofs.Common.{◌∙◌, ap, false, is_some}
 use Rattle.campaign_main.proofs.QuestionLemmas.{report-up}
 use Rattle.campaign_main.proofs.questions.write_reported.Goals as goal
 
@@ -14,4 +13,4 @@ returns g c = record {
 }
 
 pub returns-in_err-ending : goal.returns-in_err-ending
-returns-in_err-ending g c = report-up c.args.settings.now c.args.outside.now c.args.answers.now _ _ _ Whole _ c.in_err-ending.field-0.0 c.from_residual.ensures.1 c.in_err-ending.ensures.fault
+returns-in_err-ending g c = report-up c.args.settings.now c.args.outside.now c.args.answers.now _ _ _ false _ c.in_err-ending.field-0.0 c.from_residual.ensures.1 c.in_err-ending.ensures.fault

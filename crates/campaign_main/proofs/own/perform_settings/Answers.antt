@@ -1,5 +1,5 @@
 use Rattle.campaign_main.proofs.EndLemmas.{fault-told}
-use Rattle.campaign_main.proofs.own.target_command.Goals as goal
+use Rattle.campaign_main.proofs.own.perform_settings.Goals as goal
 
 pub returns-in-Err-command-clause-told : goal.returns-in-Err-command-clause-told
 returns-in-Err-command-clause-told g c =

@@ -1,0 +1,16 @@
+use Rattle.std.proofs.Common.{ap, refl}
+use Rattle.campaign_settings.specs.Own.{worded_settings_of}
+use Rattle.campaign_main.specs.OwnTarget.{worded_given_answer}
+use Rattle.campaign_main.proofs.EndLemmas.{settings-tell}
+use Rattle.campaign_main.proofs.own.read_worded_text.Goals as goal
+
+pub returns-in-Ok-clause-ok : goal.returns-in-Ok-clause-ok
+returns-in-Ok-clause-ok g c = λ answer. ap (worded_given_answer answer) c.in-Ok.ensures.ok
+
+pub returns-in-Err-clause-told : goal.returns-in-Err-clause-told
+returns-in-Err-clause-told g c = (_, c.unset.ensures.end)
+
+pub returns-in-Err-clause-cause : goal.returns-in-Err-clause-cause
+returns-in-Err-clause-cause g c =
+    λ answer refused. settings-tell (worded_given_answer answer) (λ _. refl) (worded_settings_of c.args.text.now) c.unset.result _ _ _ refused c.in-Err.fault c.in-Err.ensures.refused
+    c.unset.ensures.memory c.unset.ensures.end

@@ -1,0 +1,116 @@
+//! The words of a target that a program brings itself: what settings give of them, and with which line they are refused.
+
+use campaign_main::{
+    Exit, Out, OwnSettings, OwnValue, Settings, read_own_settings, refuse_own_words,
+};
+use std::alloc::Global;
+use std::process::Abort;
+use std::test::Fail;
+
+/// The settings that a text gives to a target that takes words.
+fn read(alloc: Global, text: &str) -> Result<OwnSettings, Fail> {
+    Ok(Settings::read_worded(alloc, text)?)
+}
+
+#[test]
+fn words_that_are_given(rt: HostRuntime) -> Result<(), Fail> {
+    let text = "variant = 'early_ack'\nseed = 7\n[own]\nwhole = -3\nfile = 'a'\nstrict = true\n";
+    let settings = read(rt.alloc(), text)?;
+    assert_eq!(rt; settings.campaign.seed, 7);
+    let words = &settings.words;
+    assert_eq!(rt; words.variant(), Some("early_ack"));
+    assert!(rt; matches!(words.get("whole"), Some(OwnValue::Number(-3))));
+    assert!(rt; matches!(words.get("strict"), Some(OwnValue::Flag(true))));
+    let Some(OwnValue::Text(file)) = words.get("file") else {
+        return Err(Fail::from("no text"));
+    };
+    assert_eq!(rt; file.as_str(), "a");
+    assert!(rt; words.get("variant").is_none());
+    let mut names = Vec::new(rt.alloc());
+    for word in words.table() {
+        names.push(word.name.as_str())?;
+    }
+    assert_eq!(rt; names.as_slice(), ["file", "strict", "whole"].as_slice());
+    Ok(())
+}
+
+#[test]
+fn words_may_be_missing(rt: HostRuntime) -> Result<(), Fail> {
+    let settings = read(rt.alloc(), "")?;
+    assert_eq!(rt; settings.words.variant(), None);
+    assert!(rt; settings.words.table().is_empty());
+    assert_eq!(rt; settings.campaign.max_hits, 1000);
+    Ok(())
+}
+
+/// The line with which settings are refused.
+fn refuses<T: Drop>(
+    rt: &impl Abort,
+    alloc: Global,
+    read: Result<T, campaign_main::SettingsFault>,
+    line: &str,
+) -> Result<(), Fail> {
+    let Err(fault) = read else {
+        return Err(Fail::from("not refused"));
+    };
+    let told = format!(in alloc; "{fault}")?;
+    assert_eq!(rt; told.as_str(), line);
+    Ok(())
+}
+
+#[test]
+fn words_are_refused(rt: HostRuntime) -> Result<(), Fail> {
+    let alloc = rt.alloc();
+    for (text, line) in [
+        ("target = 'replace'\n", "settings: unknown key target"),
+        ("[replace]\n", "settings: unknown key replace"),
+        ("variant = 3\nseed = -1\n", "settings: wrong type variant"),
+        ("seed = -1\nown = 3\n", "settings: out of range seed"),
+        ("own = 3\n", "settings: wrong type own"),
+        ("[own]\nwhole = 0.5\n", "settings: wrong type own"),
+        ("[own]\nwhole = [1]\n", "settings: wrong type own"),
+        ("[own.inner]\nwhole = 1\n", "settings: wrong type own"),
+    ] {
+        refuses(&rt, alloc, Settings::read_worded(alloc, text), line)?;
+    }
+    Ok(())
+}
+
+#[test]
+fn a_target_without_words_knows_none(rt: HostRuntime) -> Result<(), Fail> {
+    let alloc = rt.alloc();
+    for (text, line) in [
+        ("variant = 'early_ack'\n", "settings: unknown key variant"),
+        ("[own]\n", "settings: unknown key own"),
+    ] {
+        refuses(&rt, alloc, Settings::read_own(alloc, text), line)?;
+    }
+    Ok(())
+}
+
+#[test]
+fn a_program_refuses_words_of_its_own(rt: HostRuntime) {
+    let mut faults = Out::new(Vec::new(rt.alloc()));
+    let exit = refuse_own_words(rt.alloc(), "no such variant", &mut faults);
+    assert_eq!(rt; exit, Exit::Refused);
+    let line = b"settings: own: no such variant\n".as_slice();
+    assert_eq!(rt; faults.into_writer().as_slice(), line);
+}
+
+#[test]
+fn settings_with_words_are_read(rt: HostRuntime) -> Result<(), Fail> {
+    let mut faults = Out::new(Vec::new(rt.alloc()));
+    let mut reader = b"variant = 'sound'\n".as_slice();
+    let Ok(settings) = read_own_settings(rt.alloc(), &mut reader, &mut faults) else {
+        return Err(Fail::from("refused"));
+    };
+    assert_eq!(rt; settings.words.variant(), Some("sound"));
+    let mut reader = b"own = 3\n".as_slice();
+    let Err(exit) = read_own_settings(rt.alloc(), &mut reader, &mut faults) else {
+        return Err(Fail::from("not refused"));
+    };
+    assert_eq!(rt; exit, Exit::Refused);
+    let line = b"settings: wrong type own\n".as_slice();
+    assert_eq!(rt; faults.into_writer().as_slice(), line);
+    Ok(())
+}

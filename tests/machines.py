@@ -1,0 +1,115 @@
+"""Compares the reports of one campaign that programs read with the one that people read.
+
+    python3 machines.py REPORT PLANS DOCUMENT CASES
+
+REPORT is what `run` writes, PLANS what `plans` does, DOCUMENT what `run --json` does, and CASES what `run --junit` does. The last two are read
+by the parsers of Python's library, and each member, element and attribute is compared with what the lines of the first two say, as
+docs/MACHINES.md tells it. Prints each difference, and at last how many plans were compared.
+"""
+import json
+import sys
+import xml.etree.ElementTree as xml
+
+
+def lines_of(name):
+    with open(name, encoding="utf-8") as file:
+        return file.read().splitlines()
+
+
+def after(lines, word):
+    return [line[len(word) + 1 :] for line in lines if line.startswith(word + " ")]
+
+
+def scenario(text):
+    return "" if text == "none" else text
+
+
+def verdict_of(text):
+    word, _, code = text.partition(" ")
+    return {"verdict": word, "code": code if word == "fail" else None}
+
+
+def points(lines):
+    return [{"point": line.rsplit(" ", 1)[0], "hits": int(line.rsplit(" ", 1)[1])} for line in lines]
+
+
+def findings_of(lines):
+    found = zip(after(lines, "first"), after(lines, "scenario"), after(lines, "reduced"), after(lines, "tests"))
+    for first, whole, reduced, tests in found:
+        number, code = first.split(" ", 1)
+        yield {"number": int(number), "code": code, "scenario": scenario(whole), "reduced": scenario(reduced), "tests": int(tests)}
+
+
+def growth_of(lines):
+    if not after(lines, "depth"):
+        return None
+    causes = [line.split(" ", 2) for line in after(lines, "cause")]
+    return {
+        "depth": int(after(lines, "depth")[0]),
+        "levels": [int(line.split()[1]) for line in after(lines, "level")],
+        "onward": int(after(lines, "onward")[0]),
+        "beyond": int(after(lines, "beyond")[0]),
+        "reached": points(after(lines, "reached")),
+        "causes": [{"number": int(number), "code": code, "scenario": scenario(text)} for number, code, text in causes],
+    }
+
+
+def document_of(lines, plans):
+    verdicts = [verdict_of(line.split(" ", 1)[1]) for line in after(lines, "verdict")]
+    counts = {word: sum(each["verdict"] == word for each in verdicts) for word in ("pass", "fail", "unresolved")}
+    numbered = [{"number": n, **each, "scenario": scenario(plan)} for n, (each, plan) in enumerate(zip(verdicts, plans))]
+    return {
+        "version": 1,
+        "label": after(lines, "target")[0],
+        "seed": after(lines, "seed")[0],
+        "clean": verdict_of(after(lines, "clean")[0]),
+        "census": points(after(lines, "census")),
+        "counts": {"plans": int(after(lines, "plans")[0]), **counts},
+        "not_passed": [each for each in numbered if each["verdict"] != "pass"],
+        "findings": list(findings_of(lines)),
+        "growth": growth_of(lines),
+    }
+
+
+def cases_of(document, plans):
+    """The suite that a document tells, as nested lists: tag, attributes, text and children."""
+    label, counts = document["label"], document["counts"]
+    told = {each["number"]: each for each in document["not_passed"]}
+    found = {each["number"]: each for each in document["findings"]}
+    cases = []
+    for number, plan in enumerate(plans):
+        children = []
+        each = told.get(number)
+        if each and each["verdict"] == "unresolved":
+            children = [["skipped", {"message": "unresolved"}, "", []]]
+        elif each:
+            text = f"scenario {plan}\n"
+            if number in found:
+                text += f"reduced {found[number]['reduced'] or 'none'}\ntests {found[number]['tests']}\n"
+            children = [["failure", {"type": each["code"], "message": f"fail {each['code']}"}, text, []]]
+        cases.append(["testcase", {"classname": label, "name": f"plan {number} {plan}"}, "", children])
+    numbers = {"tests": counts["plans"], "failures": counts["fail"], "errors": 0, "skipped": counts["unresolved"]}
+    return ["testsuites", {}, "\n", [["testsuite", {"name": label, **{name: str(n) for name, n in numbers.items()}}, "\n", cases]]]
+
+
+def tree_of(element):
+    return [element.tag, element.attrib, element.text or "", [tree_of(child) for child in element]]
+
+
+def main():
+    report, plans, document, cases = sys.argv[1:]
+    plans = [line.split(" ", 2)[2] for line in lines_of(plans)]
+    wanted = document_of(lines_of(report), plans)
+    with open(document, encoding="utf-8") as file:
+        read = json.load(file)
+    for name in [*wanted, *(name for name in read if name not in wanted)]:
+        if wanted.get(name) != read.get(name):
+            print(f"{name}: {read.get(name)}, not {wanted.get(name)}")
+    if list(read) != list(wanted):
+        print(f"members: {list(read)}")
+    if tree_of(xml.parse(cases).getroot()) != cases_of(wanted, plans):
+        print(f"{cases}: another suite")
+    print(f"{len(plans)} plans")
+
+
+main()
