@@ -1,10 +1,10 @@
 //! Tests of numbered results and of the book.
 
+use crate::courses::{book, course, has, row, settings, tells};
 use crate::one_step::OneStep;
 use crate::scenarios::{plans, scenarios};
-use campaign_given::CampaignSettings;
 use campaign_plans::CampaignPlans;
-use result_book::{Book, Course, Numbered, PutFault, Row, Workspace, put_all};
+use result_book::{Book, Course, Numbered, PutFault, Row, put_all};
 use std::alloc::Global;
 use std::process::Abort;
 use std::test::Fail;
@@ -13,20 +13,7 @@ use target_trait::Verdict;
 /// The code of the target's only failure.
 const REFUSED: u32 = 4;
 
-/// The runs of these plans have seed 7, and at most 1000 of their hits are answered.
-fn settings(alloc: Global) -> CampaignSettings {
-    let mut settings = CampaignSettings::new(alloc);
-    settings.seed = 7;
-    settings
-}
-
-fn course<'a>(settings: &'a CampaignSettings, plans: &'a CampaignPlans<'a>) -> Course<'a, OneStep> {
-    Course {
-        workload: &(),
-        settings,
-        plans,
-    }
-}
+const FAILS: Verdict = Verdict::Fail(REFUSED);
 
 /// The result of the plan of this number, which the course has to have.
 fn result<'a>(
@@ -39,17 +26,67 @@ fn result<'a>(
     Ok(Numbered::run(alloc, &mut OneStep, course, number)?)
 }
 
-/// The row of the plans from a number on, before `end`, which the course has to have.
-fn row<'a>(
+/// What came of a result that was put in a book, where it was of this number; a result that isn't put comes back.
+fn outcome(number: u32, put: Result<(), PutFault<'_, OneStep>>) -> &'static str {
+    match put {
+        Ok(()) => "put",
+        Err(PutFault::Twice(pair)) if pair.number() == number => "twice",
+        Err(PutFault::Stranger(pair)) if pair.number() == number => "stranger",
+        Err(_) => "another result",
+    }
+}
+
+/// Puts the result of a plan, of which this is to come.
+fn put(
     rt: &impl Abort,
     alloc: Global,
-    course: &'a Course<'a, OneStep>,
-    first: u32,
-    end: u32,
-) -> Result<Row<'a, OneStep>, Fail> {
-    assert!(rt; first <= end && end as usize <= course.plans.len());
-    let mut workspace = Workspace::new(alloc);
-    Ok(Row::run_over(alloc, &mut OneStep, &mut workspace, course, first, end)?)
+    book: &mut Book,
+    course: &Course<'_, OneStep>,
+    number: u32,
+    want: &str,
+) -> Result<(), Fail> {
+    let result = result(rt, alloc, course, number)?;
+    assert_eq!(rt; outcome(number, book.put(result)), want);
+    Ok(())
+}
+
+/// Results of 19 plans, and a book of 10.
+fn is_put_once(
+    rt: &impl Abort,
+    alloc: Global,
+    longer: &Course<'_, OneStep>,
+    mut book: Book,
+) -> Result<(), Fail> {
+    assert_eq!(rt; longer.plans.len(), 19);
+    for (number, want) in [(3, "put"), (3, "twice"), (12, "stranger")] {
+        put(rt, alloc, &mut book, longer, number, want)?;
+    }
+    assert!(rt; !book.whole());
+    has(rt, alloc, &book, &[Verdict::Pass])?;
+    tells(rt, alloc, &book, &[])
+}
+
+/// The book of the plan without faults and nine listed ones.
+fn book_of_ten(rt: &impl Abort, alloc: Global) -> Result<Book, Fail> {
+    let nine = scenarios(alloc, 9, &[])?;
+    let nine = plans(alloc, &nine)?;
+    let shorter = CampaignPlans::by_census(&nine);
+    let settings = settings(alloc);
+    book(rt, alloc, &course(&settings, &shorter))
+}
+
+/// All results are put from the last one on.
+fn fails_first_at_10(
+    rt: &impl Abort,
+    alloc: Global,
+    course: &Course<'_, OneStep>,
+) -> Result<(), Fail> {
+    let mut book = book(rt, alloc, course)?;
+    for number in (0..19).rev() {
+        put(rt, alloc, &mut book, course, number, "put")?;
+    }
+    assert!(rt; book.whole());
+    tells(rt, alloc, &book, &[(10, REFUSED)])
 }
 
 /// The rows of these plans, each from its first number on, before its end, as one worker hands them back.
@@ -61,79 +98,9 @@ fn rows<'a>(
 ) -> Result<Vec<(u32, Row<'a, OneStep>)>, Fail> {
     let mut list = Vec::new(alloc);
     for (first, end) in stretches {
-        list.push((*first, row(rt, alloc, course, *first, *end)?))?;
+        list.push((*first, row(rt, alloc, &mut OneStep, course, *first, *end)?))?;
     }
     Ok(list)
-}
-
-fn book(rt: &impl Abort, alloc: Global, course: &Course<'_, OneStep>) -> Result<Book, Fail> {
-    assert!(rt; course.plans.len() <= 65536);
-    Ok(Book::new(alloc, course)?)
-}
-
-/// Puts the result of a plan, and says what came of it; a result that isn't put comes back.
-fn put(
-    rt: &impl Abort,
-    alloc: Global,
-    book: &mut Book,
-    course: &Course<'_, OneStep>,
-    number: u32,
-) -> Result<&'static str, Fail> {
-    let result = result(rt, alloc, course, number)?;
-    Ok(match book.put(result) {
-        Ok(()) => "put",
-        Err(PutFault::Twice(pair)) if pair.number() == number => "twice",
-        Err(PutFault::Stranger(pair)) if pair.number() == number => "stranger",
-        Err(_) => "another result",
-    })
-}
-
-/// The book tells these first failures.
-fn tells(rt: &impl Abort, alloc: Global, book: &Book, firsts: &[(u32, u32)]) -> Result<(), Fail> {
-    assert_eq!(rt; book.first_failure(), firsts.first().copied());
-    assert_eq!(rt; book.first_failures(alloc)?.as_slice(), firsts);
-    Ok(())
-}
-
-#[test]
-fn a_book_takes_each_result_of_its_course_once(rt: HostRuntime) -> Result<(), Fail> {
-    let alloc = rt.alloc();
-    let nine = scenarios(alloc, 9, &[])?;
-    let nine = plans(alloc, &nine)?;
-    let shorter = CampaignPlans::by_census(&nine);
-    let scenarios = scenarios(alloc, 18, &[])?;
-    let listed = plans(alloc, &scenarios)?;
-    let plans = CampaignPlans::by_census(&listed);
-    assert_eq!(rt; plans.len(), 19);
-    let settings = settings(alloc);
-    let longer = course(&settings, &plans);
-    let mut book = book(&rt, alloc, &course(&settings, &shorter))?;
-    for (number, want) in [(3, "put"), (3, "twice"), (12, "stranger")] {
-        assert_eq!(rt; put(&rt, alloc, &mut book, &longer, number)?, want);
-    }
-    assert!(rt; !book.whole());
-    assert_eq!(rt;
-        book.verdicts(alloc)?.as_slice(),
-        [Verdict::Pass].as_slice()
-    );
-    tells(&rt, alloc, &book, &[])
-}
-
-/// Three plans fail with one code; all are put from the last one on.
-#[test]
-fn the_first_failure_of_a_code_is_told_once(rt: HostRuntime) -> Result<(), Fail> {
-    let alloc = rt.alloc();
-    let scenarios = scenarios(alloc, 18, &[9, 10, 11])?;
-    let listed = plans(alloc, &scenarios)?;
-    let plans = CampaignPlans::by_census(&listed);
-    let settings = settings(alloc);
-    let course = course(&settings, &plans);
-    let mut book = book(&rt, alloc, &course)?;
-    for number in (0..19).rev() {
-        assert_eq!(rt; put(&rt, alloc, &mut book, &course, number)?, "put");
-    }
-    assert!(rt; book.whole());
-    tells(&rt, alloc, &book, &[(10, REFUSED)])
 }
 
 /// Puts the results of 0 to 2, from two workers. One of them has an empty row too, and one that overlaps what is put.
@@ -150,66 +117,125 @@ fn put_others<'a>(
     Ok(())
 }
 
+/// The book is full of these verdicts.
+fn is_full_of(
+    rt: &impl Abort,
+    alloc: Global,
+    book: Book,
+    verdicts: &[Verdict],
+) -> Result<(), Fail> {
+    has(rt, alloc, &book, verdicts)?;
+    assert!(rt; book.whole());
+    assert_eq!(rt; book.into_verdicts().as_slice(), verdicts);
+    Ok(())
+}
+
 /// The last of four results is put first.
+fn are_put_by_number(
+    rt: &impl Abort,
+    alloc: Global,
+    course: &Course<'_, OneStep>,
+) -> Result<(), Fail> {
+    let mut book = book(rt, alloc, course)?;
+    put(rt, alloc, &mut book, course, 3, "put")?;
+    tells(rt, alloc, &book, &[(3, REFUSED)])?;
+    put_others(rt, alloc, course, &mut book)?;
+    tells(rt, alloc, &book, &[(1, REFUSED)])?;
+    is_full_of(
+        rt,
+        alloc,
+        book,
+        &[Verdict::Pass, FAILS, Verdict::Pass, FAILS],
+    )
+}
+
+/// What is taken out of the row of plans 1 and 2 comes from its end.
+fn is_taken_from_its_end(
+    rt: &impl Abort,
+    alloc: Global,
+    course: &Course<'_, OneStep>,
+) -> Result<(), Fail> {
+    let mut row = row(rt, alloc, &mut OneStep, course, 1, 3)?;
+    for want in [Some((2, Verdict::Pass)), Some((1, FAILS)), None] {
+        let last = row.pop().map(|pair| (pair.number(), pair.verdict()));
+        assert_eq!(rt; last, want);
+    }
+    Ok(())
+}
+
+/// Two verdicts are known, and then four, of three plans.
+fn are_put_in_the_first_places(
+    rt: &impl Abort,
+    alloc: Global,
+    course: &Course<'_, OneStep>,
+) -> Result<(), Fail> {
+    let mut book = book(rt, alloc, course)?;
+    book.put_known(vec![in alloc; Verdict::Pass, FAILS]?);
+    assert!(rt; !book.whole());
+    has(rt, alloc, &book, &[Verdict::Pass, FAILS])?;
+    put(rt, alloc, &mut book, course, 1, "twice")?;
+    book.put_known(vec![in alloc; FAILS, Verdict::Unresolved, FAILS, Verdict::Pass]?);
+    assert!(rt; book.whole());
+    has(rt, alloc, &book, &[Verdict::Pass, FAILS, FAILS])?;
+    tells(rt, alloc, &book, &[(1, REFUSED)])
+}
+
+/// What is to be seen of a course.
+#[derive(Clone, Copy)]
+enum Check {
+    IsPutOnce,
+    FailsFirstAt10,
+    ArePutByNumber,
+    IsTakenFromItsEnd,
+    ArePutInTheFirstPlaces,
+}
+
+/// Looks at the course of the plan without faults and of so many listed ones, of which those of the numbers given refuse the step.
+fn look(
+    rt: &impl Abort,
+    alloc: Global,
+    count: u32,
+    refused: &[u32],
+    check: Check,
+) -> Result<(), Fail> {
+    let scenarios = scenarios(alloc, count, refused)?;
+    let listed = plans(alloc, &scenarios)?;
+    let plans = CampaignPlans::by_census(&listed);
+    let settings = settings(alloc);
+    let course = course(&settings, &plans);
+    match check {
+        Check::IsPutOnce => is_put_once(rt, alloc, &course, book_of_ten(rt, alloc)?),
+        Check::FailsFirstAt10 => fails_first_at_10(rt, alloc, &course),
+        Check::ArePutByNumber => are_put_by_number(rt, alloc, &course),
+        Check::IsTakenFromItsEnd => is_taken_from_its_end(rt, alloc, &course),
+        Check::ArePutInTheFirstPlaces => are_put_in_the_first_places(rt, alloc, &course),
+    }
+}
+
+#[test]
+fn a_book_takes_each_result_of_its_course_once(rt: HostRuntime) -> Result<(), Fail> {
+    look(&rt, rt.alloc(), 18, &[], Check::IsPutOnce)
+}
+
+/// Three plans fail with one code.
+#[test]
+fn the_first_failure_of_a_code_is_told_once(rt: HostRuntime) -> Result<(), Fail> {
+    look(&rt, rt.alloc(), 18, &[9, 10, 11], Check::FailsFirstAt10)
+}
+
 #[test]
 fn results_of_workers_are_put_by_their_numbers(rt: HostRuntime) -> Result<(), Fail> {
-    let alloc = rt.alloc();
-    let scenarios = scenarios(alloc, 3, &[0, 2])?;
-    let listed = plans(alloc, &scenarios)?;
-    let plans = CampaignPlans::by_census(&listed);
-    let settings = settings(alloc);
-    let course = course(&settings, &plans);
-    let mut book = book(&rt, alloc, &course)?;
-    assert_eq!(rt; put(&rt, alloc, &mut book, &course, 3)?, "put");
-    tells(&rt, alloc, &book, &[(3, REFUSED)])?;
-    put_others(&rt, alloc, &course, &mut book)?;
-    assert!(rt; book.whole());
-    let fails = Verdict::Fail(REFUSED);
-    let verdicts = [Verdict::Pass, fails, Verdict::Pass, fails];
-    assert_eq!(rt; book.verdicts(alloc)?.as_slice(), verdicts.as_slice());
-    tells(&rt, alloc, &book, &[(1, REFUSED)])?;
-    assert_eq!(rt; book.into_verdicts().as_slice(), verdicts.as_slice());
-    Ok(())
+    look(&rt, rt.alloc(), 3, &[0, 2], Check::ArePutByNumber)
 }
 
-/// A row has what its plans come to; what is taken out of it comes from its end.
+/// A row has what its plans come to.
 #[test]
 fn a_row_gives_its_last_result_first(rt: HostRuntime) -> Result<(), Fail> {
-    let alloc = rt.alloc();
-    let scenarios = scenarios(alloc, 3, &[0, 2])?;
-    let listed = plans(alloc, &scenarios)?;
-    let plans = CampaignPlans::by_census(&listed);
-    let settings = settings(alloc);
-    let course = course(&settings, &plans);
-    let mut row = row(&rt, alloc, &course, 1, 3)?;
-    for want in [(2, Verdict::Pass), (1, Verdict::Fail(REFUSED))] {
-        let last = row.pop().map(|pair| (pair.number(), pair.verdict()));
-        assert_eq!(rt; last, Some(want));
-    }
-    assert!(rt; row.pop().is_none());
-    Ok(())
+    look(&rt, rt.alloc(), 3, &[0, 2], Check::IsTakenFromItsEnd)
 }
 
-/// The verdicts that are known of three plans are put once: others of the same numbers change nothing, and neither does one more than there
-/// are plans.
+/// The verdicts that are known are put once: others of the same numbers change nothing, and neither does one more than there are plans.
 #[test]
 fn known_verdicts_are_put_in_the_first_places(rt: HostRuntime) -> Result<(), Fail> {
-    let alloc = rt.alloc();
-    let scenarios = scenarios(alloc, 2, &[])?;
-    let listed = plans(alloc, &scenarios)?;
-    let plans = CampaignPlans::by_census(&listed);
-    let settings = settings(alloc);
-    let course = course(&settings, &plans);
-    let mut book = book(&rt, alloc, &course)?;
-    let fails = Verdict::Fail(REFUSED);
-    book.put_known(vec![in alloc; Verdict::Pass, fails]?);
-    assert!(rt; !book.whole());
-    let first_two = [Verdict::Pass, fails];
-    assert_eq!(rt; book.verdicts(alloc)?.as_slice(), first_two.as_slice());
-    assert_eq!(rt; put(&rt, alloc, &mut book, &course, 1)?, "twice");
-    book.put_known(vec![in alloc; fails, Verdict::Unresolved, fails, Verdict::Pass]?);
-    assert!(rt; book.whole());
-    let all = [Verdict::Pass, fails, fails];
-    assert_eq!(rt; book.verdicts(alloc)?.as_slice(), all.as_slice());
-    tells(&rt, alloc, &book, &[(1, REFUSED)])
+    look(&rt, rt.alloc(), 2, &[], Check::ArePutInTheFirstPlaces)
 }

@@ -6,13 +6,14 @@ ghost use Rattle.action_eval.specs.Rigging.{CanBeRigged};
 ghost use Rattle.plan_gen.specs.PlanList.{most_plans};
 ghost use Rattle.grown_plans.specs.GrownPlans.{rigs_of};
 
-use action_eval::{Kind, Site};
-use campaign_given::CampaignSettings;
-use campaign_plans::CampaignPlans;
-use file_replace::{Replace, Replacements, TORN, Variant};
+use crate::courses::{book, has, row, settings};
+use crate::one_step::OneStep;
+use action_eval::{Kind, Rigging, Site};
+use campaign_plans::{CampaignPlans, RigLists};
+use file_replace::{Replace, TORN, Variant};
 use grown_plans::{Child, GrownPlans};
 use plan_gen::{Census, PlanList, PlanSettings, further_plans};
-use result_book::{Book, Course, Row, Workspace, put_all};
+use result_book::{Book, Course, put_all};
 use std::alloc::{AllocError, Global};
 use std::process::Abort;
 use std::test::Fail;
@@ -67,32 +68,18 @@ fn alone(alloc: Global, course: &Course<'_, Replace>) -> Result<Vec<Verdict>, Al
     Ok(verdicts)
 }
 
-/// The row of the plans from a number on to the last one.
-fn row<'a>(
-    rt: &impl Abort,
-    alloc: Global,
-    course: &'a Course<'a, Replace>,
-    first: u32,
-) -> Result<Row<'a, Replace>, AllocError> {
-    let end = course.plans.len() as u32;
-    assert!(rt; first <= end);
-    let mut target = Replace::new(alloc, Variant::IgnoreSync);
-    let mut workspace = Workspace::new(alloc);
-    Row::run_over(alloc, &mut target, &mut workspace, course, first, end)
-}
-
 /// The book in which the verdicts of the first plans are known, and the row of all others is put.
-fn book(
+fn book_with(
     rt: &impl Abort,
     alloc: Global,
     course: &Course<'_, Replace>,
     known: &[Verdict],
-) -> Result<Book, AllocError> {
-    let plans = course.plans.len();
-    assert!(rt; known.len() <= plans && plans <= 65536);
-    let row = row(rt, alloc, course, known.len() as u32)?;
-    let mut book = Book::new(alloc, course)?;
+) -> Result<Book, Fail> {
+    let mut book = book(rt, alloc, course)?;
     book.put_known(Vec::from_slice(alloc, known)?);
+    assert!(rt; known.len() <= 5 && course.plans.len() == 5);
+    let mut target = Replace::new(alloc, Variant::IgnoreSync);
+    let row = row(rt, alloc, &mut target, course, known.len() as u32, 5)?;
     put_all(&mut book, vec![in alloc; vec![in alloc; (0, row)]?]?);
     Ok(book)
 }
@@ -108,22 +95,47 @@ fn books_have_each_alone(
     assert_eq!(rt; alone[0], Verdict::Pass);
     assert_eq!(rt; alone[1], Verdict::Fail(TORN));
     for known in 0..6 {
-        let book = book(rt, alloc, course, &alone[..known])?;
+        let book = book_with(rt, alloc, course, &alone[..known])?;
         assert!(rt; book.whole());
-        assert_eq!(rt; book.verdicts(alloc)?.as_slice(), alone.as_slice());
+        has(rt, alloc, &book, alone.as_slice())?;
     }
     Ok(())
 }
 
+/// Whether a plan is rigged over these points.
+fn is_rigged(
+    alloc: Global,
+    plans: &CampaignPlans<'_>,
+    points: &[&str],
+    number: usize,
+) -> Result<bool, Fail> {
+    let mut rigging = Rigging::new(alloc);
+    let is_rigged = plans
+        .rigger(points)
+        .load(number, &mut rigging, &mut RigLists::new(alloc))?;
+    Ok(is_rigged)
+}
+
+/// Each plan is rigged over the points of its target, and over others none is.
+fn are_rigged(rt: &impl Abort, alloc: Global, plans: &CampaignPlans<'_>) -> Result<(), Fail> {
+    assert_eq!(rt; plans.len(), 5);
+    for number in 0..5 {
+        assert!(rt; is_rigged(alloc, plans, Replace::catalogue(), number)?);
+        assert!(rt; !is_rigged(alloc, plans, OneStep::catalogue(), number)?);
+    }
+    Ok(())
+}
+
+/// A plan that isn't rigged is run by its scenario and comes to the same verdict, so only a test sees that plans which grew are rigged.
 #[test]
-fn plans_that_grew_and_a_storm_behind_them_are_run(rt: HostRuntime) -> Result<(), Fail> {
+fn plans_that_grew_and_a_storm_behind_them_are_rigged_and_run(rt: HostRuntime) -> Result<(), Fail> {
     let alloc = rt.alloc();
-    let workload: Replacements = small_workload(alloc)?;
+    let workload = small_workload(alloc)?;
     let grown = grown(alloc)?;
     let storm = storm(alloc)?;
     let plans = CampaignPlans::grown(Some(&grown), Replace::catalogue(), &storm);
-    let mut settings = CampaignSettings::new(alloc);
-    settings.seed = 7;
+    are_rigged(&rt, alloc, &plans)?;
+    let settings = settings(alloc);
     let course = Course {
         workload: &workload,
         settings: &settings,

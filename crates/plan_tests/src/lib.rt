@@ -7,6 +7,8 @@ mod books;
 #[cfg(test)]
 mod counting;
 #[cfg(test)]
+mod courses;
+#[cfg(test)]
 mod grown_books;
 #[cfg(test)]
 mod loading;
