@@ -3,3 +3,4 @@ pub mod Runs
 pub mod Counted
 pub mod WorstCells
 pub mod Places
+pub mod CellsApart

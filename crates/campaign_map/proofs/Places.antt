@@ -1,6 +1,8 @@
 -- Cells at different places.
-use Rattle.std.proofs.Common.{◌≡◌, ℕ, zero, suc, ◌+◌, ◌-◌, ◌*◌, ◌≤◌, ◌<◌, List, [], ◌∷◌, ap, sym, refl, ◌∙◌, arith, take, length, get_or}
-use Rattle.std.specs.Prelude.{max}
+use Rattle.std.proofs.Common.{◌≡◌, ℕ, zero, suc, ◌+◌, ◌-◌, ◌*◌, ◌≤◌, ◌<◌, Bool, true, false, List, [], ◌∷◌, ap, sym, refl, arith, rules, take, get_or}
+use Rattle.std.specs.Prelude.{nat_lt}
+use Rattle.std.proofs.Math.Nat.{mul-le-mul_left, mul-suc}
+use Rattle.std.proofs.lemmas.Bool.Decides.{nat_tests}
 use Rattle.plan_gen.specs.Counts.{total_of}
 
 -- the hits of a point stand after those of the points before it, and before those of the points after it
@@ -23,3 +25,23 @@ one_point (suc p) zero h k (n ∷ counts) some few more less same = absurd (omeg
 one_point (suc p) (suc q) h k (n ∷ counts) some few more less same =
     let rest = one_point p q h k counts some few more less (omega (arith, same)) in
     (ap suc rest.0, rest.1)
+
+-- what stands in squares side by side
+less_apart : (step p q a b : ℕ) → p < step → a < b → step * a + p ≡ step * b + q → ⊥
+less_apart step p q a b small less same =
+    let up : step * suc a ≤ step * b = mul-le-mul_left step (omega arith) in
+    let is = mul-suc step a in
+    omega (arith, up, is, same, small)
+
+by_order : (step p q a b : ℕ) (less more : Bool) → nat_lt a b ≡ less → nat_lt b a ≡ more → p < step → q < step → step * a + p ≡ step * b + q → a ≡ b
+by_order step p q a b true more is more_is small few same = absurd (less_apart step p q a b small (search (is, rules)) same)
+by_order step p q a b false true is more_is small few same = absurd (less_apart step q p b a few (search (more_is, rules)) (sym same))
+by_order step p q a b false false is more_is small few same = grind (arith, nat_tests, is, more_is)
+
+pub one_square : (step p q a b : ℕ) → p < step → q < step → step * a + p ≡ step * b + q → (a ≡ b) × (p ≡ q)
+one_square step p q a b small few same =
+    let one = by_order step p q a b (nat_lt a b) (nat_lt b a) refl refl small few same in
+    (one, rest one)
+  where
+    rest : a ≡ b → p ≡ q
+    rest one = let moved = ap (λ n. step * n) one in omega (arith, moved, same)

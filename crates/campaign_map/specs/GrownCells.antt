@@ -1,6 +1,6 @@
 -- Plans that grew, and their cells: a plan's cell is told by its first two faults, and so a plan of more faults belongs to the cells of those
 -- that it grew from.
-use Rattle.std.specs.Prelude.{ℕ, ◌+◌, ◌-◌, ◌*◌, ◌==◌, ◌&&◌, nat_lt, max, Bool, true, false, if◌then◌else◌, List, [], ◌∷◌, ◌++◌, map, length, take, Option, None, Some, codes, slice_get, slice_index_or}
+use Rattle.std.specs.Prelude.{◌≡◌, ◌≤◌, ℕ, ◌+◌, ◌-◌, ◌*◌, ◌==◌, ◌&&◌, nat_lt, max, Bool, true, false, if◌then◌else◌, List, [], ◌∷◌, ◌++◌, map, length, take, Option, None, Some, codes, slice_get, slice_index_or}
 use Rattle.std.specs.List.{range_with_len, list_any}
 use Rattle.action_eval.specs.declared.rig.Site.{Site}
 use Rattle.action_eval.specs.declared.rig.Rig.{Rig}
@@ -160,3 +160,13 @@ pair_or_none code_name m fs counts number false (Some r) (Some s) =
 unfoldable pub pair_text : (ℕ → List ℕ) → Mapped → List Front → List ℕ → ℕ → List ℕ
 pair_text code_name m fs counts number =
     pair_or_none code_name m fs counts number (front_at fs number).is_deeper (front_at fs number).first (front_at fs number).second
+
+-- ---- what a law says of places
+
+-- a hit is one of those that a grid has rows or columns for
+abbrev pub IsAmong : List ℕ → Site → Type 0
+IsAmong counts s = (1 ≤ s.hit) × (s.hit ≤ slice_index_or counts s.point 0)
+
+-- two faults at the same hit that act in the same way, where one from then on acts as a return
+abbrev pub AreAlike : Rig → Rig → Type 0
+AreAlike r s = (r.site.point ≡ s.site.point) × (r.site.hit ≡ s.site.hit) × (way r.kind ≡ way s.kind)
