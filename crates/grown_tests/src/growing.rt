@@ -1,10 +1,8 @@
 //! How a target's plans grow, and what is wanted of that.
 ghost use Rattle.std.specs.Prelude.{◌≤◌};
 
-use chunked_text::Chunks;
 use grown_runs::{Conditions, GrowFault, Grown, Limits, grow};
-use scenario_values::Text;
-use std::alloc::{AllocError, Global};
+use std::alloc::Global;
 use std::process::Abort;
 use std::sync::Wait;
 use std::test::Fail;
@@ -79,52 +77,4 @@ pub fn first_with(grown: &Grown, code: u32) -> Option<usize> {
         .as_slice()
         .iter()
         .position(|verdict| *verdict == Verdict::Fail(code))
-}
-
-/// The sound target passes under each plan of this depth, of which there are so many.
-fn all_pass<T: Target + Send, R: Threads + Wait + Sync + Abort>(
-    rt: &R,
-    alloc: Global,
-    target: &T,
-    workload: &T::Workload,
-    depth: u32,
-    size: usize,
-) -> Result<(), Fail>
-where
-    T::Workload: Sync,
-    requires { depth ≤ 64 }
-{
-    let Ok(grown) = grown_on(rt, alloc, target, workload, to_depth(depth, 4)) else {
-        return Err(Fail::from("plans that don't grow"));
-    };
-    assert_eq!(rt; grown.plans.len(), size, "at depth {depth}");
-    assert_eq!(rt; grown.outcomes.verdicts.len(), size);
-    let verdicts = grown.outcomes.verdicts.as_slice();
-    assert!(rt; verdicts.iter().all(|verdict| *verdict == Verdict::Pass));
-    Ok(())
-}
-
-/// The sound target passes under each plan of the depths 1, 2 and 3, of which there are so many.
-pub fn passes_to_depth_3<T: Target + Send, R: Threads + Wait + Sync + Abort>(
-    rt: &R,
-    alloc: Global,
-    target: &T,
-    workload: &T::Workload,
-    sizes: [usize; 3],
-) -> Result<(), Fail>
-where
-    T::Workload: Sync,
-{
-    let [one, two, three] = sizes;
-    all_pass(rt, alloc, target, workload, 1, one)?;
-    all_pass(rt, alloc, target, workload, 2, two)?;
-    all_pass(rt, alloc, target, workload, 3, three)
-}
-
-/// A text of two chunks.
-pub fn two_chunks(alloc: Global, first: &str, second: &str) -> Result<Chunks, AllocError> {
-    let mut chunks = Vec::new(alloc);
-    chunks.push(Text::copy_of(alloc, first)?)?;
-    chunks.push(Text::copy_of(alloc, second)?)?;
-    Chunks::new(alloc, chunks.as_slice())
 }

@@ -3,8 +3,6 @@
 #![tactic(auto)]
 
 #[cfg(test)]
-mod clean_up;
-#[cfg(test)]
 mod commits;
 #[cfg(test)]
 mod deliveries;

@@ -1,7 +1,7 @@
 //! Lists of plans, and how many runs they take, where two participants vote yes on one transaction whose commit record is tried twice. The levels
 //! to three faults have 1, 26, 66 and 46 plans, three go onward, and the level after them has 20.
 
-use crate::commits::transactions;
+use crate::commits::one_transaction;
 use crate::growing::to_depth;
 use commit_target::{Commit, Variant};
 use grown_runs::{Conditions, GrowFault, Limits, grow_list};
@@ -32,7 +32,7 @@ fn listed<R: Threads + Wait + Sync>(
     limits: Limits,
     count: usize,
 ) -> Result<(Result<usize, GrowFault>, u64), Fail> {
-    let workload = transactions(alloc, false)?;
+    let workload = one_transaction(alloc)?;
     let target = Commit::new(alloc, Variant::TwoTries);
     let gate = CountingGate {
         runs: AtomicU64::new(0),

@@ -1,13 +1,10 @@
-//! How the replacement of a file grows: of `old`, that is replaced by the chunks `ne` and `w`, once or twice.
+//! How the small workload grows, a file of `old` that is replaced once, by the chunks `ne` and `w`.
 ghost use Rattle.std.specs.Prelude.{◌≤◌};
 
-use crate::growing::{
-    Wanted, first_with, grown_on, have_grown, passes_to_depth_3, to_depth, two_chunks,
-};
-use file_replace::{Replace, Replacements, TORN, Variant};
+use crate::growing::{Wanted, first_with, grown_on, have_grown, to_depth};
+use file_replace::{Replace, TORN, Variant};
 use grown_runs::{GrowFault, Grown, Limits};
-use scenario_values::Text;
-use std::alloc::{AllocError, Global};
+use std::alloc::Global;
 use std::process::Abort;
 use std::sync::Wait;
 use std::test::Fail;
@@ -125,20 +122,4 @@ fn a_level_that_is_too_large_is_refused(rt: HostRuntime) -> Result<(), Fail> {
     let over = grown_by(&rt, alloc, Variant::Sound, limits)?;
     assert_eq!(&rt; over.err(), Some(GrowFault::TooManyPlans));
     Ok(())
-}
-
-/// The file is replaced twice.
-fn two_replacements(alloc: Global) -> Result<Replacements, AllocError> {
-    let mut replacements = Vec::new(alloc);
-    replacements.push(two_chunks(alloc, "ne", "w")?)?;
-    replacements.push(two_chunks(alloc, "ne", "w")?)?;
-    Ok(Replacements::new(Text::copy_of(alloc, "old")?, replacements))
-}
-
-#[test]
-fn two_replacements_are_whole_under_three_faults(rt: HostRuntime) -> Result<(), Fail> {
-    let alloc = rt.alloc();
-    let workload = two_replacements(alloc)?;
-    let target = Replace::new(alloc, Variant::Sound);
-    passes_to_depth_3(&rt, alloc, &target, &workload, [31, 113, 217])
 }
