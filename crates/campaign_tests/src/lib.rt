@@ -19,8 +19,6 @@ mod given;
 #[cfg(test)]
 mod late_sync;
 #[cfg(test)]
-mod looked_up;
-#[cfg(test)]
 mod maildir_judgements;
 #[cfg(test)]
 mod many_plans;
