@@ -14,14 +14,15 @@ use Rattle.target_trait.specs.Outcomes.{play, outcome}
 use Rattle.plan_gen.specs.LoopRuns.{times}
 use Rattle.grown_plans.specs.Runs.{Met, met, site_after, met_after, run}
 use Rattle.grown_plans.specs.GrownPlans.{Subject, given_for, run_of_plan, is_at, is_once_return, is_hit_again, hits_after, hits_past, grown_at, children, level, grown}
-use Rattle.grown_plans.specs.AskedPoints.{sites_from, sites_after, sites_past, is_asked_again, GrowsByAsked, GoesOnwardByAsked, ReachesByAsked}
+use Rattle.grown_plans.specs.AskedPoints.{sites_from, sites_after, sites_past, is_asked_again, AskAlike, AsksLikeParent, GrowsByAsked, GoesOnwardByAsked, ReachesByAsked}
 use Rattle.grown_plans.specs.Promises.{IsLawful, NeedsNoSeed}
-use Rattle.grown_plans.proofs.Members.{all_weaker}
+use Rattle.grown_plans.proofs.Members.{all_weaker, all_both}
 use Rattle.grown_plans.proofs.PlayedRuns.{points_of, history_points, run_path}
-use Rattle.grown_plans.proofs.PlanRuns.{count_points, is_within, needs_no_seed}
+use Rattle.grown_plans.proofs.PlanRuns.{count_points, is_within, needs_no_seed, plan_path}
 use Rattle.grown_plans.proofs.Levels.{IsGrown, level_grown}
-use Rattle.grown_plans.proofs.Onward.{no_seed_needed}
-use Rattle.grown_plans.proofs.Paths.{IsPath, replies_of, next_is}
+use Rattle.grown_plans.proofs.FirstHits.{ask_alike}
+use Rattle.grown_plans.proofs.Onward.{no_seed_needed, RunsAlike, grown_runs_alike}
+use Rattle.grown_plans.proofs.Paths.{IsPath, replies_of, next_is, hit_is, times_met}
 
 abbrev pub sites_of : List Met → List Site
 sites_of ms = map (λ m. m.site) ms
@@ -140,3 +141,36 @@ pub asked_within : (t : Subject) → IsLawful t → (g : Given) → AllByRecursi
 asked_within t l g =
     subst (λ (ps : List ℕ). AllByRecursion (λ p. p < length t.names) ps) (asked_points t.asks g)
     (path_within t.asks (length t.names) l.within g.limit [] (run t.asks g) (run_path t.asks g))
+
+-- ---- a plan's run asks like its parent's
+
+asked_split : (t : Subject) (plan : List Rig) (seed stream : ℕ) → NeedsNoSeed t plan → (b : List Met) (m : Met) (x : List Met) → run_of_plan t plan ≡ b ++ m ∷ x
+    → (outcome t.asks (given_for t plan seed stream)).asked ≡ points_of b ++ m.site.point ∷ points_of x
+asked_split t plan seed stream same b m x e =
+    sym (asked_points t.asks (given_for t plan seed stream)) ∙ ap points_of (same seed stream ∙ e) ∙ map-append (λ (k : Met). k.site.point) b (m ∷ x)
+
+like_at : (t : Subject) → IsLawful t → (r : Rig) (rs : List Rig) → NeedsNoSeed t (r ∷ rs) → RunsAlike t (r ∷ rs) → (seed stream other : ℕ)
+    → AskAlike r.site (outcome t.asks (given_for t (r ∷ rs) seed stream)).asked (outcome t.asks (given_for t rs seed other)).asked
+like_at t l r rs same alike seed stream other =
+    let (b, m, n, x, y, own, parents, at, there, can) = alike in
+    let path : IsPath t.asks t.limit [] (b ++ n ∷ y) = subst (λ (ms : List Met). IsPath t.asks t.limit [] ms) parents (plan_path t rs) in
+    ask_alike r.site (outcome t.asks (given_for t (r ∷ rs) seed stream)).asked (outcome t.asks (given_for t rs seed other)).asked (record {
+      before = points_of b;
+      after = points_of x;
+      others = points_of y;
+      first = asked_split t (r ∷ rs) seed stream same b m x own ∙ ap (λ (s : Site). points_of b ++ s.point ∷ points_of x) at;
+      second = asked_split t rs seed other (needs_no_seed t l rs can) b n y parents ∙ ap (λ (s : Site). points_of b ++ s.point ∷ points_of y) there;
+      hit =
+          ap (λ k. k + 1) (count_points r.site.point 0 b) ∙ ap (λ (s : Site). times_met s.point b + 1) (sym there) ∙ sym (hit_is t.asks t.limit b n y path)
+          ∙ ap (λ (s : Site). s.hit) there;
+    })
+
+like_parent : (t : Subject) → IsLawful t → (plan : List Rig) → NeedsNoSeed t plan → RunsAlike t plan → AsksLikeParent t plan
+like_parent t l plan same alike = λ r rs e seed stream other.
+    subst (λ (p : List Rig). AskAlike r.site (outcome t.asks (given_for t p seed stream)).asked (outcome t.asks (given_for t rs seed other)).asked) (sym e)
+    (like_at t l r rs (subst (NeedsNoSeed t) e same) (subst (RunsAlike t) e alike) seed stream other)
+
+pub asks_like_parents : (t : Subject) → IsLawful t → (d : ℕ) → AllByRecursion (AsksLikeParent t) (grown t d)
+asks_like_parents t l d =
+    all_weaker (λ plan. NeedsNoSeed t plan × RunsAlike t plan) (AsksLikeParent t) (λ plan h. like_parent t l plan h.0 h.1) (grown t d)
+    (all_both (NeedsNoSeed t) (RunsAlike t) (grown t d) (no_seed_needed t l d) (grown_runs_alike t l d))

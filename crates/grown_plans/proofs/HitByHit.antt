@@ -1,11 +1,11 @@
 -- The hits of a run, one by one, as a plan's children are added.
 use Rattle.std.proofs.Common.{◌≡◌, ℕ, zero, suc, ◌+◌, ◌<◌, ◌||◌, Bool, true, false, cond, List, [], ◌∷◌, ◌++◌, take, drop, length, get_or, refl, ap, sym, ◌∙◌, arith, append_assoc}
 use Rattle.std.specs.List.{flat_map, list_any, AllByRecursion}
-use Rattle.std.proofs.lemmas.List.{take_more, append-nil}
+use Rattle.std.proofs.lemmas.List.{take_more}
 use Rattle.std.proofs.Math.Seq.{drop-cons}
 use Rattle.action_eval.specs.declared.rig.Site.{Site}
 use Rattle.action_eval.specs.declared.rig.Rig.{Rig}
-use Rattle.grown_plans.specs.AskedPoints.{sites_from, sites_after, sites_past, is_point_of}
+use Rattle.grown_plans.specs.AskedPoints.{sites_from, sites_after, is_point_of}
 use Rattle.grown_plans.specs.Kept.{Grew, kept_at}
 use Rattle.grown_plans.specs.inside.Counted.{next_site, is_site_of, sites_left}
 

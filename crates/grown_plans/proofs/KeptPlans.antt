@@ -131,6 +131,19 @@ step_back now gs n parent child fault faults new whole is before lt some read up
           ∙ ap (λ l. faults ++ l) (sym plan) ∙ rest,
     )
 
+pub parent_is : (now : List (List Rig)) (gs : List Grew) (n parent : ℕ) (child : Grew) → plans_from ([] ∷ []) gs ≡ now → AreBefore 1 gs → n < length now → 0 < n
+    → child ≡ get_or gs (n - 1) child → parent ≡ child.parent → (r : Rig) (rs : List Rig) → get_or now n [] ≡ r ∷ rs → get_or now parent [] ≡ rs
+parent_is now gs n parent child is before lt some read up r rs plan =
+    let back = step_back now gs n parent child child.fault [] (child.fault ∷ []) (get_or now n []) is before lt some read up refl refl refl in
+    let whole : child.fault ∷ get_or now parent [] ≡ r ∷ rs = back.2 ∙ plan in
+    cc
+
+pub first_has_no_parent : (now : List (List Rig)) (gs : List Grew) (n : ℕ) → plans_from ([] ∷ []) gs ≡ now → n ≡ 0 → (r : Rig) (rs : List Rig) → get_or now n [] ≡ r ∷ rs
+    → get_or now 0 [] ≡ rs
+first_has_no_parent now gs n is zeroth r rs plan =
+    let none : [] ≡ r ∷ rs = sym (first_is_empty gs) ∙ ap (λ (ps : List (List Rig)). get_or ps 0 []) is ∙ ap (λ k. get_or now k []) (sym zeroth) ∙ plan in
+    absurd (let no : [] ≡ r ∷ rs = none in cc)
+
 pub at_the_first : (now : List (List Rig)) (gs : List Grew) (n : ℕ) (faults whole : List Rig) → plans_from ([] ∷ []) gs ≡ now → n ≡ 0
     → faults ++ get_or now n [] ≡ whole → faults ≡ whole
 at_the_first now gs n faults whole is zeroth rest =

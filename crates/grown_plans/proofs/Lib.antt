@@ -13,4 +13,6 @@ pub mod FromThenOn
 pub mod AskedSites
 pub mod KeptPlans
 pub mod HitByHit
+pub mod FirstHits
 pub mod Rigged
+pub mod Merges

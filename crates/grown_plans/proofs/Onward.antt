@@ -112,6 +112,33 @@ pub first_of_any : {A : Type 0} (test : A → Bool) (xs : List A) → list_any t
 first_of_any test [] e = absurd cc
 first_of_any test (x ∷ xs) e = first_case test x xs (test x) refl e (first_of_any test xs)
 
+-- ---- a plan's run begins like that of the plan that it grew from
+
+abbrev pub RunsAlike : Subject → List Rig → Type 0
+RunsAlike t [] = Unit {0}
+RunsAlike t (r ∷ rs) =
+    (b : List Met) × (m : Met) × (n : Met) × (x : List Met) × (y : List Met) × (run_of_plan t (r ∷ rs) ≡ b ++ m ∷ x) × (run_of_plan t rs ≡ b ++ n ∷ y) × (m.site ≡ r.site) × (n.site ≡ r.site)
+    × CanAct rs
+
+can_rest : (r : Rig) (rs : List Rig) → CanAct (r ∷ rs) → CanAct rs
+can_rest r rs c = record { some = c.some.1; sites_apart = c.sites_apart.1; act_apart = c.act_apart.1 }
+
+pub grown_alike : (t : Subject) (n : ℕ) (plan : List Rig) → IsGrown t n plan → RunsAlike t plan
+grown_alike t n [] g = tt
+grown_alike t n (r ∷ rs) g =
+    let (b, past, rest, parents, own, still) = g.prefix in
+    (b, met r.site (reply_by r.kind), met r.site Go, rest, past, own, parents, refl, refl, can_rest r rs g.can)
+
+-- where a hit stands in a run is told by the hit
+same_split : (s : Site) (b c : List Met) (m n : Met) (x y : List Met) → b ++ m ∷ x ≡ c ++ n ∷ y → m.site ≡ s → n.site ≡ s → Fresh s b → Fresh s c → b ≡ c
+same_split s [] [] m n x y e f g u v = refl
+same_split s [] (z ∷ c) m n x y e f g u v = absurd (v.0 (ap (λ (k : Met). k.site) (let h : z ≡ m = cc in h) ∙ f))
+same_split s (z ∷ b) [] m n x y e f g u v = absurd (u.0 (ap (λ (k : Met). k.site) (let h : z ≡ n = cc in h) ∙ g))
+same_split s (z ∷ b) (w ∷ c) m n x y e f g u v =
+    let rest : b ≡ c = same_split s b c m n x y (let h : b ++ m ∷ x ≡ c ++ n ∷ y = cc in h) f g u.1 v.1 in
+    let first : z ≡ w = cc in
+    ap (λ (k : Met). k ∷ b) first ∙ ap (λ (l : List Met). w ∷ l) rest
+
 -- ---- an onward plan, of its leaf
 
 pub record IsOnwardOf (t : Subject) (leaf plan : List Rig) : Type 0 where
@@ -119,6 +146,7 @@ pub record IsOnwardOf (t : Subject) (leaf plan : List Rig) : Type 0 where
   pub further : List Rig
   pub next : Rig
   pub tells : faults [] (run_of_plan t plan) ≡ further ++ next ∷ leaf
+  pub alike : RunsAlike t plan
 
 not_point : (p q : ℕ) → (q == p) ≡ false → p ≡ q → ⊥
 not_point p q e same = let yes : (q == p) ≡ true = grind (arith, nat_tests, same) in absurd (let no : true ≡ false = sym yes ∙ e in cc)
@@ -182,10 +210,27 @@ onward_runs t l n r rs g kind h f =
     faults_both [] h.b (h.m ∷ x) ∙ ap (λ (z : List Rig). faults (noted h.m.site h.m.reply z) x) h.earlier ∙ ap (λ (z : List Rig). faults z x) h.last ∙ faults_none leaf x (all_left (λ m. m.reply ≡ Go) x (two ∷ f.back) still)
     in
     let onto = faults_onto (rig two.site OnceReturn ∷ leaf) parts.0 in
+    let (b, past, rest, parents, own, calm) = g.prefix in
+    let own_path : IsPath t.asks t.limit [] (b ++ met s (reply_by r.kind) ∷ rest) = subst (λ (ms : List Met). IsPath t.asks t.limit [] ms) own (plan_path t leaf) in
+    let same : b ≡ h.b =
+    same_split s b h.b (met s (reply_by r.kind)) h.m rest h.a (sym own ∙ h.split) refl h.site (hit_fresh t.asks t.limit b (met s (reply_by r.kind)) rest own_path) fresh
+    in
     record {
       can = can;
       further = onto.0;
       next = rig two.site OnceReturn;
+      alike = (
+        h.b,
+        h.m,
+        met s Go,
+        x ++ met two.site (Return None) ∷ parts.0,
+        past,
+        run ∙ append_assoc h.b (h.m ∷ x) (met two.site (Return None) ∷ parts.0),
+        parents ∙ ap (λ (l : List Met). l ++ met s Go ∷ past) same,
+        h.site,
+        refl,
+        can_rest r rs g.can,
+      );
       tells = ap (faults []) run ∙ faults_both [] begin (met two.site (Return None) ∷ parts.0) ∙ ap (λ (z : List Rig). faults (rig two.site OnceReturn ∷ z) parts.0) told ∙ onto.1;
     }
   where
@@ -278,3 +323,10 @@ grown_can t l d =
 
 pub no_seed_needed : (t : Subject) → IsLawful t → (d : ℕ) → AllByRecursion (NeedsNoSeed t) (grown t d)
 no_seed_needed t l d = all_weaker CanAct (NeedsNoSeed t) (λ plan c. needs_no_seed t l plan c) (grown t d) (grown_can t l d)
+
+-- ---- runs begin alike
+
+pub grown_runs_alike : (t : Subject) → IsLawful t → (d : ℕ) → AllByRecursion (RunsAlike t) (grown t d)
+grown_runs_alike t l d =
+    all_append (RunsAlike t) (levels t d) (onward t d) (all_weaker (IsGrownTo t d) (RunsAlike t) (λ plan g. grown_alike t g.0 plan g.2) (levels t d) (levels_grown t l d))
+    (all_weaker (IsOnwardAt t d) (RunsAlike t) (λ plan h. h.2.alike) (onward t d) (onward_all t l d))

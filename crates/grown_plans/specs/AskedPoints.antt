@@ -1,5 +1,5 @@
 -- A plan's children by the points that its run asked, as who runs it is told them.
-use Rattle.std.specs.Prelude.{◌≡◌, ℕ, ◌+◌, ◌<◌, ◌==◌, ◌&&◌, length, if◌then◌else◌, Bool, false, List, [], ◌∷◌, ◌++◌, map, count_by, slice_index_or}
+use Rattle.std.specs.Prelude.{◌≡◌, ℕ, ◌+◌, ◌<◌, ◌≤◌, ◌==◌, ◌&&◌, length, if◌then◌else◌, Bool, false, List, [], ◌∷◌, ◌++◌, map, take, count_by, slice_index_or}
 use Rattle.std.specs.List.{flat_map, list_any, AllByRecursion}
 use Rattle.action_eval.specs.Answers.{Given}
 use Rattle.action_eval.specs.declared.rig.Site.{Site}
@@ -65,6 +65,20 @@ GoesOnwardByAsked t plan = (seed stream : ℕ) → onward_of t plan ≡ onward_b
 abbrev pub ReachesByAsked : Subject → List Rig → Type 0
 ReachesByAsked t plan = (seed stream point : ℕ)
     → count_by (λ m. m.site.point == point) (run_of_plan t plan) ≡ times point (outcome t.asks (given_for t plan seed stream)).asked
+
+-- what one run asks before this hit, another one asks first
+abbrev pub AsksFirst : Site → List ℕ → List ℕ → Type 0
+AsksFirst s one other = (n : ℕ) → n ≤ length one → times s.point (take n one) < s.hit → (n ≤ length other) × (take n one ≡ take n other)
+
+-- two runs ask the same before a hit
+abbrev pub AskAlike : Site → List ℕ → List ℕ → Type 0
+AskAlike s one other = (0 < s.hit) × AsksFirst s one other × AsksFirst s other one
+
+-- a plan's run asks the same as that of the plan that it grew from, before the hit of its last fault
+abbrev pub AsksLikeParent : Subject → List Rig → Type 0
+AsksLikeParent t plan =
+    (r : Rig) (rs : List Rig) → plan ≡ r ∷ rs → (seed stream other : ℕ)
+    → AskAlike r.site (outcome t.asks (given_for t plan seed stream)).asked (outcome t.asks (given_for t rs seed other)).asked
 
 -- a run asks points of the catalogue
 abbrev pub AsksWithin : Subject → Type 0

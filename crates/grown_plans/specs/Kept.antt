@@ -1,12 +1,11 @@
 -- Plans as a list keeps them: each by the number of its parent and the fault that was added to it.
-use Rattle.std.specs.Prelude.{ℕ, ◌+◌, ◌<◌, List, [], ◌∷◌, ◌++◌, map, slice_index_or}
+use Rattle.std.specs.Prelude.{ℕ, ◌<◌, List, [], ◌∷◌, ◌++◌, map, slice_index_or}
 use Rattle.std.specs.List.{flat_map, AllByRecursion}
 use Rattle.action_eval.specs.declared.rig.Site.{Site}
 use Rattle.action_eval.specs.declared.rig.Rig.{Rig}
-use Rattle.action_eval.specs.declared.rig.Kind.{Kind}
 use Rattle.action_eval.specs.Rigging.{rig}
 use Rattle.grown_plans.specs.GrownPlans.{usual_kinds}
-use Rattle.grown_plans.specs.AskedPoints.{sites_from, sites_past, onward_by}
+use Rattle.grown_plans.specs.AskedPoints.{sites_from, sites_past}
 
 -- a plan that grew: its parent's number, and the fault that was added
 pub record Grew : Type 0 where

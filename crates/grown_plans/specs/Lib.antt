@@ -3,4 +3,5 @@ pub mod GrownPlans
 pub mod Promises
 pub mod AskedPoints
 pub mod Kept
+pub mod Begun
 pub mod inside

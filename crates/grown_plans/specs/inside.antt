@@ -2,3 +2,4 @@
 pub mod Numbered
 pub mod Counted
 pub mod Merged
+pub mod Ends

@@ -3,7 +3,7 @@
 ghost use Rattle.std.specs.Prelude.{ℕ, ◌<◌, ◌≤◌, ◌^◌};
 ghost use Rattle.std.specs.List.{AllByRecursion};
 ghost use Rattle.action_eval.specs.Rigging.{CanBeRigged};
-ghost use Rattle.grown_plans.specs.AskedPoints.{GrowsByAsked, GoesOnwardByAsked, ReachesByAsked, AsksWithin};
+ghost use Rattle.grown_plans.specs.AskedPoints.{AsksLikeParent, GrowsByAsked, GoesOnwardByAsked, ReachesByAsked, AsksWithin};
 ghost use Rattle.grown_plans.specs.GrownPlans.{Subject, usual_subject, rigs_of, level, grown};
 ghost use Rattle.grown_plans.specs.Promises.{IsLawful, NeedsNoSeed, KeepsPrefix, SkipsNothing, RunsNothingTwice, TriesOnward, IsLeast, IsWhole, HasCauses};
 
@@ -30,6 +30,12 @@ pub fn each_run_is_told_by_what_was_asked()
     ensures onward { (t : Subject) → IsLawful t → (n : ℕ) → AllByRecursion (GoesOnwardByAsked t) (level t n) }
     ensures reached { (t : Subject) → IsLawful t → (d : ℕ) → AllByRecursion (ReachesByAsked t) (grown t d) }
     ensures within { (t : Subject) → IsLawful t → AsksWithin t }
+{}
+
+/// The run of a grown plan asks the same points as that of the plan that it grew from, up to the hit of its last fault, whatever the seeds and stream
+/// numbers.
+pub fn each_run_asks_like_its_parents()
+    ensures { (t : Subject) → IsLawful t → (d : ℕ) → AllByRecursion (AsksLikeParent t) (grown t d) }
 {}
 
 /// Of each grown plan of a depth of at most 64 a scenario can be made: it has at most 64 rigged hits, and their numbers fit 32 bits.

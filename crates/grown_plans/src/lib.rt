@@ -1,20 +1,22 @@
 //! Plans that grow from the hits of each other's runs: what they are, and what a campaign of them promises.
 #![tactic(auto)]
 
+mod begun;
 mod child;
 mod growing;
 mod laws;
 mod list;
 mod rigs;
 
+pub use begun::{Begun, Growing, count_children};
 pub use child::Child;
 pub use growing::add_children;
 pub use laws::{
     an_empty_level_makes_it_whole, each_failure_has_a_cause, each_plan_can_be_rigged,
     each_plan_grows_by_what_was_asked, each_plan_keeps_its_parents_prefix, each_plan_needs_no_seed,
-    each_run_is_told_by_what_was_asked, each_target_is_a_lawful_subject,
-    faults_from_then_on_are_tried, first_failures_have_least_faults, nothing_is_run_twice,
-    nothing_is_skipped,
+    each_run_asks_like_its_parents, each_run_is_told_by_what_was_asked,
+    each_target_is_a_lawful_subject, faults_from_then_on_are_tried,
+    first_failures_have_least_faults, nothing_is_run_twice, nothing_is_skipped,
 };
 pub use list::GrownPlans;
 pub use rigs::rigs_of;

@@ -19,6 +19,9 @@ use Rattle.grown_plans.proofs.AskedSites.{grows_by_asked, goes_onward_by_asked, 
 use Rattle.grown_plans.proofs.Rigged.{grown_can_be_rigged}
 use Rattle.grown_runs.specs.GrownRuns.{over, told, children_at, onward_at, hits_at, verdict_at, cause_at, AreMost}
 use Rattle.grown_runs.specs.Grown.{level_sizes, reached_each}
+use Rattle.grown_plans.specs.AskedPoints.{AsksLikeParent}
+use Rattle.grown_plans.proofs.AskedSites.{asks_like_parents}
+use Rattle.grown_runs.specs.inside.Beginnings.{AskLikeParents}
 use Rattle.grown_runs.specs.inside.Levels.{AreTold, LastLevel}
 use Rattle.grown_runs.specs.inside.Growths.{if_report}
 use Rattle.grown_runs.specs.declared.course.Purpose.{Purpose}
@@ -232,28 +235,43 @@ all_in P [] n d all lt = absurd (omega (arith, lt))
 all_in P (x ∷ xs) zero d all lt = all.0
 all_in P (x ∷ xs) (suc n) d all lt = all_in P xs n d all.1 (omega (arith, lt))
 
+-- what is so of each grown plan
+each_in_levels : (P : List Rig → Type 0) (t : Subject) (d : ℕ) → AllByRecursion P (grown t d) → (plans : List (List Rig)) → plans ≡ levels t d → (n : ℕ) → n < length plans
+    → P (get_or plans n [])
+each_in_levels P t d all plans is n lt = all_in P plans n [] (subst (λ (ps : List (List Rig)). AllByRecursion P ps) (sym is) (all_left P (levels t d) (onward t d) all)) lt
+
+each_onward : (P : List Rig → Type 0) (t : Subject) (seed last d : ℕ) → AllByRecursion P (grown t d) → (plans : List (List Rig)) → IsLawful t → LastLevel t d last plans
+    → AllByRecursion P (over (onward_at t seed) plans last (length plans - last))
+each_onward P t seed last d all plans lawful l = subst (AllByRecursion P) (sym (onward_is t seed d last plans lawful l)) (all_right P (levels t d) (onward t d) all)
+
+pub each_more : (P : List Rig → Type 0) (plans more new : List (List Rig)) → ((n : ℕ) → n < length plans → P (get_or plans n [])) → AllByRecursion P more
+    → new ≡ plans ++ more → (n : ℕ) → n < length new → P (get_or new n [])
+each_more P [] more new old further is n lt = subst (λ (ps : List (List Rig)). P (get_or ps n [])) (sym is) (all_in P more n [] further (let e = ap length is in omega (arith, lt, e)))
+each_more P (p ∷ ps) more new old further is zero lt = subst (λ (qs : List (List Rig)). P (get_or qs 0 [])) (sym is) (old 0 (omega arith))
+each_more P (p ∷ ps) more new old further is (suc n) lt =
+    subst (λ (qs : List (List Rig)). P (get_or qs (suc n) [])) (sym is)
+    (each_more P ps more (ps ++ more) (λ k low. old (suc k) (omega (arith, low))) further refl n (let e = ap length is in omega (arith, lt, e)))
+
 pub can_rig : (t : Subject) → IsLawful t → t.limit < 4294967296 → (d : ℕ) → d ≤ 64 → (plans : List (List Rig)) → plans ≡ levels t d
     → (n : ℕ) → n < length plans → CanBeRigged (rigs_of (get_or plans n []))
-can_rig t lawful small d few plans is n lt =
-    let all : AllByRecursion (λ plan. CanBeRigged (rigs_of plan)) plans =
-    subst (λ (ps : List (List Rig)). AllByRecursion (λ plan. CanBeRigged (rigs_of plan)) ps) (sym is)
-    (all_left (λ plan. CanBeRigged (rigs_of plan)) (levels t d) (onward t d) (grown_can_be_rigged t lawful small d few)) in
-    all_in (λ plan. CanBeRigged (rigs_of plan)) plans n [] all lt
+can_rig t lawful small d few = each_in_levels (λ plan. CanBeRigged (rigs_of plan)) t d (grown_can_be_rigged t lawful small d few)
 
 pub can_rig_onward : (t : Subject) (seed last d : ℕ) (plans : List (List Rig)) → IsLawful t → t.limit < 4294967296 → d ≤ 64 → LastLevel t d last plans
     → AllByRecursion (λ plan. CanBeRigged (rigs_of plan)) (over (onward_at t seed) plans last (length plans - last))
 can_rig_onward t seed last d plans lawful small few l =
-    subst (AllByRecursion (λ (plan : List Rig). CanBeRigged (rigs_of plan))) (sym (onward_is t seed d last plans lawful l))
-    (all_right (λ plan. CanBeRigged (rigs_of plan)) (levels t d) (onward t d) (grown_can_be_rigged t lawful small d few))
+    each_onward (λ plan. CanBeRigged (rigs_of plan)) t seed last d (grown_can_be_rigged t lawful small d few) plans lawful l
 
 pub can_rig_more : (plans more new : List (List Rig)) → ((n : ℕ) → n < length plans → CanBeRigged (rigs_of (get_or plans n [])))
     → AllByRecursion (λ plan. CanBeRigged (rigs_of plan)) more → new ≡ plans ++ more → (n : ℕ) → n < length new → CanBeRigged (rigs_of (get_or new n []))
-can_rig_more [] more new old further is n lt =
-    subst (λ (ps : List (List Rig)). CanBeRigged (rigs_of (get_or ps n []))) (sym is) (all_in (λ plan. CanBeRigged (rigs_of plan)) more n [] further (let e = ap length is in omega (arith, lt, e)))
-can_rig_more (p ∷ ps) more new old further is zero lt = subst (λ (qs : List (List Rig)). CanBeRigged (rigs_of (get_or qs 0 []))) (sym is) (old 0 (omega arith))
-can_rig_more (p ∷ ps) more new old further is (suc n) lt =
-    subst (λ (qs : List (List Rig)). CanBeRigged (rigs_of (get_or qs (suc n) []))) (sym is)
-    (can_rig_more ps more (ps ++ more) (λ k low. old (suc k) (omega (arith, low))) further refl n (let e = ap length is in omega (arith, lt, e)))
+can_rig_more = each_more (λ plan. CanBeRigged (rigs_of plan))
+
+-- their runs ask like those of their parents
+pub ask_alike : (t : Subject) → IsLawful t → (d : ℕ) (plans : List (List Rig)) → plans ≡ levels t d → AskLikeParents t plans
+ask_alike t lawful d = each_in_levels (AsksLikeParent t) t d (asks_like_parents t lawful d)
+
+pub ask_alike_onward : (t : Subject) (seed last d : ℕ) (plans : List (List Rig)) → IsLawful t → LastLevel t d last plans
+    → AllByRecursion (AsksLikeParent t) (over (onward_at t seed) plans last (length plans - last))
+ask_alike_onward t seed last d plans lawful l = each_onward (AsksLikeParent t) t seed last d (asks_like_parents t lawful d) plans lawful l
 
 -- ---- the whole list
 

@@ -5,3 +5,4 @@ pub mod Growing
 pub mod RowParts
 pub mod LevelRuns
 pub mod Begun
+pub mod Begins

@@ -1,3 +1,4 @@
 -- What the code keeps. No clause that a caller sees names any of it.
 pub mod Growths
 pub mod Levels
+pub mod Beginnings

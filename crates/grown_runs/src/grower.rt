@@ -2,7 +2,9 @@
 ghost use Rattle.std.specs.Prelude.{◌≡◌, ℕ, ◌+◌, ◌-◌, List, length};
 ghost use Rattle.grown_plans.specs.GrownPlans.{usual_subject};
 ghost use Rattle.plan_rows.specs.Rows.{row_count, row_start};
-ghost use Rattle.grown_runs.specs.inside.Growths.{IsGrowth};
+ghost use Rattle.std.proofs.Props.{props};
+ghost use Rattle.grown_runs.specs.inside.Beginnings.{AskLikeParents};
+ghost use Rattle.grown_runs.specs.inside.Growths.{subject_on, IsGrowth};
 
 use crate::course::{GrownCourse, Part};
 use crate::growth::Workspace;
@@ -33,6 +35,7 @@ pub struct Grower<'a, T: Target> {
     pub course: &'a GrownCourse<'a, T>,
     pub workspace: Workspace,
     pub alloc: Global,
+    ghost alike: { AskLikeParents (subject_on T.Target target course.now) course.now.plans.now } by { Prim.hlevel props },
 }
 
 impl<'a, T: Target + Send> Job for Grower<'a, T>

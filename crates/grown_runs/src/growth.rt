@@ -1,19 +1,22 @@
 //! What runs of plans one after another come to.
 ghost use Rattle.std.specs.Prelude.{◌≡◌, ℕ, ◌+◌, ◌-◌, ◌*◌, ◌<◌, ◌≤◌, ◌^◌, ◌++◌, ◌&&◌, [], List, length, map, max, slice_index_or, replicate, IfOk, OnOk};
+ghost use Rattle.std.specs.List.{AllByRecursion};
 ghost use Rattle.action_eval.specs.declared.rig.Rig.{Rig};
-ghost use Rattle.grown_plans.specs.AskedPoints.{is_last_return, onward_if};
+ghost use Rattle.grown_plans.specs.AskedPoints.{AreCounts, is_asked_again, is_last_return, onward_if};
+ghost use Rattle.grown_plans.specs.Begun.{AreOrdinals, Serves};
 ghost use Rattle.grown_plans.specs.GrownPlans.{Subject};
-ghost use Rattle.grown_plans.specs.Kept.{GrewFrom, plan_of};
+ghost use Rattle.grown_plans.specs.Kept.{GrewFrom, kept_children, plan_of};
 ghost use Rattle.grown_runs.specs.declared.course.Part.{Part};
 ghost use Rattle.grown_runs.specs.GrownRuns.{causes_by};
-ghost use Rattle.grown_runs.specs.inside.Growths.{if_inner, if_last, IsGrowth, IsGrowthOn};
+ghost use Rattle.grown_runs.specs.inside.Growths.{if_inner, if_last, subject_on, IsGrowth, IsGrowthOn};
+ghost use Rattle.grown_runs.specs.inside.Beginnings.{AskLikeParents, MovesOn, TellsParent};
 
 use crate::causes::{Ran, cause_of};
 use crate::course::{GrownCourse, Place};
 use crate::kept::Growth;
 use crate::stage::Stage;
 use action_eval::Rig;
-use grown_plans::{Child, GrownPlans, add_children, rigs_of};
+use grown_plans::{Begun, Child, Growing, GrownPlans, add_children, count_children, rigs_of};
 use std::alloc::{AllocError, Global};
 use target_trait::Target;
 
@@ -26,8 +29,7 @@ pub struct Workspace {
     ordered: Vec<Rig>,
     rigs: Vec<Rig>,
     less: Vec<Rig>,
-    children: Vec<Child>,
-    counts: Vec<u32>,
+    begun: Begun,
 }
 
 impl Workspace {
@@ -39,8 +41,7 @@ impl Workspace {
             ordered: Vec::new(alloc),
             rigs: Vec::new(alloc),
             less: Vec::new(alloc),
-            children: Vec::new(alloc),
-            counts: Vec::new(alloc),
+            begun: Begun::nothing(alloc),
         }
     }
 }
@@ -57,14 +58,43 @@ pub fn raise(hits: &mut Vec<u32>, counts: &[u32])
     }
 }
 
-/// Keeps the children of a level that isn't the last one.
-fn keep_children(place: Place, kept: &mut Vec<Child>, children: &[Child]) -> Result<(), AllocError>
-    ensures { OnOk result (kept.new.items ≡ kept.old.items ++ if_inner place children.now) }
+/// The number of a plan, and that of the plan that it grew from.
+#[derive(Clone, Copy, Debug)]
+struct Descent {
+    number: usize,
+    parent: usize,
+}
+
+/// How a plan with these faults grows, by the points that its run asked, which are counted. The children of a level that isn't the last one are
+/// kept.
+fn grow_one(
+    place: Place,
+    kept: &mut Vec<Child>,
+    begun: &mut Begun,
+    descent: Descent,
+    plan: &[Rig],
+    asked: &[u32],
+) -> Result<Growing, AllocError>
+    requires number { descent.number < 2 ^ 16 }
+    requires ordinals { AreOrdinals plan.now }
+    requires serves { Serves begun.old descent.parent plan.now asked.now }
+    requires points { AllByRecursion (λ p. p < 64) asked.now }
+    requires few { length asked.now < 2 ^ 32 }
+    ensures kept { OnOk result (kept.new.items ≡ kept.old.items ++ if_inner place (kept_children descent.number plan.now asked.now)) }
+    ensures many { IfOk result (λ growing. growing.children ≡ length (kept_children descent.number plan.now asked.now)) }
+    ensures again { IfOk result (λ growing. growing.is_again ≡ is_asked_again plan.now asked.now) }
+    ensures counts { OnOk result (AreCounts begun.new.whole.items asked.now) }
+    ensures begun { OnOk result (MovesOn begun.old begun.new descent.parent plan.now asked.now) }
 {
-    if place == Place::Inner {
-        kept.extend_from_slice(children)?;
+    if place != Place::Inner {
+        return count_children(begun, descent.parent, plan, asked);
     }
-    Ok(())
+    let before = kept.len();
+    let is_again = add_children(kept, &mut begun.whole, descent.number, plan, asked)?;
+    Ok(Growing {
+        children: kept.len() - before,
+        is_again,
+    })
 }
 
 /// Keeps a plan of the last level from then on, where its last fault is a return whose point its run hits again.
@@ -113,6 +143,9 @@ fn run_one<T: Target>(
     requires within { number < length course.now.plans.now }
     requires room { length growth.old.verdicts.items < 2 ^ 16 }
     requires hits { length growth.old.hits.items ≡ length T.names }
+    requires alike { AskLikeParents (subject_on T.Target target.old course.now) course.now.plans.now }
+    requires begun { TellsParent (subject_on T.Target target.old course.now) course.now.limits.seed course.now.plans.now workspace.old.begun }
+    ensures begun { OnOk result (TellsParent (subject_on T.Target target.old course.now) course.now.limits.seed course.now.plans.now workspace.new.begun) }
     ensures grown { OnOk result ((first count : ℕ) → first + count ≡ number → IsGrowthOn T.Target target.old course.now first count growth.old
         → IsGrowthOn T.Target target.old course.now first (count + 1) growth.new) }
     ensures many { OnOk result (length growth.new.verdicts.items ≡ length growth.old.verdicts.items + 1) }
@@ -125,21 +158,22 @@ fn run_one<T: Target>(
         ordered,
         rigs,
         less,
-        children,
-        counts,
+        begun,
     } = workspace;
     course.plans.faults_of(number, faults)?;
     rigs_of(rigs, ordered, faults.as_slice())?;
     let rigs = rigs.as_slice();
     let verdict = stage.run(target, course, rigs, number as u64)?;
-    children.clear();
-    let asked = stage.asked.as_slice();
-    let is_again = add_children(children, counts, number, faults.as_slice(), asked)?;
-    growth.verdicts.push(verdict)?;
-    growth.child_count += children.len() as u64;
-    raise(&mut growth.hits, counts.as_slice());
     let place = course.part.place;
-    keep_children(place, &mut growth.children, children.as_slice())?;
+    let parent = course.plans.parent_of(number);
+    let descent = Descent { number, parent };
+    let asked = stage.asked.as_slice();
+    let children = &mut growth.children;
+    let growing = grow_one(place, children, begun, descent, faults.as_slice(), asked)?;
+    growth.verdicts.push(verdict)?;
+    growth.child_count += growing.children as u64;
+    raise(&mut growth.hits, begun.whole.as_slice());
+    let is_again = growing.is_again;
     keep_onward(place, &mut growth.onward, course.plans, number, is_again)?;
     let number = number as u32;
     let ran = Ran {
@@ -185,10 +219,12 @@ impl Growth {
         end: usize,
     ) -> Result<Self, AllocError>
         requires within { (first ≤ end) × (end ≤ length course.now.plans.now) }
+        requires alike { AskLikeParents (subject_on T.Target target.old course.now) course.now.plans.now }
         ensures grown { IfOk result (λ growth. IsGrowthOn T.Target target.old course.now first (end - first) growth) }
         ensures setup { target.new ≡ target.old }
     {
         let mut growth = Growth::none(alloc, T::catalogue().len())?;
+        workspace.begun.forget();
         for number in first..end {
             run_one(target, course, workspace, &mut growth, number)?;
         }

@@ -7,6 +7,8 @@ ghost use Rattle.grown_plans.specs.GrownPlans.{Subject, rigs_of, grown};
 ghost use Rattle.grown_runs.specs.declared.course.Part.{Part};
 ghost use Rattle.grown_runs.specs.declared.course.Place.TheVariants.{Last};
 ghost use Rattle.grown_runs.specs.declared.levels.GrowFault.TheVariants.{Memory};
+ghost use Rattle.grown_plans.specs.AskedPoints.{AsksLikeParent};
+ghost use Rattle.grown_runs.specs.inside.Beginnings.{AskLikeParents};
 ghost use Rattle.grown_runs.specs.inside.Growths.{IsGrowth};
 ghost use Rattle.grown_runs.specs.Grown.{subject_in, begun, HasGrown};
 ghost use Rattle.grown_runs.specs.inside.Levels.{AreTold, AreLevels, IsNextLevel, HasOnward, new_children, going_onward};
@@ -113,6 +115,7 @@ where
     requires few { length grown.old.plans ≤ 65536 }
     requires hits { length grown.old.outcomes.hits.items ≡ length T.names }
     requires rigs { (n : ℕ) → n < length grown.old.plans → CanBeRigged (rigs_of (slice_index_or grown.old.plans n [])) }
+    requires alike { AskLikeParents (subject_in T.Target on.now) grown.old.plans }
     ensures next { IfOk result (λ next. next ≡ length grown.old.plans) }
     ensures added { OnOk result (IsNextLevel (subject_in T.Target on.now) on.now.limits.seed purpose last grown.old grown.new) }
     ensures few { OnOk result (length grown.new.plans ≤ on.now.limits.most_plans) }
@@ -198,6 +201,7 @@ where
     requires last { last ≤ length plans.old }
     requires few { length plans.old ≤ 65536 }
     requires rigs { (n : ℕ) → n < length plans.old → CanBeRigged (rigs_of (slice_index_or plans.old n [])) }
+    requires alike { AskLikeParents (subject_in T.Target on.now) plans.old }
     ensures ran { IfOk result (λ growth. IsGrowth (subject_in T.Target on.now) on.now.limits.seed (record { place = Last; purpose = purpose })
         plans.old last (length plans.old - last) growth) }
     ensures added { OnOk result (plans.new ≡ plans.old ++ going_onward (subject_in T.Target on.now) on.now.limits.seed plans.old last) }
@@ -225,6 +229,9 @@ where
     requires few { length grown.old.plans ≤ 65536 }
     requires hits { length grown.old.outcomes.hits.items ≡ length T.names }
     requires rigs { (n : ℕ) → n < length grown.old.plans → CanBeRigged (rigs_of (slice_index_or grown.old.plans n [])) }
+    requires alike { AskLikeParents (subject_in T.Target on.now) grown.old.plans }
+    requires onward_alike { AllByRecursion (AsksLikeParent (subject_in T.Target on.now))
+        (going_onward (subject_in T.Target on.now) on.now.limits.seed grown.old.plans last) }
     requires onward_rigs { AllByRecursion (λ plan. CanBeRigged (rigs_of plan))
         (going_onward (subject_in T.Target on.now) on.now.limits.seed grown.old.plans last) }
     ensures added { OnOk result (HasOnward (subject_in T.Target on.now) on.now.limits.seed last grown.old grown.new) }

@@ -3,7 +3,8 @@ ghost use Rattle.std.specs.Prelude.{◌≡◌, ℕ, ◌-◌, ◌≤◌, ◌<◌,
 ghost use Rattle.action_eval.specs.Rigging.{CanBeRigged};
 ghost use Rattle.grown_plans.specs.GrownPlans.{rigs_of};
 ghost use Rattle.grown_runs.specs.Grown.{subject_in};
-ghost use Rattle.grown_runs.specs.inside.Growths.{IsGrowth};
+ghost use Rattle.grown_runs.specs.inside.Beginnings.{AskLikeParents};
+ghost use Rattle.grown_runs.specs.inside.Growths.{subject_on, IsGrowth};
 
 use crate::course::{GrownCourse, Limits, Part};
 use crate::grower::Grower;
@@ -37,6 +38,7 @@ fn growers<'a, T: Target + Send>(
 ) -> Result<Vec<Grower<'a, T>>, AllocError>
 where
     T::Workload: Sync,
+    requires { AskLikeParents (subject_on T.Target target.now course.now) course.now.plans.now }
     ensures many { IfOk result (λ growers. length growers.items ≡ course.now.limits.workers) }
     ensures same { IfOk result (λ growers. All (λ g. (g.target ≡ target.now) × (g.course.now ≡ course.now)) growers.items) }
 {
@@ -66,6 +68,7 @@ where
     requires within { first ≤ length plans.now }
     requires few { length plans.now ≤ 65536 }
     requires rigs { (n : ℕ) → n < length plans.now → CanBeRigged (rigs_of (slice_index_or plans.now n [])) }
+    requires alike { AskLikeParents (subject_in T.Target on.now) plans.now }
     ensures { IfOk result (λ growth. IsGrowth (subject_in T.Target on.now) on.now.limits.seed part plans.now first (length plans.now - first) growth) }
 {
     let end = plans.len();

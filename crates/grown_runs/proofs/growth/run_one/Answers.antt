@@ -9,6 +9,9 @@ use Rattle.grown_plans.specs.Kept.{kept_children, plan_of}
 use Rattle.grown_plans.specs.AskedPoints.{is_last_return, is_asked_again, onward_if}
 use Rattle.grown_runs.specs.GrownRuns.{told, told_of_rigs, children_at, cause_by}
 use Rattle.grown_runs.specs.inside.Growths.{subject_on, if_inner, if_last, if_report}
+use Rattle.grown_plans.specs.Begun.{AreOrdinals, Serves}
+use Rattle.grown_runs.specs.inside.Beginnings.{MovesOn}
+use Rattle.grown_runs.proofs.Begins.{ordinals, serves_next, tells_next}
 use Rattle.grown_runs.proofs.Numbers.{asked_few}
 use Rattle.grown_runs.proofs.Growing.{growth_next, kept_few}
 use Rattle.grown_runs.proofs.growth.run_one.Goals as goal
@@ -19,23 +22,79 @@ run-requires g c =
     subst CanBeRigged (sym (c.as_slice-rigs.ensures.value ∙ c.in_ok-rigs_of.ensures ∙ ap rigs_of (c.as_slice.ensures.value ∙ c.in_ok-faults_of.ensures)))
     (course.few_rigs c.args.number c.requires.within, recursion_from_All (λ (r : Rig). r.site.hit < 4294967296) _ (course.small_rigs c.args.number c.requires.within))
 
-pub add_children-requires-clause-points : goal.add_children-requires-clause-points
-add_children-requires-clause-points g c =
+pub grow_one-requires-clause-number : goal.grow_one-requires-clause-number
+grow_one-requires-clause-number g c =
+    let few = c.args.course.now.few in
+    omega (arith, few, c.requires.within)
+
+pub grow_one-requires-clause-ordinals : goal.grow_one-requires-clause-ordinals
+grow_one-requires-clause-ordinals g c =
+    let course = c.args.course.now in
+    let t : Subject = subject_on g.T.Target c.args.target.now course in
+    subst AreOrdinals (sym (c.as_slice-2.ensures.value ∙ c.in_ok-faults_of.ensures)) (ordinals t (get_or course.plans.now c.args.number []) (c.requires.alike c.args.number c.requires.within))
+
+pub grow_one-requires-clause-serves : goal.grow_one-requires-clause-serves
+grow_one-requires-clause-serves g c =
+    let course = c.args.course.now in
+    let t : Subject = subject_on g.T.Target c.args.target.now course in
+    let seed = course.limits.seed in
+    let n = c.args.number in
+    let plan : List Rig = get_or course.plans.now n [] in
+    let faults_is : c.as_slice.result.now ≡ plan = c.as_slice.ensures.value ∙ c.in_ok-faults_of.ensures in
+    let faults_too : c.as_slice-2.result.now ≡ plan = c.as_slice-2.ensures.value ∙ c.in_ok-faults_of.ensures in
+    let rigs_is : c.as_slice-rigs.result.now ≡ rigs_of plan = c.as_slice-rigs.ensures.value ∙ c.in_ok-rigs_of.ensures ∙ ap rigs_of faults_is in
+    let asked_is : c.as_slice-asked.result.now ≡ (told t seed n plan).asked =
+    c.as_slice-asked.ensures.value ∙ c.in_ok-verdict.ensures.asked ∙ ap (λ (rs : List Rig). (told_of_rigs t seed n rs).asked) rigs_is in
+    let law = g.met.T.Target in
+    let parent = c.parent_of-parent.result in
+    let parents : List ℕ = (told t seed parent (get_or course.plans.now parent [])).asked in
+    subst (λ (p : List Rig). Serves c.args.workspace.now.begun parent p c.as_slice-asked.result.now) (sym faults_too)
+    (serves_next t seed n parent course.plans.now c.args.workspace.now.begun plan c.as_slice-asked.result.now
+    (asked_few _ g.T.Target.names 0 law.lawful (law.within c.args.target.now course.workload.now) _ parents refl)
+    (c.requires.alike n c.requires.within) c.parent_of-parent.ensures asked_is c.requires.begun)
+
+pub grow_one-requires-clause-points : goal.grow_one-requires-clause-points
+grow_one-requires-clause-points g c =
     let law = g.met.T.Target in
     asked_few _ g.T.Target.names 0 law.lawful (law.within c.args.target.now c.args.course.now.workload.now) _ c.as_slice-asked.result.now
     (c.as_slice-asked.ensures.value ∙ c.in_ok-verdict.ensures.asked)
 
-pub add_children-requires-clause-few : goal.add_children-requires-clause-few
-add_children-requires-clause-few g c =
+pub grow_one-requires-clause-few : goal.grow_one-requires-clause-few
+grow_one-requires-clause-few g c =
     let few = c.in_ok-verdict.ensures.few in
     let same = ap length c.as_slice-asked.ensures.value in
     omega (arith, few, same)
+
+pub overflow_add-growth : goal.overflow_add-growth
+overflow_add-growth g c =
+    let few = kept_few c.args.number c.as_slice-2.result.now c.as_slice-asked.result.now in
+    let asked = c.in_ok-verdict.ensures.few in
+    let same = ap length c.as_slice-asked.ensures.value in
+    let before = c.args.growth.now.bounded in
+    omega (arith, few, asked, same, before, c.requires.room, c.in_ok-growing.ensures.many)
 
 pub cause_of-requires : goal.cause_of-requires
 cause_of-requires g c =
     let course = c.args.course.now in
     subst CanBeRigged (sym (c.as_slice-rigs.ensures.value ∙ c.in_ok-rigs_of.ensures ∙ ap rigs_of (c.as_slice.ensures.value ∙ c.in_ok-faults_of.ensures)))
     (course.few_rigs c.args.number c.requires.within, recursion_from_All (λ (r : Rig). r.site.hit < 4294967296) _ (course.small_rigs c.args.number c.requires.within))
+
+pub returns-clause-begun : goal.returns-clause-begun
+returns-clause-begun g c =
+    let course = c.args.course.now in
+    let t : Subject = subject_on g.T.Target c.args.target.now course in
+    let seed = course.limits.seed in
+    let n = c.args.number in
+    let plan : List Rig = get_or course.plans.now n [] in
+    let faults_is : c.as_slice.result.now ≡ plan = c.as_slice.ensures.value ∙ c.in_ok-faults_of.ensures in
+    let faults_too : c.as_slice-2.result.now ≡ plan = c.as_slice-2.ensures.value ∙ c.in_ok-faults_of.ensures in
+    let rigs_is : c.as_slice-rigs.result.now ≡ rigs_of plan = c.as_slice-rigs.ensures.value ∙ c.in_ok-rigs_of.ensures ∙ ap rigs_of faults_is in
+    let asked_is : c.as_slice-asked.result.now ≡ (told t seed n plan).asked =
+    c.as_slice-asked.ensures.value ∙ c.in_ok-verdict.ensures.asked ∙ ap (λ (rs : List Rig). (told_of_rigs t seed n rs).asked) rigs_is in
+    let parent = c.parent_of-parent.result in
+    tells_next t seed n parent course.plans.now c.args.workspace.now.begun c.grow_one.new.begun plan c.as_slice-asked.result.now (c.requires.alike n c.requires.within)
+    c.parent_of-parent.ensures asked_is c.requires.begun
+    (subst (λ (p : List Rig). MovesOn c.args.workspace.now.begun c.grow_one.new.begun parent p c.as_slice-asked.result.now) faults_too c.in_ok-growing.ensures.begun)
 
 pub returns-clause-grown : goal.returns-clause-grown
 returns-clause-grown g c = λ first count at was.
@@ -47,19 +106,18 @@ returns-clause-grown g c = λ first count at was.
     let faults_is : c.as_slice.result.now ≡ plan = c.as_slice.ensures.value ∙ c.in_ok-faults_of.ensures in
     let faults_too : c.as_slice-2.result.now ≡ plan = c.as_slice-2.ensures.value ∙ c.in_ok-faults_of.ensures in
     let rigs_is : c.as_slice-rigs.result.now ≡ rigs_of plan = c.as_slice-rigs.ensures.value ∙ c.in_ok-rigs_of.ensures ∙ ap rigs_of faults_is in
-    let verdict_is : c.in_ok-verdict.verdict ≡ (told t seed n plan).verdict = c.in_ok-verdict.ensures.verdict ∙ ap (λ (rs : List Rig). (told_of_rigs t seed n rs).verdict) rigs_is in
     let asked_is : c.as_slice-asked.result.now ≡ (told t seed n plan).asked =
     c.as_slice-asked.ensures.value ∙ c.in_ok-verdict.ensures.asked ∙ ap (λ (rs : List Rig). (told_of_rigs t seed n rs).asked) rigs_is in
-    let children_is : c.add_children.new.children.items ≡ children_at t seed n plan =
-    c.in_ok-is_again.ensures.children ∙ ap (λ l. l ++ kept_children n c.as_slice-2.result.now c.as_slice-asked.result.now) c.clear.ensures.items
-    ∙ ap (λ (p : List Rig). kept_children n p c.as_slice-asked.result.now) faults_too ∙ ap (kept_children n plan) asked_is in
+    let verdict_is : c.in_ok-verdict.verdict ≡ (told t seed n plan).verdict = c.in_ok-verdict.ensures.verdict ∙ ap (λ (rs : List Rig). (told_of_rigs t seed n rs).verdict) rigs_is in
+    let children_is : kept_children n c.as_slice-2.result.now c.as_slice-asked.result.now ≡ children_at t seed n plan =
+    ap (λ (p : List Rig). kept_children n p c.as_slice-asked.result.now) faults_too ∙ ap (kept_children n plan) asked_is in
     growth_next t seed course.part course.plans.now first count n _ _ at was
     (c.in_ok-push.ensures.items ∙ ap (λ v. c.args.growth.now.verdicts.items ++ v ∷ []) verdict_is)
-    (c.in_ok-keep_children.ensures ∙ ap (λ l. c.args.growth.now.children.items ++ if_inner course.part.place l) (c.as_slice-4.ensures.value ∙ children_is))
-    (ap (λ k. c.args.growth.now.child_count + k) (c.len.ensures ∙ c.add_children.new.children.ok.0 ∙ ap length children_is))
+    (c.in_ok-growing.ensures.kept ∙ ap (λ l. c.args.growth.now.children.items ++ if_inner course.part.place l) children_is)
+    (ap (λ k. c.args.growth.now.child_count + k) (c.in_ok-growing.ensures.many ∙ ap length children_is))
     (c.in_ok-keep_onward.ensures.ok
     ∙ ap (λ (b : Bool). map (plan_of course.plans.now) c.args.growth.now.onward.items ++ if_last course.part.place (onward_if (is_last_return plan && b) plan))
-    (c.in_ok-is_again.ensures.again ∙ ap (λ (p : List Rig). is_asked_again p c.as_slice-asked.result.now) faults_too ∙ ap (is_asked_again plan) asked_is))
+    (c.in_ok-growing.ensures.again ∙ ap (λ (p : List Rig). is_asked_again p c.as_slice-asked.result.now) faults_too ∙ ap (is_asked_again plan) asked_is))
     (c.keep_onward.ensures.from was.from)
     (c.in_ok-keep_cause.ensures
     ∙ ap (λ l. c.args.growth.now.causes.items ++ l)
@@ -73,48 +131,34 @@ returns-clause-grown g c = λ first count at was.
     let many = was.hits in
     c.raise.ensures.most p lt
     ∙ ap (λ k. max (get_or c.args.growth.now.hits.items p 0) k)
-    (ap (λ cs. get_or cs p 0) c.as_slice-3.ensures.value ∙ c.in_ok-is_again.ensures.counts.1 p (omega (arith, lt, few, many)) ∙ ap (times p) asked_is))
+    (ap (λ cs. get_or cs p 0) c.as_slice-3.ensures.value ∙ c.in_ok-growing.ensures.counts.1 p (omega (arith, lt, few, many)) ∙ ap (times p) asked_is))
 
 pub invariant_of-growth-in-Break-branch-6 : goal.invariant_of-growth-in-Break-branch-6
 invariant_of-growth-in-Break-branch-6 g c =
     let few = kept_few c.args.number c.as_slice-2.result.now c.as_slice-asked.result.now in
-    let kept = ap length (c.in_ok-is_again.ensures.children ∙ ap (λ l. l ++ kept_children c.args.number c.as_slice-2.result.now c.as_slice-asked.result.now) c.clear.ensures.items) in
     let asked = c.in_ok-verdict.ensures.few in
     let same = ap length c.as_slice-asked.ensures.value in
     let before = c.args.growth.now.bounded in
     let pushed = ap length c.in_ok-push.ensures.items in
     let joined = length-append c.args.growth.now.verdicts.items (c.in_ok-verdict.verdict ∷ []) in
-    record { bounded = omega (arith, few, kept, asked, same, before, pushed, joined, c.len.ensures, c.add_children.new.children.ok.0) }
+    record { bounded = omega (arith, few, asked, same, before, pushed, joined, c.in_ok-growing.ensures.many) }
 
 pub invariant_of-growth-in-Break-branch-7 : goal.invariant_of-growth-in-Break-branch-7
 invariant_of-growth-in-Break-branch-7 g c =
     let few = kept_few c.args.number c.as_slice-2.result.now c.as_slice-asked.result.now in
-    let kept = ap length (c.in_ok-is_again.ensures.children ∙ ap (λ l. l ++ kept_children c.args.number c.as_slice-2.result.now c.as_slice-asked.result.now) c.clear.ensures.items) in
     let asked = c.in_ok-verdict.ensures.few in
     let same = ap length c.as_slice-asked.ensures.value in
     let before = c.args.growth.now.bounded in
     let pushed = ap length c.in_ok-push.ensures.items in
     let joined = length-append c.args.growth.now.verdicts.items (c.in_ok-verdict.verdict ∷ []) in
-    record { bounded = omega (arith, few, kept, asked, same, before, pushed, joined, c.len.ensures, c.add_children.new.children.ok.0) }
-
-pub invariant_of-growth-in-Break-branch-8 : goal.invariant_of-growth-in-Break-branch-8
-invariant_of-growth-in-Break-branch-8 g c =
-    let few = kept_few c.args.number c.as_slice-2.result.now c.as_slice-asked.result.now in
-    let kept = ap length (c.in_ok-is_again.ensures.children ∙ ap (λ l. l ++ kept_children c.args.number c.as_slice-2.result.now c.as_slice-asked.result.now) c.clear.ensures.items) in
-    let asked = c.in_ok-verdict.ensures.few in
-    let same = ap length c.as_slice-asked.ensures.value in
-    let before = c.args.growth.now.bounded in
-    let pushed = ap length c.in_ok-push.ensures.items in
-    let joined = length-append c.args.growth.now.verdicts.items (c.in_ok-verdict.verdict ∷ []) in
-    record { bounded = omega (arith, few, kept, asked, same, before, pushed, joined, c.len.ensures, c.add_children.new.children.ok.0) }
+    record { bounded = omega (arith, few, asked, same, before, pushed, joined, c.in_ok-growing.ensures.many) }
 
 pub invariant_of-growth-2 : goal.invariant_of-growth-2
 invariant_of-growth-2 g c =
     let few = kept_few c.args.number c.as_slice-2.result.now c.as_slice-asked.result.now in
-    let kept = ap length (c.in_ok-is_again.ensures.children ∙ ap (λ l. l ++ kept_children c.args.number c.as_slice-2.result.now c.as_slice-asked.result.now) c.clear.ensures.items) in
     let asked = c.in_ok-verdict.ensures.few in
     let same = ap length c.as_slice-asked.ensures.value in
     let before = c.args.growth.now.bounded in
     let pushed = ap length c.in_ok-push.ensures.items in
     let joined = length-append c.args.growth.now.verdicts.items (c.in_ok-verdict.verdict ∷ []) in
-    record { bounded = omega (arith, few, kept, asked, same, before, pushed, joined, c.len.ensures, c.add_children.new.children.ok.0) }
+    record { bounded = omega (arith, few, asked, same, before, pushed, joined, c.in_ok-growing.ensures.many) }

@@ -6,7 +6,7 @@ use Rattle.grown_runs.specs.Grown.{subject_in, level_sizes}
 use Rattle.grown_runs.specs.declared.course.Purpose.TheVariants.{Report}
 use Rattle.grown_runs.specs.inside.Levels.{AreTold}
 use Rattle.grown_runs.proofs.Begun.{begun_most, whole_levels}
-use Rattle.grown_runs.proofs.LevelRuns.{next_many, onward_is, reached_by, can_rig, can_rig_onward, grown_is, grown_many}
+use Rattle.grown_runs.proofs.LevelRuns.{next_many, onward_is, reached_by, can_rig, can_rig_onward, ask_alike, ask_alike_onward, grown_is, grown_many}
 use Rattle.grown_runs.proofs.levels.grow.Goals as goal
 
 pub returns-in_err-grown-clause-many : goal.returns-in_err-grown-clause-many
@@ -101,3 +101,19 @@ returns-clause-grown g c =
       causes = told.causes;
       reached = reached_by t seed limits.depth new.outcomes.hits.items lawful told.hits told.most;
     }
+
+pub run_onward-requires-clause-alike : goal.run_onward-requires-clause-alike
+run_onward-requires-clause-alike g c κs within =
+    let on = c.args.on.now in
+    let t : Subject = subject_in g.T.Target on in
+    let lawful : IsLawful t = c.each_target_is_a_lawful_subject.ensures on.target.now on.workload.now on.limits.max_hits in
+    let l = c.in_ok-grown.ensures.levels in
+    ask_alike t lawful l.top c.in_ok-grown.grown.plans l.level.are
+
+pub run_onward-requires-clause-onward_alike : goal.run_onward-requires-clause-onward_alike
+run_onward-requires-clause-onward_alike g c κs within =
+    let on = c.args.on.now in
+    let t : Subject = subject_in g.T.Target on in
+    let lawful : IsLawful t = c.each_target_is_a_lawful_subject.ensures on.target.now on.workload.now on.limits.max_hits in
+    let l = c.in_ok-grown.ensures.levels in
+    ask_alike_onward t on.limits.seed c.in_ok-grown.last l.top c.in_ok-grown.grown.plans lawful l.level

@@ -8,7 +8,7 @@ use Rattle.grown_runs.specs.inside.Levels.{AreTold, LastLevel}
 use Rattle.grown_runs.specs.inside.Growths.{if_report}
 use Rattle.grown_runs.proofs.Growing.{zeros, report_nil}
 use Rattle.grown_runs.proofs.Begun.{begun_next, begun_least}
-use Rattle.grown_runs.proofs.LevelRuns.{levels_start, next_many, next_last, too_many, told_more, sizes_more, can_rig}
+use Rattle.grown_runs.proofs.LevelRuns.{levels_start, next_many, next_last, too_many, told_more, sizes_more, can_rig, ask_alike}
 use Rattle.grown_runs.proofs.levels.grow_levels.Goals as goal
 
 pub returns-then-limits-eq0-clause-many : goal.returns-then-limits-eq0-clause-many
@@ -107,3 +107,10 @@ returns-clause-levels g c =
     let inv = c.loop.invariant in
     let whole : c.loop.counter ≡ c.args.on.now.limits.depth = omega (arith, end, c.loop-test.false) in
     record { top = c.loop.counter; within = omega (arith, end); so_far = inv.so_far; enough = inl whole; level = inv.level; levels = inv.levels; told = inv.told }
+
+pub add_level-requires-clause-alike : goal.add_level-requires-clause-alike
+add_level-requires-clause-alike g c κs within =
+    let on = c.args.on.now in
+    let t : Subject = subject_in g.T.Target on in
+    let lawful : IsLawful t = c.each_target_is_a_lawful_subject.ensures on.target.now on.workload.now on.limits.max_hits in
+    ask_alike t lawful c.loop.counter c.loop.grown.plans c.loop.invariant.level.are

@@ -5,7 +5,7 @@ use Rattle.grown_plans.specs.Promises.{IsLawful}
 use Rattle.grown_runs.specs.Grown.{subject_in, begun}
 use Rattle.grown_runs.specs.declared.course.Purpose.TheVariants.{Plans}
 use Rattle.grown_runs.proofs.Begun.{levels_begin, levels_whole, whole_levels}
-use Rattle.grown_runs.proofs.LevelRuns.{can_rig, grown_is, grown_many}
+use Rattle.grown_runs.proofs.LevelRuns.{can_rig, ask_alike, grown_is, grown_many}
 use Rattle.grown_runs.proofs.levels.grow_list.Goals as goal
 
 pub returns-then-count-len-clause-begun : goal.returns-then-count-len-clause-begun
@@ -82,3 +82,11 @@ returns-clause-few g c =
     ∙ levels_whole t on.limits.seed Plans on.limits.depth c.args.count last before l more) in
     let few = c.in_ok-add_onward.ensures.few in
     omega (arith, are, few)
+
+pub add_onward-requires-clause-alike : goal.add_onward-requires-clause-alike
+add_onward-requires-clause-alike g c κs within =
+    let on = c.args.on.now in
+    let t : Subject = subject_in g.T.Target on in
+    let lawful : IsLawful t = c.each_target_is_a_lawful_subject.ensures on.target.now on.workload.now on.limits.max_hits in
+    let l = c.in_ok-grown.ensures.levels in
+    ask_alike t lawful l.top c.in_ok-grown.grown.plans l.level.are

@@ -2,12 +2,13 @@ use Rattle.std.proofs.Common.{◌≡◌, ◌+◌, ◌-◌, ◌≤◌, ◌<◌, �
 use Rattle.std.proofs.lemmas.List.{length-append}
 use Rattle.action_eval.specs.declared.rig.Rig.{Rig}
 use Rattle.grown_plans.specs.GrownPlans.{Subject}
+use Rattle.grown_plans.specs.AskedPoints.{AsksLikeParent}
 use Rattle.grown_runs.specs.Grown.{subject_in}
 use Rattle.grown_runs.specs.inside.Growths.{IsGrowth}
 use Rattle.grown_runs.specs.declared.course.Place.TheVariants.{Last, Onward}
 use Rattle.grown_runs.specs.declared.course.Purpose.TheVariants.{Report}
 use Rattle.grown_runs.specs.inside.Levels.{AreTold, new_children, going_onward}
-use Rattle.grown_runs.proofs.LevelRuns.{can_rig_more, told_more}
+use Rattle.grown_runs.proofs.LevelRuns.{can_rig_more, each_more, told_more}
 use Rattle.grown_runs.proofs.levels.run_onward.Goals as goal
 
 pub run_part-requires-clause-rigs : goal.run_part-requires-clause-rigs
@@ -46,3 +47,8 @@ returns-clause-added g c =
           (told_more t seed Report (length plans) plans (going_onward t seed plans last) new c.note.new.self (omega arith) added so_far)
           (subst (λ (n : ℕ). IsGrowth t seed (record { place = Onward; purpose = Report }) new n (length new - n) c.in_ok-growth-2.growth) end c.in_ok-growth-2.ensures));
     }
+
+pub run_part-requires-clause-alike : goal.run_part-requires-clause-alike
+run_part-requires-clause-alike g c κs within =
+    let t : Subject = subject_in g.T.Target c.args.on.now in
+    each_more (AsksLikeParent t) c.args.grown.now.plans _ c.add_onward.new.plans c.requires.alike c.requires.onward_alike c.in_ok-growth.ensures.added

@@ -1,6 +1,7 @@
-use Rattle.std.proofs.Common.{◌≡◌, ℕ, ◌+◌, ◌-◌, ◌≤◌, ◌<◌, length, replicate, get_or, ap, sym, subst, ◌∙◌, arith, refl}
+use Rattle.std.proofs.Common.{◌≡◌, ℕ, ◌+◌, ◌-◌, ◌≤◌, ◌<◌, length, replicate, get_or, ap, sym, subst, ◌∙◌, arith, refl, None, Some}
 use Rattle.std.proofs.lemmas.List.{length-replicate, length-map}
 use Rattle.grown_runs.specs.inside.Growths.{IsGrowth, IsGrowthOn, subject_on}
+use Rattle.grown_runs.specs.inside.Beginnings.{AskLikeParents, TellsParent}
 use Rattle.grown_runs.proofs.Growing.{growth_none, growth_many, zeros}
 use Rattle.grown_runs.proofs.kept.Growth.run_over.Goals as goal
 
@@ -10,6 +11,7 @@ loop-number-init g c =
     let none = c.in_ok-growth.ensures in
     record {
       setup = refl;
+      begun = λ parent of. absurd (let no : None ≡ Some parent = sym c.forget.ensures ∙ of in cc);
       grown =
           subst (λ (k : ℕ). IsGrowth (subject_on g.T.Target c.args.target.now course) course.limits.seed course.part course.plans.now c.args.first k c.in_ok-growth.growth)
           (let e : 0 ≡ c.args.first - c.args.first = omega arith in e)
@@ -38,6 +40,8 @@ loop-number-preserved g c =
     let low = c.loop-number.auto.number in
     record {
       setup = c.run_one.ensures.setup ∙ inv.setup;
+      begun =
+          subst (λ s. TellsParent (subject_on g.T.Target s course) course.limits.seed course.plans.now c.run_one.new.workspace.begun) inv.setup c.in_ok-run_one.ensures.begun;
       grown =
           subst (λ (k : ℕ). IsGrowth (subject_on g.T.Target c.args.target.now course) course.limits.seed course.part course.plans.now first k c.run_one.new.growth)
           (let e : n - first + 1 ≡ n + 1 - first = omega (arith, low) in e)
@@ -50,3 +54,14 @@ returns-clause-grown g c =
     let course = c.args.course.now in
     subst (λ (k : ℕ). IsGrowth (subject_on g.T.Target c.args.target.now course) course.limits.seed course.part course.plans.now c.args.first k c.loop-number.growth)
     (let e : c.loop-number.number - c.args.first ≡ c.args.end - c.args.first = omega (arith, c.loop-number-test.false, c.loop-number.auto.number-end, c.requires.within.0) in e) c.loop-number.invariant.grown
+
+pub run_one-requires-clause-begun : goal.run_one-requires-clause-begun
+run_one-requires-clause-begun g c =
+    let course = c.args.course.now in
+    subst (λ s. TellsParent (subject_on g.T.Target s course) course.limits.seed course.plans.now c.loop-number.workspace.begun) (sym c.loop-number.invariant.setup)
+    c.loop-number.invariant.begun
+
+pub run_one-requires-clause-alike : goal.run_one-requires-clause-alike
+run_one-requires-clause-alike g c =
+    let course = c.args.course.now in
+    subst (λ s. AskLikeParents (subject_on g.T.Target s course) course.plans.now) (sym c.loop-number.invariant.setup) c.requires.alike
