@@ -9,7 +9,8 @@ use result_book::{Course, Row, Workspace};
 use scenario_values::Scenario;
 use std::alloc::{AllocError, Global};
 use std::collections::LinkedList;
-use target_trait::Target;
+use target_trait::{Target, Verdict};
+use work_gate::{Ended, Gate};
 use worker_pool::Job;
 
 /// What a runner's answers depend on. No value is made.
@@ -22,9 +23,11 @@ pub struct Setup<T: Target> {
     pub first: u32,
 }
 
-/// A target, with the course whose plans it runs, and with a workspace of its own that each run takes over from the one before.
+/// A target, with the course whose plans it runs, and with a workspace of its own that each run takes over from the one before. The gate is told
+/// what each row came to.
 #[derive(Drop)]
-pub struct Runner<'a, T: Target> {
+pub struct Runner<'a, T: Target, G: Gate> {
+    pub gate: &'a G,
     pub target: T,
     pub course: &'a Course<'a, T>,
     /// The number of the first plan that is run.
@@ -34,7 +37,7 @@ pub struct Runner<'a, T: Target> {
     ghost within: { first ≤ length course.now.plans.now },
 }
 
-impl<'a, T: Target + Send> Job for Runner<'a, T>
+impl<'a, T: Target + Send, G: Gate> Job for Runner<'a, T, G>
 where
     T::Workload: Sync,
 {
@@ -60,13 +63,32 @@ where
     fn perform(&mut self, number: u32) -> Result<Row<'a, T>, AllocError> {
         let count = self.course.plans.len() as u32 - self.first;
         let (begin, end) = row_bounds(count, number);
-        Row::run_over(
+        let row = Row::run_over(
             self.alloc,
             &mut self.target,
             &mut self.workspace,
             self.course,
             self.first + begin,
             self.first + end,
-        )
+        )?;
+        tell(self.gate, row.verdicts());
+        Ok(row)
+    }
+}
+
+/// Tells a gate that is watched what plans came to that have been run.
+fn tell<G: Gate>(gate: &G, verdicts: &[Verdict]) {
+    if gate.is_watched() {
+        let mut failing = 0u32;
+        for verdict in verdicts {
+            if matches!(verdict, Verdict::Fail(_)) {
+                failing = failing.saturating_add(1);
+            }
+        }
+        gate.ended(Ended {
+            plans: verdicts.len() as u32,
+            failing,
+            children: 0,
+        });
     }
 }

@@ -9,7 +9,7 @@ use std::sync::Wait;
 use std::sync::atomic::{AtomicU64, Ordering};
 use std::test::Fail;
 use std::thread::Threads;
-use work_gate::{Gate, Phase};
+use work_gate::{Ended, Gate, Phase, Stage};
 
 // The empty plan, one of three for each of the three points, and the storms. They are no whole number of rows of 16.
 const STORMS: u32 = 1100;

@@ -19,6 +19,8 @@ use Rattle.command_words.specs.declared.words.Line.{Line}
 use Rattle.command_words.specs.declared.words.Line.TheVariants.{Own, Outside}
 use Rattle.command_words.specs.declared.words.Order.{Order}
 use Rattle.command_words.specs.declared.words.Order.TheVariants as order
+use Rattle.command_words.specs.declared.words.ProgressForm.{ProgressForm}
+use Rattle.command_words.specs.declared.words.ProgressForm.TheVariants as shows
 use Rattle.command_words.specs.declared.words.Question.{Question}
 use Rattle.command_words.specs.declared.words.Question.TheVariants.{Asks, Report}
 use Rattle.command_words.specs.declared.words.Which.{Which}
@@ -64,9 +66,12 @@ json_rule = flag_rule (codes "json")
 abbrev pub junit_rule : Rule
 junit_rule = flag_rule (codes "junit")
 
--- --progress, a flag
+-- --progress and --progress-plain, flags
 abbrev pub progress_rule : Rule
 progress_rule = flag_rule (codes "progress")
+
+abbrev pub progress_plain_rule : Rule
+progress_plain_rule = flag_rule (codes "progress-plain")
 
 -- --strict, a flag
 abbrev pub strict_rule : Rule
@@ -96,7 +101,7 @@ scenario_app name = with_rule (with_rule (with_rule (new_app name) scenario_rule
 
 -- a command that runs plans or a reduction, and that may show how far it is
 abbrev pub shown_app : App → App
-shown_app app = with_rule app progress_rule
+shown_app app = with_rule (with_rule app progress_rule) progress_plain_rule
 
 -- a command that may run plans that fail once more
 abbrev pub rechecked_app : App → App
@@ -150,6 +155,7 @@ pub record Values : Type 0 where
   pub strict : Option Text
   pub recheck : Option Text
   pub progress : Option Text
+  pub progress_plain : Option Text
   pub file : Option Text
 
 abbrev pub values_in : List Row → Values
@@ -162,6 +168,7 @@ values_in rows = record {
   strict = first_of (codes "strict") rows;
   recheck = first_of (codes "recheck") rows;
   progress = first_of (codes "progress") rows;
+  progress_plain = first_of (codes "progress-plain") rows;
   file = first_of (codes "file") rows;
 }
 
@@ -176,6 +183,7 @@ values_of f = record {
   strict = first_value f (codes "strict");
   recheck = first_value f (codes "recheck");
   progress = first_value f (codes "progress");
+  progress_plain = first_value f (codes "progress-plain");
   file = first_value f (codes "file");
 }
 
@@ -205,6 +213,10 @@ form_by false true true = None
 abbrev pub form_of : Values → Option Form
 form_of v = form_by (is_set v.brief) (is_set v.json) (is_set v.junit)
 
+-- in which form it is shown how far a command is, and whether it is: plain lines where both flags were given
+abbrev pub progress_form_of : Values → ProgressForm
+progress_form_of v = if is_set v.progress_plain then shows.Plain else (if is_set v.progress then shows.Line else shows.Off)
+
 -- the order that a command's name and its values give
 abbrev pub IsOrder : Text → Values → Order → Type 0
 IsOrder name v (order.Run form strict recheck) =
@@ -222,12 +234,12 @@ IsQuestion name v (Report brief strict) = (name ≡ codes "report") × (brief �
 
 -- the order of no command is Run, with the whole report, on the settings that come from standard input, and nothing more is shown
 abbrev pub IsRun : Line → Type 0
-IsRun (Own (order.Run Whole false false) progress file) = (progress ≡ false) × (file ≡ None)
+IsRun (Own (order.Run Whole false false) progress file) = (progress ≡ shows.Off) × (file ≡ None)
 IsRun _ = ⊥
 
 -- the line of a command's name and its values
 abbrev pub IsLineOf : Text → Values → Line → Type 0
-IsLineOf name v (Own order progress own) = IsOrder name v order × (progress ≡ is_set v.progress) × (option_map string_bytes own ≡ v.file)
+IsLineOf name v (Own order progress own) = IsOrder name v order × (progress ≡ progress_form_of v) × (option_map string_bytes own ≡ v.file)
 IsLineOf name v (Outside question own) = IsQuestion name v question × (v.file ≡ Some (string_bytes own))
 
 -- the line that the matches give

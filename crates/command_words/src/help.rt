@@ -67,6 +67,8 @@ pub const RECHECK: &str =
 
 pub const PROGRESS: &str = "Show on standard error, in one line, how far plans or a reduction are";
 
+pub const PROGRESS_PLAIN: &str = "The same in lines without control bytes, for logs: one every 5 seconds";
+
 pub const PLAN: &str = "The scenario of plan N of the campaign, 0 to 65535, drawn as it is there";
 
 /// What a scenario's text is, for the commands that take one.

@@ -1,7 +1,7 @@
 ghost use Rattle.std.specs.Prelude.{◌≡◌, ◌↔◌, ◌∷◌, [], IsTrue, Some, None, option_map, is_some, true, false, IfOk, IfErr, IfSome, map, codes, string_bytes};
 ghost use Rattle.clap.specs.Words.{app_of, fault_of, first_value, found_of, rule_of, subcommand_of, takes};
 ghost use Rattle.clap.specs.declared.builder.command.Command.TheViews.{out-Command as fields_of};
-ghost use Rattle.command_words.specs.Words.{AsksToSee, HasAlso, HasNeeded, IsFaultOf, IsLine, IsLineOf, IsName, IsOrder, IsOrderName, IsQuestion, IsQuestionName, IsRefusedFor, IsScenarioName, IsWhich, Spells, bare_app, campaign_commands, choice_fault, choice_kinds, file_app, file_rule, flag_rule, form_kinds, form_of, formed_app, needed_file_rule, paklour, is_set, question_app, question_commands, question_report_app, rechecked_app, report_app, scenario_app, scenario_commands, shown_app, value_rule, values_of, which_kinds, with_commands, words_fault};
+ghost use Rattle.command_words.specs.Words.{AsksToSee, HasAlso, HasNeeded, IsFaultOf, IsLine, IsLineOf, IsName, IsOrder, IsOrderName, IsQuestion, IsQuestionName, IsRefusedFor, IsScenarioName, IsWhich, Spells, bare_app, campaign_commands, choice_fault, choice_kinds, file_app, file_rule, flag_rule, form_kinds, form_of, formed_app, needed_file_rule, paklour, is_set, progress_form_of, question_app, question_commands, question_report_app, rechecked_app, report_app, scenario_app, scenario_commands, shown_app, value_rule, values_of, which_kinds, with_commands, words_fault};
 ghost use Rattle.command_words.specs.declared.words.WordsFault.TheVariants.{Memory};
 ghost use Rattle.clap.specs.Kinds.{value_kinds};
 ghost use Rattle.clap.specs.declared.builder.value_parser.ValueParser.TheVariants.{Unsigned};
@@ -36,6 +36,17 @@ pub enum Form {
     Json,
     /// JUnit's XML.
     Junit,
+}
+
+/// In which form the program shows how far plans or a reduction are, while they run.
+#[derive(Clone, Copy, Debug, PartialEq, Eq)]
+pub enum ProgressForm {
+    /// It shows nothing.
+    Off,
+    /// In one line that is written over.
+    Line,
+    /// In plain lines, as logs keep them.
+    Plain,
 }
 
 /// What the program is to do.
@@ -73,11 +84,11 @@ pub enum Question {
 /// What the words ask for.
 #[derive(Debug, Drop)]
 pub enum Line {
-    /// A command over a target. `file` has the settings; `None` where they come from standard input. Where `progress` is set, the program
-    /// shows how far plans or a reduction are while they run; it is for run, map and reduce alone.
+    /// A command over a target. `file` has the settings; `None` where they come from standard input. `progress` is how the program shows how far
+    /// plans or a reduction are while they run; it is for run, map and reduce alone, and off for each other command.
     Own {
         order: Order,
-        progress: bool,
+        progress: ProgressForm,
         file: Option<String>,
     },
     /// A question, by the settings of the file and the answers on standard input.
@@ -198,6 +209,17 @@ fn with_forms<'a>(alloc: Global, command: Command<'a>) -> Result<Command<'a>, Al
         .arg(flag_arg(alloc, "junit", help::JUNIT))
 }
 
+// The command with the flags by which it shows how far it is.
+fn with_progress<'a>(alloc: Global, command: Command<'a>) -> Result<Command<'a>, AllocError>
+    requires { (fields_of command).has_globals ≡ false }
+    ensures app { IfOk result (λ more. app_of more ≡ shown_app (app_of command.entry)) }
+    ensures local { IfOk result (λ more. (fields_of more).has_globals ≡ false) }
+{
+    command
+        .arg(flag_arg(alloc, "progress", help::PROGRESS))?
+        .arg(flag_arg(alloc, "progress-plain", help::PROGRESS_PLAIN))
+}
+
 fn report_command<'a>(
     alloc: Global,
     name: &'a str,
@@ -235,9 +257,9 @@ fn run_command<'a>(alloc: Global) -> Result<Command<'a>, AllocError>
     ensures app { IfOk result (λ command. app_of command ≡ shown_app (rechecked_app (report_app (codes "run")))) }
     ensures local { IfOk result (λ command. (fields_of command).has_globals ≡ false) }
 {
-    report_command(alloc, "run", help::RUN, help::RUN_EXAMPLES)?
-        .arg(flag_arg(alloc, "recheck", help::RECHECK))?
-        .arg(flag_arg(alloc, "progress", help::PROGRESS))
+    let command = report_command(alloc, "run", help::RUN, help::RUN_EXAMPLES)?
+        .arg(flag_arg(alloc, "recheck", help::RECHECK))?;
+    with_progress(alloc, command)
 }
 
 // The command that runs a campaign and draws it.
@@ -245,11 +267,8 @@ fn map_command<'a>(alloc: Global) -> Result<Command<'a>, AllocError>
     ensures app { IfOk result (λ command. app_of command ≡ shown_app (file_app (codes "map"))) }
     ensures local { IfOk result (λ command. (fields_of command).has_globals ≡ false) }
 {
-    file_command(alloc, "map", help::MAP, help::MAP_EXAMPLES)?.arg(flag_arg(
-        alloc,
-        "progress",
-        help::PROGRESS,
-    ))
+    let command = file_command(alloc, "map", help::MAP, help::MAP_EXAMPLES)?;
+    with_progress(alloc, command)
 }
 
 // The command that reduces a scenario.
@@ -257,11 +276,8 @@ fn reduce_command<'a>(alloc: Global) -> Result<Command<'a>, AllocError>
     ensures app { IfOk result (λ command. app_of command ≡ shown_app (scenario_app (codes "reduce"))) }
     ensures local { IfOk result (λ command. (fields_of command).has_globals ≡ false) }
 {
-    scenario_command(alloc, "reduce", help::REDUCE)?.arg(flag_arg(
-        alloc,
-        "progress",
-        help::PROGRESS,
-    ))
+    let command = scenario_command(alloc, "reduce", help::REDUCE)?;
+    with_progress(alloc, command)
 }
 
 fn question_command<'a>(
@@ -378,7 +394,7 @@ pub fn read_words(alloc: Global, words: &[String]) -> Result<Line, WordsFault>
                 strict: false,
                 recheck: false,
             },
-            progress: false,
+            progress: ProgressForm::Off,
             file: None,
         }),
     }
@@ -409,9 +425,22 @@ fn line_of<'a>(alloc: Global, name: &str, own: &ArgMatches<'a>) -> Result<Line, 
         }),
         None => Ok(Line::Own {
             order: order_of(alloc, name, own)?,
-            progress: is_set(own, "progress"),
+            progress: progress_form(own),
             file: file_of(alloc, own)?,
         }),
+    }
+}
+
+// In which form it is shown how far a command is. Plain lines are the form where both are asked for.
+fn progress_form<'a>(own: &ArgMatches<'a>) -> ProgressForm
+    ensures { result ≡ progress_form_of (values_of (found_of own.now)) }
+{
+    if is_set(own, "progress-plain") {
+        ProgressForm::Plain
+    } else if is_set(own, "progress") {
+        ProgressForm::Line
+    } else {
+        ProgressForm::Off
     }
 }
 
