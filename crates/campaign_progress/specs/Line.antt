@@ -1,6 +1,7 @@
 -- What is shown of how far plans or a reduction are.
-use Rattle.std.specs.Prelude.{◌++◌, ◌∷◌, [], ◌||◌, ◌==◌, ◌+◌, ◌-◌, ◌*◌, ◌/◌, ◌%◌, ℕ, List, codes, nat_lt, if◌then◌else◌}
+use Rattle.std.specs.Prelude.{◌++◌, ◌∷◌, [], ◌||◌, ◌==◌, ◌-◌, ◌*◌, ◌/◌, ◌%◌, ℕ, List, codes, nat_lt, if◌then◌else◌}
 use Rattle.std.specs.Fmt.{decimal}
+use Rattle.std.specs.Int.{div_ceil}
 use Rattle.campaign_progress.specs.declared.pace.Pace.{Pace}
 use Rattle.campaign_progress.specs.declared.pace.Pace.TheVariants.{Unknown, Known}
 use Rattle.campaign_progress.specs.declared.shown.Shown.{Shown}
@@ -13,14 +14,11 @@ use Rattle.work_gate.specs.declared.Stage.TheVariants.{Listed, Level, Onward}
 
 -- ---- how fast plans end
 
--- the quotient, rounded up
-abbrev pub rounded_up : ℕ → ℕ → ℕ
-rounded_up n d = (n + d - 1) / d
-
--- plans a second, and the seconds that the rest takes, where so many of those that are expected have ended in so many milliseconds
+-- plans a second, rounded down, and the seconds that the rest takes, rounded up, where so many of those that are expected have ended in so many
+-- milliseconds
 abbrev pub pace_of : ℕ → ℕ → ℕ → Pace
 pace_of ended expected elapsed = if nat_lt elapsed 1000 || ended == 0 then Unknown
-    else Known (ended * 1000 / elapsed) (rounded_up ((expected - ended) * elapsed) (ended * 1000))
+    else Known (ended * 1000 / elapsed) (div_ceil ((expected - ended) * elapsed) (ended * 1000))
 
 -- two digits of a number below 100
 abbrev pub two_digits : ℕ → List ℕ

@@ -1,5 +1,5 @@
 -- The program's command line: the command that clap builds, and what its matches mean.
-use Rattle.std.specs.Prelude.{◌≡◌, ◌⊎◌, ◌||◌, ◌++◌, ℕ, Bool, List, [], ◌∷◌, true, false, Option, Some, None, Result, Ok, Err, codes, if◌then◌else◌, is_some, option_map, string_bytes}
+use Rattle.std.specs.Prelude.{◌≡◌, ◌⊎◌, ◌||◌, ◌++◌, ℕ, Bool, List, [], ◌∷◌, true, false, Option, Some, None, Result, Ok, Err, codes, if◌then◌else◌, is_some, option_map, String, string_bytes}
 use Rattle.std.specs.Option.{option_map_or}
 use Rattle.std.specs.Str.{bytes_eq}
 use Rattle.std.specs.Str.Parse.{IsNumeral, digits_value, without_leading_plus}
@@ -66,10 +66,11 @@ json_rule = flag_rule (codes "json")
 abbrev pub junit_rule : Rule
 junit_rule = flag_rule (codes "junit")
 
--- --progress and --progress-plain, flags
+-- --progress, a flag
 abbrev pub progress_rule : Rule
 progress_rule = flag_rule (codes "progress")
 
+-- --progress=plain, a flag as the reader of command lines takes it
 abbrev pub progress_plain_rule : Rule
 progress_plain_rule = flag_rule (codes "progress-plain")
 
@@ -144,6 +145,15 @@ HasAlso app (Ok sub) command = app_of command ≡ with_subcommand app (app_of su
 HasAlso app (Err fault) command = ⊥
 
 -- ---- what the words mean
+
+-- a word as the reader of command lines takes it: it has no option whose value may be left out and stands behind a `=` else, so --progress=line
+-- is --progress, and --progress=plain a flag of its own
+abbrev pub spelled : Text → Text
+spelled word = if bytes_eq word (codes "--progress=plain") then codes "--progress-plain"
+    else (if bytes_eq word (codes "--progress=line") then codes "--progress" else word)
+
+abbrev pub spelled_word : {A : Type 0} → String A → Text
+spelled_word word = spelled (string_bytes word)
 
 -- the values that a command was given: TEXT, N, `true` where --brief was given, and so of the other flags, and FILE
 pub record Values : Type 0 where

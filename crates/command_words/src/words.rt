@@ -1,7 +1,7 @@
 ghost use Rattle.std.specs.Prelude.{◌≡◌, ◌↔◌, ◌∷◌, [], IsTrue, Some, None, option_map, is_some, true, false, IfOk, IfErr, IfSome, map, codes, string_bytes};
 ghost use Rattle.clap.specs.Words.{app_of, fault_of, first_value, found_of, rule_of, subcommand_of, takes};
 ghost use Rattle.clap.specs.declared.builder.command.Command.TheViews.{out-Command as fields_of};
-ghost use Rattle.command_words.specs.Words.{AsksToSee, HasAlso, HasNeeded, IsFaultOf, IsLine, IsLineOf, IsName, IsOrder, IsOrderName, IsQuestion, IsQuestionName, IsRefusedFor, IsScenarioName, IsWhich, Spells, bare_app, campaign_commands, choice_fault, choice_kinds, file_app, file_rule, flag_rule, form_kinds, form_of, formed_app, needed_file_rule, paklour, is_set, progress_form_of, question_app, question_commands, question_report_app, rechecked_app, report_app, scenario_app, scenario_commands, shown_app, value_rule, values_of, which_kinds, with_commands, words_fault};
+ghost use Rattle.command_words.specs.Words.{AsksToSee, HasAlso, HasNeeded, IsFaultOf, IsLine, IsLineOf, IsName, IsOrder, IsOrderName, IsQuestion, IsQuestionName, IsRefusedFor, IsScenarioName, IsWhich, Spells, bare_app, campaign_commands, choice_fault, choice_kinds, file_app, file_rule, flag_rule, form_kinds, form_of, formed_app, needed_file_rule, paklour, is_set, progress_form_of, spelled, spelled_word, question_app, question_commands, question_report_app, rechecked_app, report_app, scenario_app, scenario_commands, shown_app, value_rule, values_of, which_kinds, with_commands, words_fault};
 ghost use Rattle.command_words.specs.declared.words.WordsFault.TheVariants.{Memory};
 ghost use Rattle.clap.specs.Kinds.{value_kinds};
 ghost use Rattle.clap.specs.declared.builder.value_parser.ValueParser.TheVariants.{Unsigned};
@@ -217,7 +217,7 @@ fn with_progress<'a>(alloc: Global, command: Command<'a>) -> Result<Command<'a>,
 {
     command
         .arg(flag_arg(alloc, "progress", help::PROGRESS))?
-        .arg(flag_arg(alloc, "progress-plain", help::PROGRESS_PLAIN))
+        .arg(flag_arg(alloc, "progress-plain", help::PROGRESS).hide(true))
 }
 
 fn report_command<'a>(
@@ -375,11 +375,47 @@ fn command<'a>(alloc: Global) -> Result<Command<'a>, AllocError>
 /// one: a text, or the number of a plan from 0 to 65535, and not both. `Err` is the fault, as which help and the version are also told
 /// where the words ask for them, or that memory ran out.
 pub fn read_words(alloc: Global, words: &[String]) -> Result<Line, WordsFault>
-    ensures ok { IfOk result (IsLine (subcommand_of paklour (map string_bytes words.now))) }
-    ensures taken { IfOk result (λ _. words_fault (map string_bytes words.now) ≡ []) }
-    ensures refused { IfErr result (IsRefusedFor (words_fault (map string_bytes words.now))) }
-    ensures memory { IfErr result (λ fault. takes paklour (map string_bytes words.now) ≡ true
-        → choice_fault (subcommand_of paklour (map string_bytes words.now)) ≡ [] → fault ≡ Memory) }
+    ensures ok { IfOk result (IsLine (subcommand_of paklour (map spelled_word words.now))) }
+    ensures taken { IfOk result (λ _. words_fault (map spelled_word words.now) ≡ []) }
+    ensures refused { IfErr result (IsRefusedFor (words_fault (map spelled_word words.now))) }
+    ensures memory { IfErr result (λ fault. takes paklour (map spelled_word words.now) ≡ true
+        → choice_fault (subcommand_of paklour (map spelled_word words.now)) ≡ [] → fault ≡ Memory) }
+{
+    let spelled = spelled_words(alloc, words)?;
+    read_spelled(alloc, spelled.as_slice())
+}
+
+// The words as the reader of command lines takes them, which knows no option whose value may be left out and stands behind a `=` else.
+fn spelled_words<'a>(alloc: Global, words: &'a [String]) -> Result<Vec<&'a str>, AllocError>
+    ensures { IfOk result (λ all. map (λ word. word.now) all.items ≡ map spelled_word words.now) }
+{
+    let mut all = Vec::with_capacity(alloc, words.len())?;
+    for word in words {
+        all.push(spelled(word.as_str()))?;
+    }
+    Ok(all)
+}
+
+// The word as the reader of command lines takes it.
+fn spelled<'a>(word: &'a str) -> &'a str
+    ensures { result.now ≡ spelled word.now }
+{
+    if word == "--progress=plain" {
+        "--progress-plain"
+    } else if word == "--progress=line" {
+        "--progress"
+    } else {
+        word
+    }
+}
+
+// The command that words give as the reader of command lines takes them.
+fn read_spelled(alloc: Global, words: &[&str]) -> Result<Line, WordsFault>
+    ensures ok { IfOk result (IsLine (subcommand_of paklour (map (λ word. word.now) words.now))) }
+    ensures taken { IfOk result (λ _. words_fault (map (λ word. word.now) words.now) ≡ []) }
+    ensures refused { IfErr result (IsRefusedFor (words_fault (map (λ word. word.now) words.now))) }
+    ensures memory { IfErr result (λ fault. takes paklour (map (λ word. word.now) words.now) ≡ true
+        → choice_fault (subcommand_of paklour (map (λ word. word.now) words.now)) ≡ [] → fault ≡ Memory) }
 {
     let command = command(alloc)?;
     let matches = match command.try_get_matches_from(words) {
