@@ -4,13 +4,13 @@ ghost use Rattle.campaign_given.specs.Given.{verdict_on};
 ghost use Rattle.campaign_core.specs.inside.Rows.{row_limit, row_of};
 
 use campaign_given::CampaignSettings;
-use plan_rows::row_bounds;
+use plan_rows::{row_bounds, tell_ended};
 use result_book::{Course, Row, Workspace};
 use scenario_values::Scenario;
 use std::alloc::{AllocError, Global};
 use std::collections::LinkedList;
-use target_trait::{Target, Verdict};
-use work_gate::{Ended, Gate};
+use target_trait::Target;
+use work_gate::Gate;
 use worker_pool::Job;
 
 /// What a runner's answers depend on. No value is made.
@@ -71,24 +71,7 @@ where
             self.first + begin,
             self.first + end,
         )?;
-        tell(self.gate, row.verdicts());
+        tell_ended(self.gate, row.verdicts(), 0);
         Ok(row)
-    }
-}
-
-/// Tells a gate that is watched what plans came to that have been run.
-fn tell<G: Gate>(gate: &G, verdicts: &[Verdict]) {
-    if gate.is_watched() {
-        let mut failing = 0u32;
-        for verdict in verdicts {
-            if matches!(verdict, Verdict::Fail(_)) {
-                failing = failing.saturating_add(1);
-            }
-        }
-        gate.ended(Ended {
-            plans: verdicts.len() as u32,
-            failing,
-            children: 0,
-        });
     }
 }

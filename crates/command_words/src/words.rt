@@ -257,8 +257,11 @@ fn run_command<'a>(alloc: Global) -> Result<Command<'a>, AllocError>
     ensures app { IfOk result (λ command. app_of command ≡ shown_app (rechecked_app (report_app (codes "run")))) }
     ensures local { IfOk result (λ command. (fields_of command).has_globals ≡ false) }
 {
-    let command = report_command(alloc, "run", help::RUN, help::RUN_EXAMPLES)?
-        .arg(flag_arg(alloc, "recheck", help::RECHECK))?;
+    let command = report_command(alloc, "run", help::RUN, help::RUN_EXAMPLES)?.arg(flag_arg(
+        alloc,
+        "recheck",
+        help::RECHECK,
+    ))?;
     with_progress(alloc, command)
 }
 
