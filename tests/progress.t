@@ -40,10 +40,35 @@ Each line has one of these forms. The pace is told once a second of the plans ha
   $ paklour reduce --progress --scenario 'replace::sync=return;replace::write=off' given 2>&1 > /dev/null | lines | grep -c -x '<reducing: test 1\(<reducing: test [0-9]*\)*<'
   1
 
-Lines for logs are whole lines without control bytes: one at the first plan, and others no sooner than five seconds after it.
+In a campaign that takes more than a second, the pace stands there, and the rest takes about as long as plans do at that pace: as many as
+have begun have ended, but for those of a row of 16.
+
+  $ long() {
+  >     printf 'target = "replace"\nvariant = "late_sync"\nseed = 7\nstorms = 10000\n[replace]\nold = "old"\nreplacements = [["ne", "w"]'
+  >     for n in $(seq $1); do printf ', ["ne", "w"]'; done
+  >     echo ']'
+  > }
+  $ for replacements in 2 20 200 900; do
+  >     long $replacements > slow
+  >     paklour run --brief --progress slow 2>&1 > /dev/null | lines | tr '<' '\n' > shown
+  >     ! grep -q ' a second' shown || break
+  > done
+  $ grep -q ' a second' shown || echo 'no pace'
+  $ plans=$(paklour plans slow | wc -l)
+  $ grep -v -x -e "plans [0-9]* of $plans, [0-9]* failing\($pace\)\?" -e 'reducing: test [0-9]*' -e '' shown
+  [1]
+  $ tr ',:' '  ' < shown | awk '/a second/ {
+  >     rest = $4 - $2; rate = $7; left = ($10 * 60 + $11) * 60 + $12
+  >     if (left < rest / (rate + 1) || left > (rest + 16) / rate + 1) print "another time left:", $0
+  > }'
+
+Lines for logs are whole lines without control bytes: one at the first plan, one at the first test, and others no sooner than five seconds
+after the last.
 
   $ paklour run --progress=plain given 2>&1 > /dev/null | head -n 1
   plans 1 of 49, 0 failing
+  $ paklour run --progress=plain given 2>&1 > /dev/null | grep -c -x 'reducing: test 1'
+  1
   $ paklour run --progress=plain given 2>&1 > /dev/null | tr -d '\n' | LC_ALL=C grep -c '[[:cntrl:]]'
   0
   [1]

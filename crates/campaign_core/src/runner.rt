@@ -4,7 +4,7 @@ ghost use Rattle.campaign_given.specs.Given.{verdict_on};
 ghost use Rattle.campaign_core.specs.inside.Rows.{row_limit, row_of};
 
 use campaign_given::CampaignSettings;
-use plan_rows::{row_bounds, tell_ended};
+use plan_rows::{ended_of, row_bounds};
 use result_book::{Course, Row, Workspace};
 use scenario_values::Scenario;
 use std::alloc::{AllocError, Global};
@@ -71,7 +71,9 @@ where
             self.first + begin,
             self.first + end,
         )?;
-        tell_ended(self.gate, row.verdicts(), 0);
+        if self.gate.is_watched() {
+            self.gate.ended(ended_of(row.verdicts(), 0));
+        }
         Ok(row)
     }
 }

@@ -17,8 +17,8 @@ const PLAIN_PAUSE: u64 = 5000;
 
 /// A gate that holds nobody, and tells on standard error how far plans, or tests of reductions, are.
 ///
-/// It shows one line that is written over, at most ten times a second of the clock; or plain lines, one when the first plan of a stage begins,
-/// and at most one every five seconds after it. It shows nothing where the clock can't be read or standard error takes nothing.
+/// It shows one line that is written over, at most ten times a second of the clock; or plain lines, one when the first plan of a stage or the
+/// first test begins, and at most one every five seconds after it. It shows nothing where the clock can't be read or standard error takes nothing.
 /// [`crate::Cleared`] clears the line that is written over before anything else is written.
 #[derive(Drop)]
 pub struct Progress<'a, H: Clock + Eprint> {
@@ -102,6 +102,13 @@ impl<'a, H: Clock + Eprint> Progress<'a, H> {
         }
     }
 
+    // A log has a line where a stage begins, however soon after the last one.
+    fn begin_plain(&self) {
+        if self.form == ProgressForm::Plain {
+            self.due.store(0, Ordering::SeqCst);
+        }
+    }
+
     // What the clock says, in milliseconds. None where it can't be read.
     fn now(&self) -> Option<u64> {
         match self.rt.monotonic() {
@@ -175,11 +182,16 @@ impl<'a, H: Clock + Eprint + Sync> Gate for Progress<'a, H> {
         if !self.is_watched() {
             return;
         }
-        let count = match phase {
-            Phase::Plans => &self.counts.begun,
-            Phase::Cards => &self.tests,
-        };
-        count.fetch_add(1, Ordering::SeqCst);
+        match phase {
+            Phase::Plans => {
+                self.counts.begun.fetch_add(1, Ordering::SeqCst);
+            }
+            Phase::Cards => {
+                if self.tests.fetch_add(1, Ordering::SeqCst) == 0 {
+                    self.begin_plain();
+                }
+            }
+        }
         self.show(phase);
     }
 
@@ -195,10 +207,7 @@ impl<'a, H: Clock + Eprint + Sync> Gate for Progress<'a, H> {
                 began: self.now(),
             };
         }
-        // A log has a line of each stage.
-        if self.form == ProgressForm::Plain {
-            self.due.store(0, Ordering::SeqCst);
-        }
+        self.begin_plain();
     }
 
     fn is_watched(&self) -> bool {

@@ -6,5 +6,5 @@ mod ended;
 mod rows;
 
 pub use answers::{answers_of, rows_in_order};
-pub use ended::tell_ended;
+pub use ended::ended_of;
 pub use rows::{RowGate, row_bounds, row_count};
