@@ -22,7 +22,7 @@ No line of it is longer than 100 letters, as has just been seen. It says what ea
         --junit     Write JUnit's XML, with a case for each plan
         --strict    Tell on standard error what the report doesn't show, and end with 5 then
         --recheck   Run each failing plan once more first, and refuse a target that says otherwise
-        --progress  Show on standard error, in one line, how far plans or a reduction are
+        --progress  Show on standard error how far it is; --progress=plain: in lines, for logs
     -h, --help      Print help
   
   Examples:
@@ -32,7 +32,8 @@ No line of it is longer than 100 letters, as has just been seen. It says what ea
     paklour run --json my.toml      a JSON document, for programs that read the report
     paklour run --junit my.toml     JUnit's XML, which CI servers show as tests
     paklour run --strict my.toml    the same report; what it doesn't show is told on standard error
-    paklour run --progress my.toml  the same report; meanwhile `plans 12 of 65025` on standard error
+    paklour run --progress my.toml  the same report; meanwhile on standard error, in one line:
+                                    plans 5201 of 65025, 1 failing, 5200 a second, 0:00:12 left
   
   Of --brief, --json and --junit one at most is given.
   $ paklour help try | grep -e ^Usage: -e ' --scenario <' -e ' --plan <' -e '^A scenario has '
@@ -52,10 +53,10 @@ Each option has an example.
   $ paklour help explain | grep 'paklour explain --'
     paklour explain --plan 10 my.toml the same run, hit by hit
   $ paklour help reduce | grep -e ' --progress'
-        --progress         Show on standard error, in one line, how far plans or a reduction are
+        --progress         Show on standard error how far it is; --progress=plain: in lines, for logs
     paklour reduce --progress --plan 10 my.toml   while it asks, how many tests there were so far
   $ paklour help map | grep -e ' --progress'
-        --progress  Show on standard error, in one line, how far plans or a reduction are
+        --progress  Show on standard error how far it is; --progress=plain: in lines, for logs
   $ paklour help map | sed -n '/^Example/,$p'
   Example:
     paklour map my.toml > map.svg

@@ -13,9 +13,11 @@ the line. What stands on the line is written over: a carriage return and the thr
   $ for words in run 'run --brief' map 'reduce --scenario replace::sync=return;replace::write=off'; do
   >     paklour $words given > plain 2> nothing
   >     status=$?
-  >     paklour $words --progress given > out 2> fault
-  >     test $? -eq $status || echo "$words: another status"
-  >     cmp plain out || echo "$words: another text"
+  >     for option in --progress --progress=line --progress=plain; do
+  >         paklour $words $option given > out 2> fault
+  >         test $? -eq $status || echo "$words $option: another status"
+  >         cmp plain out || echo "$words $option: another text"
+  >     done
   >     test ! -s nothing || echo "$words: shown without the option"
   > done
 
@@ -24,16 +26,61 @@ With one worker the first line is that of the first plan, of as many as `plans` 
   $ paklour plans given | wc -l
   49
   $ paklour run --progress given 2>&1 > /dev/null | lines | cut -d '<' -f 2
-  plans 1 of 49
+  plans 1 of 49, 0 failing
+  $ paklour run --progress=line given 2>&1 > /dev/null | lines | cut -d '<' -f 2
+  plans 1 of 49, 0 failing
   $ paklour run --progress given 2>&1 > /dev/null | lines | grep -c '<$'
   1
 
-Each line has one of these forms.
+Each line has one of these forms. The pace is told once a second of the plans has gone.
 
-  $ paklour run --progress given 2>&1 > /dev/null | lines | tr '<' '\n' | grep -v -x -e 'plans [0-9]* of 49' -e 'reducing: test [0-9]*' -e ''
+  $ pace=', [0-9]* a second, [0-9]*:[0-5][0-9]:[0-5][0-9] left'
+  $ paklour run --progress given 2>&1 > /dev/null | lines | tr '<' '\n' | grep -v -x -e "plans [0-9]* of 49, [0-9]* failing\($pace\)\?" -e 'reducing: test [0-9]*' -e ''
   [1]
   $ paklour reduce --progress --scenario 'replace::sync=return;replace::write=off' given 2>&1 > /dev/null | lines | grep -c -x '<reducing: test 1\(<reducing: test [0-9]*\)*<'
   1
+
+In a campaign that takes more than a second, the pace stands there, and the rest takes about as long as plans do at that pace: as many as
+have begun have ended, but for those of a row of 16.
+
+  $ long() {
+  >     printf 'target = "replace"\nvariant = "late_sync"\nseed = 7\nstorms = 10000\n[replace]\nold = "old"\nreplacements = [["ne", "w"]'
+  >     for n in $(seq $1); do printf ', ["ne", "w"]'; done
+  >     echo ']'
+  > }
+  $ for replacements in 2 20 200 900; do
+  >     long $replacements > slow
+  >     paklour run --brief --progress slow 2>&1 > /dev/null | lines | tr '<' '\n' > shown
+  >     ! grep -q ' a second' shown || break
+  > done
+  $ grep -q ' a second' shown || echo 'no pace'
+  $ plans=$(paklour plans slow | wc -l)
+  $ grep -v -x -e "plans [0-9]* of $plans, [0-9]* failing\($pace\)\?" -e 'reducing: test [0-9]*' -e '' shown
+  [1]
+  $ tr ',:' '  ' < shown | awk '/a second/ {
+  >     rest = $4 - $2; rate = $7; left = ($10 * 60 + $11) * 60 + $12
+  >     if (left < rest / (rate + 1) || left > (rest + 16) / rate + 1) print "another time left:", $0
+  > }'
+
+Lines for logs are whole lines without control bytes: one at the first plan, one at the first test, and others no sooner than five seconds
+after the last.
+
+  $ paklour run --progress=plain given 2>&1 > /dev/null | head -n 1
+  plans 1 of 49, 0 failing
+  $ paklour run --progress=plain given 2>&1 > /dev/null | grep -c -x 'reducing: test 1'
+  1
+  $ paklour run --progress=plain given 2>&1 > /dev/null | tr -d '\n' | LC_ALL=C grep -c '[[:cntrl:]]'
+  0
+  [1]
+  $ paklour run --progress=plain given 2>&1 > /dev/null | grep -v -x -e "plans [0-9]* of 49, [0-9]* failing\($pace\)\?" -e 'reducing: test [0-9]*'
+  [1]
+  $ paklour reduce --progress=plain --scenario 'replace::sync=return;replace::write=off' given 2>&1 > /dev/null | head -n 1
+  reducing: test 1
+
+Where both are asked for it is lines for logs.
+
+  $ paklour run --progress --progress=plain given 2>&1 > /dev/null | head -n 1
+  plans 1 of 49, 0 failing
 
 Where the command is refused before anything has run, or its output takes nothing, the line of the fault stands alone at the end.
 
@@ -42,3 +89,24 @@ Where the command is refused before anything has run, or its output takes nothin
   [2]
   $ paklour run --progress given 2>&1 > /dev/full | lines | sed 's/^.*<//'
   write failed after 0 bytes
+  $ paklour run --progress=plain given 2>&1 > /dev/full | tail -n 1
+  write failed after 0 bytes
+
+Standard error that takes nothing, or that nobody reads, changes nothing.
+
+  $ paklour run given > plain
+  [1]
+  $ for option in --progress --progress=plain; do
+  >     paklour run $option given > out 2> /dev/full
+  >     echo $?; cmp plain out
+  >     paklour run $option given > out 2>&-
+  >     echo $?; cmp plain out
+  >     (paklour run $option given 2>&1 > out; echo $? > status) | true
+  >     cat status; cmp plain out
+  > done
+  1
+  1
+  1
+  1
+  1
+  1

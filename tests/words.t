@@ -183,6 +183,12 @@ What is wrong is told on standard error, and nothing is on standard output.
   error: unexpected argument '--progress' found
   $ refused run --progress --progress
   error: the argument '--progress' cannot be used multiple times
+  $ refused run --progress=line --progress
+  error: the argument '--progress' cannot be used multiple times
+  $ refused run --progress=lines
+  error: unexpected value 'lines' for '--progress' found; no more were expected
+  $ refused plans --progress=line
+  error: unexpected argument '--progress' found
   $ refused map --brief
   error: unexpected argument '--brief' found
   $ refused map --plan 1

@@ -4,12 +4,13 @@ ghost use Rattle.campaign_given.specs.Given.{verdict_on};
 ghost use Rattle.campaign_core.specs.inside.Rows.{row_limit, row_of};
 
 use campaign_given::CampaignSettings;
-use plan_rows::row_bounds;
+use plan_rows::{ended_of, row_bounds};
 use result_book::{Course, Row, Workspace};
 use scenario_values::Scenario;
 use std::alloc::{AllocError, Global};
 use std::collections::LinkedList;
 use target_trait::Target;
+use work_gate::Gate;
 use worker_pool::Job;
 
 /// What a runner's answers depend on. No value is made.
@@ -22,9 +23,11 @@ pub struct Setup<T: Target> {
     pub first: u32,
 }
 
-/// A target, with the course whose plans it runs, and with a workspace of its own that each run takes over from the one before.
+/// A target, with the course whose plans it runs, and with a workspace of its own that each run takes over from the one before. The gate is told
+/// what each row came to.
 #[derive(Drop)]
-pub struct Runner<'a, T: Target> {
+pub struct Runner<'a, T: Target, G: Gate> {
+    pub gate: &'a G,
     pub target: T,
     pub course: &'a Course<'a, T>,
     /// The number of the first plan that is run.
@@ -34,7 +37,7 @@ pub struct Runner<'a, T: Target> {
     ghost within: { first ≤ length course.now.plans.now },
 }
 
-impl<'a, T: Target + Send> Job for Runner<'a, T>
+impl<'a, T: Target + Send, G: Gate> Job for Runner<'a, T, G>
 where
     T::Workload: Sync,
 {
@@ -60,13 +63,17 @@ where
     fn perform(&mut self, number: u32) -> Result<Row<'a, T>, AllocError> {
         let count = self.course.plans.len() as u32 - self.first;
         let (begin, end) = row_bounds(count, number);
-        Row::run_over(
+        let row = Row::run_over(
             self.alloc,
             &mut self.target,
             &mut self.workspace,
             self.course,
             self.first + begin,
             self.first + end,
-        )
+        )?;
+        if self.gate.is_watched() {
+            self.gate.ended(ended_of(row.verdicts(), 0));
+        }
+        Ok(row)
     }
 }

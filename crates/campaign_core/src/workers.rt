@@ -12,26 +12,28 @@ use std::alloc::{AllocError, Global};
 use std::sync::Wait;
 use std::thread::Threads;
 use target_trait::{Target, Verdict};
-use work_gate::{Gate, Phase};
+use work_gate::{Gate, Stage};
 
 /// A job for each worker, with a twin of the target, for the plans from this number on. An error means that memory was refused.
-fn runners<'a, T: Target + Send>(
-    alloc: Global,
+fn runners<'a, T: Target + Send, G: Gate, R: Threads + Wait + Sync>(
+    host: &Host<'a, G, R>,
     target: &T,
     course: &'a Course<'a, T>,
     first: u32,
     workers: usize,
-) -> Result<Vec<Runner<'a, T>>, AllocError>
+) -> Result<Vec<Runner<'a, T, G>>, AllocError>
 where
     T::Workload: Sync,
     requires { first ≤ length course.now.plans.now }
     ensures many { IfOk result (λ runners. vec_len runners ≡ workers) }
     ensures same { IfOk result (λ runners. All (λ r. (r.target ≡ target.now) × (r.course.now ≡ course.now) × (r.first ≡ first)) runners.items) }
 {
+    let Host { rt: _, alloc, gate } = *host;
     let mut all = Vec::new(alloc);
     for _ in 0..workers {
         let target = target.twin()?;
         all.push(Runner {
+            gate,
             target,
             course,
             first,
@@ -70,14 +72,15 @@ where
     let first = known.len() as u32;
     let plans = course.plans.len() as u32;
     let workers = course.settings.workers();
-    let jobs = runners(*alloc, target, course, first, workers)?;
-    gate.expect(Phase::Plans, plans);
+    let jobs = runners(host, target, course, first, workers)?;
+    let plans = plans - first;
+    gate.expect(Stage::Listed, plans);
     let gate = RowGate {
         gate: *gate,
         first,
-        plans: plans - first,
+        plans,
     };
-    let rows = answers_of(*rt, *alloc, &gate, jobs, row_count(plans - first))?;
+    let rows = answers_of(*rt, *alloc, &gate, jobs, row_count(plans))?;
     let mut book = Book::new(*alloc, course)?;
     book.put_known(copied(*alloc, known)?);
     put_all(&mut book, rows);

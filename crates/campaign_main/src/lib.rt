@@ -25,7 +25,9 @@ pub use campaign_settings::{
     Choice, Key, LIMIT, OwnSettings, OwnValue, OwnWord, OwnWords, Place, Settings, SettingsFault,
     TargetName,
 };
-pub use command_words::{Form, Line, Order, Question, VERSION, Which, WordsFault, read_words};
+pub use command_words::{
+    Form, Line, Order, ProgressForm, Question, VERSION, Which, WordsFault, read_words,
+};
 pub use commit_target::{Transactions, Variant as CommitVariant, Vote, Votes};
 pub use exit::{Exit, status};
 pub use file_replace::{Chunks, Replacements, Variant as ReplaceVariant};

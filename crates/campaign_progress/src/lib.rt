@@ -1,10 +1,14 @@
-//! How far a campaign or a reduction is, in one line of standard error that is written over.
+//! How far a campaign or a reduction is, told on standard error: in one line that is written over, or in lines of a log.
 #![tactic(auto)]
 
 mod cleared;
+mod pace;
 mod progress;
 mod shown;
+mod told;
 
 pub use cleared::Cleared;
+pub use pace::Pace;
 pub use progress::Progress;
 pub use shown::Shown;
+pub use told::{Standing, Told};

@@ -1,17 +1,18 @@
-//! What one line shows.
+//! What is written on standard error.
 ghost use Rattle.std.specs.Prelude.{Some};
 ghost use Rattle.campaign_progress.specs.Line.{shown_text};
 
+use crate::told::Told;
 use std::fmt;
 
-/// What the line shows, which takes the place of what stood on it.
+/// What is written on standard error.
 #[derive(Clone, Copy, Debug)]
 pub enum Shown {
-    /// How many plans have begun, of how many.
-    Plans { begun: u64, expected: u64 },
-    /// How many tests have begun, of all reductions so far.
-    Tests { begun: u64 },
-    /// An empty line.
+    /// On the line that is written over, which takes the place of what stood on it.
+    Over(Told),
+    /// On a line of its own, without control bytes but the line feed at its end.
+    Line(Told),
+    /// Nothing: what stood on the line that is written over is erased.
     Nothing,
 }
 
@@ -20,8 +21,8 @@ impl fmt::Display for Shown {
 
     fn fmt<W: fmt::Write>(&self, f: &mut fmt::Formatter<W>) -> fmt::Result {
         match self {
-            Shown::Plans { begun, expected } => { write!(f, "\r\x1b[Kplans {begun} of {expected}") }
-            Shown::Tests { begun } => write!(f, "\r\x1b[Kreducing: test {begun}"),
+            Shown::Over(told) => write!(f, "\r\x1b[K{told}"),
+            Shown::Line(told) => writeln!(f, "{told}"),
             Shown::Nothing => f.write_str("\r\x1b[K"),
         }
     }

@@ -5,11 +5,12 @@ use crate::running::{reported, settings};
 use crate::three_codes::ThreeCodes;
 use std::alloc::{AllocError, Global};
 use std::process::Abort;
+use std::str;
 use std::sync::Wait;
 use std::sync::atomic::{AtomicU64, Ordering};
 use std::test::Fail;
 use std::thread::Threads;
-use work_gate::{Gate, Phase};
+use work_gate::{Ended, Gate, Phase, Stage};
 
 // The empty plan, one of three for each of the three points, and the storms. They are no whole number of rows of 16.
 const STORMS: u32 = 1100;
@@ -23,8 +24,11 @@ struct CountingGate {
     arrived: Vec<AtomicU64>,
     /// Arrivals of numbers that no plan has.
     strangers: AtomicU64,
-    /// How many plans were told to come, over all calls.
+    /// How many listed plans were told to come, over all calls.
     expected: AtomicU64,
+    /// How many plans were told to have ended, and how many of them to fail.
+    ended: AtomicU64,
+    failing: AtomicU64,
 }
 
 impl CountingGate {
@@ -37,16 +41,19 @@ impl CountingGate {
             arrived,
             strangers: AtomicU64::new(0),
             expected: AtomicU64::new(0),
+            ended: AtomicU64::new(0),
+            failing: AtomicU64::new(0),
         })
     }
 
-    /// Whether each plan was told to come, and came once.
+    /// Whether each plan was told to come, came once, and was told to have ended.
     fn has_seen_each_once(&self) -> bool {
         self.arrived
             .iter()
             .all(|count| count.load(Ordering::SeqCst) == 1)
             && self.strangers.load(Ordering::SeqCst) == 0
             && self.expected.load(Ordering::SeqCst) == u64::from(PLANS)
+            && self.ended.load(Ordering::SeqCst) == u64::from(PLANS)
     }
 }
 
@@ -61,12 +68,39 @@ impl Gate for CountingGate {
         }
     }
 
-    fn expect(&self, _phase: Phase, count: u32) {
-        self.expected.fetch_add(u64::from(count), Ordering::SeqCst);
+    fn expect(&self, stage: Stage, count: u32) {
+        if stage == Stage::Listed {
+            self.expected.fetch_add(u64::from(count), Ordering::SeqCst);
+        }
+    }
+
+    fn is_watched(&self) -> bool {
+        true
+    }
+
+    fn ended(&self, ended: Ended) {
+        self.ended
+            .fetch_add(u64::from(ended.plans), Ordering::SeqCst);
+        self.failing
+            .fetch_add(u64::from(ended.failing), Ordering::SeqCst);
     }
 }
 
-/// The report of so many workers, whose gate has seen each plan once. Plan 4, where the inner point fails alone, is the first failure.
+/// How many plans fail by this report.
+fn failing_in(text: &[u8]) -> u64 {
+    let Ok(text) = str::from_utf8(text) else {
+        return 0;
+    };
+    let mut failing = 0u64;
+    for line in text.lines() {
+        if line.starts_with("verdict ") && line.contains(" fail ") {
+            failing = failing.saturating_add(1);
+        }
+    }
+    failing
+}
+
+/// The report of so many workers, whose gate has seen each plan once and how many fail. Plan 4, where the inner point fails alone, is the first failure.
 fn counted_report<R: Threads + Wait + Sync + Abort>(
     rt: &R,
     alloc: Global,
@@ -83,6 +117,10 @@ fn counted_report<R: Threads + Wait + Sync + Abort>(
     };
     assert_eq!(rt; failure, Some(4));
     assert!(rt; gate.has_seen_each_once());
+    assert_eq!(rt;
+        gate.failing.load(Ordering::SeqCst),
+        failing_in(text.as_slice())
+    );
     Ok(text)
 }
 

@@ -1,5 +1,5 @@
 -- The program's command line: the command that clap builds, and what its matches mean.
-use Rattle.std.specs.Prelude.{◌≡◌, ◌⊎◌, ◌||◌, ◌++◌, ℕ, Bool, List, [], ◌∷◌, true, false, Option, Some, None, Result, Ok, Err, codes, if◌then◌else◌, is_some, option_map, string_bytes}
+use Rattle.std.specs.Prelude.{◌≡◌, ◌⊎◌, ◌||◌, ◌++◌, ℕ, Bool, List, [], ◌∷◌, true, false, Option, Some, None, Result, Ok, Err, codes, if◌then◌else◌, is_some, option_map, String, string_bytes}
 use Rattle.std.specs.Option.{option_map_or}
 use Rattle.std.specs.Str.{bytes_eq}
 use Rattle.std.specs.Str.Parse.{IsNumeral, digits_value, without_leading_plus}
@@ -19,6 +19,8 @@ use Rattle.command_words.specs.declared.words.Line.{Line}
 use Rattle.command_words.specs.declared.words.Line.TheVariants.{Own, Outside}
 use Rattle.command_words.specs.declared.words.Order.{Order}
 use Rattle.command_words.specs.declared.words.Order.TheVariants as order
+use Rattle.command_words.specs.declared.words.ProgressForm.{ProgressForm}
+use Rattle.command_words.specs.declared.words.ProgressForm.TheVariants as shows
 use Rattle.command_words.specs.declared.words.Question.{Question}
 use Rattle.command_words.specs.declared.words.Question.TheVariants.{Asks, Report}
 use Rattle.command_words.specs.declared.words.Which.{Which}
@@ -68,6 +70,10 @@ junit_rule = flag_rule (codes "junit")
 abbrev pub progress_rule : Rule
 progress_rule = flag_rule (codes "progress")
 
+-- --progress=plain, a flag as the reader of command lines takes it
+abbrev pub progress_plain_rule : Rule
+progress_plain_rule = flag_rule (codes "progress-plain")
+
 -- --strict, a flag
 abbrev pub strict_rule : Rule
 strict_rule = flag_rule (codes "strict")
@@ -96,7 +102,7 @@ scenario_app name = with_rule (with_rule (with_rule (new_app name) scenario_rule
 
 -- a command that runs plans or a reduction, and that may show how far it is
 abbrev pub shown_app : App → App
-shown_app app = with_rule app progress_rule
+shown_app app = with_rule (with_rule app progress_rule) progress_plain_rule
 
 -- a command that may run plans that fail once more
 abbrev pub rechecked_app : App → App
@@ -140,6 +146,15 @@ HasAlso app (Err fault) command = ⊥
 
 -- ---- what the words mean
 
+-- a word as the reader of command lines takes it: it has no option whose value may be left out and stands behind a `=` else, so --progress=line
+-- is --progress, and --progress=plain a flag of its own
+abbrev pub spelled : Text → Text
+spelled word = if bytes_eq word (codes "--progress=plain") then codes "--progress-plain"
+    else (if bytes_eq word (codes "--progress=line") then codes "--progress" else word)
+
+abbrev pub spelled_word : {A : Type 0} → String A → Text
+spelled_word word = spelled (string_bytes word)
+
 -- the values that a command was given: TEXT, N, `true` where --brief was given, and so of the other flags, and FILE
 pub record Values : Type 0 where
   pub scenario : Option Text
@@ -150,6 +165,7 @@ pub record Values : Type 0 where
   pub strict : Option Text
   pub recheck : Option Text
   pub progress : Option Text
+  pub progress_plain : Option Text
   pub file : Option Text
 
 abbrev pub values_in : List Row → Values
@@ -162,6 +178,7 @@ values_in rows = record {
   strict = first_of (codes "strict") rows;
   recheck = first_of (codes "recheck") rows;
   progress = first_of (codes "progress") rows;
+  progress_plain = first_of (codes "progress-plain") rows;
   file = first_of (codes "file") rows;
 }
 
@@ -176,6 +193,7 @@ values_of f = record {
   strict = first_value f (codes "strict");
   recheck = first_value f (codes "recheck");
   progress = first_value f (codes "progress");
+  progress_plain = first_value f (codes "progress-plain");
   file = first_value f (codes "file");
 }
 
@@ -205,6 +223,10 @@ form_by false true true = None
 abbrev pub form_of : Values → Option Form
 form_of v = form_by (is_set v.brief) (is_set v.json) (is_set v.junit)
 
+-- in which form it is shown how far a command is, and whether it is: plain lines where both flags were given
+abbrev pub progress_form_of : Values → ProgressForm
+progress_form_of v = if is_set v.progress_plain then shows.Plain else (if is_set v.progress then shows.Line else shows.Off)
+
 -- the order that a command's name and its values give
 abbrev pub IsOrder : Text → Values → Order → Type 0
 IsOrder name v (order.Run form strict recheck) =
@@ -222,12 +244,12 @@ IsQuestion name v (Report brief strict) = (name ≡ codes "report") × (brief �
 
 -- the order of no command is Run, with the whole report, on the settings that come from standard input, and nothing more is shown
 abbrev pub IsRun : Line → Type 0
-IsRun (Own (order.Run Whole false false) progress file) = (progress ≡ false) × (file ≡ None)
+IsRun (Own (order.Run Whole false false) progress file) = (progress ≡ shows.Off) × (file ≡ None)
 IsRun _ = ⊥
 
 -- the line of a command's name and its values
 abbrev pub IsLineOf : Text → Values → Line → Type 0
-IsLineOf name v (Own order progress own) = IsOrder name v order × (progress ≡ is_set v.progress) × (option_map string_bytes own ≡ v.file)
+IsLineOf name v (Own order progress own) = IsOrder name v order × (progress ≡ progress_form_of v) × (option_map string_bytes own ≡ v.file)
 IsLineOf name v (Outside question own) = IsQuestion name v question × (v.file ≡ Some (string_bytes own))
 
 -- the line that the matches give

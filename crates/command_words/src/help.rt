@@ -19,7 +19,8 @@ Examples:
   paklour run --json my.toml      a JSON document, for programs that read the report
   paklour run --junit my.toml     JUnit's XML, which CI servers show as tests
   paklour run --strict my.toml    the same report; what it doesn't show is told on standard error
-  paklour run --progress my.toml  the same report; meanwhile `plans 12 of 65025` on standard error
+  paklour run --progress my.toml  the same report; meanwhile on standard error, in one line:
+                                  plans 5201 of 65025, 1 failing, 5200 a second, 0:00:12 left
 
 Of --brief, --json and --junit one at most is given.";
 
@@ -65,7 +66,8 @@ pub const STRICT: &str = "Tell on standard error what the report doesn't show, a
 pub const RECHECK: &str =
     "Run each failing plan once more first, and refuse a target that says otherwise";
 
-pub const PROGRESS: &str = "Show on standard error, in one line, how far plans or a reduction are";
+pub const PROGRESS: &str =
+    "Show on standard error how far it is; --progress=plain: in lines, for logs";
 
 pub const PLAN: &str = "The scenario of plan N of the campaign, 0 to 65535, drawn as it is there";
 

@@ -4,4 +4,6 @@
 mod help;
 mod words;
 
-pub use words::{Form, Line, Order, Question, VERSION, Which, WordsFault, read_words};
+pub use words::{
+    Form, Line, Order, ProgressForm, Question, VERSION, Which, WordsFault, read_words,
+};

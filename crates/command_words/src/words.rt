@@ -1,7 +1,7 @@
 ghost use Rattle.std.specs.Prelude.{◌≡◌, ◌↔◌, ◌∷◌, [], IsTrue, Some, None, option_map, is_some, true, false, IfOk, IfErr, IfSome, map, codes, string_bytes};
 ghost use Rattle.clap.specs.Words.{app_of, fault_of, first_value, found_of, rule_of, subcommand_of, takes};
 ghost use Rattle.clap.specs.declared.builder.command.Command.TheViews.{out-Command as fields_of};
-ghost use Rattle.command_words.specs.Words.{AsksToSee, HasAlso, HasNeeded, IsFaultOf, IsLine, IsLineOf, IsName, IsOrder, IsOrderName, IsQuestion, IsQuestionName, IsRefusedFor, IsScenarioName, IsWhich, Spells, bare_app, campaign_commands, choice_fault, choice_kinds, file_app, file_rule, flag_rule, form_kinds, form_of, formed_app, needed_file_rule, paklour, is_set, question_app, question_commands, question_report_app, rechecked_app, report_app, scenario_app, scenario_commands, shown_app, value_rule, values_of, which_kinds, with_commands, words_fault};
+ghost use Rattle.command_words.specs.Words.{AsksToSee, HasAlso, HasNeeded, IsFaultOf, IsLine, IsLineOf, IsName, IsOrder, IsOrderName, IsQuestion, IsQuestionName, IsRefusedFor, IsScenarioName, IsWhich, Spells, bare_app, campaign_commands, choice_fault, choice_kinds, file_app, file_rule, flag_rule, form_kinds, form_of, formed_app, needed_file_rule, paklour, is_set, progress_form_of, spelled, spelled_word, question_app, question_commands, question_report_app, rechecked_app, report_app, scenario_app, scenario_commands, shown_app, value_rule, values_of, which_kinds, with_commands, words_fault};
 ghost use Rattle.command_words.specs.declared.words.WordsFault.TheVariants.{Memory};
 ghost use Rattle.clap.specs.Kinds.{value_kinds};
 ghost use Rattle.clap.specs.declared.builder.value_parser.ValueParser.TheVariants.{Unsigned};
@@ -36,6 +36,17 @@ pub enum Form {
     Json,
     /// JUnit's XML.
     Junit,
+}
+
+/// In which form the program shows how far plans or a reduction are, while they run.
+#[derive(Clone, Copy, Debug, PartialEq, Eq)]
+pub enum ProgressForm {
+    /// It shows nothing.
+    Off,
+    /// In one line that is written over.
+    Line,
+    /// In plain lines, as logs keep them.
+    Plain,
 }
 
 /// What the program is to do.
@@ -73,11 +84,11 @@ pub enum Question {
 /// What the words ask for.
 #[derive(Debug, Drop)]
 pub enum Line {
-    /// A command over a target. `file` has the settings; `None` where they come from standard input. Where `progress` is set, the program
-    /// shows how far plans or a reduction are while they run; it is for run, map and reduce alone.
+    /// A command over a target. `file` has the settings; `None` where they come from standard input. `progress` is how the program shows how far
+    /// plans or a reduction are while they run; it is for run, map and reduce alone, and off for each other command.
     Own {
         order: Order,
-        progress: bool,
+        progress: ProgressForm,
         file: Option<String>,
     },
     /// A question, by the settings of the file and the answers on standard input.
@@ -198,6 +209,17 @@ fn with_forms<'a>(alloc: Global, command: Command<'a>) -> Result<Command<'a>, Al
         .arg(flag_arg(alloc, "junit", help::JUNIT))
 }
 
+// The command with the flags by which it shows how far it is.
+fn with_progress<'a>(alloc: Global, command: Command<'a>) -> Result<Command<'a>, AllocError>
+    requires { (fields_of command).has_globals ≡ false }
+    ensures app { IfOk result (λ more. app_of more ≡ shown_app (app_of command.entry)) }
+    ensures local { IfOk result (λ more. (fields_of more).has_globals ≡ false) }
+{
+    command
+        .arg(flag_arg(alloc, "progress", help::PROGRESS))?
+        .arg(flag_arg(alloc, "progress-plain", help::PROGRESS).hide(true))
+}
+
 fn report_command<'a>(
     alloc: Global,
     name: &'a str,
@@ -235,9 +257,12 @@ fn run_command<'a>(alloc: Global) -> Result<Command<'a>, AllocError>
     ensures app { IfOk result (λ command. app_of command ≡ shown_app (rechecked_app (report_app (codes "run")))) }
     ensures local { IfOk result (λ command. (fields_of command).has_globals ≡ false) }
 {
-    report_command(alloc, "run", help::RUN, help::RUN_EXAMPLES)?
-        .arg(flag_arg(alloc, "recheck", help::RECHECK))?
-        .arg(flag_arg(alloc, "progress", help::PROGRESS))
+    let command = report_command(alloc, "run", help::RUN, help::RUN_EXAMPLES)?.arg(flag_arg(
+        alloc,
+        "recheck",
+        help::RECHECK,
+    ))?;
+    with_progress(alloc, command)
 }
 
 // The command that runs a campaign and draws it.
@@ -245,11 +270,8 @@ fn map_command<'a>(alloc: Global) -> Result<Command<'a>, AllocError>
     ensures app { IfOk result (λ command. app_of command ≡ shown_app (file_app (codes "map"))) }
     ensures local { IfOk result (λ command. (fields_of command).has_globals ≡ false) }
 {
-    file_command(alloc, "map", help::MAP, help::MAP_EXAMPLES)?.arg(flag_arg(
-        alloc,
-        "progress",
-        help::PROGRESS,
-    ))
+    let command = file_command(alloc, "map", help::MAP, help::MAP_EXAMPLES)?;
+    with_progress(alloc, command)
 }
 
 // The command that reduces a scenario.
@@ -257,11 +279,8 @@ fn reduce_command<'a>(alloc: Global) -> Result<Command<'a>, AllocError>
     ensures app { IfOk result (λ command. app_of command ≡ shown_app (scenario_app (codes "reduce"))) }
     ensures local { IfOk result (λ command. (fields_of command).has_globals ≡ false) }
 {
-    scenario_command(alloc, "reduce", help::REDUCE)?.arg(flag_arg(
-        alloc,
-        "progress",
-        help::PROGRESS,
-    ))
+    let command = scenario_command(alloc, "reduce", help::REDUCE)?;
+    with_progress(alloc, command)
 }
 
 fn question_command<'a>(
@@ -359,11 +378,47 @@ fn command<'a>(alloc: Global) -> Result<Command<'a>, AllocError>
 /// one: a text, or the number of a plan from 0 to 65535, and not both. `Err` is the fault, as which help and the version are also told
 /// where the words ask for them, or that memory ran out.
 pub fn read_words(alloc: Global, words: &[String]) -> Result<Line, WordsFault>
-    ensures ok { IfOk result (IsLine (subcommand_of paklour (map string_bytes words.now))) }
-    ensures taken { IfOk result (λ _. words_fault (map string_bytes words.now) ≡ []) }
-    ensures refused { IfErr result (IsRefusedFor (words_fault (map string_bytes words.now))) }
-    ensures memory { IfErr result (λ fault. takes paklour (map string_bytes words.now) ≡ true
-        → choice_fault (subcommand_of paklour (map string_bytes words.now)) ≡ [] → fault ≡ Memory) }
+    ensures ok { IfOk result (IsLine (subcommand_of paklour (map spelled_word words.now))) }
+    ensures taken { IfOk result (λ _. words_fault (map spelled_word words.now) ≡ []) }
+    ensures refused { IfErr result (IsRefusedFor (words_fault (map spelled_word words.now))) }
+    ensures memory { IfErr result (λ fault. takes paklour (map spelled_word words.now) ≡ true
+        → choice_fault (subcommand_of paklour (map spelled_word words.now)) ≡ [] → fault ≡ Memory) }
+{
+    let spelled = spelled_words(alloc, words)?;
+    read_spelled(alloc, spelled.as_slice())
+}
+
+// The words as the reader of command lines takes them, which knows no option whose value may be left out and stands behind a `=` else.
+fn spelled_words<'a>(alloc: Global, words: &'a [String]) -> Result<Vec<&'a str>, AllocError>
+    ensures { IfOk result (λ all. map (λ word. word.now) all.items ≡ map spelled_word words.now) }
+{
+    let mut all = Vec::with_capacity(alloc, words.len())?;
+    for word in words {
+        all.push(spelled(word.as_str()))?;
+    }
+    Ok(all)
+}
+
+// The word as the reader of command lines takes it.
+fn spelled<'a>(word: &'a str) -> &'a str
+    ensures { result.now ≡ spelled word.now }
+{
+    if word == "--progress=plain" {
+        "--progress-plain"
+    } else if word == "--progress=line" {
+        "--progress"
+    } else {
+        word
+    }
+}
+
+// The command that words give as the reader of command lines takes them.
+fn read_spelled(alloc: Global, words: &[&str]) -> Result<Line, WordsFault>
+    ensures ok { IfOk result (IsLine (subcommand_of paklour (map (λ word. word.now) words.now))) }
+    ensures taken { IfOk result (λ _. words_fault (map (λ word. word.now) words.now) ≡ []) }
+    ensures refused { IfErr result (IsRefusedFor (words_fault (map (λ word. word.now) words.now))) }
+    ensures memory { IfErr result (λ fault. takes paklour (map (λ word. word.now) words.now) ≡ true
+        → choice_fault (subcommand_of paklour (map (λ word. word.now) words.now)) ≡ [] → fault ≡ Memory) }
 {
     let command = command(alloc)?;
     let matches = match command.try_get_matches_from(words) {
@@ -378,7 +433,7 @@ pub fn read_words(alloc: Global, words: &[String]) -> Result<Line, WordsFault>
                 strict: false,
                 recheck: false,
             },
-            progress: false,
+            progress: ProgressForm::Off,
             file: None,
         }),
     }
@@ -409,9 +464,22 @@ fn line_of<'a>(alloc: Global, name: &str, own: &ArgMatches<'a>) -> Result<Line, 
         }),
         None => Ok(Line::Own {
             order: order_of(alloc, name, own)?,
-            progress: is_set(own, "progress"),
+            progress: progress_form(own),
             file: file_of(alloc, own)?,
         }),
+    }
+}
+
+// In which form it is shown how far a command is. Plain lines are the form where both are asked for.
+fn progress_form<'a>(own: &ArgMatches<'a>) -> ProgressForm
+    ensures { result ≡ progress_form_of (values_of (found_of own.now)) }
+{
+    if is_set(own, "progress-plain") {
+        ProgressForm::Plain
+    } else if is_set(own, "progress") {
+        ProgressForm::Line
+    } else {
+        ProgressForm::Off
     }
 }
 

@@ -16,7 +16,7 @@ use std::alloc::{AllocError, Global};
 use std::sync::Wait;
 use std::thread::Threads;
 use target_trait::Target;
-use work_gate::{Gate, Phase};
+use work_gate::{Gate, Stage};
 
 /// What plans are run on and with: the threads that workers are, the memory, the gate at which workers arrive, the target, twins of which are run,
 /// and the workload of each run.
@@ -82,7 +82,7 @@ where
     };
     let alloc = on.alloc;
     let jobs = growers(alloc, on.target, &course)?;
-    on.gate.expect(Phase::Plans, end as u32);
+    on.gate.expect(Stage::Listed, (end - first) as u32);
     let count = (end - first) as u32;
     let rows = rows_in_order(on.rt, alloc, on.gate, jobs, first as u32, count)?;
     let mut whole = Growth::none(alloc, T::catalogue().len())?;

@@ -2,7 +2,9 @@
 #![tactic(auto)]
 
 mod answers;
+mod ended;
 mod rows;
 
 pub use answers::{answers_of, rows_in_order};
+pub use ended::ended_of;
 pub use rows::{RowGate, row_bounds, row_count};

@@ -2,7 +2,7 @@
 ghost use Rattle.std.specs.Prelude.{◌≡◌, ◌+◌, ◌≤◌};
 ghost use Rattle.plan_rows.specs.Rows.{row_count, row_size, row_start};
 
-use work_gate::{Gate, Phase};
+use work_gate::{Ended, Gate, Phase, Stage};
 
 /// How many plans a row has. A row of many takes less memory than its plans one by one, and less of the time after all have run; where
 /// plans are few, one by one they keep all workers at work to the end.
@@ -61,7 +61,15 @@ impl<'a, G: Gate> Gate for RowGate<'a, G> {
         }
     }
 
-    fn expect(&self, phase: Phase, count: u32) {
-        self.gate.expect(phase, count);
+    fn expect(&self, stage: Stage, count: u32) {
+        self.gate.expect(stage, count);
+    }
+
+    fn is_watched(&self) -> bool {
+        self.gate.is_watched()
+    }
+
+    fn ended(&self, ended: Ended) {
+        self.gate.ended(ended);
     }
 }

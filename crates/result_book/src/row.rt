@@ -69,6 +69,13 @@ impl<'a, T: Target> Row<'a, T> {
         })
     }
 
+    /// The verdicts, in the order of their plans.
+    pub fn verdicts(&self) -> &[Verdict]
+        ensures { result.now ≡ self.now.verdicts }
+    {
+        self.verdicts.as_slice()
+    }
+
     /// Takes the last plan's result out of the row. None where the row is empty, which leaves it so.
     pub fn pop(&mut self) -> Option<Numbered<'a, T>>
         ensures { MatchOption result ((self.old.verdicts ≡ []) × (self.new ≡ self.old)) (IsLast self.old self.new) }
