@@ -1,0 +1,121 @@
+#!/usr/bin/env python3
+"""Counts the runs that returns and panics can bring about in a sound target, and tells them as a report of plans that grow does.
+
+    all_runs.py replace|maildir|commit SIZES DEPTH..
+
+SIZES are the chunks of each replacement or message, or the participants of each transaction, who all wish yes: `2,1`. What is asked follows
+the tables of docs/TARGETS.md. Each list of answers is tried that a run can be given, so no plan and no scenario is known here.
+"""
+import sys
+from collections import Counter
+
+GO, RETURN, HALT = range(3)
+
+
+def replacement(chunks, left):
+    """Replaces a file where the temporary one may be left of an earlier replacement. Returns whether it is left now."""
+    if left and (yield "clear") == RETURN:
+        return True
+    if (yield "create") == RETURN:
+        return False
+    for step in ["write"] * chunks + ["sync", "rename"]:
+        if (yield step) == RETURN:
+            return (yield "unlink") == RETURN
+    yield "sync_dir"
+    return False
+
+
+def replace(sizes):
+    left = False
+    for chunks in sizes:
+        left = yield from replacement(chunks, left)
+
+
+def attempt(chunks):
+    """Tries to deliver a message. Returns whether another attempt follows."""
+    for step in ["stat", "create"]:
+        if (yield step) == RETURN:
+            return True
+    for step in ["write"] * chunks + ["sync", "link"]:
+        if (yield step) == RETURN:
+            yield "unlink"
+            return True
+    yield "unlink"
+    yield "sync_dir"
+    return False
+
+
+def maildir(sizes):
+    for chunks in sizes:
+        if (yield from attempt(chunks)):
+            yield from attempt(chunks)
+
+
+def vote():
+    """Prepares a participant. Returns whether its yes arrives."""
+    if (yield "send_prepare") == RETURN:
+        return False
+    is_forced = (yield "force_prepare") == GO
+    return (yield "send_vote") == GO and is_forced
+
+
+def commit(sizes):
+    for participants in sizes:
+        arrived = 0
+        for _ in range(participants):
+            arrived += yield from vote()
+        if arrived == participants and (yield "force_commit") == GO:
+            for _ in range(participants):
+                if (yield "send_outcome") == GO and (yield "force_outcome") == GO:
+                    yield "send_ack"
+        else:
+            for _ in range(arrived):
+                yield "send_outcome"
+
+
+def run(steps, answers):
+    """The steps that are asked, with their answers. Where these answers end, each further step goes."""
+    hits, answer = [], None
+    try:
+        while answer != HALT:
+            step = steps.send(answer)
+            answer = answers[len(hits)] if len(hits) < len(answers) else GO
+            hits.append((step, answer))
+    except StopIteration:
+        pass
+    return hits
+
+
+def runs(target, sizes):
+    """Each run that there is: the last answer that isn't a halt takes the next one, and those after it are left to the run."""
+    answers = []
+    while True:
+        hits = run(target(sizes), answers)
+        yield hits
+        answers = [answer for _, answer in hits]
+        while answers and answers[-1] == HALT:
+            answers.pop()
+        if not answers:
+            return
+        answers[-1] += 1
+
+
+def main():
+    target, sizes, depths = globals()[sys.argv[1]], [int(size) for size in sys.argv[2].split(",")], [int(depth) for depth in sys.argv[3:]]
+    levels, onward = Counter(), Counter()
+    for hits in runs(target, sizes):
+        faults = [number for number, (_, answer) in enumerate(hits) if answer != GO]
+        levels[len(faults)] += 1
+        if faults and hits[faults[-1]][1] == RETURN:
+            step = hits[faults[-1]][0]
+            onward[len(faults)] += step in [later for later, _ in hits[faults[-1] + 1 :]]
+    for depth in depths:
+        print(f"depth {depth}")
+        for level in range(depth + 1):
+            print(f"level {level} {levels[level]}")
+        print(f"onward {onward[depth]}")
+        print(f"beyond {levels[depth + 1]}")
+        print(f"plans {sum(levels[level] for level in range(depth + 1)) + onward[depth]}")
+
+
+main()
