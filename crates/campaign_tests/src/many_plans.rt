@@ -3,68 +3,17 @@ ghost use Rattle.std.specs.Prelude.{◌≤◌};
 
 use crate::running::{reported, settings};
 use crate::three_codes::ThreeCodes;
-use std::alloc::{AllocError, Global};
+use std::alloc::Global;
 use std::process::Abort;
 use std::sync::Wait;
-use std::sync::atomic::{AtomicU64, Ordering};
 use std::test::Fail;
 use std::thread::Threads;
-use work_gate::{Gate, Phase};
+use target_checks::Arrivals;
 
 // The empty plan, one of three for each of the three points, and the storms. They are no whole number of rows of 16.
 const STORMS: u32 = 1100;
 
 const PLANS: u32 = 1110;
-
-/// Counts how often each plan arrives.
-#[derive(Drop)]
-struct CountingGate {
-    /// By the plan's number.
-    arrived: Vec<AtomicU64>,
-    /// Arrivals of numbers that no plan has.
-    strangers: AtomicU64,
-    /// How many plans were told to come, over all calls.
-    expected: AtomicU64,
-}
-
-impl CountingGate {
-    fn new(alloc: Global) -> Result<Self, AllocError> {
-        let mut arrived = Vec::new(alloc);
-        for _ in 0..PLANS {
-            arrived.push(AtomicU64::new(0))?;
-        }
-        Ok(CountingGate {
-            arrived,
-            strangers: AtomicU64::new(0),
-            expected: AtomicU64::new(0),
-        })
-    }
-
-    /// Whether each plan was told to come, and came once.
-    fn has_seen_each_once(&self) -> bool {
-        self.arrived
-            .iter()
-            .all(|count| count.load(Ordering::SeqCst) == 1)
-            && self.strangers.load(Ordering::SeqCst) == 0
-            && self.expected.load(Ordering::SeqCst) == u64::from(PLANS)
-    }
-}
-
-impl Gate for CountingGate {
-    fn arrive(&self, phase: Phase, number: u32) {
-        if phase == Phase::Plans {
-            let count = match self.arrived.as_slice().get(number as usize) {
-                Some(count) => count,
-                None => &self.strangers,
-            };
-            count.fetch_add(1, Ordering::SeqCst);
-        }
-    }
-
-    fn expect(&self, _phase: Phase, count: u32) {
-        self.expected.fetch_add(u64::from(count), Ordering::SeqCst);
-    }
-}
 
 /// The report of so many workers, whose gate has seen each plan once. Plan 4, where the inner point fails alone, is the first failure.
 fn counted_report<R: Threads + Wait + Sync + Abort>(
@@ -75,14 +24,15 @@ fn counted_report<R: Threads + Wait + Sync + Abort>(
     requires some { 1 ≤ workers }
     requires few { workers ≤ 64 }
 {
-    let gate = CountingGate::new(alloc)?;
+    let gate = Arrivals::new(alloc, PLANS)?;
     let mut settings = settings(alloc, workers, false, Vec::new(alloc));
     settings.storms = STORMS;
     let Ok((text, failure)) = reported(rt, alloc, &gate, &ThreeCodes, &(), &settings) else {
         return Err(Fail::from("no report"));
     };
     assert_eq!(rt; failure, Some(4));
-    assert!(rt; gate.has_seen_each_once());
+    assert!(rt; gate.came_once(PLANS as usize));
+    assert_eq!(rt; gate.expected(), u64::from(PLANS));
     Ok(text)
 }
 
