@@ -225,6 +225,72 @@ A delivery that appends to what an earlier attempt left behind, which couldn't b
   reduced maildir::write=1*return;maildir::unlink=1*return
   tests 3
 
+A coordinator that ends too early forgets who wasn't told: with one participant untold, by either of two returns for each, the transaction is
+split, and with both it is lost. A split is no cause of a loss: so each of the four pairs is a cause beside the four returns.
+
+  $ cat > early.toml <<'EOF'
+  > target = "commit"
+  > variant = "early_end"
+  > seed = 7
+  > depth = 2
+  > [commit]
+  > participants = 2
+  > transactions = [["yes", "yes"]]
+  > EOF
+  $ paklour run --brief early.toml | grep -E '^(level|plans|first|tests|cause)'
+  level 0 1
+  level 1 26
+  level 2 56
+  plans 85
+  first 15 split
+  tests 1
+  first 65 lost
+  tests 3
+  causes 8
+  cause 15 split commit::send_outcome=1*return
+  cause 17 split commit::force_outcome=1*return
+  cause 21 split commit::send_outcome=1*off->1*return
+  cause 23 split commit::force_outcome=1*off->1*return
+  cause 65 lost commit::send_outcome=1*return->1*return
+  cause 67 lost commit::send_outcome=1*return;commit::force_outcome=1*return
+  cause 71 lost commit::send_outcome=1*off->1*return;commit::force_outcome=1*return
+  cause 73 lost commit::force_outcome=1*return->1*return
+
+Where a run is stopped after three hits, plans grow at these three alone. A first write that fails leaves room for the clean-up, the second one
+doesn't: its run is stopped before.
+
+  $ sed 's/^depth = 2/max_hits = 3\ndepth = 2/' two.toml > short.toml
+  $ paklour run short.toml | grep -E '^(clean|level|onward|beyond|reached|plans|verdict|causes) '
+  clean unresolved
+  level 0 1
+  level 1 6
+  level 2 2
+  onward 0
+  beyond 0
+  reached replace::clear 0
+  reached replace::create 1
+  reached replace::write 2
+  reached replace::sync 0
+  reached replace::rename 0
+  reached replace::sync_dir 0
+  reached replace::unlink 1
+  plans 9
+  verdict 0 unresolved
+  verdict 1 pass
+  verdict 2 pass
+  verdict 3 pass
+  verdict 4 pass
+  verdict 5 unresolved
+  verdict 6 pass
+  verdict 7 pass
+  verdict 8 pass
+  causes 0
+  $ paklour plans short.toml | tail -n 4
+  plan 5 replace::write=1*off->1*return
+  plan 6 replace::write=1*off->1*panic
+  plan 7 replace::write=1*return;replace::unlink=1*return
+  plan 8 replace::write=1*return;replace::unlink=1*panic
+
 Storms and listed scenarios stand behind the plans that grow.
 
   $ sed '4a storms = 2\nscenarios = ["replace::sync=return"]' small.toml > behind.toml

@@ -4,8 +4,8 @@ ghost use Rattle.action_eval.specs.Rigging.{CanBeRigged};
 ghost use Rattle.grown_runs.specs.GrownRuns.{fails_with, is_least, cause_by, causes_by};
 ghost use Rattle.grown_runs.specs.inside.Growths.{if_report, subject_on};
 
+use crate::buffers::RunBuffers;
 use crate::course::{GrownCourse, Purpose};
-use crate::stage::Stage;
 use action_eval::Rig;
 use std::alloc::AllocError;
 use target_trait::{Target, Verdict};
@@ -40,7 +40,7 @@ pub struct Ran<'a> {
 
 /// Whether rigged hits don't fail with a code where any one of them is left out.
 fn is_cause<T: Target>(
-    stage: &mut Stage,
+    buffers: &mut RunBuffers,
     less: &mut Vec<Rig>,
     target: &mut T,
     course: &GrownCourse<'_, T>,
@@ -54,7 +54,7 @@ fn is_cause<T: Target>(
 {
     for left_out in 0..ran.rigs.len() {
         leave_out(less, ran.rigs, left_out)?;
-        let verdict = stage.run(target, course, less.as_slice(), u64::from(ran.number))?;
+        let verdict = buffers.run(target, course, less.as_slice(), u64::from(ran.number))?;
         if is_failure(verdict, code) {
             return Ok(false);
         }
@@ -66,7 +66,7 @@ fn is_cause<T: Target>(
 /// made for the plans alone nothing is tested, and it has none. `less` is a list to work in. An error means that memory was refused. The target
 /// keeps its setup, after an error too.
 pub fn cause_of<T: Target>(
-    stage: &mut Stage,
+    buffers: &mut RunBuffers,
     less: &mut Vec<Rig>,
     target: &mut T,
     course: &GrownCourse<'_, T>,
@@ -80,7 +80,7 @@ pub fn cause_of<T: Target>(
     let (Purpose::Report, Verdict::Fail(code)) = (course.part.purpose, ran.verdict) else {
         return Ok(None);
     };
-    if is_cause(stage, less, target, course, ran, code)? {
+    if is_cause(buffers, less, target, course, ran, code)? {
         Ok(Some(code))
     } else {
         Ok(None)

@@ -10,10 +10,11 @@ use crate::course::{GrownCourse, Part};
 use crate::growth::Workspace;
 use crate::kept::Growth;
 use action_eval::Rig;
-use plan_rows::row_bounds;
+use plan_rows::{ended_of, row_bounds};
 use std::alloc::{AllocError, Global};
 use std::collections::LinkedList;
 use target_trait::Target;
+use work_gate::Gate;
 use worker_pool::Job;
 
 /// What a grower's answers depend on. No value is made.
@@ -28,9 +29,11 @@ pub struct Setup<T: Target> {
     pub plans: LinkedList<LinkedList<Rig>>,
 }
 
-/// A target, with the course whose plans it runs, and with a workspace of its own that each run takes over from the one before.
+/// A target, with the course whose plans it runs, and with a workspace of its own that each run takes over from the one before. The gate
+/// is told what each row came to.
 #[derive(Drop)]
-pub struct Grower<'a, T: Target> {
+pub struct Grower<'a, T: Target, G: Gate> {
+    pub gate: &'a G,
     pub target: T,
     pub course: &'a GrownCourse<'a, T>,
     pub workspace: Workspace,
@@ -38,7 +41,7 @@ pub struct Grower<'a, T: Target> {
     ghost alike: { AskLikeParents (subject_on T.Target target course.now) course.now.plans.now } by { Prim.hlevel props },
 }
 
-impl<'a, T: Target + Send> Job for Grower<'a, T>
+impl<'a, T: Target + Send, G: Gate> Job for Grower<'a, T, G>
 where
     T::Workload: Sync,
 {
@@ -67,13 +70,19 @@ where
     fn perform(&mut self, number: u32) -> Result<Growth, AllocError> {
         let course = self.course;
         let (first, end) = row_bounds((course.end - course.first) as u32, number);
-        Growth::run_over(
+        let growth = Growth::run_over(
             self.alloc,
             &mut self.target,
             &mut self.workspace,
             course,
             course.first + first as usize,
             course.first + end as usize,
-        )
+        )?;
+        if self.gate.is_watched() {
+            let verdicts = growth.verdicts.as_slice();
+            self.gate
+                .ended(ended_of(verdicts, growth.child_count as usize));
+        }
+        Ok(growth)
     }
 }

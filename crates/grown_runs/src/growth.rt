@@ -11,10 +11,10 @@ ghost use Rattle.grown_runs.specs.GrownRuns.{causes_by};
 ghost use Rattle.grown_runs.specs.inside.Growths.{if_inner, if_last, subject_on, IsGrowth, IsGrowthOn};
 ghost use Rattle.grown_runs.specs.inside.Beginnings.{AskLikeParents, MovesOn, TellsParent};
 
+use crate::buffers::RunBuffers;
 use crate::causes::{Ran, cause_of};
 use crate::course::{GrownCourse, Place};
 use crate::kept::Growth;
-use crate::stage::Stage;
 use action_eval::Rig;
 use grown_plans::{Begun, Child, Growing, GrownPlans, add_children, count_children, rigs_of};
 use std::alloc::{AllocError, Global};
@@ -24,7 +24,7 @@ use target_trait::Target;
 /// the plan.
 #[derive(Drop)]
 pub struct Workspace {
-    stage: Stage,
+    buffers: RunBuffers,
     faults: Vec<Rig>,
     ordered: Vec<Rig>,
     rigs: Vec<Rig>,
@@ -36,7 +36,7 @@ impl Workspace {
     /// A workspace that has taken no memory yet.
     pub fn new(alloc: Global) -> Self {
         Workspace {
-            stage: Stage::new(alloc),
+            buffers: RunBuffers::new(alloc),
             faults: Vec::new(alloc),
             ordered: Vec::new(alloc),
             rigs: Vec::new(alloc),
@@ -153,7 +153,7 @@ fn run_one<T: Target>(
     ensures setup { target.new ≡ target.old }
 {
     let Workspace {
-        stage,
+        buffers,
         faults,
         ordered,
         rigs,
@@ -163,11 +163,11 @@ fn run_one<T: Target>(
     course.plans.faults_of(number, faults)?;
     rigs_of(rigs, ordered, faults.as_slice())?;
     let rigs = rigs.as_slice();
-    let verdict = stage.run(target, course, rigs, number as u64)?;
+    let verdict = buffers.run(target, course, rigs, number as u64)?;
     let place = course.part.place;
     let parent = course.plans.parent_of(number);
     let descent = Descent { number, parent };
-    let asked = stage.asked.as_slice();
+    let asked = buffers.asked.as_slice();
     let children = &mut growth.children;
     let growing = grow_one(place, children, begun, descent, faults.as_slice(), asked)?;
     growth.verdicts.push(verdict)?;
@@ -181,7 +181,7 @@ fn run_one<T: Target>(
         number,
         verdict,
     };
-    let cause = cause_of(stage, less, target, course, &ran)?;
+    let cause = cause_of(buffers, less, target, course, &ran)?;
     keep_cause(&mut growth.causes, number, cause)?;
     Ok(())
 }

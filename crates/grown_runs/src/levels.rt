@@ -22,7 +22,7 @@ use std::alloc::{AllocError, Global};
 use std::sync::Wait;
 use std::thread::Threads;
 use target_trait::{Target, Verdict};
-use work_gate::Gate;
+use work_gate::{Gate, Stage};
 
 /// What the runs of plans came to, from plan 0 on.
 #[derive(Drop)]
@@ -124,7 +124,9 @@ where
 {
     let end = grown.plans.len();
     let place = Place::Inner;
-    let growth = run_part(on, &grown.plans, Part { place, purpose }, last)?;
+    let levels = u32::try_from(grown.levels.len()).unwrap_or(u32::MAX);
+    let stage = Stage::Level(levels.saturating_sub(1));
+    let growth = run_part(on, &grown.plans, Part { place, purpose }, stage, last)?;
     let children = growth.children.as_slice();
     check_room(on.limits, end, children.len())?;
     grown.plans.add(children)?;
@@ -210,7 +212,8 @@ where
         + length (going_onward (subject_in T.Target on.now) on.now.limits.seed plans.old last) }
 {
     let place = Place::Last;
-    let growth = run_part(on, plans, Part { place, purpose }, last)?;
+    let stage = Stage::Level(on.limits.depth);
+    let growth = run_part(on, plans, Part { place, purpose }, stage, last)?;
     let onward = growth.onward.as_slice();
     check_room(on.limits, plans.len(), onward.len())?;
     plans.add(onward)?;
@@ -246,7 +249,8 @@ where
     grown.beyond = growth.child_count;
     grown.outcomes.note(&growth)?;
     let place = Place::Onward;
-    let growth = run_part(on, &grown.plans, Part { place, purpose }, end)?;
+    let stage = Stage::Onward;
+    let growth = run_part(on, &grown.plans, Part { place, purpose }, stage, end)?;
     grown.outcomes.note(&growth)?;
     Ok(())
 }

@@ -1,6 +1,7 @@
 //! Runs of plans that grow: their verdicts, and what grows from them.
 #![tactic(auto)]
 
+mod buffers;
 mod causes;
 mod course;
 mod grower;
@@ -9,7 +10,6 @@ mod kept;
 mod levels;
 mod parts;
 mod run;
-mod stage;
 
 pub use course::Limits;
 pub use levels::{GrowFault, Grown, grow, grow_list};

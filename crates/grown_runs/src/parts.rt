@@ -31,11 +31,12 @@ pub struct Conditions<'a, T: Target, G: Gate, R: Threads + Wait + Sync> {
 }
 
 /// A job for each worker, with a twin of the target. An error means that memory was refused.
-fn growers<'a, T: Target + Send>(
+fn growers<'a, T: Target + Send, G: Gate>(
     alloc: Global,
+    gate: &'a G,
     target: &T,
     course: &'a GrownCourse<'a, T>,
-) -> Result<Vec<Grower<'a, T>>, AllocError>
+) -> Result<Vec<Grower<'a, T, G>>, AllocError>
 where
     T::Workload: Sync,
     requires { AskLikeParents (subject_on T.Target target.now course.now) course.now.plans.now }
@@ -46,6 +47,7 @@ where
     for _ in 0..course.limits.workers {
         let target = target.twin()?;
         all.push(Grower {
+            gate,
             target,
             course,
             workspace: Workspace::new(alloc),
@@ -55,12 +57,13 @@ where
     Ok(all)
 }
 
-/// Runs the plans of a part of a list, from `first` on, with a thread for each worker. What they come to is what one thread would find. An
-/// error means that memory was refused.
+/// Runs the plans of a part of a list, from `first` on, with a thread for each worker. The gate is told which stage that is. What they come to is
+/// what one thread would find. An error means that memory was refused.
 pub fn run_part<T: Target + Send, G: Gate, R: Threads + Wait + Sync>(
     on: &Conditions<'_, T, G, R>,
     plans: &GrownPlans,
     part: Part,
+    stage: Stage,
     first: usize,
 ) -> Result<Growth, AllocError>
 where
@@ -81,9 +84,9 @@ where
         end,
     };
     let alloc = on.alloc;
-    let jobs = growers(alloc, on.target, &course)?;
-    on.gate.expect(Stage::Listed, (end - first) as u32);
+    let jobs = growers(alloc, on.gate, on.target, &course)?;
     let count = (end - first) as u32;
+    on.gate.expect(stage, count);
     let rows = rows_in_order(on.rt, alloc, on.gate, jobs, first as u32, count)?;
     let mut whole = Growth::none(alloc, T::catalogue().len())?;
     for growth in rows {

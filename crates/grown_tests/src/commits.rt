@@ -1,7 +1,7 @@
 //! How plans of the commit protocol grow, with two participants that vote yes on one transaction, where a commit record that is refused is
 //! tried once more: neither failure is met by one fault or two.
 
-use crate::growing::{first_with, grown_on, to_depth};
+use crate::growing::{Wanted, grown_on, have_grown, to_depth};
 use commit_target::{Commit, LOST, SPLIT, Transactions, Variant, Vote, Votes};
 use std::alloc::{AllocError, Global};
 use std::process::Abort;
@@ -17,6 +17,8 @@ pub fn one_transaction(alloc: Global) -> Result<Transactions, AllocError> {
     Ok(Transactions::new(2, transactions))
 }
 
+/// After two refusals each participant is to be told commit. One that isn't, or that writes no record, inquires and is told abort; the other one
+/// has committed, but where the run halts before or the refusals go on.
 #[test]
 fn three_faults_split_and_lose_what_is_tried_twice(rt: HostRuntime) -> Result<(), Fail> {
     let alloc = rt.alloc();
@@ -26,12 +28,25 @@ fn three_faults_split_and_lose_what_is_tried_twice(rt: HostRuntime) -> Result<()
         let Ok(grown) = grown_on(&rt, alloc, &target, &workload, to_depth(3, workers)) else {
             return Err(Fail::from("plans that don't grow"));
         };
-        assert_eq!(&rt; grown.levels.as_slice(), [1, 26, 66, 46].as_slice());
-        assert_eq!(&rt; grown.onward, 3);
-        assert_eq!(&rt; grown.beyond, 20);
-        assert_eq!(&rt; grown.plans.len(), 142);
-        assert_eq!(&rt; first_with(&grown, SPLIT), Some(109));
-        assert_eq!(&rt; first_with(&grown, LOST), Some(110));
+        let wanted = Wanted {
+            levels: &[1, 26, 66, 46],
+            onward: 3,
+            beyond: 20,
+            causes: &[
+                (109, SPLIT),
+                (110, LOST),
+                (111, SPLIT),
+                (112, LOST),
+                (114, SPLIT),
+                (115, SPLIT),
+                (116, SPLIT),
+                (117, SPLIT),
+                (118, SPLIT),
+                (139, LOST),
+                (140, LOST),
+            ],
+        };
+        have_grown(&rt, &grown, &wanted);
     }
     Ok(())
 }

@@ -1,13 +1,12 @@
 //! How plans of a delivery grow, of one message in the chunks `He` and `llo`, where both attempts write on what stands under one name.
 
-use crate::growing::{first_with, grown_on, to_depth};
+use crate::growing::{Wanted, grown_on, have_grown, to_depth};
 use chunked_text::Chunks;
 use maildir_target::{Maildir, Messages, TORN, Variant};
 use scenario_values::Text;
 use std::alloc::{AllocError, Global};
 use std::process::Abort;
 use std::test::Fail;
-use target_trait::Target;
 
 /// The message.
 fn one_message(alloc: Global) -> Result<Messages, AllocError> {
@@ -19,6 +18,7 @@ fn one_message(alloc: Global) -> Result<Messages, AllocError> {
     Ok(Messages::new(messages))
 }
 
+/// A write, the sync or the link fails, and then the unlink that cleans up, once or from then on.
 #[test]
 fn a_refused_unlink_tears_the_second_attempt(rt: HostRuntime) -> Result<(), Fail> {
     let alloc = rt.alloc();
@@ -28,18 +28,22 @@ fn a_refused_unlink_tears_the_second_attempt(rt: HostRuntime) -> Result<(), Fail
         let Ok(grown) = grown_on(&rt, alloc, &target, &workload, to_depth(2, workers)) else {
             return Err(Fail::from("plans that don't grow"));
         };
-        assert_eq!(&rt; grown.levels.as_slice(), [1, 14, 80].as_slice());
-        assert_eq!(&rt; grown.onward, 4);
-        assert_eq!(&rt; grown.beyond, 106);
-        assert_eq!(&rt; grown.plans.len(), 99);
-        assert_eq!(&rt; first_with(&grown, TORN), Some(29));
-        let stat = Maildir::catalogue()
-            .iter()
-            .position(|name| *name == "maildir::stat");
-        assert_eq!(&rt;
-            grown.outcomes.hits.get(stat.unwrap_or(64)).copied(),
-            Some(0)
-        );
+        let wanted = Wanted {
+            levels: &[1, 14, 80],
+            onward: 4,
+            beyond: 106,
+            causes: &[
+                (29, TORN),
+                (45, TORN),
+                (61, TORN),
+                (77, TORN),
+                (95, TORN),
+                (96, TORN),
+                (97, TORN),
+                (98, TORN),
+            ],
+        };
+        have_grown(&rt, &grown, &wanted);
     }
     Ok(())
 }

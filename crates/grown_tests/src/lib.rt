@@ -3,6 +3,8 @@
 #![tactic(auto)]
 
 #[cfg(test)]
+mod clean_up;
+#[cfg(test)]
 mod commits;
 #[cfg(test)]
 mod deliveries;

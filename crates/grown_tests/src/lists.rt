@@ -1,42 +1,30 @@
-//! Lists of plans, and how many runs they take, where two participants vote yes on one transaction whose commit record is tried twice. The levels
+//! Lists of plans, and which runs they take, where two participants vote yes on one transaction whose commit record is tried twice. The levels
 //! to three faults have 1, 26, 66 and 46 plans, three go onward, and the level after them has 20.
 
 use crate::commits::one_transaction;
 use crate::growing::to_depth;
 use commit_target::{Commit, Variant};
-use grown_runs::{Conditions, GrowFault, Limits, grow_list};
+use grown_runs::{Conditions, GrowFault, Limits, grow, grow_list};
 use std::alloc::Global;
 use std::process::Abort;
 use std::sync::Wait;
-use std::sync::atomic::{AtomicU64, Ordering};
 use std::test::Fail;
 use std::thread::Threads;
-use work_gate::{Gate, Phase};
+use target_checks::Arrivals;
 
-/// Counts the plans that are run.
-#[derive(Drop)]
-struct CountingGate {
-    runs: AtomicU64,
-}
+/// How many plans the list to depth 3 has.
+const PLANS: u32 = 142;
 
-impl Gate for CountingGate {
-    fn arrive(&self, _phase: Phase, _number: u32) {
-        self.runs.fetch_add(1, Ordering::SeqCst);
-    }
-}
-
-/// How many plans a list has that is looked at for so many, and how many runs that took.
+/// How many plans a list has that is looked at for so many, and who arrived at the gate for it.
 fn listed<R: Threads + Wait + Sync>(
     rt: &R,
     alloc: Global,
     limits: Limits,
     count: usize,
-) -> Result<(Result<usize, GrowFault>, u64), Fail> {
+) -> Result<(Result<usize, GrowFault>, Arrivals), Fail> {
     let workload = one_transaction(alloc)?;
     let target = Commit::new(alloc, Variant::TwoTries);
-    let gate = CountingGate {
-        runs: AtomicU64::new(0),
-    };
+    let gate = Arrivals::new(alloc, PLANS)?;
     let plans = grow_list(
         &Conditions {
             rt,
@@ -52,7 +40,7 @@ fn listed<R: Threads + Wait + Sync>(
         Ok(plans) => Ok(plans.len()),
         Err(fault) => Err(fault),
     };
-    Ok((count, gate.runs.load(Ordering::SeqCst)))
+    Ok((count, gate))
 }
 
 #[test]
@@ -71,9 +59,9 @@ fn a_list_runs_the_levels_before_its_last_plan(rt: HostRuntime) -> Result<(), Fa
             (142, 142, 139),
             (1000, 142, 139),
         ] {
-            let (listed, made) = listed(&rt, rt.alloc(), to_depth(3, workers), count)?;
+            let (listed, gate) = listed(&rt, rt.alloc(), to_depth(3, workers), count)?;
             assert_eq!(&rt; listed, Ok(plans));
-            assert_eq!(&rt; made, runs);
+            assert!(&rt; gate.came_once(runs));
         }
     }
     Ok(())
@@ -88,9 +76,30 @@ fn a_level_that_is_not_needed_may_be_too_large(rt: HostRuntime) -> Result<(), Fa
         (27, Ok(27), 1),
         (28, Err(GrowFault::TooManyPlans), 27),
     ] {
-        let (listed, made) = listed(&rt, rt.alloc(), limits, count)?;
+        let (listed, gate) = listed(&rt, rt.alloc(), limits, count)?;
         assert_eq!(&rt; listed, plans);
-        assert_eq!(&rt; made, runs);
+        assert!(&rt; gate.came_once(runs));
+    }
+    Ok(())
+}
+
+#[test]
+fn each_plan_arrives_once(rt: HostRuntime) -> Result<(), Fail> {
+    let alloc = rt.alloc();
+    let workload = one_transaction(alloc)?;
+    let target = Commit::new(alloc, Variant::TwoTries);
+    for workers in [1, 3] {
+        let gate = Arrivals::new(alloc, PLANS)?;
+        let grown = grow(&Conditions {
+            rt: &rt,
+            alloc,
+            gate: &gate,
+            target: &target,
+            workload: &workload,
+            limits: to_depth(3, workers),
+        });
+        assert!(&rt; grown.is_ok());
+        assert!(&rt; gate.came_once(PLANS as usize));
     }
     Ok(())
 }

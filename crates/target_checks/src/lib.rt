@@ -1,13 +1,16 @@
 //! What tests of targets share: a run under a scenario's text, whether a target keeps its promise under each single fault, the small
-//! workload of the replacement of a file, a writer that goes wrong, and a wait for another thread that has an end.
+//! workload of the replacement of a file, a writer that goes wrong, a gate that counts who arrives, and a wait for another thread that has an
+//! end.
 #![tactic(auto)]
 
+mod arrivals;
 mod outcomes;
 mod singles;
 mod small;
 mod waits;
 mod writers;
 
+pub use arrivals::Arrivals;
 pub use outcomes::outcome_of;
 pub use singles::first_failure;
 pub use small::small_workload;

@@ -13,7 +13,7 @@ use target_trait::{Target, Verdict};
 
 /// Where runs are made, one after another, without memory of their own. Whatever it holds before a run makes no difference to the run.
 #[derive(Drop)]
-pub struct Stage {
+pub struct RunBuffers {
     rigging: Rigging<'static>,
     room: Room,
     /// The points that the last run asked.
@@ -21,10 +21,10 @@ pub struct Stage {
     alloc: Global,
 }
 
-impl Stage {
-    /// A stage that has taken no memory yet.
+impl RunBuffers {
+    /// Buffers that have taken no memory yet.
     pub fn new(alloc: Global) -> Self {
-        Stage {
+        RunBuffers {
             rigging: Rigging::new(alloc),
             room: Room::new(alloc),
             asked: Vec::new(alloc),
