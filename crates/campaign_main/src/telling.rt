@@ -75,9 +75,7 @@ where
 {
     match order {
         Order::Explain(which) => explain_which(host, subject, which, output, faults),
-        Order::Run { .. } | Order::Map | Order::Plans | Order::Try(_) | Order::Reduce(_) => {
-            command(host, subject, order, output, faults)
-        }
+        _ => command(host, subject, order, output, faults),
     }
 }
 
