@@ -82,7 +82,13 @@ where
 /// Does what [`crate::perform_settings`] does, with the same lines and ends, over a target that tells of the end of a run: `explain` writes
 /// two lines more, `state` with the state in which the run was judged, and `judged` with the reason, as the target words them
 /// ([`run_explained::explain_telling`] says how they are written, and when one is left out).
-pub fn perform_telling<T: TellingTarget + Send, W: Sink, E: Sink, H: Threads + Wait + Sync, G: Gate>(
+pub fn perform_telling<
+    T: TellingTarget + Send,
+    W: Sink,
+    E: Sink,
+    H: Threads + Wait + Sync,
+    G: Gate,
+>(
     host: &Host<'_, G, H>,
     order: &Order,
     target: &mut T,
