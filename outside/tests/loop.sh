@@ -3,8 +3,9 @@
 mkdir "$here/bin"
 cat > "$here/bin/paklour" <<'END'
 #!/bin/bash
-brief=
+brief= strict=
 [ "$2" != --brief ] || { brief=yes; set -- "$1" "$3"; }
+[ "$2" != --strict ] || { strict=yes; set -- "$1" "$3"; }
 cat > "$0.in"
 [ -z "${REFUSES-}" ] || { [ "$1" = asks ] && exit 2; }
 case $1 in
@@ -12,7 +13,9 @@ asks) cut -f 2 "$0.in" | grep -vxF -f - "$2" | head -n "${ROUND:-3}" ;;
 report)
     [ -z "$brief" ] || sed -n 's/^fail \(.*\)\t/ fail \1 /p' "$0.in" | awk '{ print "verdict " NR $0 }'
     [ -n "$brief" ] || { cut -f 2 "$0.in" | LC_ALL=C sort | paste -s -d ' '; sed -n 's/^\(fail .*\)\t.*/ \1/p' "$0.in" | awk '{ print "verdict " NR $0 }'; }
-    grep -q '^fail' "$0.in" && { echo 'first 1 lost of all'; echo 'reduced e=off'; exit 1; } ;;
+    grep -q '^fail' "$0.in" && { echo 'first 1 lost of all'; echo 'reduced e=off'; exit 1; }
+    [ -z "${NOTE-}" ] || echo "$NOTE" >&2
+    [ -z "$strict" ] || { echo 'strict: no hits without faults' >&2; exit 5; } ;;
 esac
 exit 0
 END
@@ -50,6 +53,13 @@ loop: answered 7, asked 0, failing 0, time left 0:00:00' "$(cat "$here/told")"
 head -n 4 "$here/answers" > "$here/part" && mv "$here/part" "$here/answers"
 is 'and on where it was stopped' "$all" "$(loop answers 2> "$here/faults")"
 is 'with each asked once' 7 "$(wc -l < "$here/answers")"
+rm "$here/answers"
+options=--strict NOTE='a note'
+export NOTE
+strict=$(loop answers 2> "$here/faults")
+is 'a strict one tells what the report does not show' "5 $all" "$? $strict"
+is 'once, as each note' 'a note,strict: no hits without faults' "$(paste -s -d , "$here/told")"
+unset options NOTE
 rm "$here/answers"
 loop tells_nothing > "$here/said" 2>&1
 is 'it stops where no answer comes' "2 loop: no answer came from $here/bin/tells_nothing" "$? $(tail -n 1 "$here/said")"

@@ -3,8 +3,10 @@
 
 mod hits;
 mod idle;
+mod tales;
 mod telling;
 mod writing;
 
+pub use tales::explain_telling;
 pub use telling::{Explained, explain};
-pub use writing::explain_one;
+pub use writing::{explain_one, explain_one_telling};

@@ -46,6 +46,12 @@ pub told_is : (asks : List Reply → Move) (r : Run) (j : Judgement) (g : Given)
 told_is asks r j g same is few =
     ap (told asks) (sym (play_is asks r j (suc r.given.limit) is (omega arith))) ∙ ap (outcome asks) same
 
+-- its answers are those of the play of what it is given
+pub replies_are : (asks : List Reply → Move) (r : Run) (j : Judgement) (g : Given) → r.given ≡ g → IsPlay asks r j → length r.hits ≤ r.given.limit + 1
+    → replies r ≡ replies (play (suc g.limit) asks (start g))
+replies_are asks r j g same is few =
+    ap replies (sym (play_is asks r j (suc r.given.limit) is (omega arith))) ∙ ap (λ (x : Given). replies (play (suc x.limit) asks (start x))) same
+
 -- what a run is given, by what its session began with
 pub given_is : (x : Given) (s : Run) (scenario : Entries) (catalogue names : List (List ℕ)) (seed stream limit : ℕ)
     → x ≡ s.given → s ≡ start (given_of scenario catalogue seed stream limit) → catalogue ≡ names → x ≡ given_of scenario names seed stream limit

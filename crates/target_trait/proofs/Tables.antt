@@ -6,7 +6,7 @@ use Rattle.action_eval.specs.declared.answer.Answer.TheVariants as answer
 use Rattle.target_trait.specs.declared.judgement.Judgement.{Judgement}
 use Rattle.target_trait.specs.Play.{Done, IsPlay, IsWithin, move_by}
 use Rattle.target_trait.specs.Machine.{asks_by, Reached}
-use Rattle.target_trait.specs.Protocol.{Table, table_step, by_table}
+use Rattle.target_trait.specs.Protocol.{Table, table_step, by_table, state_after}
 use Rattle.target_trait.proofs.Machine.{reached_more, reached_end}
 
 pub asked_within : {S : Type 0} (t : Table S) (points : ℕ) (s : S) (p : ℕ) → IsWithin points (move_by (t.judge s) (t.point s)) → t.point s ≡ Some p → p < points
@@ -31,13 +31,20 @@ answered_return {S} t r s p k e r' same a told text is s' done =
     subst (λ (x : S × Bool). Reached (by_table t) r' x)
     (ap (λ (x : Answer). table_step t (s, false) (reply_of_answer x)) is ∙ returned t s text ∙ ap (λ (x : S). let y : S × Bool = (x, false) in y) (sym done)) (answered t r s p k e r' same a told)
 
--- a run that is halted is over
-pub answered_halt : {S : Type 0} (t : Table S) (r : Run) (s : S) (p : ℕ) → Reached (by_table t) r (s, false) → t.point s ≡ Some p → (r' : Run) → r' ≡ hit r p → (a : Answer) → replies r' ≡ replies r ++ reply_of_answer a ∷ []
-    → a ≡ answer.Halt → (j : Judgement) → j ≡ t.judge s → IsPlay (asks_by (by_table t)) r' j
-answered_halt {S} t r s p k e r' same a told is j judged =
-    let here : Reached (by_table t) r' (s, true) = subst (λ (x : S × Bool). Reached (by_table t) r' x) (ap (λ (x : Answer). table_step t (s, false) (reply_of_answer x)) is) (answered t r s p k e r' same a told) in
-    reached_end (by_table t) r' (s, true) j here (ap Done (sym judged))
+-- a run that is halted has come to the same state
+pub reached_halt : {S : Type 0} (t : Table S) (r : Run) (s : S) (p : ℕ) → Reached (by_table t) r (s, false) → t.point s ≡ Some p → (r' : Run) → r' ≡ hit r p → (a : Answer) → replies r' ≡ replies r ++ reply_of_answer a ∷ []
+    → a ≡ answer.Halt → Reached (by_table t) r' (s, true)
+reached_halt {S} t r s p k e r' same a told is =
+    subst (λ (x : S × Bool). Reached (by_table t) r' x) (ap (λ (x : Answer). table_step t (s, false) (reply_of_answer x)) is) (answered t r s p k e r' same a told)
+
+-- and is over
+pub halted : {S : Type 0} (t : Table S) (r : Run) (s : S) → Reached (by_table t) r (s, true) → IsPlay (asks_by (by_table t)) r (t.judge s)
+halted t r s k = reached_end (by_table t) r (s, true) (t.judge s) k refl
 
 -- and so is one without a further step
-pub nothing_asked : {S : Type 0} (t : Table S) (r : Run) (s : S) → Reached (by_table t) r (s, false) → t.point s ≡ None → (j : Judgement) → j ≡ t.judge s → IsPlay (asks_by (by_table t)) r j
-nothing_asked t r s k e j judged = reached_end (by_table t) r (s, false) j k (ap (move_by (t.judge s)) e ∙ ap Done (sym judged))
+pub nothing_asked : {S : Type 0} (t : Table S) (r : Run) (s : S) → Reached (by_table t) r (s, false) → t.point s ≡ None → IsPlay (asks_by (by_table t)) r (t.judge s)
+nothing_asked t r s k e = reached_end (by_table t) r (s, false) (t.judge s) k (ap (move_by (t.judge s)) e)
+
+-- the state that a run has come to is that to which its answers lead
+pub state_is : {S : Type 0} (t : Table S) (r : Run) (s : S) (over : Bool) → Reached (by_table t) r (s, over) → s ≡ state_after t (replies r)
+state_is {S} t r s over k = sym (ap (λ (x : S × Bool). x.0) k.here)

@@ -60,7 +60,7 @@ fn verdict_of(stopped: Option<Stop>, judgement: Judgement) -> Verdict
 }
 
 /// The session of a case, over a catalogue.
-fn session_of<'a>(
+pub fn session_of<'a>(
     alloc: Global,
     case: &Case<'a>,
     catalogue: &'a [&'a str],

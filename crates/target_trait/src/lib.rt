@@ -7,6 +7,7 @@ mod laws;
 mod output;
 mod protocol;
 mod target;
+mod telling;
 
 pub use action_eval::{Answer, Note, Session, Stop};
 pub use case::{Case, Outcome, run_case, run_session, run_verdict};
@@ -15,3 +16,4 @@ pub use laws::{same_meaning_same_outcome, verdict_of_outcome};
 pub use output::{Out, Sink};
 pub use protocol::{ByTable, Protocol};
 pub use target::Target;
+pub use telling::{Tale, TellingProtocol, TellingTarget};

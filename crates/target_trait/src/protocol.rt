@@ -1,11 +1,11 @@
 //! Components that are told by a table of their steps.
 ghost use Rattle.std.specs.Prelude.{◌≡◌, ◌+◌, ◌-◌, ℕ, List, None, false, length, option_map, IfOk, OnOk};
 ghost use Rattle.std.proofs.Common.{rules};
-ghost use Rattle.action_eval.specs.Answers.{start, texts};
+ghost use Rattle.action_eval.specs.Answers.{replies, start, texts};
 ghost use Rattle.action_eval.specs.Catalogue.{IsCatalogue};
 ghost use Rattle.target_trait.specs.Machine.{asks_by, Reached};
 ghost use Rattle.target_trait.specs.Play.{IsPlay, IsWithin, IsRunning, move_by};
-ghost use Rattle.target_trait.specs.Protocol.{Table, by_table};
+ghost use Rattle.target_trait.specs.Protocol.{Table, by_table, state_after};
 ghost use Rattle.target_trait.specs.MachineLaws.{within_table, halts_table};
 
 use crate::judgement::Judgement;
@@ -86,7 +86,31 @@ pub trait Protocol: Sized + Drop {
     ghost lawful: { IsCatalogue names };
 }
 
-/// Plays a run by a table, from its first state on.
+/// Plays a run by a table, from its first state on, and answers the state in which it is judged.
+pub fn play_out<P: Protocol>(
+    protocol: &P,
+    workload: &P::Workload,
+    session: &mut Session<'_>,
+) -> Result<P::State, AllocError>
+    requires new { session.old ≡ start session.old.given }
+    requires points { session.old.given.catalogue ≡ P.names }
+    ensures play { IfOk result (λ state. IsPlay (asks_by (by_table (P.table protocol.now workload.now))) session.new
+        ((P.table protocol.now workload.now).judge state)) }
+    ensures state { IfOk result (λ state. state ≡ state_after (P.table protocol.now workload.now) (replies session.new)) }
+    ensures given { session.new.given ≡ session.old.given }
+{
+    let mut state = protocol.begin(workload)?;
+    while let Some(point) = protocol.point(workload, &state) {
+        match session.hit(point)? {
+            Answer::Go => protocol.go(workload, &mut state)?,
+            Answer::Return(text) => protocol.fail(workload, &mut state, text)?,
+            Answer::Halt => return Ok(state),
+        }
+    }
+    Ok(state)
+}
+
+/// Plays a run by a table, and judges it.
 fn play<P: Protocol>(
     protocol: &P,
     workload: &P::Workload,
@@ -97,14 +121,7 @@ fn play<P: Protocol>(
     ensures play { IfOk result (IsPlay (asks_by (by_table (P.table protocol.now workload.now))) session.new) }
     ensures given { session.new.given ≡ session.old.given }
 {
-    let mut state = protocol.begin(workload)?;
-    while let Some(point) = protocol.point(workload, &state) {
-        match session.hit(point)? {
-            Answer::Go => protocol.go(workload, &mut state)?,
-            Answer::Return(text) => protocol.fail(workload, &mut state, text)?,
-            Answer::Halt => return Ok(protocol.judge(workload, state)),
-        }
-    }
+    let state = play_out(protocol, workload, session)?;
     Ok(protocol.judge(workload, state))
 }
 
@@ -126,6 +143,13 @@ impl<P: Protocol> ByTable<P> {
         ensures { result ≡ protocol }
     {
         ByTable { protocol }
+    }
+
+    /// The component.
+    pub fn protocol(&self) -> &P
+        ensures { result.now ≡ self.now }
+    {
+        &self.protocol
     }
 }
 

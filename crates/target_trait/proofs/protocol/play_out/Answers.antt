@@ -1,9 +1,9 @@
-use Rattle.std.proofs.Common.{◌≡◌, ℕ, ◌<◌, length, Some, None, rules, refl, ap, sym, ◌∙◌, subst}
+use Rattle.std.proofs.Common.{◌≡◌, ℕ, ◌<◌, true, false, length, Some, None, rules, refl, ap, sym, ◌∙◌, subst}
 use Rattle.action_eval.specs.Answers.{stopped}
 use Rattle.target_trait.specs.Play.{IsRunning}
 use Rattle.target_trait.proofs.Running.{running_at, runs_go, runs_return, nearer}
-use Rattle.target_trait.proofs.Tables.{asked_within, answered_go, answered_return, answered_halt, nothing_asked}
-use Rattle.target_trait.proofs.protocol.play.Goals as goal
+use Rattle.target_trait.proofs.Tables.{asked_within, answered_go, answered_return, halted, nothing_asked, reached_halt, state_is}
+use Rattle.target_trait.proofs.protocol.play_out.Goals as goal
 
 pub loop-point-init : goal.loop-point-init
 loop-point-init g c =
@@ -62,10 +62,22 @@ pub returns-in-Halt-clause-play : goal.returns-in-Halt-clause-play
 returns-in-Halt-clause-play g c =
     let t = g.P.Protocol.table c.args.protocol.now c.args.workload.now in
     let asks : t.point c.loop-point.state ≡ Some c.in-Some.point = sym c.point.ensures ∙ c.in-Some.is in
-    answered_halt t c.loop-point.session c.loop-point.state c.in-Some.point c.loop-point.invariant.here asks
-    c.hit.new.self c.in_ok-hit.ensures.ok _ c.in_ok-hit.ensures.told c.in-Halt.is c.judge.result c.judge.ensures
+    halted t c.hit.new.self c.loop-point.state (reached_halt t c.loop-point.session c.loop-point.state c.in-Some.point c.loop-point.invariant.here asks
+    c.hit.new.self c.in_ok-hit.ensures.ok _ c.in_ok-hit.ensures.told c.in-Halt.is)
+
+pub returns-in-Halt-clause-state : goal.returns-in-Halt-clause-state
+returns-in-Halt-clause-state g c =
+    let t = g.P.Protocol.table c.args.protocol.now c.args.workload.now in
+    let asks : t.point c.loop-point.state ≡ Some c.in-Some.point = sym c.point.ensures ∙ c.in-Some.is in
+    state_is t c.hit.new.self c.loop-point.state true (reached_halt t c.loop-point.session c.loop-point.state c.in-Some.point c.loop-point.invariant.here asks
+    c.hit.new.self c.in_ok-hit.ensures.ok _ c.in_ok-hit.ensures.told c.in-Halt.is)
 
 pub returns-clause-play : goal.returns-clause-play
 returns-clause-play g c =
     let t = g.P.Protocol.table c.args.protocol.now c.args.workload.now in
-    nothing_asked t c.loop-point.session c.loop-point.state c.loop-point.invariant.here (search rules) c.judge-2.result c.judge-2.ensures
+    nothing_asked t c.loop-point.session c.loop-point.state c.loop-point.invariant.here (search rules)
+
+pub returns-clause-state : goal.returns-clause-state
+returns-clause-state g c =
+    let t = g.P.Protocol.table c.args.protocol.now c.args.workload.now in
+    state_is t c.loop-point.session c.loop-point.state false c.loop-point.invariant.here

@@ -2,7 +2,7 @@ use Rattle.std.proofs.Common.{◌≡◌, ◌+◌, ◌-◌, false, length}
 use Rattle.target_trait.specs.Machine.{Reached}
 use Rattle.target_trait.specs.Play.{IsRunning}
 use Rattle.target_trait.specs.Protocol.{by_table}
-use Rattle.target_trait.proofs.protocol.play.Given as goal
+use Rattle.target_trait.proofs.protocol.play_out.Given as goal
 
 abbrev pub invariant-loop-point : goal.invariant-loop-point
 invariant-loop-point g l = record {
