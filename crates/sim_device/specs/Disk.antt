@@ -1,5 +1,5 @@
 -- A file device as contracts see it: for each name and each file, what is live and what lasts.
-use Rattle.std.specs.Prelude.{◌≡◌, ℕ, ◌<◌, ◌≤◌, ◌^◌, ◌==◌, is_some, if◌then◌else◌, true, false, List, [], ◌∷◌, Option, Some, None, length, slice_index_or}
+use Rattle.std.specs.Prelude.{◌≡◌, ℕ, ◌<◌, ◌≤◌, ◌^◌, ◌==◌, is_some, if◌then◌else◌, true, false, List, [], ◌∷◌, Option, Some, None, length, slice_index_or, option_map}
 use Rattle.sim_device.specs.declared.names.Entry.{Entry}
 use Rattle.sim_device.specs.FileEffects.{Effect, Rename, Live, Lasting, leads, contents, created}
 
@@ -19,6 +19,10 @@ entry_at names n = slice_index_or names n (record { live = None; lasting = None 
 
 abbrev pub held_at : List Held → ℕ → Held
 held_at files f = slice_index_or files f (record { live = []; lasting = [] })
+
+-- what a name reads now, if it leads to a file
+abbrev pub reads : Disk → ℕ → Option (List ℕ)
+reads d n = option_map (λ f. (held_at d.files f).live) (entry_at d.names n).live
 
 -- the device is what this list of effects gives
 pub record StandsFor (d : Disk) (effects : List Effect) : Type 0 where
@@ -54,6 +58,11 @@ abbrev pub MovesName : List Entry → List Entry → ℕ → ℕ → ℕ → Typ
 MovesName old new file from to = (n : ℕ) → entry_at new n
     ≡ (if n == to then record { live = Some file; lasting = (entry_at old n).lasting } else
     (if n == from then record { live = None; lasting = (entry_at old n).lasting } else entry_at old n))
+
+-- this file holds these bytes now, and all else is as before
+abbrev pub ChangesFile : List Held → List Held → ℕ → List ℕ → Type 0
+ChangesFile old new f bytes = (length new ≡ length old) × ((g : ℕ) → g < length old
+    → held_at new g ≡ (if g == f then record { live = bytes; lasting = (held_at old g).lasting } else held_at old g))
 
 -- each name leads to a file in use
 pub record Keeps (names : List Entry) (used all : ℕ) : Type 0 where

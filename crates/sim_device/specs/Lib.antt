@@ -3,3 +3,5 @@ pub mod Disk
 pub mod Refusals
 pub mod Later
 pub mod LogEffects
+pub mod Pending
+pub mod inside

@@ -1,7 +1,8 @@
 -- What a list of effects on a record log means, the newest effect first: which records stand in the log.
 -- The log is the one of two-phase commit: a forced record is on stable storage before the call returns, and with it all records before it; a record that
 -- was only appended is lost at a restart, unless a later record was forced.
-use Rattle.std.specs.Prelude.{◌≡◌, List, [], ◌∷◌, ◌++◌}
+use Rattle.std.specs.Prelude.{◌≡◌, ℕ, ◌-◌, Bool, not, List, [], ◌∷◌, ◌++◌, length, take}
+use Rattle.std.specs.List.{suffix_len}
 use Rattle.sim_device.specs.FileEffects.{Side, Live, Lasting}
 
 -- one accepted call
@@ -39,3 +40,22 @@ HasNoForce [] = Unit {0}
 HasNoForce (Append r ∷ later) = HasNoForce later
 HasNoForce (Force r ∷ later) = ⊥
 HasNoForce (Restart ∷ later) = HasNoForce later
+
+-- the pending records: those added since the last force and the last restart, the oldest first
+abbrev pub unforced : {R : Type 0} → List (LogEffect R) → List R
+unforced [] = []
+unforced (Append r ∷ before) = unforced before ++ r ∷ []
+unforced (Force r ∷ before) = []
+unforced (Restart ∷ before) = []
+
+-- how many pending records a restart leaves where these are kept, the oldest first: a log is written in order, so one that is kept keeps those
+-- before it
+abbrev pub kept_front : List Bool → ℕ
+kept_front keep = length keep - suffix_len not keep
+
+abbrev pub survivors : {R : Type 0} → List (LogEffect R) → List Bool → List R
+survivors effects keep = records effects Lasting ++ take (kept_front keep) (unforced effects)
+
+-- these answers told which pending records are kept, and what is left lasts
+abbrev pub RestartsKeeping : {R : Type 0} → Log R → Log R → List Bool → Type 0
+RestartsKeeping {R} old new keep = (es : List (LogEffect R)) → LogStandsFor old es → new ≡ record { live = survivors es keep; lasting = survivors es keep }

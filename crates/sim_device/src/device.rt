@@ -1,6 +1,6 @@
-ghost use Rattle.std.specs.Prelude.{◌≡◌, ◌≤◌, ◌<◌, ◌+◌, ◌++◌, ℕ, List, [], ◌∷◌, length, take, OnOk, OnErr, MatchResult, is_some, is_none, slice_set, Some, None};
+ghost use Rattle.std.specs.Prelude.{◌≡◌, ◌≤◌, ◌<◌, ◌+◌, ◌++◌, ℕ, List, [], ◌∷◌, length, take, OnOk, OnErr, MatchResult, IfSome, is_some, is_none, slice_set, Some, None};
 ghost use Rattle.sim_device.specs.FileEffects.{Effect, Create, Append, Write, Truncate, Sync, Link, Unlink, SyncDir, PowerCut, Live, held, overwritten};
-ghost use Rattle.sim_device.specs.Disk.{entry_at, held_at, StandsFor, AddsEffect, AddsRename, IsNext};
+ghost use Rattle.sim_device.specs.Disk.{entry_at, held_at, StandsFor, AddsEffect, AddsRename, ChangesFile, ChangesName, IsNext};
 ghost use Rattle.sim_device.specs.Refusals.{Refuses, RefusesOnly, RefusesLink};
 
 use crate::fault::DeviceFault;
@@ -113,6 +113,18 @@ fn cut_files(files: &mut [File], used: usize)
     for number in 0..used {
         let file = &mut files[number];
         file.cut();
+    }
+}
+
+/// Makes what the first `used` files hold last.
+fn sync_files(files: &mut [File], used: usize)
+    requires { used ≤ length files.old }
+    ensures { (f : ℕ) → f < used →
+        held_at files.new f ≡ record { live = (held_at files.old f).live; lasting = (held_at files.old f).live } }
+{
+    for number in 0..used {
+        let file = &mut files[number];
+        file.sync();
     }
 }
 
@@ -296,8 +308,7 @@ impl FileDevice {
     pub fn power_cut(&mut self)
         ensures { AddsEffect self.old self.new PowerCut }
     {
-        self.directory.cut();
-        cut_files(&mut self.files, self.used);
+        self.leave_lasting();
     }
 
     /// Lends what a name's file holds now, so its length and its parts too. It takes no memory.
@@ -323,6 +334,92 @@ impl FileDevice {
         ensures { IsNext self.now.names from result }
     {
         self.directory.next(from)
+    }
+
+    /// How many files there are.
+    pub(crate) fn files(&self) -> usize
+        ensures { result ≡ length self.now.files }
+    {
+        self.used
+    }
+
+    /// The number of a name's file now.
+    pub(crate) fn file_of(&self, name: u32) -> Option<usize>
+        ensures file { result ≡ (entry_at self.now.names name).live }
+        ensures within { IfSome result (λ file. file < length self.now.files) }
+    {
+        self.directory.live(name)
+    }
+
+    /// What a file holds now.
+    pub(crate) fn contents_of(&self, file: usize) -> &[u8]
+        requires { file < length self.now.files }
+        ensures { result.now ≡ (held_at self.now.files file).live }
+    {
+        self.files[file].read()
+    }
+
+    /// Leads a name to a file, or to none.
+    pub(crate) fn lead(&mut self, name: u32, file: Option<usize>) -> Result<(), AllocError>
+        requires { IfSome file (λ f. f < length self.old.files) }
+        ensures ok { OnOk result (ChangesName self.old.names self.new.names name file) }
+        ensures files { self.new.files ≡ self.old.files }
+    {
+        match file {
+            Some(file) => self.directory.point(name, file),
+            None => {
+                self.directory.remove(name);
+                Ok(())
+            }
+        }
+    }
+
+    /// Writes bytes at a place of a file.
+    pub(crate) fn write_file(
+        &mut self,
+        file: usize,
+        place: usize,
+        bytes: &[u8],
+    ) -> Result<(), AllocError>
+        requires { file < length self.old.files }
+        ensures ok { OnOk result (ChangesFile self.old.files self.new.files file (overwritten place bytes.now (held_at self.old.files file).live)) }
+        ensures names { self.new.names ≡ self.old.names }
+    {
+        write_in(&mut self.files, file, place, bytes)
+    }
+
+    /// Leaves the first bytes of a file, at most `count`.
+    pub(crate) fn cut_file(&mut self, file: usize, count: usize) -> Result<(), AllocError>
+        requires { file < length self.old.files }
+        ensures ok { OnOk result (ChangesFile self.old.files self.new.files file (take count (held_at self.old.files file).live)) }
+        ensures names { self.new.names ≡ self.old.names }
+    {
+        truncate_at(&mut self.files, file, count)
+    }
+
+    /// Leaves only the names and contents that last.
+    pub(crate) fn leave_lasting(&mut self)
+        ensures names { (n : ℕ) → let old = entry_at self.old.names n in
+            entry_at self.new.names n ≡ record { live = old.lasting; lasting = old.lasting } }
+        ensures made { length self.new.files ≡ length self.old.files }
+        ensures files { (f : ℕ) → f < length self.old.files → let old = held_at self.old.files f in
+            held_at self.new.files f ≡ record { live = old.lasting; lasting = old.lasting } }
+    {
+        self.directory.cut();
+        cut_files(&mut self.files, self.used);
+    }
+
+    /// Makes all names and contents that are there last.
+    pub(crate) fn settle(&mut self)
+        ensures names { (n : ℕ) → let old = entry_at self.old.names n in
+            entry_at self.new.names n ≡ record { live = old.live; lasting = old.live } }
+        ensures made { length self.new.files ≡ length self.old.files }
+        ensures files { (f : ℕ) → f < length self.old.files → let old = held_at self.old.files f in
+            held_at self.new.files f ≡ record { live = old.live; lasting = old.live } }
+    {
+        let directory = &mut self.directory;
+        directory.sync();
+        sync_files(&mut self.files, self.used);
     }
 
     /// Whether a name is there now. It takes no memory.

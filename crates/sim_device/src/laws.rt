@@ -1,6 +1,8 @@
 //! Laws of devices, over every list of effects and so over every run.
 ghost use Rattle.std.specs.Prelude.{◌≡◌, ◌<◌, ℕ, List, [], ◌∷◌, ◌++◌, Some, Contains, take};
 ghost use Rattle.sim_device.specs.FileEffects.{Effect, Create, Append, Write, Truncate, Sync, Rename, Link, PowerCut, Side, Live, Lasting, created, leads, contents, overwritten};
+ghost use Rattle.sim_device.specs.Disk.{Disk, StandsFor};
+ghost use Rattle.sim_device.specs.Pending.{IsLeft, pending, leads_with, holds_with};
 ghost use Rattle.sim_device.specs.Later.{IsUntouched, HasNoSyncDir, IsUnnamed, IsUnsynced};
 ghost use Rattle.sim_device.specs.LogEffects.{LogEffect, Force, Restart, records, HasNoForce};
 
@@ -97,4 +99,17 @@ pub fn forced_record_survives<R: Copy>()
 pub fn unforced_records_are_lost<R: Copy>()
     ensures { (later before : List (LogEffect R)) →
         HasNoForce later → records (Restart ∷ (later ++ before)) Live ≡ records before Lasting }
+{}
+
+/// A power cut that keeps no pending write is one that loses all.
+pub fn nothing_kept_is_a_power_cut()
+    ensures { (disk : Disk) (effects : List Effect) → IsLeft disk effects [] → StandsFor disk (PowerCut ∷ effects) }
+{}
+
+/// A power cut that keeps each pending write loses nothing.
+pub fn all_kept_loses_nothing()
+    ensures names { (effects : List Effect) (n : ℕ) →
+        leads_with (pending effects) n (leads effects Lasting n) ≡ leads effects Live n }
+    ensures contents { (effects : List Effect) (f : ℕ) → f < created effects →
+        holds_with (pending effects) f (contents effects Lasting f) ≡ contents effects Live f }
 {}

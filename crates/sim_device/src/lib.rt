@@ -2,21 +2,26 @@
 //! synced, a single file of such a disk, and a log of records that forgets at a restart what was not forced.
 #![tactic(auto)]
 
+mod crash;
 mod device;
 mod fault;
 mod file;
 mod laws;
+mod laying;
 mod log;
 mod must;
 mod names;
+mod pending;
 
+pub use crash::CrashDevice;
 pub use device::FileDevice;
 pub use fault::DeviceFault;
 pub use file::File;
 pub use laws::{
-    append_adds, contents_last, create_names_a_new_file, forced_record_survives,
-    forced_records_stay, link_adds_a_name, names_last, names_lead_to_files, new_files_are_empty,
-    rename_keeps_contents, synced_contents_stay, truncate_cuts, unforced_records_are_lost,
-    unnamed_names_stay, write_overwrites,
+    all_kept_loses_nothing, append_adds, contents_last, create_names_a_new_file,
+    forced_record_survives, forced_records_stay, link_adds_a_name, names_last, names_lead_to_files,
+    new_files_are_empty, nothing_kept_is_a_power_cut, rename_keeps_contents, synced_contents_stay,
+    truncate_cuts, unforced_records_are_lost, unnamed_names_stay, write_overwrites,
 };
 pub use log::RecordLog;
+pub use pending::{Call, PendingWrite};

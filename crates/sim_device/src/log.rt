@@ -1,6 +1,6 @@
 ghost use Rattle.std.specs.Prelude.{◌≡◌, List, [], OnOk, OnErr};
 ghost use Rattle.sim_device.specs.FileEffects.{Live};
-ghost use Rattle.sim_device.specs.LogEffects.{LogEffect, Append, Force, Restart, records, LogStandsFor, AddsLogEffect};
+ghost use Rattle.sim_device.specs.LogEffects.{LogEffect, Append, Force, Restart, records, unforced, kept_front, LogStandsFor, AddsLogEffect, RestartsKeeping};
 
 use std::alloc::{AllocError, Global};
 use std::marker::Model;
@@ -25,6 +25,17 @@ impl<R: Drop> Model for RecordLog<R> {
     ghost view = { λ l. record { live = l.records.items; lasting = take l.lasting l.records.items } };
 
     ghost invariant = { λ l. l.lasting ≤ vec_len l.records };
+}
+
+/// How many answers there are up to the last that keeps.
+fn kept_front(keep: &[bool]) -> usize
+    ensures { result ≡ kept_front keep.now }
+{
+    let mut front = keep.len();
+    while front > 0 && !keep[front - 1] {
+        front -= 1;
+    }
+    front
 }
 
 impl<R: Drop> RecordLog<R> {
@@ -78,6 +89,25 @@ impl<R: Drop> RecordLog<R> {
         ensures { AddsLogEffect self.old self.new Restart }
     {
         self.records.truncate(self.lasting);
+    }
+
+    /// Leaves the records that last, and the pending ones for which the answers say so, the oldest first. A log is written in order: a record that
+    /// is kept keeps those before it. Records past the answers are lost, and answers past the records mean nothing. What is left lasts. It takes
+    /// no memory.
+    pub fn restart_keeping(&mut self, keep: &[bool])
+        ensures { RestartsKeeping self.old self.new keep.now }
+    {
+        let kept = kept_front(keep);
+        self.lasting += kept.min(self.records.as_slice().len() - self.lasting);
+        let left = self.lasting;
+        self.records.truncate(left);
+    }
+
+    /// Lends the pending records, which a restart may lose, the oldest first. It takes no memory.
+    pub fn pending(&self) -> &[R]
+        ensures { (es : List (LogEffect R)) → LogStandsFor self.now es → result.now ≡ unforced es }
+    {
+        &self.records[self.lasting..]
     }
 
     /// Lends all records that are there, the oldest first. It takes no memory.
