@@ -26,8 +26,8 @@ pub struct Setup<T: Target> {
 /// A target, with the course whose plans it runs, and with a workspace of its own that each run takes over from the one before. The gate is told
 /// what each row came to.
 #[derive(Drop)]
-pub struct Runner<'a, T: Target, G: Gate> {
-    pub gate: &'a G,
+pub struct Runner<'a, 'g, T: Target, G: Gate> {
+    pub gate: &'g G,
     pub target: T,
     pub course: &'a Course<'a, T>,
     /// The number of the first plan that is run.
@@ -37,7 +37,7 @@ pub struct Runner<'a, T: Target, G: Gate> {
     ghost within: { first ≤ length course.now.plans.now },
 }
 
-impl<'a, T: Target + Send, G: Gate> Job for Runner<'a, T, G>
+impl<'a, 'g, T: Target + Send, G: Gate> Job for Runner<'a, 'g, T, G>
 where
     T::Workload: Sync,
 {

@@ -15,13 +15,13 @@ use target_trait::{Target, Verdict};
 use work_gate::{Gate, Stage};
 
 /// A job for each worker, with a twin of the target, for the plans from this number on. An error means that memory was refused.
-fn runners<'a, T: Target + Send, G: Gate, R: Threads + Wait + Sync>(
-    host: &Host<'a, G, R>,
+fn runners<'a, 'g, T: Target + Send, G: Gate, R: Threads + Wait + Sync>(
+    host: &Host<'g, G, R>,
     target: &T,
     course: &'a Course<'a, T>,
     first: u32,
     workers: usize,
-) -> Result<Vec<Runner<'a, T, G>>, AllocError>
+) -> Result<Vec<Runner<'a, 'g, T, G>>, AllocError>
 where
     T::Workload: Sync,
     requires { first ≤ length course.now.plans.now }
