@@ -82,6 +82,33 @@ Where both are asked for it is lines for logs.
   $ paklour run --progress --progress=plain given 2>&1 > /dev/null | head -n 1
   plans 1 of 49, 0 failing
 
+Of a list that grows each level is a stage, as large as depth.t has it, and the plans from then on are one. How many fail is told of all levels so
+far.
+
+  $ cat > forced << END
+  > target = "commit"
+  > variant = "two_tries"
+  > seed = 7
+  > depth = 3
+  > [commit]
+  > participants = 2
+  > transactions = [["yes", "yes"]]
+  > END
+  $ paklour run --progress=plain forced 2>&1 > /dev/null | cut -d , -f 1
+  level 0: plan 1 of 1
+  level 1: plan 1 of 26
+  level 2: plan 1 of 66
+  level 3: plan 1 of 46
+  onward: plan 1 of 3
+  reducing: test 1
+  $ paklour run forced | grep '^verdict ' | head -n 139 | grep -c ' fail '
+  9
+  $ paklour run --progress=plain forced 2>&1 > /dev/null | grep onward
+  onward: plan 1 of 3, 9 failing
+  $ form="\(level [0-3]:\|onward:\) plan [0-9]* of [0-9]*, [0-9]* failing\($pace\)\?\(; [0-9]* in the next so far\)\?"
+  $ paklour run --progress forced 2>&1 > /dev/null | lines | tr '<' '\n' | grep -v -x -e "$form" -e 'reducing: test [0-9]*' -e ''
+  [1]
+
 Where the command is refused before anything has run, or its output takes nothing, the line of the fault stands alone at the end.
 
   $ paklour run --progress < /dev/null
