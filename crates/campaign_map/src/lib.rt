@@ -6,8 +6,10 @@ mod facts;
 mod fronts;
 mod grown;
 mod layout;
+mod laws;
 mod map;
 mod names;
 
 pub use facts::MapFacts;
+pub use laws::each_plan_has_a_cell_of_its_own;
 pub use map::map_text;
