@@ -6,3 +6,4 @@ pub mod Places
 pub mod CellsApart
 pub mod Turns
 pub mod PlainCells
+pub mod CellTable

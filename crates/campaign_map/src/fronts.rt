@@ -1,14 +1,12 @@
 //! Plans that grew, and which cell of a map each has.
 ghost use Rattle.std.specs.Prelude.{◌≡◌, ◌≤◌, ◌<◌, ◌^◌, ◌+◌, ◌++◌, length, IfOk};
 ghost use Rattle.plan_gen.specs.Counts.{total_of};
-ghost use Rattle.campaign_map.specs.GrownCells.{acted, front_of, fronts, front_at, way, is_same, agrees, is_from, is_in, worse, worst_at};
+ghost use Rattle.campaign_map.specs.GrownCells.{acted, front_of, fronts, front_at, way, is_same, agrees, is_from, is_in};
 ghost use Rattle.campaign_map.specs.GrownCells.{place_of, hit_at, last_hit, column_counts, square_step, single_place, pair_place};
 
-use crate::cells::verdict_at;
 use crate::facts::MapFacts;
 use action_eval::{Kind, Rig, Site};
 use std::alloc::{AllocError, Global};
-use target_trait::Verdict;
 
 /// The first two faults of a plan that grew, in the order in which they act. They tell its cell.
 #[derive(Clone, Copy, Debug)]
@@ -79,7 +77,7 @@ pub fn front_at(fronts: &[Front], number: usize) -> Front
 }
 
 /// The way in which a fault acts, as a number.
-fn way(kind: Kind) -> usize
+pub fn way(kind: Kind) -> usize
     ensures { result ≡ way kind }
 {
     match kind {
@@ -118,29 +116,6 @@ pub fn is_in(cell: &Front, front: &Front) -> bool
     ensures { result ≡ is_in cell.now front.now }
 {
     is_from(cell, front) && is_from(front, cell)
-}
-
-/// The worst of two verdicts, of which the first is that of the lesser number.
-fn worse(one: Verdict, other: Verdict) -> Verdict
-    ensures { result ≡ worse one other }
-{
-    match (one, other) {
-        (Verdict::Pass, _) | (Verdict::Unresolved, Verdict::Fail(_)) => other,
-        (Verdict::Unresolved, _) | (Verdict::Fail(_), _) => one,
-    }
-}
-
-/// The worst verdict of the plans that grew from a cell's, its own among them.
-pub fn worst_at(facts: &MapFacts<'_>, fronts: &[Front], cell: &Front) -> Verdict
-    ensures { result ≡ worst_at facts.now fronts.now cell.now }
-{
-    let mut worst = Verdict::Pass;
-    for (number, front) in fronts.iter().enumerate() {
-        if is_from(cell, front) {
-            worst = worse(worst, verdict_at(facts, number));
-        }
-    }
-    worst
 }
 
 /// How many hits there are of all points.

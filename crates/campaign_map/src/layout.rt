@@ -116,6 +116,7 @@ pub fn layout_of(facts: &MapFacts<'_>, fronts: &[Front], counts: &[u32]) -> Layo
     requires counts { length counts.now ≤ 64 }
     ensures layout { result ≡ layout_of facts.now fronts.now counts.now }
     ensures small { IsSmall result }
+    ensures strip { 0 < length fronts.now → result.strip_first ≤ length fronts.now }
 {
     let sites = sites_of(facts.census);
     let extent = extent_of(fronts, counts, sites);

@@ -9,6 +9,7 @@ mod layout;
 mod laws;
 mod map;
 mod names;
+mod worst;
 
 pub use facts::MapFacts;
 pub use laws::each_plan_has_a_cell_of_its_own;
