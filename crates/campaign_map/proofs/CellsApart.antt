@@ -10,10 +10,12 @@ use Rattle.action_eval.specs.declared.rig.Site.{Site}
 use Rattle.action_eval.specs.declared.rig.Kind.{Kind}
 use Rattle.action_eval.specs.declared.rig.Kind.TheVariants.{OnceReturn, OnwardReturn, OncePanic}
 use Rattle.campaign_map.specs.Mapped.{Mapped}
-use Rattle.campaign_map.specs.GrownCells.{fronts, front_at, columns, last_hit, way, is_same, agrees, is_in, place_of, square_step, single_place, pair_place}
-use Rattle.campaign_map.specs.OneCell.{place_by, place_at, IsHit, HasHits}
+use Rattle.campaign_map.specs.GrownCells.{fronts, front_at, columns, last_hit, way, is_same, agrees, is_in, place_of, square_step, single_place, pair_place, single_or_none, pair_or_none}
+use Rattle.campaign_map.specs.OneCell.{place_at, IsHit, HasHits}
 use Rattle.campaign_map.specs.declared.fronts.Front.{Front}
 use Rattle.campaign_map.specs.declared.fronts.Place.{Place}
+use Rattle.campaign_map.specs.declared.fronts.Grid.{Grid}
+use Rattle.campaign_map.specs.declared.fronts.Grid.TheVariants.{Sites, Squares}
 use Rattle.campaign_map.proofs.Places.{place_below, one_point}
 
 way_small : (k : Kind) → way k ≤ 1
@@ -89,42 +91,46 @@ one_fault r s h = let e = alike r s h in rw (e.0, e.1) refl
 two_faults : (r s t u : Rig) → AreAlike r t → AreAlike s u → both_ways (Some r) (Some s) (Some t) (Some u) ≡ true
 two_faults r s t u g h = let e = alike r t g in let k = alike s u h in rw (e.0, k.0, e.1, k.1) refl
 
-place_of_one : {x y : ℕ × Place} (at : ℕ × Place) → Some x ≡ Some at → Some y ≡ Some at → x ≡ y
+place_of_one : {x y : Place} (at : Place) → Some x ≡ Some at → Some y ≡ Some at → x ≡ y
 place_of_one at a b = cc (a, b)
 
-by_faults : (m : Mapped) (i j : ℕ) (at : ℕ × Place) (d e : Bool) (a b c h : Option Rig) → HasHits m i → HasHits m j
+singles_in : (m : Mapped) (i j : ℕ) (at : Place) (a b c h : Option Rig) → HasHits m i → HasHits m j
+    → (front_at (fronts m) i).first ≡ a → (front_at (fronts m) j).first ≡ c
+    → single_or_none m.census a b ≡ Some at → single_or_none m.census c h ≡ Some at → both_ways a b c h ≡ true
+singles_in m i j at a (Some s) c h known also fa gc x y = absurd (cc x)
+singles_in m i j at a None c (Some u) known also fa gc x y = absurd (cc y)
+singles_in m i j at None None None None known also fa gc x y = refl
+singles_in m i j at None None (Some t) None known also fa gc x y =
+    let down = ap (λ (p : Place). p.y) (place_of_one at x y) in absurd (omega (arith, down))
+singles_in m i j at (Some r) None None None known also fa gc x y =
+    let down = ap (λ (p : Place). p.y) (place_of_one at x y) in absurd (omega (arith, down))
+singles_in m i j at (Some r) None (Some t) None known also fa gc x y =
+    one_fault r t (singles_apart m.census r t (known.first r fa) (also.first t gc) (place_of_one at x y))
+
+pairs_in : (m : Mapped) (i j : ℕ) (at : Place) (d e : Bool) (a b c h : Option Rig) → HasHits m i → HasHits m j
     → (front_at (fronts m) i).first ≡ a → (front_at (fronts m) i).second ≡ b → (front_at (fronts m) j).first ≡ c → (front_at (fronts m) j).second ≡ h
-    → place_by m d a b ≡ Some at → place_by m e c h ≡ Some at → both_ways a b c h ≡ true
-by_faults m i j at true e a b c h known also fa fb gc gh x y = absurd (cc x)
-by_faults m i j at false true a b c h known also fa fb gc gh x y = absurd (cc y)
-by_faults m i j at false false None (Some s) c h known also fa fb gc gh x y = absurd (cc x)
-by_faults m i j at false false a b None (Some u) known also fa fb gc gh x y = absurd (cc y)
-by_faults m i j at false false None None None None known also fa fb gc gh x y = refl
-by_faults m i j at false false None None (Some t) None known also fa fb gc gh x y =
-    let down = ap (λ (p : ℕ × Place). p.1.y) (place_of_one at x y) in absurd (omega (arith, down))
-by_faults m i j at false false None None (Some t) (Some u) known also fa fb gc gh x y =
-    let grid = ap (λ (p : ℕ × Place). p.0) (place_of_one at x y) in absurd (omega (arith, grid))
-by_faults m i j at false false (Some r) None None None known also fa fb gc gh x y =
-    let down = ap (λ (p : ℕ × Place). p.1.y) (place_of_one at x y) in absurd (omega (arith, down))
-by_faults m i j at false false (Some r) None (Some t) None known also fa fb gc gh x y =
-    let place = ap (λ (p : ℕ × Place). p.1) (place_of_one at x y) in
-    one_fault r t (singles_apart m.census r t (known.first r fa) (also.first t gc) place)
-by_faults m i j at false false (Some r) None (Some t) (Some u) known also fa fb gc gh x y =
-    let grid = ap (λ (p : ℕ × Place). p.0) (place_of_one at x y) in absurd (omega (arith, grid))
-by_faults m i j at false false (Some r) (Some s) None None known also fa fb gc gh x y =
-    let grid = ap (λ (p : ℕ × Place). p.0) (place_of_one at x y) in absurd (omega (arith, grid))
-by_faults m i j at false false (Some r) (Some s) (Some t) None known also fa fb gc gh x y =
-    let grid = ap (λ (p : ℕ × Place). p.0) (place_of_one at x y) in absurd (omega (arith, grid))
-by_faults m i j at false false (Some r) (Some s) (Some t) (Some u) known also fa fb gc gh x y =
-    let place = ap (λ (p : ℕ × Place). p.1) (place_of_one at x y) in
+    → pair_or_none m.census (columns m) d a b ≡ Some at → pair_or_none m.census (columns m) e c h ≡ Some at → both_ways a b c h ≡ true
+pairs_in m i j at true e a b c h known also fa fb gc gh x y = absurd (cc x)
+pairs_in m i j at false e None b c h known also fa fb gc gh x y = absurd (cc x)
+pairs_in m i j at false e (Some r) None c h known also fa fb gc gh x y = absurd (cc x)
+pairs_in m i j at false true (Some r) (Some s) c h known also fa fb gc gh x y = absurd (cc y)
+pairs_in m i j at false false (Some r) (Some s) None h known also fa fb gc gh x y = absurd (cc y)
+pairs_in m i j at false false (Some r) (Some s) (Some t) None known also fa fb gc gh x y = absurd (cc y)
+pairs_in m i j at false false (Some r) (Some s) (Some t) (Some u) known also fa fb gc gh x y =
     let apart =
-    pairs_apart m.census (columns m) r s t u (known.first r fa) (column_of m i s known fb) (also.first t gc) (column_of m j u also gh) place in
+    pairs_apart m.census (columns m) r s t u (known.first r fa) (column_of m i s known fb) (also.first t gc) (column_of m j u also gh)
+    (place_of_one at x y) in
     two_faults r s t u apart.0 apart.1
 
-pub grown_apart : (m : Mapped) (i j : ℕ) (at : ℕ × Place) → HasHits m i → HasHits m j → place_at m i ≡ Some at → place_at m j ≡ Some at
-    → is_in (front_at (fronts m) i) (front_at (fronts m) j) ≡ true
-grown_apart m i j at known also x y =
+pub grown_apart : (m : Mapped) (grid : Grid) (i j : ℕ) (at : Place) → HasHits m i → HasHits m j → place_at m grid i ≡ Some at
+    → place_at m grid j ≡ Some at → is_in (front_at (fronts m) i) (front_at (fronts m) j) ≡ true
+grown_apart m Sites i j at known also x y =
     let f = front_at (fronts m) i in
     let g = front_at (fronts m) j in
     in_by f g f.first f.second g.first g.second refl refl refl refl
-    (by_faults m i j at f.is_deeper g.is_deeper f.first f.second g.first g.second known also refl refl refl refl x y)
+    (singles_in m i j at f.first f.second g.first g.second known also refl refl x y)
+grown_apart m Squares i j at known also x y =
+    let f = front_at (fronts m) i in
+    let g = front_at (fronts m) j in
+    in_by f g f.first f.second g.first g.second refl refl refl refl
+    (pairs_in m i j at f.is_deeper g.is_deeper f.first f.second g.first g.second known also refl refl refl refl x y)

@@ -5,7 +5,7 @@ use Rattle.std.proofs.lemmas.Bool.{cases_lt}
 use Rattle.campaign_map.specs.Layouts.{layout_of, pair_first, strip_first, has_grown}
 use Rattle.campaign_map.specs.declared.layout.Layout.{Layout}
 use Rattle.campaign_map.specs.Mapped.{Mapped}
-use Rattle.campaign_map.specs.OneCell.{Cell, Alone, Both, Second, Listed, sheet, line_in, place_in, IsInLine, number_in, AreAtOnePlace, IsDrawn, HasOneCell}
+use Rattle.campaign_map.specs.OneCell.{Cell, Alone, Both, Second, Listed, sheet, line_in, index_in, IsInLine, number_in, AreAtOnePlace, IsDrawn, HasOneCell}
 use Rattle.campaign_map.specs.GrownCells.{fronts, columns}
 use Rattle.campaign_map.proofs.Turns.{turn, one_turn, found, whole, below_whole}
 

@@ -1,13 +1,13 @@
 -- Each plan that a map shows has one cell, and no other plan has it.
-use Rattle.std.specs.Prelude.{◌≡◌, ℕ, ◌<◌, ◌≤◌, Bool, true, false, IsTrue, List, [], Option, None, Some, length, slice_index_or}
+use Rattle.std.specs.Prelude.{◌≡◌, ℕ, ◌<◌, ◌≤◌, Bool, IsTrue, List, Option, Some, length, slice_index_or}
 use Rattle.action_eval.specs.declared.rig.Rig.{Rig}
 use Rattle.action_eval.specs.declared.rig.Site.{Site}
 use Rattle.campaign_map.specs.Mapped.{Mapped}
 use Rattle.campaign_map.specs.Cells.{number_at, across, below}
-use Rattle.campaign_map.specs.GrownCells.{fronts, front_at, columns, single_place, pair_place}
+use Rattle.campaign_map.specs.GrownCells.{fronts, front_at, columns, place_in}
 use Rattle.campaign_map.specs.Layouts.{layout_of, kind_line, both_line, second_line, strip_line}
 use Rattle.campaign_map.specs.declared.cells.Line.{Line}
-use Rattle.campaign_map.specs.declared.fronts.Front.{Front}
+use Rattle.campaign_map.specs.declared.fronts.Grid.{Grid}
 use Rattle.campaign_map.specs.declared.fronts.Place.{Place}
 use Rattle.campaign_map.specs.declared.layout.Layout.{Layout}
 
@@ -31,11 +31,11 @@ line_in l (Both site between) = both_line l site
 line_in l (Second site between) = second_line l site
 line_in l (Listed row place) = strip_line l row
 
-abbrev pub place_in : Cell → ℕ
-place_in (Alone kind site) = site
-place_in (Both site between) = between
-place_in (Second site between) = between
-place_in (Listed row place) = place
+abbrev pub index_in : Cell → ℕ
+index_in (Alone kind site) = site
+index_in (Both site between) = between
+index_in (Second site between) = between
+index_in (Listed row place) = place
 
 -- the grid that it's in: the sites, the square of pairs, the strip
 abbrev pub grid_of : Cell → ℕ
@@ -52,16 +52,16 @@ HasLine pairs l (Second site between) = IsTrue pairs × (site < l.sites)
 HasLine pairs l (Listed row place) = row < l.rows
 
 abbrev pub IsInLine : Bool → Layout → Cell → Type 0
-IsInLine pairs l c = HasLine pairs l c × (place_in c < (line_in l c).count)
+IsInLine pairs l c = HasLine pairs l c × (index_in c < (line_in l c).count)
 
 -- the plan that a cell of a layout shows
 abbrev pub number_in : Layout → Cell → ℕ
-number_in l c = number_at (line_in l c) (place_in c)
+number_in l c = number_at (line_in l c) (index_in c)
 
 abbrev pub AreAtOnePlace : Layout → Cell → Cell → Type 0
 AreAtOnePlace l c d =
-    (grid_of c ≡ grid_of d) × (across (line_in l c) (place_in c) ≡ across (line_in l d) (place_in d))
-    × (below (line_in l c) (place_in c) ≡ below (line_in l d) (place_in d))
+    (grid_of c ≡ grid_of d) × (across (line_in l c) (index_in c) ≡ across (line_in l d) (index_in d))
+    × (below (line_in l c) (index_in c) ≡ below (line_in l d) (index_in d))
 
 -- a cell of the map, and the plan that it shows
 abbrev pub IsDrawn : Mapped → Cell → Type 0
@@ -77,15 +77,9 @@ HasOneCell m number =
 
 -- ---- with a depth
 
--- the grid of a plan's cell and its place there, by the first two faults: none, where it has more
-abbrev pub place_by : Mapped → Bool → Option Rig → Option Rig → Option (ℕ × Place)
-place_by m true first second = None
-place_by m false first None = Some (0, single_place m.census first)
-place_by m false None (Some s) = None
-place_by m false (Some r) (Some s) = Some (1, pair_place m.census (columns m) r s)
-
-abbrev pub place_at : Mapped → ℕ → Option (ℕ × Place)
-place_at m number = let f = front_at (fronts m) number in place_by m f.is_deeper f.first f.second
+-- where the cell of a plan lies in a grid, if it has one there
+abbrev pub place_at : Mapped → Grid → ℕ → Option Place
+place_at m grid number = place_in grid m.census (columns m) (front_at (fronts m) number)
 
 -- a hit is one of those that there are so many of
 abbrev pub IsHit : List ℕ → Site → Type 0

@@ -2,7 +2,7 @@
 ghost use Rattle.std.specs.Prelude.{◌≡◌, ◌<◌, ◌++◌, length, string_bytes, OnOk, if◌then◌else◌};
 ghost use Rattle.campaign_map.specs.Cells.{plan_title};
 ghost use Rattle.campaign_map.specs.GrownCells.{front_at, is_marked, cell_mark, shown_text, worst_note, cell_rectangle, grown_cell};
-ghost use Rattle.campaign_map.specs.GrownCells.{single_or_none, single_text, pair_or_none, pair_text, worst_at};
+ghost use Rattle.campaign_map.specs.GrownCells.{cell_or_none, cell_in, worst_at};
 ghost use Rattle.campaign_map.specs.inside.Drawn.{IsKnown};
 
 use crate::cells::{
@@ -10,7 +10,7 @@ use crate::cells::{
     write_verdict_escaped,
 };
 use crate::facts::MapFacts;
-use crate::fronts::{Front, Place, front_at, is_in, pair_place, single_place, square_step};
+use crate::fronts::{Front, Grid, Place, edge_of, front_at, is_in, place_in};
 use report::Names;
 use std::alloc::{AllocError, Global};
 use target_trait::Verdict;
@@ -115,57 +115,28 @@ fn write_cell_rectangle<N: Names>(
     Ok(())
 }
 
-/// Appends the cell of a plan, where it has one fault at most.
-#[tactic(auto, unfolding(crate::specs::GrownCells::single_text, crate::specs::GrownCells::grown_cell))]
-pub fn write_single<N: Names>(
+/// Appends the cell of a plan in a grid, where it has one there.
+#[tactic(auto, unfolding(crate::specs::GrownCells::cell_in, crate::specs::GrownCells::grown_cell))]
+pub fn write_cell_in<N: Names>(
     alloc: Global,
     out: &mut String,
     names: &N,
     grown: &Grown<'_>,
+    grid: Grid,
     number: usize,
 ) -> Result<(), AllocError>
-    requires within { number < length grown.now.fronts.now }
     requires known { IsKnown grown.now }
-    ensures { OnOk result (string_bytes out.new ≡ string_bytes out.old
-        ++ single_text (N.code_text names.now) grown.now.facts.now grown.now.fronts.now number) }
-{
-    let cell = front_at(grown.fronts, number);
-    match cell.second {
-        Some(_) => Ok(()),
-        None => {
-            let facts = grown.facts;
-            let place = single_place(facts.census, cell.first);
-            write_cell_rectangle(alloc, out, names, grown, number, place)?;
-            write_cell_mark(out, grown, number, place, 3)
-        }
-    }
-}
-
-/// Appends the cell of a plan, where it has two faults.
-#[tactic(auto, unfolding(crate::specs::GrownCells::pair_text, crate::specs::GrownCells::grown_cell))]
-pub fn write_pair<N: Names>(
-    alloc: Global,
-    out: &mut String,
-    names: &N,
-    grown: &Grown<'_>,
-    number: usize,
-) -> Result<(), AllocError>
     requires within { number < length grown.now.fronts.now }
-    requires known { IsKnown grown.now }
     ensures { OnOk result (string_bytes out.new ≡ string_bytes out.old
-        ++ pair_text (N.code_text names.now) grown.now.facts.now grown.now.fronts.now grown.now.counts.now number) }
+        ++ cell_in (N.code_text names.now) grown.now.facts.now grown.now.fronts.now grown.now.counts.now grid number) }
 {
+    let facts = grown.facts;
     let cell = front_at(grown.fronts, number);
-    if cell.is_deeper {
-        return Ok(());
-    }
-    match (&cell.first, &cell.second) {
-        (Some(first), Some(second)) => {
-            let facts = grown.facts;
-            let place = pair_place(facts.census, grown.counts, first, second);
+    match place_in(grid, facts.census, grown.counts, &cell) {
+        None => Ok(()),
+        Some(place) => {
             write_cell_rectangle(alloc, out, names, grown, number, place)?;
-            write_cell_mark(out, grown, number, place, 2 * square_step(grown.counts))
+            write_cell_mark(out, grown, number, place, edge_of(grid, grown.counts))
         }
-        _ => Ok(()),
     }
 }

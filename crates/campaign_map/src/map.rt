@@ -9,12 +9,12 @@ ghost use Rattle.campaign_map.specs.inside.Lines.{IsSmall};
 ghost use Rattle.campaign_map.specs.Map.{style, size, view, label, numbers, head, count_of, legend_row, first_text, code_row, code_rows};
 ghost use Rattle.campaign_map.specs.Map.{ground_row, legend, group, end, heads, grown_heads, down, across, kind_text, kinds, pairs_text};
 ghost use Rattle.campaign_map.specs.Map.{square, row_text, strip, sites_part, pairs_head, pairs_part, strip_name, strip_head, strip_part};
-ghost use Rattle.campaign_map.specs.Map.{singles, matrix, ground, levels_part, square_title, square_head, square_heads, squares, matrix_part, grids, map_text};
+ghost use Rattle.campaign_map.specs.Map.{cells, ground, levels_part, square_title, square_head, square_heads, squares, matrix_part, grids, map_text};
 
 use crate::cells::{shade, write_class, write_line, write_scenario_escaped};
 use crate::facts::MapFacts;
-use crate::fronts::{Front, columns_of, fronts_of, square_step, total};
-use crate::grown::{Grown, write_pair, write_single};
+use crate::fronts::{Front, Grid, columns_of, fronts_of, square_step, total};
+use crate::grown::{Grown, write_cell_in};
 use crate::layout::{Layout, layout_of};
 use crate::names::{Axis, write_names, write_row_name, write_turned};
 use crate::worst::worst_of;
@@ -462,42 +462,23 @@ fn write_strip_part<N: Names>(
     out.push_str("</g>\n")
 }
 
-/// Appends the cells of the plans that grew with one fault at most.
-#[tactic(auto, unfolding(crate::specs::Map::singles))]
-fn write_singles<N: Names>(
+/// Appends the cells that plans that grew have in a grid.
+#[tactic(auto, unfolding(crate::specs::Map::cells))]
+fn write_cells<N: Names>(
     alloc: Global,
     out: &mut String,
     names: &N,
     grown: &Grown<'_>,
     layout: &Layout,
+    grid: Grid,
 ) -> Result<(), AllocError>
     requires known { IsKnown grown.now }
     requires strip { layout.now.strip_first ≤ length grown.now.fronts.now }
     ensures { OnOk result (string_bytes out.new ≡ string_bytes out.old
-        ++ singles (N.code_text names.now) grown.now.facts.now grown.now.fronts.now layout.now) }
+        ++ cells (N.code_text names.now) grown.now.facts.now grown.now.fronts.now grown.now.counts.now layout.now grid) }
 {
     for number in 0..layout.strip_first {
-        write_single(alloc, out, names, grown, number)?;
-    }
-    Ok(())
-}
-
-/// Appends the cells of the plans that grew with two faults.
-#[tactic(auto, unfolding(crate::specs::Map::matrix))]
-fn write_matrix<N: Names>(
-    alloc: Global,
-    out: &mut String,
-    names: &N,
-    grown: &Grown<'_>,
-    layout: &Layout,
-) -> Result<(), AllocError>
-    requires known { IsKnown grown.now }
-    requires strip { layout.now.strip_first ≤ length grown.now.fronts.now }
-    ensures { OnOk result (string_bytes out.new ≡ string_bytes out.old
-        ++ matrix (N.code_text names.now) grown.now.facts.now grown.now.fronts.now grown.now.counts.now layout.now) }
-{
-    for number in 0..layout.strip_first {
-        write_pair(alloc, out, names, grown, number)?;
+        write_cell_in(alloc, out, names, grown, grid, number)?;
     }
     Ok(())
 }
@@ -525,7 +506,7 @@ fn write_levels_part<N: Names>(
     requires small { IsSmall layout.now }
     requires strip { layout.now.strip_first ≤ length grown.now.fronts.now }
     ensures { OnOk result (string_bytes out.new ≡ string_bytes out.old
-        ++ levels_part (N.points names.now) (N.code_text names.now) grown.now.facts.now grown.now.fronts.now layout.now) }
+        ++ levels_part (N.points names.now) (N.code_text names.now) grown.now.facts.now grown.now.fronts.now grown.now.counts.now layout.now) }
 {
     let facts = grown.facts;
     write_group(out, 228, layout.top, 1, 1)?;
@@ -536,7 +517,7 @@ fn write_levels_part<N: Names>(
     write_grown_heads(out)?;
     out.push_str("</g>\n")?;
     write_group(out, 240, layout.top, 16, layout.cell)?;
-    write_singles(alloc, out, names, grown, layout)?;
+    write_cells(alloc, out, names, grown, layout, Grid::Sites)?;
     out.push_str("</g>\n")
 }
 
@@ -610,7 +591,7 @@ fn write_squares<N: Names>(
     write_group(out, 320, layout.top, layout.cell, layout.cell)?;
     write_ground(out, 0, columns, layout.sites)?;
     write_ground(out, square_step(counts), columns, layout.sites)?;
-    write_matrix(alloc, out, names, grown, layout)?;
+    write_cells(alloc, out, names, grown, layout, Grid::Squares)?;
     out.push_str("</g>\n")
 }
 
