@@ -12,8 +12,10 @@ use Rattle.report.specs.ReportText.{scenario_text}
 use Rattle.campaign_map.specs.Cells.{shade, class, scenario_at, line_text}
 use Rattle.campaign_map.specs.GrownCells.{fronts, columns, square_step, cell_in}
 use Rattle.campaign_map.specs.Labels.{row_name, turned, names_text}
-use Rattle.campaign_map.specs.Layouts.{has_grown, layout_of, kind_line, both_line, second_line, strip_line}
+use Rattle.campaign_map.specs.Layouts.{has_grown, layout_of, line_count, line_at}
 use Rattle.campaign_map.specs.declared.layout.Layout.{Layout}
+use Rattle.campaign_map.specs.declared.layout.Lines.{Lines}
+use Rattle.campaign_map.specs.declared.layout.Lines.TheVariants.{Kinds, Pairs, Strip}
 use Rattle.campaign_map.specs.declared.fronts.Front.{Front}
 use Rattle.campaign_map.specs.declared.fronts.Grid.{Grid}
 use Rattle.campaign_map.specs.declared.fronts.Grid.TheVariants.{Sites, Squares}
@@ -106,24 +108,11 @@ across cell = record { cell = cell; is_turned = true; before = 0 }
 
 -- ---- the grids
 
-unfoldable pub kind_text : (ℕ → List ℕ) → Mapped → Layout → ℕ → List ℕ
-kind_text code_name m l kind = line_text code_name m (kind_line l kind)
+unfoldable pub line_in : (ℕ → List ℕ) → Mapped → Layout → Lines → ℕ → List ℕ
+line_in code_name m l lines i = line_text code_name m (line_at l lines i)
 
-unfoldable pub kinds : (ℕ → List ℕ) → Mapped → Layout → List ℕ
-kinds code_name m l = flat_map (kind_text code_name m l) (range_with_len 0 3)
-
--- the pairs of a site with each later one
-unfoldable pub pairs_text : (ℕ → List ℕ) → Mapped → Layout → ℕ → List ℕ
-pairs_text code_name m l site = line_text code_name m (both_line l site) ++ line_text code_name m (second_line l site)
-
-unfoldable pub square : (ℕ → List ℕ) → Mapped → Layout → List ℕ
-square code_name m l = flat_map (pairs_text code_name m l) (range_with_len 0 l.sites)
-
-unfoldable pub row_text : (ℕ → List ℕ) → Mapped → Layout → ℕ → List ℕ
-row_text code_name m l row = line_text code_name m (strip_line l row)
-
-unfoldable pub strip : (ℕ → List ℕ) → Mapped → Layout → List ℕ
-strip code_name m l = flat_map (row_text code_name m l) (range_with_len 0 l.rows)
+unfoldable pub all_lines : (ℕ → List ℕ) → Mapped → Layout → Lines → List ℕ
+all_lines code_name m l lines = flat_map (line_in code_name m l lines) (range_with_len 0 (line_count l lines))
 
 -- the cells that plans that grew have in a grid, of those before the strip, in the order of their numbers
 unfoldable pub cells : (ℕ → List ℕ) → Mapped → List Front → List ℕ → Layout → Grid → List ℕ
@@ -140,7 +129,7 @@ unfoldable pub sites_part : List (List ℕ) → (ℕ → List ℕ) → Mapped �
 sites_part points code_name m l =
     group 228 l.top 1 1 ++ names_text (down l.cell 0) 0 0 points m.census ++ end
     ++ group 240 l.top 1 1 ++ heads ++ end
-    ++ group 240 l.top 16 l.cell ++ kinds code_name m l ++ end
+    ++ group 240 l.top 16 l.cell ++ all_lines code_name m l Kinds ++ end
 
 unfoldable pub pairs_head : List ℕ
 pairs_head = codes "<text y='-8'>pairs: above, both fail; below, the second panics</text>\n"
@@ -150,7 +139,7 @@ unfoldable pub pairs_part : (ℕ → List ℕ) → Mapped → Layout → List �
 pairs_part code_name m l =
     if m.pairs
     then group 320 l.top 1 1 ++ pairs_head ++ end
-    ++ group 320 l.top l.cell l.cell ++ square code_name m l ++ end
+    ++ group 320 l.top l.cell l.cell ++ all_lines code_name m l Pairs ++ end
     else []
 
 -- the head of the strip, which begins with the plans from then on, where plans grew
@@ -164,7 +153,7 @@ strip_head fs l = group 228 l.strip_top 1 1 ++ codes "<text class='end'>" ++ str
 unfoldable pub strip_part : (ℕ → List ℕ) → Mapped → List Front → Layout → List ℕ
 strip_part code_name m fs l =
     if l.rows == 0 then []
-    else strip_head fs l ++ group 240 l.strip_top 10 10 ++ strip code_name m l ++ end
+    else strip_head fs l ++ group 240 l.strip_top 10 10 ++ all_lines code_name m l Strip ++ end
 
 -- the sites, of plans that grew
 unfoldable pub levels_part : List (List ℕ) → (ℕ → List ℕ) → Mapped → List Front → List ℕ → Layout → List ℕ

@@ -7,15 +7,15 @@ ghost use Rattle.plan_gen.specs.PlanList.{most_plans};
 ghost use Rattle.campaign_map.specs.inside.Drawn.{IsKnown};
 ghost use Rattle.campaign_map.specs.inside.Lines.{IsSmall};
 ghost use Rattle.campaign_map.specs.Map.{style, size, view, label, numbers, head, count_of, legend_row, first_text, code_row, code_rows};
-ghost use Rattle.campaign_map.specs.Map.{ground_row, legend, group, end, heads, grown_heads, down, across, kind_text, kinds, pairs_text};
-ghost use Rattle.campaign_map.specs.Map.{square, row_text, strip, sites_part, pairs_head, pairs_part, strip_name, strip_head, strip_part};
+ghost use Rattle.campaign_map.specs.Map.{ground_row, legend, group, end, heads, grown_heads, down, across, line_in, all_lines};
+ghost use Rattle.campaign_map.specs.Map.{sites_part, pairs_head, pairs_part, strip_name, strip_head, strip_part};
 ghost use Rattle.campaign_map.specs.Map.{cells, ground, levels_part, square_title, square_head, square_heads, squares, matrix_part, grids, map_text};
 
 use crate::cells::{shade, write_class, write_line, write_scenario_escaped};
 use crate::facts::MapFacts;
 use crate::fronts::{Front, Grid, columns_of, fronts_of, square_step, total};
 use crate::grown::{Grown, write_cell_in};
-use crate::layout::{Layout, layout_of};
+use crate::layout::{Layout, Lines, layout_of};
 use crate::names::{Axis, write_names, write_row_name, write_turned};
 use crate::worst::worst_of;
 use report::Names;
@@ -265,102 +265,21 @@ fn across(cell: usize) -> Axis
     }
 }
 
-#[tactic(auto, unfolding(crate::specs::Map::kind_text))]
-fn write_kind<N: Names>(
+/// Appends the lines of a part.
+#[tactic(auto, unfolding(crate::specs::Map::all_lines))]
+fn write_lines<N: Names>(
     alloc: Global,
     out: &mut String,
     names: &N,
     facts: &MapFacts<'_>,
     layout: &Layout,
-    kind: usize,
-) -> Result<(), AllocError>
-    requires small { IsSmall layout.now }
-    requires kinds { kind < 3 }
-    ensures { OnOk result (string_bytes out.new ≡ string_bytes out.old ++ kind_text (N.code_text names.now) facts.now layout.now kind) }
-{
-    write_line(alloc, out, names, facts, &layout.kind_line(kind))
-}
-
-#[tactic(auto, unfolding(crate::specs::Map::kinds))]
-fn write_kinds<N: Names>(
-    alloc: Global,
-    out: &mut String,
-    names: &N,
-    facts: &MapFacts<'_>,
-    layout: &Layout,
+    lines: Lines,
 ) -> Result<(), AllocError>
     requires { IsSmall layout.now }
-    ensures { OnOk result (string_bytes out.new ≡ string_bytes out.old ++ kinds (N.code_text names.now) facts.now layout.now) }
+    ensures { OnOk result (string_bytes out.new ≡ string_bytes out.old ++ all_lines (N.code_text names.now) facts.now layout.now lines) }
 {
-    for kind in 0..3 {
-        write_kind(alloc, out, names, facts, layout, kind)?;
-    }
-    Ok(())
-}
-
-#[tactic(auto, unfolding(crate::specs::Map::pairs_text))]
-fn write_pairs_of<N: Names>(
-    alloc: Global,
-    out: &mut String,
-    names: &N,
-    facts: &MapFacts<'_>,
-    layout: &Layout,
-    site: usize,
-) -> Result<(), AllocError>
-    requires small { IsSmall layout.now }
-    requires within { site < layout.now.sites }
-    ensures { OnOk result (string_bytes out.new ≡ string_bytes out.old ++ pairs_text (N.code_text names.now) facts.now layout.now site) }
-{
-    write_line(alloc, out, names, facts, &layout.both_line(site))?;
-    write_line(alloc, out, names, facts, &layout.second_line(site))
-}
-
-#[tactic(auto, unfolding(crate::specs::Map::square))]
-fn write_square<N: Names>(
-    alloc: Global,
-    out: &mut String,
-    names: &N,
-    facts: &MapFacts<'_>,
-    layout: &Layout,
-) -> Result<(), AllocError>
-    requires { IsSmall layout.now }
-    ensures { OnOk result (string_bytes out.new ≡ string_bytes out.old ++ square (N.code_text names.now) facts.now layout.now) }
-{
-    for site in 0..layout.sites {
-        write_pairs_of(alloc, out, names, facts, layout, site)?;
-    }
-    Ok(())
-}
-
-#[tactic(auto, unfolding(crate::specs::Map::row_text))]
-fn write_row<N: Names>(
-    alloc: Global,
-    out: &mut String,
-    names: &N,
-    facts: &MapFacts<'_>,
-    layout: &Layout,
-    row: usize,
-) -> Result<(), AllocError>
-    requires small { IsSmall layout.now }
-    requires within { row < layout.now.rows }
-    ensures { OnOk result (string_bytes out.new ≡ string_bytes out.old ++ row_text (N.code_text names.now) facts.now layout.now row) }
-{
-    write_line(alloc, out, names, facts, &layout.strip_line(row))
-}
-
-#[tactic(auto, unfolding(crate::specs::Map::strip))]
-fn write_strip<N: Names>(
-    alloc: Global,
-    out: &mut String,
-    names: &N,
-    facts: &MapFacts<'_>,
-    layout: &Layout,
-) -> Result<(), AllocError>
-    requires { IsSmall layout.now }
-    ensures { OnOk result (string_bytes out.new ≡ string_bytes out.old ++ strip (N.code_text names.now) facts.now layout.now) }
-{
-    for row in 0..layout.rows {
-        write_row(alloc, out, names, facts, layout, row)?;
+    for i in 0..layout.line_count(lines) {
+        write_line(alloc, out, names, facts, &layout.line_at(lines, i))?;
     }
     Ok(())
 }
@@ -386,7 +305,7 @@ fn write_sites_part<N: Names>(
     write_heads(out)?;
     out.push_str("</g>\n")?;
     write_group(out, 240, layout.top, 16, layout.cell)?;
-    write_kinds(alloc, out, names, facts, layout)?;
+    write_lines(alloc, out, names, facts, layout, Lines::Kinds)?;
     out.push_str("</g>\n")
 }
 
@@ -415,7 +334,7 @@ fn write_pairs_part<N: Names>(
     write_pairs_head(out)?;
     out.push_str("</g>\n")?;
     write_group(out, 320, layout.top, layout.cell, layout.cell)?;
-    write_square(alloc, out, names, facts, layout)?;
+    write_lines(alloc, out, names, facts, layout, Lines::Pairs)?;
     out.push_str("</g>\n")
 }
 
@@ -458,7 +377,7 @@ fn write_strip_part<N: Names>(
     }
     write_strip_head(out, fronts, layout)?;
     write_group(out, 240, layout.strip_top, 10, 10)?;
-    write_strip(alloc, out, names, facts, layout)?;
+    write_lines(alloc, out, names, facts, layout, Lines::Strip)?;
     out.push_str("</g>\n")
 }
 
