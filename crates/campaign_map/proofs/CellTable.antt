@@ -7,7 +7,7 @@ use Rattle.std.proofs.lemmas.List.{take_more, map-append}
 use Rattle.std.proofs.lemmas.Bool.{and_parts, and_from, and_left, and_right, eqb-true, ne_eqb, cases_Bool, lt-ltb}
 use Rattle.action_eval.specs.declared.rig.Rig.{Rig}
 use Rattle.target_trait.specs.declared.judgement.Verdict.{Verdict}
-use Rattle.campaign_map.specs.GrownCells.{acted, front_of, way, is_same, agrees, is_from, worse}
+use Rattle.campaign_map.specs.GrownCells.{acted, front_of, way, is_same, agrees, worse}
 use Rattle.campaign_map.specs.inside.CellKeys.{Told, CellKey, told, key_of, same_told, same_key, IsFormed}
 use Rattle.campaign_map.specs.declared.fronts.Front.{Front}
 
@@ -51,6 +51,7 @@ same_fault r s = one_bool _ _ there back
         and_from (eqb s.site.point r.site.point && eqb s.site.hit r.site.hit) (eqb (1 + way s.kind) (1 + way r.kind))
         (and_from _ _ (eq-eqb _ _ (sym (eqb-true _ _ two.0))) (eq-eqb _ _ (sym (eqb-true _ _ two.1))))
         (eq-eqb _ _ (ap (λ (n : ℕ). 1 + n) (sym (eqb-true _ _ one.1))))
+
     back : same_told (told (Some s)) (told (Some r)) ≡ true → is_same r s ≡ true
     back h =
         let one = and_parts (eqb s.site.point r.site.point && eqb s.site.hit r.site.hit) (eqb (1 + way s.kind) (1 + way r.kind)) h in
@@ -75,6 +76,7 @@ told_by key q v old new h = elim (cases_Bool (same_key key q)) [ inl is ↦ here
   where
     here : same_key key q ≡ true → IsBy (same_key key q) v old new q
     here is = h q ∙ ap (λ (k : CellKey). cond (same_key key q) (worse (old k) v) (old q)) (same_key_is key q is)
+
     there : same_key key q ≡ false → IsBy (same_key key q) v old new q
     there other = h q ∙ rw other refl
 
@@ -109,7 +111,8 @@ one_told v old mid new f (Some r) None first second formed =
 one_told v old mid new f (Some r) (Some s) first second formed =
     let q = key_of (Some r) (Some s) in
     skipped (key_of (Some f) None) q v mid new second (and_right _ _ (none_some s))
-    ∙ skipped (key_of None None) q v old mid first (and_left _ _ (none_some r)) ∙ sym (ap (λ (is : Bool). cond is (worse (old q) v) (old q)) (and_right (is_same r f) false refl))
+    ∙ skipped (key_of None None) q v old mid first (and_left _ _ (none_some r))
+    ∙ sym (ap (λ (is : Bool). cond is (worse (old q) v) (old q)) (and_right (is_same r f) false refl))
 
 pub two_told : (v : Verdict) (old mid late new : CellKey → Verdict) (f g : Rig) (a b : Option Rig) → IsTold (key_of None None) v old mid
     → IsTold (key_of (Some f) None) v mid late → IsTold (key_of (Some f) (Some g)) v late new → IsOne a b (Some f) (Some g) v old new

@@ -1,10 +1,9 @@
 -- Each plan that grew and has at most two faults has a cell of its own.
-use Rattle.std.proofs.Common.{◌≡◌, ℕ, zero, suc, ◌+◌, ◌*◌, ◌≤◌, ◌<◌, Bool, true, false, List, [], ◌∷◌, Option, Some, None, get_or, ap, sym, refl, ◌∙◌, arith, rules, eq-eqb}
-use Rattle.std.specs.Prelude.{max, ◌&&◌}
+use Rattle.std.proofs.Common.{◌≡◌, ℕ, zero, suc, ◌+◌, ◌*◌, ◌≤◌, ◌<◌, Bool, true, false, List, [], ◌∷◌, Option, Some, None, get_or, ap, sym, refl, arith, rules, eq-eqb}
+use Rattle.std.specs.Prelude.{◌&&◌}
 use Rattle.std.proofs.lemmas.Bool.{and_from}
 use Rattle.std.proofs.lemmas.Nat.{same_from_place}
 use Rattle.std.proofs.lemmas.List.FromFn.{get_or-map-range_with_len}
-use Rattle.plan_gen.specs.Counts.{total_of}
 use Rattle.action_eval.specs.declared.rig.Rig.{Rig}
 use Rattle.action_eval.specs.declared.rig.Site.{Site}
 use Rattle.action_eval.specs.declared.rig.Kind.{Kind}
@@ -57,7 +56,7 @@ pairs_apart census counts r s t u a b d e same =
     let down = ap (λ (p : Place). p.y) same in
     let first = same_site census r.site t.site a d (omega (arith, down)) in
     let square = one_square (square_step counts) (place_of counts s.site) (place_of counts u.site) (way s.kind + 2 * way r.kind) (way u.kind + 2 * way t.kind)
-        (low counts s.site b) (low counts u.site e) (ap (λ (p : Place). p.x) same) in
+    (low counts s.site b) (low counts u.site e) (ap (λ (p : Place). p.x) same) in
     let second = same_site counts s.site u.site b e square.1 in
     let ways = kinds (way r.kind) (way s.kind) (way t.kind) (way u.kind) (way_small r.kind) (way_small s.kind) (way_small t.kind) (way_small u.kind) square.0 in
     ((first.0, first.1, ways.0), (second.0, second.1, ways.1))

@@ -1,12 +1,11 @@
 -- Each plan of a map without a depth has one cell.
-use Rattle.std.proofs.Common.{◌≡◌, ℕ, ◌+◌, ◌-◌, ◌*◌, ◌/◌, ◌%◌, ◌≤◌, ◌<◌, Bool, true, false, cond, refl, sym, ap, arith, inl, inr, rules, List, [], length, ◌∙◌}
+use Rattle.std.proofs.Common.{◌≡◌, ℕ, ◌+◌, ◌-◌, ◌*◌, ◌/◌, ◌%◌, ◌≤◌, ◌<◌, Bool, true, false, cond, refl, sym, arith, inl, inr, rules, [], length, ◌∙◌}
 use Rattle.std.specs.Prelude.{IsTrue}
 use Rattle.std.proofs.lemmas.Bool.{cases_lt}
-use Rattle.campaign_map.specs.Layouts.{layout_of, pair_first, strip_first, has_grown}
+use Rattle.campaign_map.specs.Layouts.{layout_of, pair_first}
 use Rattle.campaign_map.specs.declared.layout.Layout.{Layout}
 use Rattle.campaign_map.specs.Mapped.{Mapped}
-use Rattle.campaign_map.specs.OneCell.{Cell, Alone, Both, Second, Listed, sheet, line_in, index_in, IsInLine, number_in, AreAtOnePlace, IsDrawn, HasOneCell}
-use Rattle.campaign_map.specs.GrownCells.{fronts, columns}
+use Rattle.campaign_map.specs.OneCell.{Cell, Alone, Both, Second, Listed, sheet, IsInLine, number_in, AreAtOnePlace, IsDrawn, HasOneCell}
 use Rattle.campaign_map.proofs.Turns.{turn, one_turn, found, whole, below_whole}
 
 -- what a layout without a depth keeps
@@ -140,8 +139,8 @@ square_at l number plain some few =
     let at = found l.sites l.sites k (omega arith) (omega (arith, plain.first, some, few, all)) in
     let n = k - turn l.sites at.0 in
     elim (cases_lt (n % 2) 1) [
-      inl even ↦ (Both at.0 (n / 2), ((search rules, at.1), omega (arith, at.2, at.3)), omega (arith, even, some, at.2))
-    | inr odd ↦ (Second at.0 (n / 2), ((search rules, at.1), omega (arith, at.2, at.3)), omega (arith, odd, some, at.2))
+      | inl even ↦ (Both at.0 (n / 2), ((search rules, at.1), omega (arith, at.2, at.3)), omega (arith, even, some, at.2))
+      | inr odd ↦ (Second at.0 (n / 2), ((search rules, at.1), omega (arith, at.2, at.3)), omega (arith, odd, some, at.2))
     ]
 
 middle : (pairs : Bool) (l : Layout) (number : ℕ) → IsPlain pairs l → 3 * l.sites < number → number < l.strip_first → HasCell pairs l number
@@ -151,10 +150,10 @@ middle false l number plain some few = absurd (omega (arith, plain.first, some, 
 pub each_shown : (pairs : Bool) (l : Layout) (number : ℕ) → IsPlain pairs l → 1 ≤ number → number < l.strip_first + l.rest → HasCell pairs l number
 each_shown pairs l number plain some few =
     elim (cases_lt number (3 * l.sites + 1)) [
-      inl low ↦ alone_at pairs l number some (omega (arith, low))
-    | inr high ↦ elim (cases_lt number l.strip_first) [
-        inl less ↦ middle pairs l number plain (omega (arith, high)) less
-      | inr more ↦ listed_at pairs l number plain more few
+      | inl low ↦ alone_at pairs l number some (omega (arith, low))
+      | inr high ↦ elim (cases_lt number l.strip_first) [
+        | inl less ↦ middle pairs l number plain (omega (arith, high)) less
+        | inr more ↦ listed_at pairs l number plain more few
       ]
     ]
 

@@ -1,5 +1,5 @@
 -- The pairs of a site with each later one, in the order of their numbers.
-use Rattle.std.proofs.Common.{◌≡◌, ℕ, zero, suc, ◌+◌, ◌-◌, ◌*◌, ◌≤◌, ◌<◌, ap, ◌∙◌, refl, sym, arith, inl, inr}
+use Rattle.std.proofs.Common.{◌≡◌, ℕ, zero, suc, ◌+◌, ◌-◌, ◌*◌, ◌≤◌, ◌<◌, ap, ◌∙◌, sym, arith, inl, inr}
 use Rattle.std.proofs.lemmas.Bool.{cases_lt, cases_order}
 
 -- how many plans the pairs of the sites before a have
@@ -38,10 +38,10 @@ pub one_turn : (s a b p q : ℕ) → a < s → b < s → p < 2 * (s - a - 1) →
 one_turn s a b p q within low small few same =
     let one : a ≡ b =
     elim (cases_order a b) [
-      inl e ↦ e
-    | inr other ↦ elim other [
-        inl less ↦ absurd (apart s a b p q less (omega (arith, low)) small same)
-      | inr more ↦ absurd (apart s b a q p more (omega (arith, within)) few (sym same))
+      | inl e ↦ e
+      | inr other ↦ elim other [
+        | inl less ↦ absurd (apart s a b p q less (omega (arith, low)) small same)
+        | inr more ↦ absurd (apart s b a q p more (omega (arith, within)) few (sym same))
       ]
     ] in
     let moved = ap (turn s) one in
@@ -52,8 +52,8 @@ pub found : (s b k : ℕ) → b ≤ s → k < turn s b → (a : ℕ) × (a < s) 
 found s zero k h small = absurd (omega (arith, small))
 found s (suc b) k h small =
     elim (cases_lt k (turn s b)) [
-      inl less ↦ found s b k (omega (arith, h)) less
-    | inr more ↦ (b, omega (arith, h), omega (arith, more), (let is = step s b (omega (arith, h)) in omega (arith, is, small)))
+      | inl less ↦ found s b k (omega (arith, h)) less
+      | inr more ↦ (b, omega (arith, h), omega (arith, more), (let is = step s b (omega (arith, h)) in omega (arith, is, small)))
     ]
 
 pub whole : (s : ℕ) → turn s s ≡ s * (s - 1)

@@ -6,8 +6,8 @@ ghost use Rattle.campaign_map.specs.GrownCells.{cell_or_none, cell_in, worst_at}
 ghost use Rattle.campaign_map.specs.inside.Drawn.{IsKnown};
 
 use crate::cells::{
-    shade, verdict_at, verdict_in, write_corner, write_dot, write_frame, write_plan_title, write_size,
-    write_verdict_escaped,
+    shade, verdict_at, verdict_in, write_corner, write_dot, write_frame, write_plan_title,
+    write_size, write_verdict_escaped,
 };
 use crate::facts::MapFacts;
 use crate::fronts::{Front, Grid, Place, edge_of, front_at, is_in, place_in};

@@ -553,7 +553,7 @@ fn write_grids<N: Names>(
     requires strip { 0 < length grown.now.fronts.now → layout.now.strip_first ≤ length grown.now.fronts.now }
     ensures { OnOk result (string_bytes out.new ≡ string_bytes out.old
         ++ grids (N.points names.now) (N.code_text names.now) grown.now.facts.now grown.now.fronts.now grown.now.counts.now
-            layout.now) }
+        layout.now) }
 {
     if grown.fronts.is_empty() {
         write_sites_part(alloc, out, names, grown.facts, layout)?;

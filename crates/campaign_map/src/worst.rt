@@ -72,7 +72,7 @@ fn tell_all(
 ) -> Result<(), AllocError>
     ensures { OnOk result ((cell : Front) → IsFormed cell → found table.new (key_of cell.first cell.second)
         ≡ (if is_from cell front.now then worse (found table.old (key_of cell.first cell.second)) verdict
-           else found table.old (key_of cell.first cell.second))) }
+        else found table.old (key_of cell.first cell.second))) }
 {
     tell(table, key_of(None, None), verdict)?;
     if front.first.is_none() {

@@ -1,4 +1,4 @@
-use Rattle.std.proofs.Common.{◌≡◌, ◌∙◌, ◌++◌, ap, string_bytes, List, ℕ, rules}
+use Rattle.std.proofs.Common.{◌∙◌, ◌++◌, ap, string_bytes}
 use Rattle.campaign_map.specs.Cells.{line_text}
 use Rattle.campaign_map.specs.Map.{line_in}
 use Rattle.campaign_map.specs.declared.cells.Line.{Line}

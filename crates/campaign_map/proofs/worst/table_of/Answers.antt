@@ -1,8 +1,6 @@
-use Rattle.std.proofs.Common.{◌≡◌, ◌∙◌, ap, sym, List, drop, refl, arith, rules, ◌+◌, ◌∷◌, get_or}
+use Rattle.std.proofs.Common.{◌≡◌, ◌∙◌, ap, sym, List, drop, arith, rules, ◌+◌, ◌∷◌, get_or}
 use Rattle.plan_gen.proofs.Lists.{none_left, next_of}
-use Rattle.target_trait.specs.declared.judgement.Verdict.{Verdict}
-use Rattle.campaign_map.specs.GrownCells.{verdicts_from, worse, worst, worst_at, is_from}
-use Rattle.campaign_map.specs.Cells.{verdict_at}
+use Rattle.campaign_map.specs.GrownCells.{verdicts_from, worse, worst, worst_at}
 use Rattle.campaign_map.specs.inside.CellKeys.{key_of, found}
 use Rattle.campaign_map.specs.declared.fronts.Front.{Front}
 use Rattle.campaign_map.proofs.CellTable.{blank}

@@ -1,6 +1,6 @@
-use Rattle.std.proofs.Common.{◌≡◌, Bool, true, false, Option, sym, ◌∙◌, rules}
+use Rattle.std.proofs.Common.{◌≡◌, true, false, rules}
 use Rattle.std.specs.Prelude.{is_none}
-use Rattle.campaign_map.specs.inside.CellKeys.{CellKey, found}
+use Rattle.campaign_map.specs.inside.CellKeys.{found}
 use Rattle.campaign_map.proofs.CellTable.{told_one, told_two}
 use Rattle.campaign_map.proofs.worst.tell_all.Goals as goal
 

@@ -1,6 +1,5 @@
-use Rattle.std.proofs.Common.{◌≡◌, ◌∙◌, ap, sym, subst, ℕ, ◌+◌, ◌<◌, List, ◌∷◌, [], ◌++◌, length, take, map, get_or, rules, arith}
+use Rattle.std.proofs.Common.{◌∙◌, sym, subst, List, get_or, rules}
 use Rattle.std.specs.List.{AllByRecursion}
-use Rattle.target_trait.specs.declared.judgement.Verdict.{Verdict}
 use Rattle.campaign_map.specs.GrownCells.{worst_at}
 use Rattle.campaign_map.specs.inside.CellKeys.{IsFormed}
 use Rattle.campaign_map.specs.declared.fronts.Front.{Front}
