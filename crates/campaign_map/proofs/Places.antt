@@ -1,6 +1,5 @@
 -- Cells at different places.
-use Rattle.std.proofs.Common.{◌≡◌, ℕ, zero, suc, ◌+◌, ◌-◌, ◌*◌, ◌≤◌, ◌<◌, List, [], ◌∷◌, ap, sym, refl, ◌∙◌, arith, take, length, get_or}
-use Rattle.std.specs.Prelude.{max}
+use Rattle.std.proofs.Common.{◌≡◌, ℕ, zero, suc, ◌+◌, ◌-◌, ◌≤◌, ◌<◌, List, [], ◌∷◌, ap, refl, arith, take, get_or}
 use Rattle.plan_gen.specs.Counts.{total_of}
 
 -- the hits of a point stand after those of the points before it, and before those of the points after it

@@ -15,6 +15,8 @@ use Rattle.campaign_map.specs.Mapped.{Mapped}
 use Rattle.campaign_map.specs.Cells.{shade, class, verdict_at, rectangle_at, rectangle_size, plan_title, frame, dot}
 use Rattle.campaign_map.specs.declared.fronts.Front.{Front}
 use Rattle.campaign_map.specs.declared.fronts.Place.{Place}
+use Rattle.campaign_map.specs.declared.fronts.Grid.{Grid}
+use Rattle.campaign_map.specs.declared.fronts.Grid.TheVariants.{Sites, Squares}
 
 -- ---- plan → cell
 
@@ -117,6 +119,27 @@ pair_place census counts r s = record {
   y = 1 + place_of census r.site;
 }
 
+-- the sites have a cell for each plan of one fault or none, the squares one for each of two
+abbrev pub pair_or_none : List ℕ → List ℕ → Bool → Option Rig → Option Rig → Option Place
+pair_or_none census counts true first second = None
+pair_or_none census counts false None second = None
+pair_or_none census counts false (Some r) None = None
+pair_or_none census counts false (Some r) (Some s) = Some (pair_place census counts r s)
+
+abbrev pub single_or_none : List ℕ → Option Rig → Option Rig → Option Place
+single_or_none census first (Some s) = None
+single_or_none census first None = Some (single_place census first)
+
+-- where the cell of a plan lies in a grid, if it has one there
+abbrev pub place_in : Grid → List ℕ → List ℕ → Front → Option Place
+place_in Sites census counts f = single_or_none census f.first f.second
+place_in Squares census counts f = pair_or_none census counts f.is_deeper f.first f.second
+
+-- where dots of first failures stand beside a grid
+abbrev pub edge_of : Grid → List ℕ → ℕ
+edge_of Sites counts = 3
+edge_of Squares counts = 2 * square_step counts
+
 -- ---- a cell's text
 
 -- whether the first failure of a code belongs to the cell
@@ -142,21 +165,10 @@ unfoldable pub grown_cell : (ℕ → List ℕ) → Mapped → List Front → ℕ
 grown_cell code_name m fs number place edge =
     cell_rectangle code_name m number place (worst_at m fs (front_at fs number)) ++ cell_mark m fs (front_at fs number) place edge
 
--- of a plan with one fault at most, and of one with two
-abbrev pub single_or_none : (ℕ → List ℕ) → Mapped → List Front → ℕ → Option Rig → Option Rig → List ℕ
-single_or_none code_name m fs number first (Some s) = []
-single_or_none code_name m fs number first None = grown_cell code_name m fs number (single_place m.census first) 3
+-- the cell of a plan in a grid, where it has one there
+abbrev pub cell_or_none : (ℕ → List ℕ) → Mapped → List Front → ℕ → ℕ → Option Place → List ℕ
+cell_or_none code_name m fs number edge None = []
+cell_or_none code_name m fs number edge (Some place) = grown_cell code_name m fs number place edge
 
-unfoldable pub single_text : (ℕ → List ℕ) → Mapped → List Front → ℕ → List ℕ
-single_text code_name m fs number = single_or_none code_name m fs number (front_at fs number).first (front_at fs number).second
-
-abbrev pub pair_or_none : (ℕ → List ℕ) → Mapped → List Front → List ℕ → ℕ → Bool → Option Rig → Option Rig → List ℕ
-pair_or_none code_name m fs counts number true first second = []
-pair_or_none code_name m fs counts number false None second = []
-pair_or_none code_name m fs counts number false (Some r) None = []
-pair_or_none code_name m fs counts number false (Some r) (Some s) =
-    grown_cell code_name m fs number (pair_place m.census counts r s) (2 * square_step counts)
-
-unfoldable pub pair_text : (ℕ → List ℕ) → Mapped → List Front → List ℕ → ℕ → List ℕ
-pair_text code_name m fs counts number =
-    pair_or_none code_name m fs counts number (front_at fs number).is_deeper (front_at fs number).first (front_at fs number).second
+unfoldable pub cell_in : (ℕ → List ℕ) → Mapped → List Front → List ℕ → Grid → ℕ → List ℕ
+cell_in code_name m fs counts grid number = cell_or_none code_name m fs number (edge_of grid counts) (place_in grid m.census counts (front_at fs number))

@@ -1,5 +1,5 @@
 -- Where everything stands. Grids are counted in cells; the rest in pixels, from the corner of the picture.
-use Rattle.std.specs.Prelude.{ℕ, ◌+◌, ◌-◌, ◌*◌, ◌/◌, nat_lt, min, max, Bool, true, false, if◌then◌else◌, List, length}
+use Rattle.std.specs.Prelude.{ℕ, ◌+◌, ◌-◌, ◌*◌, ◌/◌, ◌%◌, ◌==◌, nat_lt, min, max, Bool, true, false, if◌then◌else◌, List, length}
 use Rattle.plan_gen.specs.Census.{sites_of}
 use Rattle.plan_gen.specs.Counts.{total_of}
 use Rattle.campaign_map.specs.Mapped.{Mapped}
@@ -7,6 +7,8 @@ use Rattle.campaign_map.specs.GrownCells.{square_step}
 use Rattle.campaign_map.specs.declared.fronts.Front.{Front}
 use Rattle.campaign_map.specs.declared.cells.Line.{Line}
 use Rattle.campaign_map.specs.declared.layout.Layout.{Layout}
+use Rattle.campaign_map.specs.declared.layout.Lines.{Lines}
+use Rattle.campaign_map.specs.declared.layout.Lines.TheVariants.{Kinds, Pairs, Strip}
 
 -- the left of the grid of sites, and of the square of pairs
 abbrev pub left : ℕ
@@ -124,3 +126,15 @@ strip_line l row = record {
   step = 1;
   count = min strip_cells (l.rest - strip_cells * row);
 }
+
+-- how many lines a part of the map has, and the line of a number: of the sites one for each way; of the square two for each site, and of the
+-- strip one for each row
+abbrev pub line_count : Layout → Lines → ℕ
+line_count l Kinds = 3
+line_count l Pairs = 2 * l.sites
+line_count l Strip = l.rows
+
+abbrev pub line_at : Layout → Lines → ℕ → Line
+line_at l Kinds i = kind_line l i
+line_at l Pairs i = if i % 2 == 0 then both_line l (i / 2) else second_line l (i / 2)
+line_at l Strip i = strip_line l i

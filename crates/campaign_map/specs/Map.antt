@@ -10,11 +10,15 @@ use Rattle.xml_text.specs.Xml.{escaped}
 use Rattle.plan_gen.specs.Counts.{total_of}
 use Rattle.report.specs.ReportText.{scenario_text}
 use Rattle.campaign_map.specs.Cells.{shade, class, scenario_at, line_text}
-use Rattle.campaign_map.specs.GrownCells.{fronts, columns, square_step, single_text, pair_text}
+use Rattle.campaign_map.specs.GrownCells.{fronts, columns, square_step, cell_in}
 use Rattle.campaign_map.specs.Labels.{row_name, turned, names_text}
-use Rattle.campaign_map.specs.Layouts.{has_grown, layout_of, kind_line, both_line, second_line, strip_line}
+use Rattle.campaign_map.specs.Layouts.{has_grown, layout_of, line_count, line_at}
 use Rattle.campaign_map.specs.declared.layout.Layout.{Layout}
+use Rattle.campaign_map.specs.declared.layout.Lines.{Lines}
+use Rattle.campaign_map.specs.declared.layout.Lines.TheVariants.{Kinds, Pairs, Strip}
 use Rattle.campaign_map.specs.declared.fronts.Front.{Front}
+use Rattle.campaign_map.specs.declared.fronts.Grid.{Grid}
+use Rattle.campaign_map.specs.declared.fronts.Grid.TheVariants.{Sites, Squares}
 use Rattle.campaign_map.specs.declared.names.Axis.{Axis}
 
 -- ---- the style: colours that differ in lightness too, and others on a dark ground
@@ -104,31 +108,15 @@ across cell = record { cell = cell; is_turned = true; before = 0 }
 
 -- ---- the grids
 
-unfoldable pub kind_text : (ℕ → List ℕ) → Mapped → Layout → ℕ → List ℕ
-kind_text code_name m l kind = line_text code_name m (kind_line l kind)
+unfoldable pub line_in : (ℕ → List ℕ) → Mapped → Layout → Lines → ℕ → List ℕ
+line_in code_name m l lines i = line_text code_name m (line_at l lines i)
 
-unfoldable pub kinds : (ℕ → List ℕ) → Mapped → Layout → List ℕ
-kinds code_name m l = flat_map (kind_text code_name m l) (range_with_len 0 3)
+unfoldable pub all_lines : (ℕ → List ℕ) → Mapped → Layout → Lines → List ℕ
+all_lines code_name m l lines = flat_map (line_in code_name m l lines) (range_with_len 0 (line_count l lines))
 
--- the pairs of a site with each later one
-unfoldable pub pairs_text : (ℕ → List ℕ) → Mapped → Layout → ℕ → List ℕ
-pairs_text code_name m l site = line_text code_name m (both_line l site) ++ line_text code_name m (second_line l site)
-
-unfoldable pub square : (ℕ → List ℕ) → Mapped → Layout → List ℕ
-square code_name m l = flat_map (pairs_text code_name m l) (range_with_len 0 l.sites)
-
-unfoldable pub row_text : (ℕ → List ℕ) → Mapped → Layout → ℕ → List ℕ
-row_text code_name m l row = line_text code_name m (strip_line l row)
-
-unfoldable pub strip : (ℕ → List ℕ) → Mapped → Layout → List ℕ
-strip code_name m l = flat_map (row_text code_name m l) (range_with_len 0 l.rows)
-
--- the cells of plans that grew, of those before the strip
-unfoldable pub singles : (ℕ → List ℕ) → Mapped → List Front → Layout → List ℕ
-singles code_name m fs l = flat_map (single_text code_name m fs) (range_with_len 0 l.strip_first)
-
-unfoldable pub matrix : (ℕ → List ℕ) → Mapped → List Front → List ℕ → Layout → List ℕ
-matrix code_name m fs counts l = flat_map (pair_text code_name m fs counts) (range_with_len 0 l.strip_first)
+-- the cells that plans that grew have in a grid, of those before the strip, in the order of their numbers
+unfoldable pub cells : (ℕ → List ℕ) → Mapped → List Front → List ℕ → Layout → Grid → List ℕ
+cells code_name m fs counts l grid = flat_map (cell_in code_name m fs counts grid) (range_with_len 0 l.strip_first)
 
 -- where a square may have cells
 unfoldable pub ground : ℕ → ℕ → ℕ → List ℕ
@@ -141,7 +129,7 @@ unfoldable pub sites_part : List (List ℕ) → (ℕ → List ℕ) → Mapped �
 sites_part points code_name m l =
     group 228 l.top 1 1 ++ names_text (down l.cell 0) 0 0 points m.census ++ end
     ++ group 240 l.top 1 1 ++ heads ++ end
-    ++ group 240 l.top 16 l.cell ++ kinds code_name m l ++ end
+    ++ group 240 l.top 16 l.cell ++ all_lines code_name m l Kinds ++ end
 
 unfoldable pub pairs_head : List ℕ
 pairs_head = codes "<text y='-8'>pairs: above, both fail; below, the second panics</text>\n"
@@ -151,7 +139,7 @@ unfoldable pub pairs_part : (ℕ → List ℕ) → Mapped → Layout → List �
 pairs_part code_name m l =
     if m.pairs
     then group 320 l.top 1 1 ++ pairs_head ++ end
-    ++ group 320 l.top l.cell l.cell ++ square code_name m l ++ end
+    ++ group 320 l.top l.cell l.cell ++ all_lines code_name m l Pairs ++ end
     else []
 
 -- the head of the strip, which begins with the plans from then on, where plans grew
@@ -165,14 +153,14 @@ strip_head fs l = group 228 l.strip_top 1 1 ++ codes "<text class='end'>" ++ str
 unfoldable pub strip_part : (ℕ → List ℕ) → Mapped → List Front → Layout → List ℕ
 strip_part code_name m fs l =
     if l.rows == 0 then []
-    else strip_head fs l ++ group 240 l.strip_top 10 10 ++ strip code_name m l ++ end
+    else strip_head fs l ++ group 240 l.strip_top 10 10 ++ all_lines code_name m l Strip ++ end
 
 -- the sites, of plans that grew
-unfoldable pub levels_part : List (List ℕ) → (ℕ → List ℕ) → Mapped → List Front → Layout → List ℕ
-levels_part points code_name m fs l =
+unfoldable pub levels_part : List (List ℕ) → (ℕ → List ℕ) → Mapped → List Front → List ℕ → Layout → List ℕ
+levels_part points code_name m fs counts l =
     group 228 l.top 1 1 ++ row_name (codes "none") 0 0 ++ names_text (down l.cell 1) 1 12 points m.census ++ end
     ++ group 240 l.top 1 1 ++ grown_heads ++ end
-    ++ group 240 l.top 16 l.cell ++ singles code_name m fs l ++ end
+    ++ group 240 l.top 16 l.cell ++ cells code_name m fs counts l Sites ++ end
 
 -- what stands over a square
 unfoldable pub square_title : List ℕ → List ℕ
@@ -188,7 +176,7 @@ square_heads points l counts =
 unfoldable pub squares : (ℕ → List ℕ) → Mapped → List Front → List ℕ → Layout → List ℕ
 squares code_name m fs counts l =
     group 320 l.top l.cell l.cell ++ ground 0 (total_of counts) l.sites ++ ground (square_step counts) (total_of counts) l.sites
-    ++ matrix code_name m fs counts l ++ end
+    ++ cells code_name m fs counts l Squares ++ end
 
 -- nothing where no plan has two faults
 unfoldable pub matrix_part : List (List ℕ) → (ℕ → List ℕ) → Mapped → List Front → List ℕ → Layout → List ℕ
@@ -198,7 +186,7 @@ matrix_part points code_name m fs counts l =
 -- the grids, of a campaign with a depth and of one without
 abbrev pub grids : List (List ℕ) → (ℕ → List ℕ) → Mapped → List Front → List ℕ → Layout → List ℕ
 grids points code_name m fs counts l =
-    if has_grown fs then levels_part points code_name m fs l ++ matrix_part points code_name m fs counts l
+    if has_grown fs then levels_part points code_name m fs counts l ++ matrix_part points code_name m fs counts l
     else sites_part points code_name m l ++ pairs_part code_name m l
 
 -- the map, by the names of the points and codes

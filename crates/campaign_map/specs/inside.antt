@@ -1,2 +1,4 @@
 -- What the code keeps. No clause that a caller sees names any of it.
 pub mod Lines
+pub mod CellKeys
+pub mod Drawn

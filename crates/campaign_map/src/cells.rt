@@ -63,15 +63,22 @@ pub fn write_class(out: &mut String, verdict: Verdict) -> Result<(), AllocError>
     }
 }
 
+/// The verdict at a place of a list.
+pub fn verdict_in(verdicts: &[Verdict], place: usize) -> Verdict
+    ensures { result ≡ slice_index_or verdicts.now place verdict.Unresolved }
+{
+    if place < verdicts.len() {
+        verdicts[place]
+    } else {
+        Verdict::Unresolved
+    }
+}
+
 /// The verdict of the plan of this number.
 pub fn verdict_at(facts: &MapFacts<'_>, number: usize) -> Verdict
     ensures { result ≡ verdict_at facts.now number }
 {
-    if number < facts.verdicts.len() {
-        facts.verdicts[number]
-    } else {
-        Verdict::Unresolved
-    }
+    verdict_in(facts.verdicts, number)
 }
 
 impl Line {

@@ -1,14 +1,12 @@
 //! Plans that grew, and which cell of a map each has.
 ghost use Rattle.std.specs.Prelude.{◌≡◌, ◌≤◌, ◌<◌, ◌^◌, ◌+◌, ◌++◌, length, IfOk};
 ghost use Rattle.plan_gen.specs.Counts.{total_of};
-ghost use Rattle.campaign_map.specs.GrownCells.{acted, front_of, fronts, front_at, way, is_same, agrees, is_from, is_in, worse, worst_at};
-ghost use Rattle.campaign_map.specs.GrownCells.{place_of, hit_at, last_hit, column_counts, square_step, single_place, pair_place};
+ghost use Rattle.campaign_map.specs.GrownCells.{acted, front_of, fronts, front_at, way, is_same, agrees, is_from, is_in};
+ghost use Rattle.campaign_map.specs.GrownCells.{place_of, hit_at, last_hit, column_counts, square_step, single_place, pair_place, single_or_none, pair_or_none, place_in, edge_of};
 
-use crate::cells::verdict_at;
 use crate::facts::MapFacts;
 use action_eval::{Kind, Rig, Site};
 use std::alloc::{AllocError, Global};
-use target_trait::Verdict;
 
 /// The first two faults of a plan that grew, in the order in which they act. They tell its cell.
 #[derive(Clone, Copy, Debug)]
@@ -24,6 +22,15 @@ pub struct Front {
 pub struct Place {
     pub x: usize,
     pub y: usize,
+}
+
+/// A grid of the cells of plans that grew.
+#[derive(Clone, Copy, Debug)]
+pub enum Grid {
+    /// Of the plans of one fault or none.
+    Sites,
+    /// Of those of two.
+    Squares,
 }
 
 /// The fault of a plan that acts after k others.
@@ -79,7 +86,7 @@ pub fn front_at(fronts: &[Front], number: usize) -> Front
 }
 
 /// The way in which a fault acts, as a number.
-fn way(kind: Kind) -> usize
+pub fn way(kind: Kind) -> usize
     ensures { result ≡ way kind }
 {
     match kind {
@@ -118,29 +125,6 @@ pub fn is_in(cell: &Front, front: &Front) -> bool
     ensures { result ≡ is_in cell.now front.now }
 {
     is_from(cell, front) && is_from(front, cell)
-}
-
-/// The worst of two verdicts, of which the first is that of the lesser number.
-fn worse(one: Verdict, other: Verdict) -> Verdict
-    ensures { result ≡ worse one other }
-{
-    match (one, other) {
-        (Verdict::Pass, _) | (Verdict::Unresolved, Verdict::Fail(_)) => other,
-        (Verdict::Unresolved, _) | (Verdict::Fail(_), _) => one,
-    }
-}
-
-/// The worst verdict of the plans that grew from a cell's, its own among them.
-pub fn worst_at(facts: &MapFacts<'_>, fronts: &[Front], cell: &Front) -> Verdict
-    ensures { result ≡ worst_at facts.now fronts.now cell.now }
-{
-    let mut worst = Verdict::Pass;
-    for (number, front) in fronts.iter().enumerate() {
-        if is_from(cell, front) {
-            worst = worse(worst, verdict_at(facts, number));
-        }
-    }
-    worst
 }
 
 /// How many hits there are of all points.
@@ -209,7 +193,7 @@ pub fn square_step(counts: &[u32]) -> usize
 }
 
 /// Where the cell of a plan of one fault is, or of none.
-pub fn single_place(census: &[u32], first: Option<Rig>) -> Place
+fn single_place(census: &[u32], first: Option<Rig>) -> Place
     requires { length census.now ≤ 64 }
     ensures { result ≡ single_place census.now first }
 {
@@ -223,7 +207,7 @@ pub fn single_place(census: &[u32], first: Option<Rig>) -> Place
 }
 
 /// Where the cell of a plan of two faults is.
-pub fn pair_place(census: &[u32], counts: &[u32], first: &Rig, second: &Rig) -> Place
+fn pair_place(census: &[u32], counts: &[u32], first: &Rig, second: &Rig) -> Place
     requires points { length census.now ≤ 64 }
     requires columns { length counts.now ≤ 64 }
     ensures { result ≡ pair_place census.now counts.now first.now second.now }
@@ -232,5 +216,52 @@ pub fn pair_place(census: &[u32], counts: &[u32], first: &Rig, second: &Rig) -> 
     Place {
         x: square_step(counts) * square + place_of(counts, second.site),
         y: 1 + place_of(census, first.site),
+    }
+}
+
+fn single_or_none(census: &[u32], first: Option<Rig>, second: Option<Rig>) -> Option<Place>
+    requires { length census.now ≤ 64 }
+    ensures { result ≡ single_or_none census.now first second }
+{
+    match second {
+        Some(_) => None,
+        None => Some(single_place(census, first)),
+    }
+}
+
+fn pair_or_none(census: &[u32], counts: &[u32], cell: &Front) -> Option<Place>
+    requires points { length census.now ≤ 64 }
+    requires columns { length counts.now ≤ 64 }
+    ensures { result ≡ pair_or_none census.now counts.now cell.now.is_deeper cell.now.first cell.now.second }
+{
+    if cell.is_deeper {
+        return None;
+    }
+    match (&cell.first, &cell.second) {
+        (Some(first), Some(second)) => Some(pair_place(census, counts, first, second)),
+        _ => None,
+    }
+}
+
+/// Where the cell of a plan lies in a grid, if it has one there.
+pub fn place_in(grid: Grid, census: &[u32], counts: &[u32], cell: &Front) -> Option<Place>
+    requires points { length census.now ≤ 64 }
+    requires columns { length counts.now ≤ 64 }
+    ensures { result ≡ place_in grid census.now counts.now cell.now }
+{
+    match grid {
+        Grid::Sites => single_or_none(census, cell.first, cell.second),
+        Grid::Squares => pair_or_none(census, counts, cell),
+    }
+}
+
+/// Where dots of first failures stand beside a grid.
+pub fn edge_of(grid: Grid, counts: &[u32]) -> usize
+    requires { length counts.now ≤ 64 }
+    ensures { result ≡ edge_of grid counts.now }
+{
+    match grid {
+        Grid::Sites => 3,
+        Grid::Squares => 2 * square_step(counts),
     }
 }

@@ -1,11 +1,11 @@
 //! Where everything stands.
-ghost use Rattle.std.specs.Prelude.{◌≡◌, ◌≤◌, ◌<◌, ◌+◌, ◌*◌, ◌^◌, max, length, if◌then◌else◌};
+ghost use Rattle.std.specs.Prelude.{◌≡◌, ◌≤◌, ◌<◌, ◌+◌, ◌*◌, ◌/◌, ◌%◌, ◌==◌, ◌^◌, max, length, if◌then◌else◌};
 ghost use Rattle.plan_gen.specs.Census.{sites_of};
 ghost use Rattle.plan_gen.specs.PlanList.{most_plans};
 ghost use Rattle.campaign_map.specs.inside.Lines.{IsShort, IsSmall};
 ghost use Rattle.plan_gen.specs.Counts.{total_of};
 ghost use Rattle.campaign_map.specs.GrownCells.{square_step};
-ghost use Rattle.campaign_map.specs.Layouts.{cell_of, has_grown, room_above, margin, strip_first, layout_of, kind_line, both_line, second_line, strip_line};
+ghost use Rattle.campaign_map.specs.Layouts.{cell_of, has_grown, room_above, margin, strip_first, layout_of, kind_line, both_line, second_line, strip_line, line_count, line_at};
 
 use crate::cells::Line;
 use crate::facts::MapFacts;
@@ -28,6 +28,17 @@ pub struct Layout {
     pub rows: usize,
     pub width: usize,
     pub height: usize,
+}
+
+/// The parts of a map that lines make.
+#[derive(Clone, Copy, Debug)]
+pub enum Lines {
+    /// The ways in which each site is done alone.
+    Kinds,
+    /// The square of pairs.
+    Pairs,
+    /// What stands behind.
+    Strip,
 }
 
 /// How many sites there are.
@@ -116,6 +127,7 @@ pub fn layout_of(facts: &MapFacts<'_>, fronts: &[Front], counts: &[u32]) -> Layo
     requires counts { length counts.now ≤ 64 }
     ensures layout { result ≡ layout_of facts.now fronts.now counts.now }
     ensures small { IsSmall result }
+    ensures strip { 0 < length fronts.now → result.strip_first ≤ length fronts.now }
 {
     let sites = sites_of(facts.census);
     let extent = extent_of(fronts, counts, sites);
@@ -145,7 +157,7 @@ pub fn layout_of(facts: &MapFacts<'_>, fronts: &[Front], counts: &[u32]) -> Layo
 
 impl Layout {
     /// A column of the grid of sites.
-    pub fn kind_line(&self, kind: usize) -> Line
+    fn kind_line(&self, kind: usize) -> Line
         requires small { IsSmall self.now }
         requires kinds { kind < 3 }
         ensures line { result ≡ kind_line self.now kind }
@@ -163,7 +175,7 @@ impl Layout {
     }
 
     /// The pairs of a site with each later one, where both fail.
-    pub fn both_line(&self, site: usize) -> Line
+    fn both_line(&self, site: usize) -> Line
         requires small { IsSmall self.now }
         requires within { site < self.now.sites }
         ensures line { result ≡ both_line self.now site }
@@ -181,7 +193,7 @@ impl Layout {
     }
 
     /// The same, where the second panics.
-    pub fn second_line(&self, site: usize) -> Line
+    fn second_line(&self, site: usize) -> Line
         requires small { IsSmall self.now }
         requires within { site < self.now.sites }
         ensures line { result ≡ second_line self.now site }
@@ -198,7 +210,7 @@ impl Layout {
     }
 
     /// A row of the strip.
-    pub fn strip_line(&self, row: usize) -> Line
+    fn strip_line(&self, row: usize) -> Line
         requires small { IsSmall self.now }
         requires within { row < self.now.rows }
         ensures line { result ≡ strip_line self.now row }
@@ -212,6 +224,46 @@ impl Layout {
             first: self.strip_first + 64 * row,
             step: 1,
             count: self.rest.saturating_sub(64 * row).min(64),
+        }
+    }
+
+    /// How many lines a part has.
+    pub fn line_count(&self, lines: Lines) -> usize
+        requires { IsSmall self.now }
+        ensures { result ≡ line_count self.now lines }
+    {
+        match lines {
+            Lines::Kinds => 3,
+            Lines::Pairs => 2 * self.sites,
+            Lines::Strip => self.rows,
+        }
+    }
+
+    /// A line of the square: of each site first that of both failing, then that of the second one's panic.
+    fn pair_line(&self, i: usize) -> Line
+        requires small { IsSmall self.now }
+        requires within { i < 2 * self.now.sites }
+        ensures line { result ≡ (if i % 2 == 0 then both_line self.now (i / 2) else second_line self.now (i / 2)) }
+        ensures short { IsShort result }
+    {
+        if i % 2 == 0 {
+            self.both_line(i / 2)
+        } else {
+            self.second_line(i / 2)
+        }
+    }
+
+    /// A line of a part.
+    pub fn line_at(&self, lines: Lines, i: usize) -> Line
+        requires small { IsSmall self.now }
+        requires within { i < line_count self.now lines }
+        ensures line { result ≡ line_at self.now lines i }
+        ensures short { IsShort result }
+    {
+        match lines {
+            Lines::Kinds => self.kind_line(i),
+            Lines::Pairs => self.pair_line(i),
+            Lines::Strip => self.strip_line(i),
         }
     }
 }

@@ -5,9 +5,12 @@ mod cells;
 mod facts;
 mod fronts;
 mod grown;
+mod laws;
 mod layout;
 mod map;
 mod names;
+mod worst;
 
 pub use facts::MapFacts;
+pub use laws::each_plan_has_a_cell_of_its_own;
 pub use map::map_text;

@@ -4,18 +4,20 @@ ghost use Rattle.target_trait.specs.declared.judgement.Verdict.TheVariants as ve
 ghost use Rattle.plan_gen.specs.Census.{sites_of};
 ghost use Rattle.plan_gen.specs.Counts.{total_of};
 ghost use Rattle.plan_gen.specs.PlanList.{most_plans};
+ghost use Rattle.campaign_map.specs.inside.Drawn.{IsKnown};
 ghost use Rattle.campaign_map.specs.inside.Lines.{IsSmall};
 ghost use Rattle.campaign_map.specs.Map.{style, size, view, label, numbers, head, count_of, legend_row, first_text, code_row, code_rows};
-ghost use Rattle.campaign_map.specs.Map.{ground_row, legend, group, end, heads, grown_heads, down, across, kind_text, kinds, pairs_text};
-ghost use Rattle.campaign_map.specs.Map.{square, row_text, strip, sites_part, pairs_head, pairs_part, strip_name, strip_head, strip_part};
-ghost use Rattle.campaign_map.specs.Map.{singles, matrix, ground, levels_part, square_title, square_head, square_heads, squares, matrix_part, grids, map_text};
+ghost use Rattle.campaign_map.specs.Map.{ground_row, legend, group, end, heads, grown_heads, down, across, line_in, all_lines};
+ghost use Rattle.campaign_map.specs.Map.{sites_part, pairs_head, pairs_part, strip_name, strip_head, strip_part};
+ghost use Rattle.campaign_map.specs.Map.{cells, ground, levels_part, square_title, square_head, square_heads, squares, matrix_part, grids, map_text};
 
 use crate::cells::{shade, write_class, write_line, write_scenario_escaped};
 use crate::facts::MapFacts;
-use crate::fronts::{Front, columns_of, fronts_of, square_step, total};
-use crate::grown::{write_pair, write_single};
-use crate::layout::{Layout, layout_of};
+use crate::fronts::{Front, Grid, columns_of, fronts_of, square_step, total};
+use crate::grown::{Grown, write_cell_in};
+use crate::layout::{Layout, Lines, layout_of};
 use crate::names::{Axis, write_names, write_row_name, write_turned};
+use crate::worst::worst_of;
 use report::Names;
 use std::alloc::{AllocError, Global};
 use std::fmt::Write;
@@ -263,102 +265,21 @@ fn across(cell: usize) -> Axis
     }
 }
 
-#[tactic(auto, unfolding(crate::specs::Map::kind_text))]
-fn write_kind<N: Names>(
+/// Appends the lines of a part.
+#[tactic(auto, unfolding(crate::specs::Map::all_lines))]
+fn write_lines<N: Names>(
     alloc: Global,
     out: &mut String,
     names: &N,
     facts: &MapFacts<'_>,
     layout: &Layout,
-    kind: usize,
-) -> Result<(), AllocError>
-    requires small { IsSmall layout.now }
-    requires kinds { kind < 3 }
-    ensures { OnOk result (string_bytes out.new ≡ string_bytes out.old ++ kind_text (N.code_text names.now) facts.now layout.now kind) }
-{
-    write_line(alloc, out, names, facts, &layout.kind_line(kind))
-}
-
-#[tactic(auto, unfolding(crate::specs::Map::kinds))]
-fn write_kinds<N: Names>(
-    alloc: Global,
-    out: &mut String,
-    names: &N,
-    facts: &MapFacts<'_>,
-    layout: &Layout,
+    lines: Lines,
 ) -> Result<(), AllocError>
     requires { IsSmall layout.now }
-    ensures { OnOk result (string_bytes out.new ≡ string_bytes out.old ++ kinds (N.code_text names.now) facts.now layout.now) }
+    ensures { OnOk result (string_bytes out.new ≡ string_bytes out.old ++ all_lines (N.code_text names.now) facts.now layout.now lines) }
 {
-    for kind in 0..3 {
-        write_kind(alloc, out, names, facts, layout, kind)?;
-    }
-    Ok(())
-}
-
-#[tactic(auto, unfolding(crate::specs::Map::pairs_text))]
-fn write_pairs_of<N: Names>(
-    alloc: Global,
-    out: &mut String,
-    names: &N,
-    facts: &MapFacts<'_>,
-    layout: &Layout,
-    site: usize,
-) -> Result<(), AllocError>
-    requires small { IsSmall layout.now }
-    requires within { site < layout.now.sites }
-    ensures { OnOk result (string_bytes out.new ≡ string_bytes out.old ++ pairs_text (N.code_text names.now) facts.now layout.now site) }
-{
-    write_line(alloc, out, names, facts, &layout.both_line(site))?;
-    write_line(alloc, out, names, facts, &layout.second_line(site))
-}
-
-#[tactic(auto, unfolding(crate::specs::Map::square))]
-fn write_square<N: Names>(
-    alloc: Global,
-    out: &mut String,
-    names: &N,
-    facts: &MapFacts<'_>,
-    layout: &Layout,
-) -> Result<(), AllocError>
-    requires { IsSmall layout.now }
-    ensures { OnOk result (string_bytes out.new ≡ string_bytes out.old ++ square (N.code_text names.now) facts.now layout.now) }
-{
-    for site in 0..layout.sites {
-        write_pairs_of(alloc, out, names, facts, layout, site)?;
-    }
-    Ok(())
-}
-
-#[tactic(auto, unfolding(crate::specs::Map::row_text))]
-fn write_row<N: Names>(
-    alloc: Global,
-    out: &mut String,
-    names: &N,
-    facts: &MapFacts<'_>,
-    layout: &Layout,
-    row: usize,
-) -> Result<(), AllocError>
-    requires small { IsSmall layout.now }
-    requires within { row < layout.now.rows }
-    ensures { OnOk result (string_bytes out.new ≡ string_bytes out.old ++ row_text (N.code_text names.now) facts.now layout.now row) }
-{
-    write_line(alloc, out, names, facts, &layout.strip_line(row))
-}
-
-#[tactic(auto, unfolding(crate::specs::Map::strip))]
-fn write_strip<N: Names>(
-    alloc: Global,
-    out: &mut String,
-    names: &N,
-    facts: &MapFacts<'_>,
-    layout: &Layout,
-) -> Result<(), AllocError>
-    requires { IsSmall layout.now }
-    ensures { OnOk result (string_bytes out.new ≡ string_bytes out.old ++ strip (N.code_text names.now) facts.now layout.now) }
-{
-    for row in 0..layout.rows {
-        write_row(alloc, out, names, facts, layout, row)?;
+    for i in 0..layout.line_count(lines) {
+        write_line(alloc, out, names, facts, &layout.line_at(lines, i))?;
     }
     Ok(())
 }
@@ -384,7 +305,7 @@ fn write_sites_part<N: Names>(
     write_heads(out)?;
     out.push_str("</g>\n")?;
     write_group(out, 240, layout.top, 16, layout.cell)?;
-    write_kinds(alloc, out, names, facts, layout)?;
+    write_lines(alloc, out, names, facts, layout, Lines::Kinds)?;
     out.push_str("</g>\n")
 }
 
@@ -413,7 +334,7 @@ fn write_pairs_part<N: Names>(
     write_pairs_head(out)?;
     out.push_str("</g>\n")?;
     write_group(out, 320, layout.top, layout.cell, layout.cell)?;
-    write_square(alloc, out, names, facts, layout)?;
+    write_lines(alloc, out, names, facts, layout, Lines::Pairs)?;
     out.push_str("</g>\n")
 }
 
@@ -456,46 +377,27 @@ fn write_strip_part<N: Names>(
     }
     write_strip_head(out, fronts, layout)?;
     write_group(out, 240, layout.strip_top, 10, 10)?;
-    write_strip(alloc, out, names, facts, layout)?;
+    write_lines(alloc, out, names, facts, layout, Lines::Strip)?;
     out.push_str("</g>\n")
 }
 
-/// Appends the cells of the plans that grew with one fault at most.
-#[tactic(auto, unfolding(crate::specs::Map::singles))]
-fn write_singles<N: Names>(
+/// Appends the cells that plans that grew have in a grid.
+#[tactic(auto, unfolding(crate::specs::Map::cells))]
+fn write_cells<N: Names>(
     alloc: Global,
     out: &mut String,
     names: &N,
-    facts: &MapFacts<'_>,
-    fronts: &[Front],
+    grown: &Grown<'_>,
     layout: &Layout,
+    grid: Grid,
 ) -> Result<(), AllocError>
-    requires { length facts.now.census ≤ 64 }
-    ensures { OnOk result (string_bytes out.new ≡ string_bytes out.old ++ singles (N.code_text names.now) facts.now fronts.now layout.now) }
+    requires known { IsKnown grown.now }
+    requires strip { layout.now.strip_first ≤ length grown.now.fronts.now }
+    ensures { OnOk result (string_bytes out.new ≡ string_bytes out.old
+        ++ cells (N.code_text names.now) grown.now.facts.now grown.now.fronts.now grown.now.counts.now layout.now grid) }
 {
     for number in 0..layout.strip_first {
-        write_single(alloc, out, names, facts, fronts, number)?;
-    }
-    Ok(())
-}
-
-/// Appends the cells of the plans that grew with two faults.
-#[tactic(auto, unfolding(crate::specs::Map::matrix))]
-fn write_matrix<N: Names>(
-    alloc: Global,
-    out: &mut String,
-    names: &N,
-    facts: &MapFacts<'_>,
-    fronts: &[Front],
-    counts: &[u32],
-    layout: &Layout,
-) -> Result<(), AllocError>
-    requires points { length facts.now.census ≤ 64 }
-    requires columns { length counts.now ≤ 64 }
-    ensures { OnOk result (string_bytes out.new ≡ string_bytes out.old ++ matrix (N.code_text names.now) facts.now fronts.now counts.now layout.now) }
-{
-    for number in 0..layout.strip_first {
-        write_pair(alloc, out, names, facts, fronts, counts, number)?;
+        write_cell_in(alloc, out, names, grown, grid, number)?;
     }
     Ok(())
 }
@@ -514,17 +416,18 @@ fn write_levels_part<N: Names>(
     alloc: Global,
     out: &mut String,
     names: &N,
-    facts: &MapFacts<'_>,
-    fronts: &[Front],
+    grown: &Grown<'_>,
     layout: &Layout,
 ) -> Result<(), AllocError>
-    requires counts { length facts.now.census ≡ length (N.points names.now) }
-    requires points { length facts.now.census ≤ 64 }
-    requires few { total_of facts.now.census ≤ most_plans }
+    requires counts { length grown.now.facts.now.census ≡ length (N.points names.now) }
+    requires known { IsKnown grown.now }
+    requires few { total_of grown.now.facts.now.census ≤ most_plans }
     requires small { IsSmall layout.now }
+    requires strip { layout.now.strip_first ≤ length grown.now.fronts.now }
     ensures { OnOk result (string_bytes out.new ≡ string_bytes out.old
-        ++ levels_part (N.points names.now) (N.code_text names.now) facts.now fronts.now layout.now) }
+        ++ levels_part (N.points names.now) (N.code_text names.now) grown.now.facts.now grown.now.fronts.now grown.now.counts.now layout.now) }
 {
+    let facts = grown.facts;
     write_group(out, 228, layout.top, 1, 1)?;
     write_row_name(out, "none", 0, 0)?;
     write_names(out, names, down(layout.cell, 1), facts.census)?;
@@ -533,7 +436,7 @@ fn write_levels_part<N: Names>(
     write_grown_heads(out)?;
     out.push_str("</g>\n")?;
     write_group(out, 240, layout.top, 16, layout.cell)?;
-    write_singles(alloc, out, names, facts, fronts, layout)?;
+    write_cells(alloc, out, names, grown, layout, Grid::Sites)?;
     out.push_str("</g>\n")
 }
 
@@ -594,20 +497,20 @@ fn write_squares<N: Names>(
     alloc: Global,
     out: &mut String,
     names: &N,
-    facts: &MapFacts<'_>,
-    fronts: &[Front],
-    counts: &[u32],
+    grown: &Grown<'_>,
     layout: &Layout,
 ) -> Result<(), AllocError>
-    requires points { length counts.now ≤ 64 }
-    requires census { length facts.now.census ≤ 64 }
-    ensures { OnOk result (string_bytes out.new ≡ string_bytes out.old ++ squares (N.code_text names.now) facts.now fronts.now counts.now layout.now) }
+    requires known { IsKnown grown.now }
+    requires strip { layout.now.strip_first ≤ length grown.now.fronts.now }
+    ensures { OnOk result (string_bytes out.new ≡ string_bytes out.old
+        ++ squares (N.code_text names.now) grown.now.facts.now grown.now.fronts.now grown.now.counts.now layout.now) }
 {
+    let counts = grown.counts;
     let columns = total(counts);
     write_group(out, 320, layout.top, layout.cell, layout.cell)?;
     write_ground(out, 0, columns, layout.sites)?;
     write_ground(out, square_step(counts), columns, layout.sites)?;
-    write_matrix(alloc, out, names, facts, fronts, counts, layout)?;
+    write_cells(alloc, out, names, grown, layout, Grid::Squares)?;
     out.push_str("</g>\n")
 }
 
@@ -616,23 +519,21 @@ fn write_matrix_part<N: Names>(
     alloc: Global,
     out: &mut String,
     names: &N,
-    facts: &MapFacts<'_>,
-    fronts: &[Front],
-    counts: &[u32],
+    grown: &Grown<'_>,
     layout: &Layout,
 ) -> Result<(), AllocError>
-    requires counts { length counts.now ≡ length (N.points names.now) }
-    requires points { length counts.now ≤ 64 }
-    requires census { length facts.now.census ≤ 64 }
+    requires counts { length grown.now.counts.now ≡ length (N.points names.now) }
+    requires known { IsKnown grown.now }
     requires small { IsSmall layout.now }
+    requires strip { layout.now.strip_first ≤ length grown.now.fronts.now }
     ensures { OnOk result (string_bytes out.new ≡ string_bytes out.old
-        ++ matrix_part (N.points names.now) (N.code_text names.now) facts.now fronts.now counts.now layout.now) }
+        ++ matrix_part (N.points names.now) (N.code_text names.now) grown.now.facts.now grown.now.fronts.now grown.now.counts.now layout.now) }
 {
-    if total(counts) == 0 {
+    if total(grown.counts) == 0 {
         Ok(())
     } else {
-        write_square_heads(out, names, layout, counts)?;
-        write_squares(alloc, out, names, facts, fronts, counts, layout)
+        write_square_heads(out, names, layout, grown.counts)?;
+        write_squares(alloc, out, names, grown, layout)
     }
 }
 
@@ -641,25 +542,25 @@ fn write_grids<N: Names>(
     alloc: Global,
     out: &mut String,
     names: &N,
-    facts: &MapFacts<'_>,
-    fronts: &[Front],
-    counts: &[u32],
+    grown: &Grown<'_>,
     layout: &Layout,
 ) -> Result<(), AllocError>
-    requires counts { length facts.now.census ≡ length (N.points names.now) }
-    requires columns { length counts.now ≡ length (N.points names.now) }
-    requires points { length facts.now.census ≤ 64 }
-    requires few { total_of facts.now.census ≤ most_plans }
+    requires counts { length grown.now.facts.now.census ≡ length (N.points names.now) }
+    requires columns { length grown.now.counts.now ≡ length (N.points names.now) }
+    requires known { IsKnown grown.now }
+    requires few { total_of grown.now.facts.now.census ≤ most_plans }
     requires small { IsSmall layout.now }
+    requires strip { 0 < length grown.now.fronts.now → layout.now.strip_first ≤ length grown.now.fronts.now }
     ensures { OnOk result (string_bytes out.new ≡ string_bytes out.old
-        ++ grids (N.points names.now) (N.code_text names.now) facts.now fronts.now counts.now layout.now) }
+        ++ grids (N.points names.now) (N.code_text names.now) grown.now.facts.now grown.now.fronts.now grown.now.counts.now
+        layout.now) }
 {
-    if fronts.is_empty() {
-        write_sites_part(alloc, out, names, facts, layout)?;
-        write_pairs_part(alloc, out, names, facts, layout)
+    if grown.fronts.is_empty() {
+        write_sites_part(alloc, out, names, grown.facts, layout)?;
+        write_pairs_part(alloc, out, names, grown.facts, layout)
     } else {
-        write_levels_part(alloc, out, names, facts, fronts, layout)?;
-        write_matrix_part(alloc, out, names, facts, fronts, counts, layout)
+        write_levels_part(alloc, out, names, grown, layout)?;
+        write_matrix_part(alloc, out, names, grown, layout)
     }
 }
 
@@ -673,7 +574,7 @@ fn write_grids<N: Names>(
 /// Of plans that grew those of two faults or fewer have cells. Such a cell shows the worst verdict among its plan and those that grew from
 /// it: a failure before what is unresolved, and of failures that of the least number; its title tells both. One square has the plans whose
 /// second fault is a return, one those where it's a panic: the first fault stands down, the second one across. Those with a fault from then
-/// on stand in the strip. It compares each cell with each plan that grew.
+/// on stand in the strip.
 ///
 /// The census has to have a count for each of the points, at most 64, and at most 65536 sites, as that of each list of plans has. An error
 /// means that memory was refused.
@@ -690,19 +591,18 @@ pub fn map_text<N: Names>(
 {
     let fronts = fronts_of(alloc, facts)?;
     let counts = columns_of(alloc, fronts.as_slice(), facts.census.len())?;
+    let worst = worst_of(alloc, facts, fronts.as_slice())?;
     let layout = layout_of(facts, fronts.as_slice(), counts.as_slice());
+    let grown = Grown {
+        facts: &*facts,
+        fronts: fronts.as_slice(),
+        counts: counts.as_slice(),
+        worst: worst.as_slice(),
+    };
     let mut out = String::new(alloc);
     write_head(&mut out, facts, &layout)?;
     write_legend(alloc, &mut out, names, facts, fronts.as_slice())?;
-    write_grids(
-        alloc,
-        &mut out,
-        names,
-        facts,
-        fronts.as_slice(),
-        counts.as_slice(),
-        &layout,
-    )?;
+    write_grids(alloc, &mut out, names, &grown, &layout)?;
     write_strip_part(alloc, &mut out, names, facts, fronts.as_slice(), &layout)?;
     out.push_str("</svg>\n")?;
     Ok(out)

@@ -1,5 +1,4 @@
-use Rattle.std.proofs.Common.{◌≡◌, ◌+◌, ◌-◌, ◌∙◌, ap, ℕ, List, take, length, arith}
-use Rattle.std.specs.Prelude.{min}
+use Rattle.std.proofs.Common.{◌≡◌, ◌∙◌, ap, ℕ, take, arith}
 use Rattle.plan_gen.specs.Counts.{total_of}
 use Rattle.campaign_map.specs.GrownCells.{place_of}
 use Rattle.std.proofs.lemmas.List.{take_min}

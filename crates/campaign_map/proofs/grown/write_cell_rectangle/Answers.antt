@@ -1,7 +1,25 @@
-use Rattle.std.proofs.Common.{append_assoc}
-use Rattle.campaign_map.specs.GrownCells.{cell_rectangle}
+use Rattle.std.proofs.Common.{◌≡◌, ◌∙◌, ap, append_assoc, get_or, List}
+use Rattle.std.proofs.lemmas.List.{get_or-map}
+use Rattle.target_trait.specs.declared.judgement.Verdict.{Verdict}
+use Rattle.target_trait.specs.declared.judgement.Verdict.TheVariants.{Unresolved}
+use Rattle.campaign_map.specs.GrownCells.{cell_rectangle, worst_at, front_at, nowhere}
 use Rattle.campaign_map.proofs.grown.write_cell_rectangle.Goals as goal
 
 pub returns : goal.returns
 unfolding cell_rectangle
-returns g c = rw (c.in_ok-push_str.ensures.bytes, c.in_ok-write_worst_note.ensures, c.in_ok-write_plan_title.ensures, c.in_ok-write_size.ensures, c.in_ok-write_corner.ensures, c.verdict_at.ensures) (simp append_assoc)
+returns g c =
+    let m = c.args.grown.now.facts.now in
+    let fs = c.args.grown.now.fronts.now in
+    let n = c.args.number in
+    let is : get_or c.args.grown.now.worst.now n Unresolved ≡ worst_at m fs (front_at fs n) =
+    ap (λ (l : List Verdict). get_or l n Unresolved) c.requires.known.worst ∙ get_or-map (worst_at m fs) fs n nowhere Unresolved c.requires.within in
+    rw (
+      c.in_ok-push_str.ensures.bytes,
+      c.in_ok-write_worst_note.ensures,
+      c.in_ok-write_plan_title.ensures,
+      c.in_ok-write_size.ensures,
+      c.in_ok-write_corner.ensures,
+      c.verdict_at.ensures,
+      c.verdict_in-shown.ensures,
+      is,
+    ) (simp append_assoc)

@@ -1,8 +1,0 @@
-use Rattle.std.proofs.Common.{◌≡◌, ◌++◌, string_bytes}
-use Rattle.std.specs.List.{range_with_len, flat_map}
-use Rattle.campaign_map.specs.GrownCells.{single_text}
-use Rattle.campaign_map.proofs.map.write_singles.Given as goal
-
-abbrev pub invariant-loop-number : goal.invariant-loop-number
-invariant-loop-number g l =
-    string_bytes l.out ≡ string_bytes l.initial.out ++ flat_map (single_text (g.N.Names.code_text l.names) l.facts l.fronts) (range_with_len 0 l.number)
