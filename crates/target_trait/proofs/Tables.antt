@@ -3,8 +3,7 @@ use Rattle.std.proofs.Common.{◌≡◌, ℕ, ◌<◌, Bool, true, false, List, 
 use Rattle.action_eval.specs.Answers.{Run, hit, replies, reply_of_answer}
 use Rattle.action_eval.specs.declared.answer.Answer.{Answer}
 use Rattle.action_eval.specs.declared.answer.Answer.TheVariants as answer
-use Rattle.target_trait.specs.declared.judgement.Judgement.{Judgement}
-use Rattle.target_trait.specs.Play.{Done, IsPlay, IsWithin, move_by}
+use Rattle.target_trait.specs.Play.{IsPlay, IsWithin, move_by}
 use Rattle.target_trait.specs.Machine.{asks_by, Reached}
 use Rattle.target_trait.specs.Protocol.{Table, table_step, by_table, state_after}
 use Rattle.target_trait.proofs.Machine.{reached_more, reached_end}
