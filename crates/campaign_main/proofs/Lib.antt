@@ -6,4 +6,3 @@ pub mod QuestionLemmas
 pub mod ToldLemmas
 mod TextLemmas
 mod StrictLemmas
-pub mod TellingLemmas
