@@ -44,12 +44,12 @@ In a campaign that takes more than a second, the pace stands there, and the rest
 have begun have ended, but for those of a row of 16.
 
   $ long() {
-  >     printf 'target = "replace"\nvariant = "late_sync"\nseed = 7\nstorms = 10000\n[replace]\nold = "old"\nreplacements = [["ne", "w"]'
-  >     for n in $(seq $1); do printf ', ["ne", "w"]'; done
+  >     printf 'target = "replace"\nvariant = "late_sync"\nseed = 7\nmax_hits = 100000\nstorms = 10000\n[replace]\nold = "old"\nreplacements = [["ne", "w"]'
+  >     for n in $(seq $1); do printf ', ['; seq -s , $2 | sed 's/[0-9][0-9]*/"&"/g' | tr -d '\n'; printf ']'; done
   >     echo ']'
   > }
-  $ for replacements in 2 20 200 900; do
-  >     long $replacements > slow
+  $ for size in '2 2' '200 2' '900 2' '900 40'; do
+  >     long $size > slow
   >     paklour run --brief --progress slow 2>&1 > /dev/null | lines | tr '<' '\n' > shown
   >     ! grep -q ' a second' shown || break
   > done
