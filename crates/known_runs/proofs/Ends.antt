@@ -1,5 +1,5 @@
 -- Where nothing is left to be run, the part of a list that is known is the whole list; and no plan is to be run twice.
-use Rattle.std.proofs.Common.{◌≡◌, ◌≢◌, ℕ, zero, suc, ◌≤◌, ◌&&◌, Bool, true, false, cond, List, [], ◌∷◌, ◌++◌, refl, ap, sym, ◌∙◌, arith}
+use Rattle.std.proofs.Common.{◌≡◌, ◌≢◌, ℕ, zero, suc, ◌+◌, ◌≤◌, length, ◌&&◌, Bool, true, false, cond, List, [], ◌∷◌, ◌++◌, refl, ap, sym, ◌∙◌, arith}
 use Rattle.std.specs.Prelude.{Contains, Option, Some, None, is_none}
 use Rattle.std.specs.List.{AllByRecursion, filter}
 use Rattle.action_eval.specs.declared.rig.Rig.{Rig}
@@ -13,7 +13,7 @@ use Rattle.grown_plans.proofs.Apart.{level_in_levels}
 use Rattle.grown_plans.proofs.Onward.{runs_nothing_twice}
 use Rattle.known_runs.specs.Known.{KnownRuns, Told, hits_of}
 use Rattle.known_runs.specs.KnownPart.{are_told, is_reached, is_reached_onward, known_part, once_of, to_run}
-use Rattle.known_runs.specs.Promises.{EndsWhole, RunsEachOnce}
+use Rattle.known_runs.specs.Promises.{EndsSeen, EndsWhole, RunsEachOnce}
 use Rattle.known_runs.proofs.Listed.{filter_all, children_reached}
 
 -- ---- members that pass a test
@@ -34,7 +34,7 @@ none_left {A} p (x ∷ xs) e = by_test (none_left p xs) (p x) refl e
     by_test rest true f h = absurd cc
     by_test rest false f h = (f, rest h)
 
-filtered : {A : Type 0} (p : A → Bool) (Q : A → Type 0) (xs : List A) → AllByRecursion Q xs → AllByRecursion Q (filter p xs)
+pub filtered : {A : Type 0} (p : A → Bool) (Q : A → Type 0) (xs : List A) → AllByRecursion Q xs → AllByRecursion Q (filter p xs)
 filtered p Q [] a = tt
 filtered {A} p Q (x ∷ xs) a = by_test (p x) (filtered p Q xs a.1)
   where
@@ -55,7 +55,7 @@ told_none (Some told) e = refl
 abbrev HasHits : Subject → ℕ → KnownRuns → Type 0
 HasHits t d known = (plan : List Rig) → Contains (levels t d) plan → is_reached known plan ≡ true → are_told (hits_of known plan) ≡ true
 
-level_reached : (t : Subject) (d : ℕ) (known : KnownRuns) → HasHits t d known → (n : ℕ) → n ≤ d → AllByRecursion (λ plan. is_reached known plan ≡ true) (level t n)
+level_reached : (t : Subject) (d : ℕ) (known : KnownRuns) → HasHits t d known → (n : ℕ) → n ≤ d + 1 → AllByRecursion (λ plan. is_reached known plan ≡ true) (level t n)
 unfolding level
 level_reached t d known h zero le = (refl, tt)
 level_reached t d known h (suc n) le =
@@ -69,9 +69,9 @@ level_reached t d known h (suc n) le =
 
 levels_reached : (t : Subject) (d : ℕ) (known : KnownRuns) → HasHits t d known → (n : ℕ) → n ≤ d → AllByRecursion (λ plan. is_reached known plan ≡ true) (levels t n)
 unfolding levels
-levels_reached t d known h zero le = level_reached t d known h zero le
+levels_reached t d known h zero le = level_reached t d known h zero (omega (arith, le))
 levels_reached t d known h (suc n) le =
-    all_append (λ (plan : List Rig). is_reached known plan ≡ true) (levels t n) (level t (suc n)) (levels_reached t d known h n (omega (arith, le))) (level_reached t d known h (suc n) le)
+    all_append (λ (plan : List Rig). is_reached known plan ≡ true) (levels t n) (level t (suc n)) (levels_reached t d known h n (omega (arith, le))) (level_reached t d known h (suc n) (omega (arith, le)))
 
 of_leaf : (t : Subject) (known : KnownRuns) (plan : List Rig) → are_told (hits_of known plan) ≡ true → is_reached known plan ≡ true → AllByRecursion (λ y. is_reached_onward known y ≡ true) (onward_of t plan)
 of_leaf t known [] told reached = tt
@@ -110,11 +110,28 @@ has_hits t d known e each plan c reached =
     let told = all_contains (λ (p : List Rig). is_reached known p ≡ true → is_none (known p) ≡ false) (levels t d) plan (held (is_reached known) (λ (p : List Rig). is_none (known p) ≡ false) (levels t d) front) c in
     sym (each plan) ∙ told_none (known plan) (told reached)
 
-pub ends_whole : (t : Subject) (d : ℕ) (known : KnownRuns) → EndsWhole t d known
-ends_whole t d known e each =
-    let h = has_hits t d known e each in
+whole_by : (t : Subject) (d : ℕ) (known : KnownRuns) → HasHits t d known → known_part t d known ≡ grown t d
+whole_by t d known h =
     ap (λ (x : List (List Rig)). x ++ filter (is_reached_onward known) (onward t d)) (filter_all (is_reached known) true (levels t d) (levels_reached t d known h d (omega arith)))
     ∙ ap (λ (x : List (List Rig)). levels t d ++ x) (filter_all (is_reached_onward known) true (onward t d) (onward_reached t d known h))
+
+pub ends_seen : (t : Subject) (d : ℕ) (known : KnownRuns) → EndsSeen t d known
+ends_seen t d known all =
+    let front : AllByRecursion (λ p. are_told (hits_of known p) ≡ true) (filter (is_reached known) (levels t d)) =
+    all_left (λ (p : List Rig). are_told (hits_of known p) ≡ true) (filter (is_reached known) (levels t d)) (filter (is_reached_onward known) (onward t d)) all
+    in
+    let h : HasHits t d known =
+    λ plan c reached. all_contains (λ (p : List Rig). is_reached known p ≡ true → are_told (hits_of known p) ≡ true) (levels t d) plan
+    (held (is_reached known) (λ (p : List Rig). are_told (hits_of known p) ≡ true) (levels t d) front) c reached
+    in
+    record {
+      list = whole_by t d known h;
+      levels = λ n le. ap length (filter_all (is_reached known) true (level t n) (level_reached t d known h n le));
+      onward_size = ap length (filter_all (is_reached_onward known) true (onward t d) (onward_reached t d known h));
+    }
+
+pub ends_whole : (t : Subject) (d : ℕ) (known : KnownRuns) → EndsWhole t d known
+ends_whole t d known e each = whole_by t d known (has_hits t d known e each)
 
 -- ---- each plan once
 

@@ -1,6 +1,8 @@
 pub mod Known
 pub mod Looks
 pub mod KnownPart
+pub mod ToldPart
+pub mod KnownPlans
 pub mod Walks
 pub mod Breaks
 pub mod Promises

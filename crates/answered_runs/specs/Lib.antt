@@ -1,0 +1,8 @@
+pub mod Answered
+pub mod Asked
+pub mod Broken
+pub mod Components
+pub mod Rigged
+pub mod Verdicts
+pub mod WholeList
+pub mod inside
