@@ -4,7 +4,7 @@
 mod hits;
 mod idle;
 mod telling;
-mod writing;
+mod told;
 
 pub use telling::{Explained, explain};
-pub use writing::explain_one;
+pub use told::{HitLine, ToldRun, tell};

@@ -3,12 +3,13 @@ ghost use Rattle.std.specs.Prelude.{◌≡◌, false, IfOk, IfErr, OnOk};
 ghost use Rattle.std.specs.Io.KnownBytes.{Appends};
 ghost use Rattle.action_eval.specs.Answers.{given_of};
 ghost use Rattle.target_trait.specs.Outcomes.{outcome};
-ghost use Rattle.campaign_core.specs.CommandTexts.{LeavesOnly};
 ghost use Rattle.run_explained.specs.Explained.{explain_text};
+ghost use Rattle.campaign_core.specs.CommandTexts.{LeavesOnly};
 
-use crate::telling::explain;
-use campaign_core::{CampaignFault, write_judged};
+use crate::ending::CampaignFault;
+use crate::written::write_judged;
 use campaign_given::CampaignSettings;
+use run_explained::explain;
 use scenario_values::Scenario;
 use std::alloc::Global;
 use target_trait::{Sink, Target, Verdict};

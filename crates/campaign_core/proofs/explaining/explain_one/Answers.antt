@@ -5,7 +5,7 @@ use Rattle.target_trait.specs.declared.case.Case.{Case}
 use Rattle.target_trait.specs.Play.{Move}
 use Rattle.campaign_core.specs.CommandTexts.{LeavesOnly}
 use Rattle.run_explained.specs.Explained.{explain_text}
-use Rattle.run_explained.proofs.writing.explain_one.Goals as goal
+use Rattle.campaign_core.proofs.explaining.explain_one.Goals as goal
 
 -- the text of the run that was made is that of the case's run
 text_is : (asks : List Reply → Move) (names : List (List ℕ)) (code_name : ℕ → List ℕ) (case made : Case) (bytes text : List ℕ) → bytes ≡ text

@@ -1,0 +1,128 @@
+//! The causes.
+ghost use Rattle.std.specs.Prelude.{◌≡◌, ◌-◌, ◌++◌, length, take, string_bytes, option_map, OnOk};
+ghost use Rattle.report.specs.ReportText.{scenario_text};
+ghost use Rattle.report_page.specs.Page.{most_causes, cause_text, each_cause_text, causes_text};
+ghost use Rattle.report_page.specs.Pieces.{no_depth, causes_begin, cause_head, left_out_causes};
+
+use crate::failures::{write_article_end, write_section_end};
+use crate::runs::write_run;
+use crate::texts::{escaped, escaped_scenario};
+use report::{Cause, Growth, Names};
+use run_explained::ToldRun;
+use std::alloc::{AllocError, Global};
+use std::fmt::Write;
+
+/// So many causes are told.
+pub const MOST_CAUSES: usize = 100;
+
+fn write_begin(out: &mut String, count: usize) -> Result<(), AllocError>
+    ensures { OnOk result (string_bytes out.new ≡ string_bytes out.old ++ causes_begin count) }
+{
+    write!(
+        out,
+        "<section id=\"causes\">\n<h2>Causes</h2>\n<p>{count} failing plans don't fail so without any one of their faults</p>\n"
+    )
+}
+
+fn write_none(out: &mut String) -> Result<(), AllocError>
+    ensures { OnOk result (string_bytes out.new ≡ string_bytes out.old ++ no_depth) }
+{
+    out.push_str(
+        "<section id=\"causes\">\n<h2>Causes</h2>\n<p>without a depth none is looked for</p>\n</section>\n",
+    )?;
+    Ok(())
+}
+
+fn write_cause_head(
+    alloc: Global,
+    out: &mut String,
+    code: &str,
+    cause: &Cause,
+) -> Result<(), AllocError>
+    ensures { OnOk result (string_bytes out.new ≡ string_bytes out.old ++ cause_head code.now cause.now.number (scenario_text cause.now.scenario)) }
+{
+    let number = cause.number;
+    let code = escaped(alloc, code)?;
+    let scenario = escaped_scenario(alloc, &cause.scenario)?;
+    write!(
+        out,
+        "<article id=\"cause-{number}\">\n<h3>{code}: plan {number}"
+    )?;
+    write!(out, "</h3>\n<p><code>{scenario}</code></p>\n")?;
+    Ok(())
+}
+
+fn write_cause<N: Names>(
+    alloc: Global,
+    out: &mut String,
+    names: &N,
+    cause: &Cause,
+    run: Option<&ToldRun>,
+) -> Result<(), AllocError>
+    ensures { OnOk result (string_bytes out.new ≡ string_bytes out.old
+        ++ cause_text (N.code_text names.now) cause.now (option_map (λ r. r.now) run.entry)) }
+{
+    write_cause_head(alloc, out, names.code(cause.code), cause)?;
+    write_run(out, run)?;
+    write_article_end(out)
+}
+
+fn write_each<N: Names>(
+    alloc: Global,
+    out: &mut String,
+    names: &N,
+    runs: &[ToldRun],
+    causes: &[Cause],
+) -> Result<(), AllocError>
+    ensures { OnOk result (string_bytes out.new ≡ string_bytes out.old ++ each_cause_text (N.code_text names.now) runs.now 0 causes.now) }
+{
+    for (place, cause) in causes.iter().enumerate() {
+        write_cause(alloc, out, names, cause, runs.get(place))?;
+    }
+    Ok(())
+}
+
+/// How many more there are.
+pub fn write_more(out: &mut String, count: usize) -> Result<(), AllocError>
+    ensures { OnOk result (string_bytes out.new ≡ string_bytes out.old ++ left_out_causes count) }
+{
+    if count > 0 {
+        write!(out, "<p class=\"note\">{count} more are left out</p>\n")?;
+    }
+    write_section_end(out)
+}
+
+fn write_all<N: Names>(
+    alloc: Global,
+    out: &mut String,
+    names: &N,
+    runs: &[ToldRun],
+    causes: &[Cause],
+) -> Result<(), AllocError>
+    ensures { OnOk result (string_bytes out.new ≡ string_bytes out.old
+        ++ causes_begin (length causes.now)
+        ++ each_cause_text (N.code_text names.now) runs.now 0 (take most_causes causes.now)
+        ++ left_out_causes (length causes.now - most_causes)) }
+{
+    let count = causes.len();
+    let told = count.min(MOST_CAUSES);
+    write_begin(out, count)?;
+    write_each(alloc, out, names, runs, &causes[..told])?;
+    write_more(out, count - told)
+}
+
+/// The causes, with their runs where they are told, of a campaign with a depth.
+pub fn write_causes<N: Names>(
+    alloc: Global,
+    out: &mut String,
+    names: &N,
+    runs: &[ToldRun],
+    growth: &Option<Growth<'_>>,
+) -> Result<(), AllocError>
+    ensures { OnOk result (string_bytes out.new ≡ string_bytes out.old ++ causes_text (N.code_text names.now) runs.now growth.now) }
+{
+    match growth {
+        None => write_none(out),
+        Some(growth) => write_all(alloc, out, names, runs, &growth.causes),
+    }
+}

@@ -1,0 +1,103 @@
+//! The plans that don't pass.
+ghost use Rattle.std.specs.Prelude.{◌≡◌, ◌+◌, ◌-◌, ◌++◌, length, take, string_bytes, count_by, flat_map, OnOk};
+ghost use Rattle.report.specs.ReportText.{scenario_text, verdict_text};
+ghost use Rattle.report.specs.BriefText.{is_fail, is_pass, is_unresolved};
+ghost use Rattle.report_page.specs.Page.{most_told, not_passed, plan_row, told_text};
+ghost use Rattle.report_page.specs.Pieces.{told_begin, told_row, left_out_plans};
+
+use crate::failures::write_section_end;
+use crate::texts::{escaped_scenario, escaped_verdict};
+use campaign_plans::{CampaignPlan, CampaignPlans};
+use report::{Names, Report, failures, unresolved};
+use std::alloc::{AllocError, Global};
+use std::fmt::Write;
+use target_trait::Verdict;
+
+/// So many plans that don't pass are told.
+const MOST_TOLD: usize = 1000;
+
+fn write_begin(out: &mut String) -> Result<(), AllocError>
+    ensures { OnOk result (string_bytes out.new ≡ string_bytes out.old ++ told_begin) }
+{
+    out.push_str(
+        "<section id=\"plans\">\n<h2>Plans that don't pass</h2>\n<div class=\"wide\">\n<table>\n<thead><tr><th scope=\"col\">plan</th><th scope=\"col\">verdict</th>",
+    )?;
+    out.push_str("<th scope=\"col\">scenario</th></tr></thead>\n<tbody>\n")?;
+    Ok(())
+}
+
+fn write_row<N: Names>(
+    alloc: Global,
+    out: &mut String,
+    names: &N,
+    number: usize,
+    verdict: Verdict,
+    plan: &CampaignPlan<'_>,
+) -> Result<(), AllocError>
+    ensures { OnOk result (string_bytes out.new ≡ string_bytes out.old
+        ++ told_row number (verdict_text (N.code_text names.now) verdict) (scenario_text plan.now)) }
+{
+    let said = escaped_verdict(alloc, names, verdict)?;
+    let scenario = escaped_scenario(alloc, &plan.scenario(alloc)?)?;
+    write!(
+        out,
+        "<tr id=\"plan-{number}\"><th scope=\"row\">{number}</th><td>{said}</td><td><code>"
+    )?;
+    write!(out, "{scenario}</code></td></tr>\n")?;
+    Ok(())
+}
+
+fn is_pass(verdict: Verdict) -> bool
+    ensures { result ≡ is_pass verdict }
+{
+    matches!(verdict, Verdict::Pass)
+}
+
+fn write_rows<N: Names>(
+    alloc: Global,
+    out: &mut String,
+    names: &N,
+    verdicts: &[Verdict],
+    plans: &CampaignPlans<'_>,
+) -> Result<(), AllocError>
+    requires { length verdicts.now ≡ length plans.now }
+    ensures { OnOk result (string_bytes out.new ≡ string_bytes out.old
+        ++ flat_map (plan_row (N.code_text names.now)) (take most_told (not_passed 0 verdicts.now plans.now))) }
+{
+    let mut room = MOST_TOLD;
+    for (number, verdict) in verdicts.iter().enumerate() {
+        if room > 0 && !is_pass(*verdict) {
+            write_row(alloc, out, names, number, *verdict, &plans.plan(number))?;
+            room -= 1;
+        }
+    }
+    Ok(())
+}
+
+/// How many more there are.
+fn write_more(out: &mut String, count: usize) -> Result<(), AllocError>
+    ensures { OnOk result (string_bytes out.new ≡ string_bytes out.old ++ left_out_plans count) }
+{
+    out.push_str("</tbody>\n</table>\n</div>\n")?;
+    if count > 0 {
+        write!(out, "<p class=\"note\">{count} more are left out</p>\n")?;
+    }
+    write_section_end(out)
+}
+
+/// The plans that don't pass, up to a number of them.
+pub fn write_plans<N: Names>(
+    alloc: Global,
+    out: &mut String,
+    names: &N,
+    report: &Report<'_>,
+    plans: &CampaignPlans<'_>,
+) -> Result<(), AllocError>
+    requires { length report.now.verdicts ≡ length plans.now }
+    ensures { OnOk result (string_bytes out.new ≡ string_bytes out.old ++ told_text (N.code_text names.now) report.now plans.now) }
+{
+    let count = failures(report.verdicts).saturating_add(unresolved(report.verdicts));
+    write_begin(out)?;
+    write_rows(alloc, out, names, report.verdicts, plans)?;
+    write_more(out, count.saturating_sub(MOST_TOLD))
+}

@@ -1,0 +1,83 @@
+//! Runs, hit by hit.
+ghost use Rattle.std.specs.Prelude.{◌≡◌, ◌++◌, string_bytes, flat_map, option_map, OnOk};
+ghost use Rattle.report_page.specs.Page.{hit_text, run_text};
+ghost use Rattle.report_page.specs.Pieces.{left_out_hits, marked, run_begin, run_end};
+
+use run_explained::{HitLine, ToldRun};
+use std::alloc::AllocError;
+use std::fmt::Write;
+use xml_text::write_escaped;
+
+fn write_marked(out: &mut String, text: &str) -> Result<(), AllocError>
+    ensures { OnOk result (string_bytes out.new ≡ string_bytes out.old ++ marked text.now) }
+{
+    out.push_str("<mark>")?;
+    write_escaped(out, text)?;
+    out.push_str("</mark>")?;
+    Ok(())
+}
+
+fn write_hit(out: &mut String, hit: &HitLine) -> Result<(), AllocError>
+    ensures { OnOk result (string_bytes out.new ≡ string_bytes out.old ++ hit_text hit.now) }
+{
+    let text = hit.text.as_str();
+    if hit.is_fault {
+        write_marked(out, text)
+    } else {
+        write_escaped(out, text)
+    }
+}
+
+fn write_hits(out: &mut String, hits: &[HitLine]) -> Result<(), AllocError>
+    ensures { OnOk result (string_bytes out.new ≡ string_bytes out.old ++ flat_map hit_text hits.now) }
+{
+    for hit in hits {
+        write_hit(out, hit)?;
+    }
+    Ok(())
+}
+
+fn write_begin(out: &mut String, head: &str) -> Result<(), AllocError>
+    ensures { OnOk result (string_bytes out.new ≡ string_bytes out.old ++ run_begin head.now) }
+{
+    out.push_str("<details>\n<summary>The run, hit by hit</summary>\n<pre>")?;
+    write_escaped(out, head)?;
+    Ok(())
+}
+
+fn write_left_out(out: &mut String, count: usize) -> Result<(), AllocError>
+    ensures { OnOk result (string_bytes out.new ≡ string_bytes out.old ++ left_out_hits count) }
+{
+    if count == 0 {
+        return Ok(());
+    }
+    write!(out, "{count} more hits are left out\n")
+}
+
+fn write_end(out: &mut String, left_out: usize, tail: &str) -> Result<(), AllocError>
+    ensures { OnOk result (string_bytes out.new ≡ string_bytes out.old ++ run_end left_out tail.now) }
+{
+    write_left_out(out, left_out)?;
+    write_escaped(out, tail)?;
+    out.push_str("</pre>\n</details>\n")?;
+    Ok(())
+}
+
+fn write_told(out: &mut String, run: &ToldRun) -> Result<(), AllocError>
+    ensures { OnOk result (string_bytes out.new ≡ string_bytes out.old
+        ++ run_begin run.now.head ++ flat_map hit_text run.now.hits ++ run_end run.now.left_out run.now.tail) }
+{
+    write_begin(out, run.head.as_str())?;
+    write_hits(out, &run.hits)?;
+    write_end(out, run.left_out, run.tail.as_str())
+}
+
+/// Nothing where the run isn't told.
+pub fn write_run(out: &mut String, run: Option<&ToldRun>) -> Result<(), AllocError>
+    ensures { OnOk result (string_bytes out.new ≡ string_bytes out.old ++ run_text (option_map (λ r. r.now) run.entry)) }
+{
+    match run {
+        None => Ok(()),
+        Some(run) => write_told(out, run),
+    }
+}
