@@ -1,5 +1,6 @@
 -- A campaign's page: one HTML document, whole in itself, that is well-formed XML too. A target gives the names of its points and codes.
-use Rattle.std.specs.Prelude.{ℕ, ◌+◌, ◌-◌, ◌==◌, if◌then◌else◌, Bool, true, false, List, [], ◌∷◌, ◌++◌, length, take, map, codes, count_by, Option, None, Some, slice_get}
+use Rattle.std.specs.Prelude.{ℕ, ◌+◌, ◌-◌, ◌==◌, if◌then◌else◌, Bool, true, false, List, [], ◌∷◌, ◌++◌, length, take, count_by}
+use Rattle.std.specs.Prelude.{Option, None, Some, slice_get}
 use Rattle.std.specs.List.{flat_map}
 use Rattle.scenario_values.specs.Scenario.{Entries}
 use Rattle.target_trait.specs.declared.judgement.Verdict.{Verdict}
@@ -9,7 +10,10 @@ use Rattle.report.specs.ReportText.{scenario_text, verdict_text}
 use Rattle.report.specs.BriefText.{is_pass, is_fail, is_fail_with, is_unresolved}
 use Rattle.xml_text.specs.Xml.{escaped}
 use Rattle.run_explained.specs.Told.{HitFacts, RunFacts}
-use Rattle.report_page.specs.Pieces.{page_head, tried_by_census, tried_to_depth, whole, not_whole, all_pass, none_fails, some_fail, contents, map_part, verdicts_begin, code_row, table_end, levels_begin, level_row, growth_rows, census_begin, census_row, reached_begin, reached_row, finding_head, finding_facts, article_end, run_begin, run_end, marked, failures_begin, no_failure, section_end, told_begin, told_row, left_out_plans, causes_begin, cause_head, left_out_causes, no_depth, page_end}
+use Rattle.report_page.specs.Pieces.{page_head, tried_by_census, tried_to_depth, whole, not_whole, all_pass, none_fails, some_fail, contents, map_part}
+use Rattle.report_page.specs.Pieces.{verdicts_begin, code_row, table_end, levels_begin, level_row, growth_rows, census_begin, census_row}
+use Rattle.report_page.specs.Pieces.{reached_begin, reached_row, finding_head, finding_facts, article_end, run_begin, run_end, marked, failures_begin}
+use Rattle.report_page.specs.Pieces.{no_failure, section_end, told_begin, told_row, left_out_plans, causes_begin, cause_head, left_out, no_depth, page_end}
 
 -- ---- what a page tells beside the report
 
@@ -93,10 +97,10 @@ hit_by false text = escaped text
 abbrev pub hit_text : HitFacts → List ℕ
 hit_text hit = hit_by hit.is_fault hit.text
 
--- nothing where the run isn't told
-abbrev pub run_text : Option RunFacts → List ℕ
-run_text None = []
-run_text (Some run) = run_begin run.head ++ flat_map hit_text run.hits ++ run_end run.left_out run.tail
+-- nothing where the run isn't told; whether it is seen at once or has to be opened
+abbrev pub run_text : Bool → Option RunFacts → List ℕ
+run_text is_open None = []
+run_text is_open (Some run) = run_begin is_open run.head ++ flat_map hit_text run.hits ++ run_end run.left_out run.tail
 
 -- ---- first failures
 
@@ -104,7 +108,7 @@ unfoldable pub finding_text : (ℕ → List ℕ) → FindingFacts → Option Run
 finding_text code_name finding run =
     finding_head (code_name finding.code) finding.number
     ++ finding_facts (scenario_text finding.scenario) (scenario_text finding.reduced) finding.tests
-    ++ run_text run
+    ++ run_text true run
     ++ article_end
 
 -- of findings from the n-th on
@@ -156,7 +160,7 @@ told_text code_name report plans =
 
 unfoldable pub cause_text : (ℕ → List ℕ) → CauseFacts → Option RunFacts → List ℕ
 cause_text code_name cause run =
-    cause_head (code_name cause.code) cause.number (scenario_text cause.scenario) ++ run_text run ++ article_end
+    cause_head (code_name cause.code) cause.number (scenario_text cause.scenario) ++ run_text false run ++ article_end
 
 -- of causes from the n-th on
 abbrev pub each_cause_text : (ℕ → List ℕ) → List RunFacts → ℕ → List CauseFacts → List ℕ
@@ -169,7 +173,7 @@ causes_text code_name runs None = no_depth
 causes_text code_name runs (Some growth) =
     causes_begin (length growth.causes)
     ++ each_cause_text code_name runs 0 (take most_causes growth.causes)
-    ++ left_out_causes (length growth.causes - most_causes)
+    ++ left_out (length growth.causes - most_causes)
 
 -- ---- the page
 

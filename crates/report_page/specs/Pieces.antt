@@ -1,5 +1,5 @@
 -- The pieces of a page: markup round texts and numbers. Each text stands as XML says it.
-use Rattle.std.specs.Prelude.{ℕ, ◌==◌, if◌then◌else◌, List, [], ◌++◌, codes}
+use Rattle.std.specs.Prelude.{ℕ, Bool, ◌==◌, if◌then◌else◌, List, [], ◌++◌, codes}
 use Rattle.std.specs.Fmt.{decimal}
 use Rattle.xml_text.specs.Xml.{escaped}
 
@@ -7,16 +7,19 @@ use Rattle.xml_text.specs.Xml.{escaped}
 
 unfoldable pub style : List ℕ
 style =
-    codes "<style>:root{color-scheme:light dark;--ink:#222;--soft:#55626b;--ground:#fff;--line:#d5dde2;--bad:#b3122a;--good:#1d6f47;--open:#855b00;--mark:#fde7b8}\n"
-    ++ codes "body{font:16px/1.5 system-ui,sans-serif;color:var(--ink);background:var(--ground);max-width:72rem;margin:0 auto;padding:1rem}a{color:inherit}\n"
-    ++ codes "h1{font-size:1.5rem;margin:.5rem 0}h2{font-size:1.2rem;margin:2rem 0 .5rem;border-bottom:1px solid var(--line)}h3{font-size:1rem;margin:1rem 0 .25rem}\n"
-    ++ codes "nav a{margin-right:1rem}.verdict{font-weight:600}.bad,.none{color:var(--bad)}.good{color:var(--good)}.open{color:var(--open)}dt{font-weight:600}\n"
-    ++ codes "table{border-collapse:collapse}th,td{text-align:left;vertical-align:top;padding:.15rem 1.25rem .15rem 0;border-bottom:1px solid var(--line)}\n"
-    ++ codes "td.count{text-align:right}dd{margin:0 0 .5rem}code,pre{font:14px/1.45 ui-monospace,monospace}h1,h3,th,dd,code{overflow-wrap:anywhere}\n"
-    ++ codes "pre{overflow-x:auto;padding:.5rem;border:1px solid var(--line)}mark{color:inherit;background:var(--mark)}.note,figcaption{color:var(--soft)}\n"
-    ++ codes "figure{margin:0}.wide{overflow-x:auto}@media(prefers-color-scheme:dark){:root{--ink:#e6eaed;--soft:#9aa7b0;--ground:#14181b;--line:#2f3942}\n"
-    ++ codes ":root{--bad:#ff7a84;--good:#5fd39a;--open:#ffc872;--mark:#5a4413}}@media print{body{max-width:none;font-size:11pt}nav{display:none}\n"
-    ++ codes ".wide svg{max-width:100%;height:auto}pre{white-space:pre-wrap;overflow-wrap:anywhere}article,figure,tr{break-inside:avoid}}</style>\n"
+    codes "<style>:root{color-scheme:light dark;--ink:#222;--soft:#55626b;--ground:#fff;--line:#d5dde2;--bad:#b3122a}\n"
+    ++ codes ":root{--good:#1d6f47;--open:#855b00;--mark:#fde7b8}\n"
+    ++ codes "body{font:16px/1.5 system-ui,sans-serif;color:var(--ink);background:var(--ground);max-width:72rem;margin:0 auto;padding:1rem}\n"
+    ++ codes "a{color:inherit}h1{font-size:1.5rem;margin:.5rem 0}h2{font-size:1.2rem;margin:2rem 0 .5rem;border-bottom:1px solid var(--line)}\n"
+    ++ codes "h3{font-size:1rem;margin:1rem 0 .25rem}nav a{margin-right:1rem;display:inline-block}.verdict{font-weight:600}\n"
+    ++ codes ".bad,.none{color:var(--bad)}.good{color:var(--good)}.open{color:var(--open)}dt{font-weight:600}table{border-collapse:collapse}\n"
+    ++ codes "th,td{text-align:left;vertical-align:top;padding:.15rem 1.25rem .15rem 0;border-bottom:1px solid var(--line)}\n"
+    ++ codes "td.count{text-align:right}dd{margin:0 0 .5rem}code,pre{font:14px/1.45 ui-monospace,monospace}h1,h3,dd,code{overflow-wrap:anywhere}\n"
+    ++ codes "pre{overflow-x:auto;padding:.5rem;border:1px solid var(--line)}mark{color:inherit;background:var(--mark)}\n"
+    ++ codes ".note,figcaption{color:var(--soft)}figure{margin:0}.wide{overflow-x:auto}@media(prefers-color-scheme:dark){\n"
+    ++ codes ":root{--ink:#e6eaed;--soft:#9aa7b0;--ground:#14181b;--line:#2f3942}:root{--bad:#ff7a84;--good:#5fd39a;--open:#ffc872;--mark:#5a4413}\n"
+    ++ codes "}@media print{body{max-width:none;font-size:11pt}nav{display:none}.wide svg{max-width:100%;height:auto}\n"
+    ++ codes "pre{white-space:pre-wrap;overflow-wrap:anywhere}figure,tr{break-inside:avoid}::details-content{content-visibility:visible}}</style>\n"
 
 -- ---- the head
 
@@ -36,7 +39,8 @@ tried_by_census plans =
 -- of one with a depth, up to whether that is all
 unfoldable pub tried_to_depth : ℕ → ℕ → List ℕ
 tried_to_depth depth plans =
-    codes "<p>every behaviour with at most " ++ decimal depth ++ (if depth == 1 then codes " fault, " else codes " faults, ") ++ decimal plans ++ codes " runs; "
+    codes "<p>every behaviour with at most " ++ decimal depth ++ (if depth == 1 then codes " fault, " else codes " faults, ")
+    ++ decimal plans ++ codes " runs; "
 
 unfoldable pub whole : List ℕ
 whole = codes "whole: there are none with more</p>\n"
@@ -67,7 +71,8 @@ contents =
 unfoldable pub map_part : List ℕ → List ℕ
 map_part map =
     codes "<section id=\"map\">\n<h2>Map</h2>\n<figure>\n<div class=\"wide\">\n" ++ map
-    ++ codes "</div>\n<figcaption>Each cell is a plan, in the colour of its verdict. Under a pointer it tells its number and scenario.</figcaption>\n</figure>\n</section>\n"
+    ++ codes "</div>\n"
+    ++ codes "<figcaption>Each cell is a plan, coloured by its verdict. Under a pointer it tells its number and scenario.</figcaption>\n</figure>\n</section>\n"
 
 -- ---- tables
 
@@ -88,7 +93,8 @@ code_row code count first =
 
 unfoldable pub levels_begin : List ℕ
 levels_begin =
-    codes "<section id=\"levels\">\n<h2>Levels</h2>\n<div class=\"wide\">\n<table>\n<thead><tr><th scope=\"col\">plans</th><th scope=\"col\">how many</th></tr></thead>\n<tbody>\n"
+    codes "<section id=\"levels\">\n<h2>Levels</h2>\n<div class=\"wide\">\n<table>\n"
+    ++ codes "<thead><tr><th scope=\"col\">plans</th><th scope=\"col\">how many</th></tr></thead>\n<tbody>\n"
 
 unfoldable pub level_row : ℕ → ℕ → List ℕ
 level_row level plans =
@@ -103,7 +109,8 @@ growth_rows onward beyond =
 
 unfoldable pub census_begin : List ℕ
 census_begin =
-    codes "<section id=\"points\">\n<h2>Points</h2>\n<div class=\"wide\">\n<table>\n<thead><tr><th scope=\"col\">point</th><th scope=\"col\">hits without faults</th>"
+    codes "<section id=\"points\">\n<h2>Points</h2>\n<div class=\"wide\">\n<table>\n"
+    ++ codes "<thead><tr><th scope=\"col\">point</th><th scope=\"col\">hits without faults</th>"
     ++ codes "</tr></thead>\n<tbody>\n"
 
 -- a point that isn't asked is marked
@@ -114,7 +121,8 @@ census_row point count =
 
 unfoldable pub reached_begin : List ℕ
 reached_begin =
-    codes "<section id=\"points\">\n<h2>Points</h2>\n<div class=\"wide\">\n<table>\n<thead><tr><th scope=\"col\">point</th><th scope=\"col\">hits without faults</th>"
+    codes "<section id=\"points\">\n<h2>Points</h2>\n<div class=\"wide\">\n<table>\n"
+    ++ codes "<thead><tr><th scope=\"col\">point</th><th scope=\"col\">hits without faults</th>"
     ++ codes "<th scope=\"col\">most hits of a run</th></tr></thead>\n<tbody>\n"
 
 -- a point that no run reaches is marked
@@ -126,8 +134,9 @@ reached_row point count most =
 -- ---- runs
 
 -- up to its first hit; each line stands with its line feed
-unfoldable pub run_begin : List ℕ → List ℕ
-run_begin head = codes "<details>\n<summary>The run, hit by hit</summary>\n<pre>" ++ escaped head
+unfoldable pub run_begin : Bool → List ℕ → List ℕ
+run_begin is_open head =
+    (if is_open then codes "<details open=\"open\">" else codes "<details>") ++ codes "\n<summary>The run, hit by hit</summary>\n<pre>" ++ escaped head
 
 -- a hit at which a fault acted is marked
 unfoldable pub marked : List ℕ → List ℕ
@@ -180,14 +189,18 @@ cause_head code number scenario =
     ++ codes "</h3>\n<p><code>" ++ escaped scenario ++ codes "</code></p>\n"
 
 -- how many more there are, and the end of the section
-unfoldable pub left_out_causes : ℕ → List ℕ
-left_out_causes count = (if count == 0 then [] else codes "<p class=\"note\">" ++ decimal count ++ codes " more are left out</p>\n") ++ section_end
+unfoldable pub more : ℕ → List ℕ
+more count = if count == 0 then [] else codes "<p class=\"note\">" ++ decimal count ++ codes " more are left out</p>\n"
+
+unfoldable pub left_out : ℕ → List ℕ
+left_out count = more count ++ section_end
 
 -- ---- plans that don't pass
 
 unfoldable pub told_begin : List ℕ
 told_begin =
-    codes "<section id=\"plans\">\n<h2>Plans that don't pass</h2>\n<div class=\"wide\">\n<table>\n<thead><tr><th scope=\"col\">plan</th><th scope=\"col\">verdict</th>"
+    codes "<section id=\"plans\">\n<h2>Plans that don't pass</h2>\n<div class=\"wide\">\n<table>\n"
+    ++ codes "<thead><tr><th scope=\"col\">plan</th><th scope=\"col\">verdict</th>"
     ++ codes "<th scope=\"col\">scenario</th></tr></thead>\n<tbody>\n"
 
 unfoldable pub told_row : ℕ → List ℕ → List ℕ → List ℕ
@@ -198,7 +211,7 @@ told_row number said scenario =
 -- how many more there are, and the end of the section
 unfoldable pub left_out_plans : ℕ → List ℕ
 left_out_plans count =
-    codes "</tbody>\n</table>\n</div>\n" ++ (if count == 0 then [] else codes "<p class=\"note\">" ++ decimal count ++ codes " more are left out</p>\n") ++ section_end
+    codes "</tbody>\n</table>\n</div>\n" ++ left_out count
 
 -- ---- the end
 

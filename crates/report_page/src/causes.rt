@@ -2,7 +2,7 @@
 ghost use Rattle.std.specs.Prelude.{◌≡◌, ◌-◌, ◌++◌, length, take, string_bytes, option_map, OnOk};
 ghost use Rattle.report.specs.ReportText.{scenario_text};
 ghost use Rattle.report_page.specs.Page.{most_causes, cause_text, each_cause_text, causes_text};
-ghost use Rattle.report_page.specs.Pieces.{no_depth, causes_begin, cause_head, left_out_causes};
+ghost use Rattle.report_page.specs.Pieces.{no_depth, causes_begin, cause_head, left_out, more};
 
 use crate::failures::{write_article_end, write_section_end};
 use crate::runs::write_run;
@@ -15,6 +15,7 @@ use std::fmt::Write;
 /// So many causes are told.
 pub const MOST_CAUSES: usize = 100;
 
+#[tactic(auto, unfolding(crate::specs::Pieces::causes_begin))]
 fn write_begin(out: &mut String, count: usize) -> Result<(), AllocError>
     ensures { OnOk result (string_bytes out.new ≡ string_bytes out.old ++ causes_begin count) }
 {
@@ -24,6 +25,7 @@ fn write_begin(out: &mut String, count: usize) -> Result<(), AllocError>
     )
 }
 
+#[tactic(auto, unfolding(crate::specs::Pieces::no_depth))]
 fn write_none(out: &mut String) -> Result<(), AllocError>
     ensures { OnOk result (string_bytes out.new ≡ string_bytes out.old ++ no_depth) }
 {
@@ -33,6 +35,7 @@ fn write_none(out: &mut String) -> Result<(), AllocError>
     Ok(())
 }
 
+#[tactic(auto, unfolding(crate::specs::Pieces::cause_head))]
 fn write_cause_head(
     alloc: Global,
     out: &mut String,
@@ -52,6 +55,7 @@ fn write_cause_head(
     Ok(())
 }
 
+#[tactic(auto, unfolding(crate::specs::Page::cause_text))]
 fn write_cause<N: Names>(
     alloc: Global,
     out: &mut String,
@@ -63,7 +67,7 @@ fn write_cause<N: Names>(
         ++ cause_text (N.code_text names.now) cause.now (option_map (λ r. r.now) run.entry)) }
 {
     write_cause_head(alloc, out, names.code(cause.code), cause)?;
-    write_run(out, run)?;
+    write_run(out, false, run)?;
     write_article_end(out)
 }
 
@@ -82,13 +86,22 @@ fn write_each<N: Names>(
     Ok(())
 }
 
-/// How many more there are.
-pub fn write_more(out: &mut String, count: usize) -> Result<(), AllocError>
-    ensures { OnOk result (string_bytes out.new ≡ string_bytes out.old ++ left_out_causes count) }
+#[tactic(auto, unfolding(crate::specs::Pieces::more))]
+fn write_more(out: &mut String, count: usize) -> Result<(), AllocError>
+    ensures { OnOk result (string_bytes out.new ≡ string_bytes out.old ++ more count) }
 {
-    if count > 0 {
-        write!(out, "<p class=\"note\">{count} more are left out</p>\n")?;
+    if count == 0 {
+        return Ok(());
     }
+    write!(out, "<p class=\"note\">{count} more are left out</p>\n")
+}
+
+/// How many more there are, and the end of the section.
+#[tactic(auto, unfolding(crate::specs::Pieces::left_out))]
+pub fn write_left_out(out: &mut String, count: usize) -> Result<(), AllocError>
+    ensures { OnOk result (string_bytes out.new ≡ string_bytes out.old ++ left_out count) }
+{
+    write_more(out, count)?;
     write_section_end(out)
 }
 
@@ -102,13 +115,13 @@ fn write_all<N: Names>(
     ensures { OnOk result (string_bytes out.new ≡ string_bytes out.old
         ++ causes_begin (length causes.now)
         ++ each_cause_text (N.code_text names.now) runs.now 0 (take most_causes causes.now)
-        ++ left_out_causes (length causes.now - most_causes)) }
+        ++ left_out (length causes.now - most_causes)) }
 {
     let count = causes.len();
     let told = count.min(MOST_CAUSES);
     write_begin(out, count)?;
     write_each(alloc, out, names, runs, &causes[..told])?;
-    write_more(out, count - told)
+    write_left_out(out, count - told)
 }
 
 /// The causes, with their runs where they are told, of a campaign with a depth.

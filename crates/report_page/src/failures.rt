@@ -11,6 +11,7 @@ use run_explained::ToldRun;
 use std::alloc::{AllocError, Global};
 use std::fmt::Write;
 
+#[tactic(auto, unfolding(crate::specs::Pieces::finding_head))]
 fn write_finding_head(
     alloc: Global,
     out: &mut String,
@@ -26,6 +27,7 @@ fn write_finding_head(
     )
 }
 
+#[tactic(auto, unfolding(crate::specs::Pieces::finding_facts))]
 fn write_finding_facts(alloc: Global, out: &mut String, finding: &Finding) -> Result<(), AllocError>
     ensures { OnOk result (string_bytes out.new ≡ string_bytes out.old
         ++ finding_facts (scenario_text finding.now.scenario) (scenario_text finding.now.reduced) finding.now.tests) }
@@ -44,6 +46,7 @@ fn write_finding_facts(alloc: Global, out: &mut String, finding: &Finding) -> Re
     Ok(())
 }
 
+#[tactic(auto, unfolding(crate::specs::Pieces::article_end))]
 pub fn write_article_end(out: &mut String) -> Result<(), AllocError>
     ensures { OnOk result (string_bytes out.new ≡ string_bytes out.old ++ article_end) }
 {
@@ -51,6 +54,7 @@ pub fn write_article_end(out: &mut String) -> Result<(), AllocError>
     Ok(())
 }
 
+#[tactic(auto, unfolding(crate::specs::Page::finding_text))]
 fn write_finding<N: Names>(
     alloc: Global,
     out: &mut String,
@@ -63,7 +67,7 @@ fn write_finding<N: Names>(
 {
     write_finding_head(alloc, out, names.code(finding.code), finding.number)?;
     write_finding_facts(alloc, out, finding)?;
-    write_run(out, run)?;
+    write_run(out, true, run)?;
     write_article_end(out)
 }
 
@@ -82,6 +86,7 @@ fn write_findings<N: Names>(
     Ok(())
 }
 
+#[tactic(auto, unfolding(crate::specs::Pieces::failures_begin))]
 fn write_begin(out: &mut String) -> Result<(), AllocError>
     ensures { OnOk result (string_bytes out.new ≡ string_bytes out.old ++ failures_begin) }
 {
@@ -89,6 +94,7 @@ fn write_begin(out: &mut String) -> Result<(), AllocError>
     Ok(())
 }
 
+#[tactic(auto, unfolding(crate::specs::Pieces::no_failure))]
 fn write_none(out: &mut String) -> Result<(), AllocError>
     ensures { OnOk result (string_bytes out.new ≡ string_bytes out.old ++ no_failure) }
 {
@@ -96,6 +102,7 @@ fn write_none(out: &mut String) -> Result<(), AllocError>
     Ok(())
 }
 
+#[tactic(auto, unfolding(crate::specs::Pieces::section_end))]
 pub fn write_section_end(out: &mut String) -> Result<(), AllocError>
     ensures { OnOk result (string_bytes out.new ≡ string_bytes out.old ++ section_end) }
 {

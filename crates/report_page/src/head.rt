@@ -9,42 +9,51 @@ use report::{Growth, Report, failures, unresolved};
 use std::alloc::{AllocError, Global};
 use std::fmt::Write;
 
+#[tactic(auto, unfolding(crate::specs::Pieces::style))]
 fn write_style(out: &mut String) -> Result<(), AllocError>
     ensures { OnOk result (string_bytes out.new ≡ string_bytes out.old ++ style) }
 {
     out.push_str(
-        "<style>:root{color-scheme:light dark;--ink:#222;--soft:#55626b;--ground:#fff;--line:#d5dde2;--bad:#b3122a;--good:#1d6f47;--open:#855b00;--mark:#fde7b8}\n",
+        "<style>:root{color-scheme:light dark;--ink:#222;--soft:#55626b;--ground:#fff;--line:#d5dde2;--bad:#b3122a}\n",
+    )?;
+    out.push_str(":root{--good:#1d6f47;--open:#855b00;--mark:#fde7b8}\n")?;
+    out.push_str(
+        "body{font:16px/1.5 system-ui,sans-serif;color:var(--ink);background:var(--ground);max-width:72rem;margin:0 auto;padding:1rem}\n",
     )?;
     out.push_str(
-        "body{font:16px/1.5 system-ui,sans-serif;color:var(--ink);background:var(--ground);max-width:72rem;margin:0 auto;padding:1rem}a{color:inherit}\n",
+        "a{color:inherit}h1{font-size:1.5rem;margin:.5rem 0}h2{font-size:1.2rem;margin:2rem 0 .5rem;border-bottom:1px solid var(--line)}\n",
     )?;
     out.push_str(
-        "h1{font-size:1.5rem;margin:.5rem 0}h2{font-size:1.2rem;margin:2rem 0 .5rem;border-bottom:1px solid var(--line)}h3{font-size:1rem;margin:1rem 0 .25rem}\n",
+        "h3{font-size:1rem;margin:1rem 0 .25rem}nav a{margin-right:1rem;display:inline-block}.verdict{font-weight:600}\n",
     )?;
     out.push_str(
-        "nav a{margin-right:1rem}.verdict{font-weight:600}.bad,.none{color:var(--bad)}.good{color:var(--good)}.open{color:var(--open)}dt{font-weight:600}\n",
+        ".bad,.none{color:var(--bad)}.good{color:var(--good)}.open{color:var(--open)}dt{font-weight:600}table{border-collapse:collapse}\n",
     )?;
     out.push_str(
-        "table{border-collapse:collapse}th,td{text-align:left;vertical-align:top;padding:.15rem 1.25rem .15rem 0;border-bottom:1px solid var(--line)}\n",
+        "th,td{text-align:left;vertical-align:top;padding:.15rem 1.25rem .15rem 0;border-bottom:1px solid var(--line)}\n",
     )?;
     out.push_str(
-        "td.count{text-align:right}dd{margin:0 0 .5rem}code,pre{font:14px/1.45 ui-monospace,monospace}h1,h3,th,dd,code{overflow-wrap:anywhere}\n",
+        "td.count{text-align:right}dd{margin:0 0 .5rem}code,pre{font:14px/1.45 ui-monospace,monospace}h1,h3,dd,code{overflow-wrap:anywhere}\n",
     )?;
     out.push_str(
-        "pre{overflow-x:auto;padding:.5rem;border:1px solid var(--line)}mark{color:inherit;background:var(--mark)}.note,figcaption{color:var(--soft)}\n",
+        "pre{overflow-x:auto;padding:.5rem;border:1px solid var(--line)}mark{color:inherit;background:var(--mark)}\n",
     )?;
     out.push_str(
-        "figure{margin:0}.wide{overflow-x:auto}@media(prefers-color-scheme:dark){:root{--ink:#e6eaed;--soft:#9aa7b0;--ground:#14181b;--line:#2f3942}\n",
+        ".note,figcaption{color:var(--soft)}figure{margin:0}.wide{overflow-x:auto}@media(prefers-color-scheme:dark){\n",
     )?;
     out.push_str(
-        ":root{--bad:#ff7a84;--good:#5fd39a;--open:#ffc872;--mark:#5a4413}}@media print{body{max-width:none;font-size:11pt}nav{display:none}\n",
+        ":root{--ink:#e6eaed;--soft:#9aa7b0;--ground:#14181b;--line:#2f3942}:root{--bad:#ff7a84;--good:#5fd39a;--open:#ffc872;--mark:#5a4413}\n",
     )?;
     out.push_str(
-        ".wide svg{max-width:100%;height:auto}pre{white-space:pre-wrap;overflow-wrap:anywhere}article,figure,tr{break-inside:avoid}}</style>\n",
+        "}@media print{body{max-width:none;font-size:11pt}nav{display:none}.wide svg{max-width:100%;height:auto}\n",
+    )?;
+    out.push_str(
+        "pre{white-space:pre-wrap;overflow-wrap:anywhere}figure,tr{break-inside:avoid}::details-content{content-visibility:visible}}</style>\n",
     )?;
     Ok(())
 }
 
+#[tactic(auto, unfolding(crate::specs::Pieces::page_head))]
 fn write_page_head(alloc: Global, out: &mut String, label: &str) -> Result<(), AllocError>
     ensures { OnOk result (string_bytes out.new ≡ string_bytes out.old ++ page_head label.now) }
 {
@@ -58,6 +67,7 @@ fn write_page_head(alloc: Global, out: &mut String, label: &str) -> Result<(), A
     write!(out, "</head>\n<body>\n<header>\n<h1>{label}</h1>\n")
 }
 
+#[tactic(auto, unfolding(crate::specs::Pieces::tried_by_census))]
 fn write_tried_by_census(out: &mut String, plans: usize) -> Result<(), AllocError>
     ensures { OnOk result (string_bytes out.new ≡ string_bytes out.old ++ tried_by_census plans) }
 {
@@ -67,6 +77,7 @@ fn write_tried_by_census(out: &mut String, plans: usize) -> Result<(), AllocErro
     )
 }
 
+#[tactic(auto, unfolding(crate::specs::Pieces::tried_to_depth))]
 fn write_tried_to_depth(out: &mut String, depth: u32, plans: usize) -> Result<(), AllocError>
     ensures { OnOk result (string_bytes out.new ≡ string_bytes out.old ++ tried_to_depth depth plans) }
 {
@@ -77,6 +88,7 @@ fn write_tried_to_depth(out: &mut String, depth: u32, plans: usize) -> Result<()
     )
 }
 
+#[tactic(auto, unfolding(crate::specs::Pieces::not_whole))]
 fn write_not_whole(out: &mut String, beyond: u64) -> Result<(), AllocError>
     ensures { OnOk result (string_bytes out.new ≡ string_bytes out.old ++ not_whole beyond) }
 {
@@ -111,6 +123,7 @@ fn write_tried(
     }
 }
 
+#[tactic(auto, unfolding(crate::specs::Pieces::all_pass))]
 fn write_all_pass(out: &mut String, plans: usize) -> Result<(), AllocError>
     ensures { OnOk result (string_bytes out.new ≡ string_bytes out.old ++ all_pass plans) }
 {
@@ -120,6 +133,7 @@ fn write_all_pass(out: &mut String, plans: usize) -> Result<(), AllocError>
     )
 }
 
+#[tactic(auto, unfolding(crate::specs::Pieces::none_fails))]
 fn write_none_fails(out: &mut String, plans: usize, unresolved: usize) -> Result<(), AllocError>
     ensures { OnOk result (string_bytes out.new ≡ string_bytes out.old ++ none_fails plans unresolved) }
 {
@@ -129,6 +143,7 @@ fn write_none_fails(out: &mut String, plans: usize, unresolved: usize) -> Result
     )
 }
 
+#[tactic(auto, unfolding(crate::specs::Pieces::some_fail))]
 fn write_some_fail(
     out: &mut String,
     plans: usize,
@@ -161,6 +176,7 @@ fn write_outcome(
     }
 }
 
+#[tactic(auto, unfolding(crate::specs::Pieces::contents))]
 fn write_contents(out: &mut String) -> Result<(), AllocError>
     ensures { OnOk result (string_bytes out.new ≡ string_bytes out.old ++ contents) }
 {
@@ -187,13 +203,15 @@ pub fn write_head(alloc: Global, out: &mut String, report: &Report<'_>) -> Resul
 }
 
 /// The map as it is, with what is told of it.
+#[tactic(auto, unfolding(crate::specs::Pieces::map_part))]
 pub fn write_map(out: &mut String, map: &str) -> Result<(), AllocError>
     ensures { OnOk result (string_bytes out.new ≡ string_bytes out.old ++ map_part map.now) }
 {
     out.push_str("<section id=\"map\">\n<h2>Map</h2>\n<figure>\n<div class=\"wide\">\n")?;
     out.push_str(map)?;
+    out.push_str("</div>\n")?;
     out.push_str(
-        "</div>\n<figcaption>Each cell is a plan, in the colour of its verdict. Under a pointer it tells its number and scenario.</figcaption>\n</figure>\n</section>\n",
+        "<figcaption>Each cell is a plan, coloured by its verdict. Under a pointer it tells its number and scenario.</figcaption>\n</figure>\n</section>\n",
     )?;
     Ok(())
 }

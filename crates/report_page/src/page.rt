@@ -16,6 +16,7 @@ use report::{Names, Report};
 use std::alloc::{AllocError, Global};
 use std::fmt::Write;
 
+#[tactic(auto, unfolding(crate::specs::Pieces::page_end))]
 fn write_end(
     alloc: Global,
     out: &mut String,

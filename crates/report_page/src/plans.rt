@@ -5,7 +5,7 @@ ghost use Rattle.report.specs.BriefText.{is_fail, is_pass, is_unresolved};
 ghost use Rattle.report_page.specs.Page.{most_told, not_passed, plan_row, told_text};
 ghost use Rattle.report_page.specs.Pieces.{told_begin, told_row, left_out_plans};
 
-use crate::failures::write_section_end;
+use crate::causes::write_left_out;
 use crate::texts::{escaped_scenario, escaped_verdict};
 use campaign_plans::{CampaignPlan, CampaignPlans};
 use report::{Names, Report, failures, unresolved};
@@ -16,16 +16,19 @@ use target_trait::Verdict;
 /// So many plans that don't pass are told.
 const MOST_TOLD: usize = 1000;
 
+#[tactic(auto, unfolding(crate::specs::Pieces::told_begin))]
 fn write_begin(out: &mut String) -> Result<(), AllocError>
     ensures { OnOk result (string_bytes out.new ≡ string_bytes out.old ++ told_begin) }
 {
     out.push_str(
-        "<section id=\"plans\">\n<h2>Plans that don't pass</h2>\n<div class=\"wide\">\n<table>\n<thead><tr><th scope=\"col\">plan</th><th scope=\"col\">verdict</th>",
+        "<section id=\"plans\">\n<h2>Plans that don't pass</h2>\n<div class=\"wide\">\n<table>\n",
     )?;
+    out.push_str("<thead><tr><th scope=\"col\">plan</th><th scope=\"col\">verdict</th>")?;
     out.push_str("<th scope=\"col\">scenario</th></tr></thead>\n<tbody>\n")?;
     Ok(())
 }
 
+#[tactic(auto, unfolding(crate::specs::Pieces::told_row))]
 fn write_row<N: Names>(
     alloc: Global,
     out: &mut String,
@@ -75,14 +78,12 @@ fn write_rows<N: Names>(
 }
 
 /// How many more there are.
+#[tactic(auto, unfolding(crate::specs::Pieces::left_out_plans))]
 fn write_more(out: &mut String, count: usize) -> Result<(), AllocError>
     ensures { OnOk result (string_bytes out.new ≡ string_bytes out.old ++ left_out_plans count) }
 {
     out.push_str("</tbody>\n</table>\n</div>\n")?;
-    if count > 0 {
-        write!(out, "<p class=\"note\">{count} more are left out</p>\n")?;
-    }
-    write_section_end(out)
+    write_left_out(out, count)
 }
 
 /// The plans that don't pass, up to a number of them.

@@ -1,5 +1,5 @@
 //! Runs, hit by hit.
-ghost use Rattle.std.specs.Prelude.{◌≡◌, ◌++◌, string_bytes, flat_map, option_map, OnOk};
+ghost use Rattle.std.specs.Prelude.{◌≡◌, ◌++◌, codes, if◌then◌else◌, string_bytes, flat_map, option_map, OnOk};
 ghost use Rattle.report_page.specs.Page.{hit_text, run_text};
 ghost use Rattle.report_page.specs.Pieces.{left_out_hits, marked, run_begin, run_end};
 
@@ -8,6 +8,7 @@ use std::alloc::AllocError;
 use std::fmt::Write;
 use xml_text::write_escaped;
 
+#[tactic(auto, unfolding(crate::specs::Pieces::marked))]
 fn write_marked(out: &mut String, text: &str) -> Result<(), AllocError>
     ensures { OnOk result (string_bytes out.new ≡ string_bytes out.old ++ marked text.now) }
 {
@@ -37,14 +38,27 @@ fn write_hits(out: &mut String, hits: &[HitLine]) -> Result<(), AllocError>
     Ok(())
 }
 
-fn write_begin(out: &mut String, head: &str) -> Result<(), AllocError>
-    ensures { OnOk result (string_bytes out.new ≡ string_bytes out.old ++ run_begin head.now) }
+fn details(is_open: bool) -> &'static str
+    ensures { result.now ≡ (if is_open then codes "<details open=\"open\">" else codes "<details>") }
 {
-    out.push_str("<details>\n<summary>The run, hit by hit</summary>\n<pre>")?;
+    if is_open {
+        "<details open=\"open\">"
+    } else {
+        "<details>"
+    }
+}
+
+#[tactic(auto, unfolding(crate::specs::Pieces::run_begin))]
+fn write_begin(out: &mut String, is_open: bool, head: &str) -> Result<(), AllocError>
+    ensures { OnOk result (string_bytes out.new ≡ string_bytes out.old ++ run_begin is_open head.now) }
+{
+    out.push_str(details(is_open))?;
+    out.push_str("\n<summary>The run, hit by hit</summary>\n<pre>")?;
     write_escaped(out, head)?;
     Ok(())
 }
 
+#[tactic(auto, unfolding(crate::specs::Pieces::left_out_hits))]
 fn write_left_out(out: &mut String, count: usize) -> Result<(), AllocError>
     ensures { OnOk result (string_bytes out.new ≡ string_bytes out.old ++ left_out_hits count) }
 {
@@ -54,6 +68,7 @@ fn write_left_out(out: &mut String, count: usize) -> Result<(), AllocError>
     write!(out, "{count} more hits are left out\n")
 }
 
+#[tactic(auto, unfolding(crate::specs::Pieces::run_end))]
 fn write_end(out: &mut String, left_out: usize, tail: &str) -> Result<(), AllocError>
     ensures { OnOk result (string_bytes out.new ≡ string_bytes out.old ++ run_end left_out tail.now) }
 {
@@ -63,21 +78,22 @@ fn write_end(out: &mut String, left_out: usize, tail: &str) -> Result<(), AllocE
     Ok(())
 }
 
-fn write_told(out: &mut String, run: &ToldRun) -> Result<(), AllocError>
+#[tactic(auto, unfolding(crate::specs::Pieces::run_begin))]
+fn write_told(out: &mut String, is_open: bool, run: &ToldRun) -> Result<(), AllocError>
     ensures { OnOk result (string_bytes out.new ≡ string_bytes out.old
-        ++ run_begin run.now.head ++ flat_map hit_text run.now.hits ++ run_end run.now.left_out run.now.tail) }
+        ++ run_begin is_open run.now.head ++ flat_map hit_text run.now.hits ++ run_end run.now.left_out run.now.tail) }
 {
-    write_begin(out, run.head.as_str())?;
+    write_begin(out, is_open, run.head.as_str())?;
     write_hits(out, &run.hits)?;
     write_end(out, run.left_out, run.tail.as_str())
 }
 
-/// Nothing where the run isn't told.
-pub fn write_run(out: &mut String, run: Option<&ToldRun>) -> Result<(), AllocError>
-    ensures { OnOk result (string_bytes out.new ≡ string_bytes out.old ++ run_text (option_map (λ r. r.now) run.entry)) }
+/// Nothing where the run isn't told. Whether it is seen at once, or has to be opened.
+pub fn write_run(out: &mut String, is_open: bool, run: Option<&ToldRun>) -> Result<(), AllocError>
+    ensures { OnOk result (string_bytes out.new ≡ string_bytes out.old ++ run_text is_open (option_map (λ r. r.now) run.entry)) }
 {
     match run {
         None => Ok(()),
-        Some(run) => write_told(out, run),
+        Some(run) => write_told(out, is_open, run),
     }
 }

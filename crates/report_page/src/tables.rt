@@ -2,7 +2,8 @@
 ghost use Rattle.std.specs.Prelude.{◌≡◌, ◌++◌, length, string_bytes, count_by, flat_map, IfSome, OnOk};
 ghost use Rattle.report.specs.BriefText.{is_pass, is_fail_with, is_unresolved};
 ghost use Rattle.report_page.specs.Page.{code_row_of, verdicts_text, level_rows, levels_text, census_rows, reached_rows, points_text};
-ghost use Rattle.report_page.specs.Pieces.{verdicts_begin, code_row, table_end, levels_begin, level_row, growth_rows, census_begin, census_row, reached_begin, reached_row};
+ghost use Rattle.report_page.specs.Pieces.{verdicts_begin, code_row, table_end, levels_begin, level_row, growth_rows};
+ghost use Rattle.report_page.specs.Pieces.{census_begin, census_row, reached_begin, reached_row};
 
 use crate::texts::{counted, escaped, where_none};
 use report::{Finding, Growth, Names, Report, passing, unresolved};
@@ -10,6 +11,7 @@ use std::alloc::{AllocError, Global};
 use std::fmt::Write;
 use target_trait::Verdict;
 
+#[tactic(auto, unfolding(crate::specs::Pieces::table_end))]
 fn write_table_end(out: &mut String) -> Result<(), AllocError>
     ensures { OnOk result (string_bytes out.new ≡ string_bytes out.old ++ table_end) }
 {
@@ -17,6 +19,7 @@ fn write_table_end(out: &mut String) -> Result<(), AllocError>
     Ok(())
 }
 
+#[tactic(auto, unfolding(crate::specs::Pieces::verdicts_begin))]
 fn write_verdicts_begin(
     out: &mut String,
     passing: usize,
@@ -38,6 +41,7 @@ fn write_verdicts_begin(
     Ok(())
 }
 
+#[tactic(auto, unfolding(crate::specs::Pieces::code_row))]
 fn write_code_row(
     alloc: Global,
     out: &mut String,
@@ -121,15 +125,18 @@ pub fn write_verdicts<N: Names>(
     write_table_end(out)
 }
 
+#[tactic(auto, unfolding(crate::specs::Pieces::levels_begin))]
 fn write_levels_begin(out: &mut String) -> Result<(), AllocError>
     ensures { OnOk result (string_bytes out.new ≡ string_bytes out.old ++ levels_begin) }
 {
+    out.push_str("<section id=\"levels\">\n<h2>Levels</h2>\n<div class=\"wide\">\n<table>\n")?;
     out.push_str(
-        "<section id=\"levels\">\n<h2>Levels</h2>\n<div class=\"wide\">\n<table>\n<thead><tr><th scope=\"col\">plans</th><th scope=\"col\">how many</th></tr></thead>\n<tbody>\n",
+        "<thead><tr><th scope=\"col\">plans</th><th scope=\"col\">how many</th></tr></thead>\n<tbody>\n",
     )?;
     Ok(())
 }
 
+#[tactic(auto, unfolding(crate::specs::Pieces::level_row))]
 fn write_level(out: &mut String, level: usize, plans: u32) -> Result<(), AllocError>
     ensures { OnOk result (string_bytes out.new ≡ string_bytes out.old ++ level_row level plans) }
 {
@@ -149,6 +156,7 @@ fn write_each_level(out: &mut String, levels: &[u32]) -> Result<(), AllocError>
     Ok(())
 }
 
+#[tactic(auto, unfolding(crate::specs::Pieces::growth_rows))]
 fn write_growth_rows(out: &mut String, onward: u32, beyond: u64) -> Result<(), AllocError>
     ensures { OnOk result (string_bytes out.new ≡ string_bytes out.old ++ growth_rows onward beyond) }
 {
@@ -176,16 +184,19 @@ pub fn write_levels(out: &mut String, growth: &Option<Growth<'_>>) -> Result<(),
     write_table_end(out)
 }
 
+#[tactic(auto, unfolding(crate::specs::Pieces::census_begin))]
 fn write_census_begin(out: &mut String) -> Result<(), AllocError>
     ensures { OnOk result (string_bytes out.new ≡ string_bytes out.old ++ census_begin) }
 {
+    out.push_str("<section id=\"points\">\n<h2>Points</h2>\n<div class=\"wide\">\n<table>\n")?;
     out.push_str(
-        "<section id=\"points\">\n<h2>Points</h2>\n<div class=\"wide\">\n<table>\n<thead><tr><th scope=\"col\">point</th><th scope=\"col\">hits without faults</th>",
+        "<thead><tr><th scope=\"col\">point</th><th scope=\"col\">hits without faults</th>",
     )?;
     out.push_str("</tr></thead>\n<tbody>\n")?;
     Ok(())
 }
 
+#[tactic(auto, unfolding(crate::specs::Pieces::census_row))]
 fn write_census_row(
     alloc: Global,
     out: &mut String,
@@ -217,16 +228,19 @@ fn write_census<N: Names>(
     Ok(())
 }
 
+#[tactic(auto, unfolding(crate::specs::Pieces::reached_begin))]
 fn write_reached_begin(out: &mut String) -> Result<(), AllocError>
     ensures { OnOk result (string_bytes out.new ≡ string_bytes out.old ++ reached_begin) }
 {
+    out.push_str("<section id=\"points\">\n<h2>Points</h2>\n<div class=\"wide\">\n<table>\n")?;
     out.push_str(
-        "<section id=\"points\">\n<h2>Points</h2>\n<div class=\"wide\">\n<table>\n<thead><tr><th scope=\"col\">point</th><th scope=\"col\">hits without faults</th>",
+        "<thead><tr><th scope=\"col\">point</th><th scope=\"col\">hits without faults</th>",
     )?;
     out.push_str("<th scope=\"col\">most hits of a run</th></tr></thead>\n<tbody>\n")?;
     Ok(())
 }
 
+#[tactic(auto, unfolding(crate::specs::Pieces::reached_row))]
 fn write_reached_row(
     alloc: Global,
     out: &mut String,

@@ -92,6 +92,25 @@ fn hit_line(
     Ok(HitLine { text, is_fault })
 }
 
+/// The lines of these hits, with the counts of the points in the catalogue, which start as of no hit.
+fn counted_lines(
+    alloc: Global,
+    catalogue: &[&str],
+    counts: &mut [usize],
+    hits: &[Answered<'_>],
+) -> Result<Vec<HitLine>, AllocError>
+    requires { AreCounts counts.old [] }
+    ensures { IfOk result (λ lines. lines.items ≡ hit_facts (texts catalogue.now) [] hits.now) }
+{
+    let mut lines = Vec::new(alloc);
+    for (number, hit) in hits.iter().enumerate() {
+        let line = hit_line(alloc, catalogue, counts, &hits[..number], hit)?;
+        lines.push(line)?;
+        count_hit(counts, hits, number);
+    }
+    Ok(lines)
+}
+
 /// The lines of these hits.
 fn hit_lines(
     alloc: Global,
@@ -101,13 +120,7 @@ fn hit_lines(
     ensures { IfOk result (λ lines. lines.items ≡ hit_facts (texts catalogue.now) [] hits.now) }
 {
     let mut counts = vec![in alloc; 0usize; catalogue.len()]?;
-    let mut lines = Vec::new(alloc);
-    for (number, hit) in hits.iter().enumerate() {
-        let line = hit_line(alloc, catalogue, &counts, &hits[..number], hit)?;
-        lines.push(line)?;
-        count_hit(counts.as_mut_slice(), hits, number);
-    }
-    Ok(lines)
+    counted_lines(alloc, catalogue, counts.as_mut_slice(), hits)
 }
 
 /// The line of a verdict.

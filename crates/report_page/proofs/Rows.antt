@@ -1,0 +1,47 @@
+-- Rows that a loop writes.
+use Rattle.std.proofs.Common.{◌≡◌, ℕ, ◌+◌, ◌<◌, zero, suc, List, [], ◌∷◌, ◌++◌, Option, take, drop, get_or, length, ap, sym, refl, ◌∙◌, append_assoc}
+use Rattle.std.specs.Prelude.{flat_map, slice_get}
+use Rattle.scenario_values.specs.Scenario.{Entries}
+use Rattle.target_trait.specs.declared.judgement.Verdict.{Verdict}
+use Rattle.target_trait.specs.declared.judgement.Verdict.TheVariants as verdict
+use Rattle.report.specs.Reports.{CauseFacts, FindingFacts}
+use Rattle.report.specs.ReportText.{scenario_text, verdict_text}
+use Rattle.report.proofs.Written.{goes_on, next_of}
+use Rattle.run_explained.specs.Told.{RunFacts}
+use Rattle.report_page.specs.Pieces.{census_row, level_row, reached_row, told_row}
+use Rattle.report_page.specs.Page.{PlanFacts, cause_text, census_rows, each_cause_text, finding_text, findings_text, level_rows, not_passed, plan_row, reached_rows}
+
+pub level_next : (old new whole : List ℕ) (n plans : ℕ) (levels rest : List ℕ) → levels ≡ plans ∷ rest → new ≡ old ++ level_row n plans
+    → old ++ level_rows n levels ≡ whole → new ++ level_rows (n + 1) rest ≡ whole
+level_next old new whole n plans levels rest is added h =
+    goes_on old new (level_row n plans) (level_rows (n + 1) rest) whole (ap (λ (l : List ℕ). old ++ level_rows n l) (sym is) ∙ h) added
+
+pub census_next : (old new whole name : List ℕ) (n : ℕ) (names rest : List (List ℕ)) (counts left : List ℕ) → names ≡ name ∷ rest → counts ≡ n ∷ left
+    → new ≡ old ++ census_row name n → old ++ census_rows names counts ≡ whole → new ++ census_rows rest left ≡ whole
+census_next old new whole name n names rest counts left a b added h =
+    goes_on old new (census_row name n) (census_rows rest left) whole
+    (ap (λ (l : List ℕ). old ++ census_rows (name ∷ rest) l) (sym b) ∙ ap (λ (l : List (List ℕ)). old ++ census_rows l counts) (sym a) ∙ h) added
+
+pub reached_next : (old new whole name : List ℕ) (n most : ℕ) (names rest : List (List ℕ)) (counts left reached more : List ℕ)
+    → names ≡ name ∷ rest → counts ≡ n ∷ left → reached ≡ most ∷ more → new ≡ old ++ reached_row name n most
+    → old ++ reached_rows names counts reached ≡ whole → new ++ reached_rows rest left more ≡ whole
+reached_next old new whole name n most names rest counts left reached more a b c added h =
+    goes_on old new (reached_row name n most) (reached_rows rest left more) whole
+    (ap (λ (l : List ℕ). old ++ reached_rows (name ∷ rest) (n ∷ left) l) (sym c) ∙ ap (λ (l : List ℕ). old ++ reached_rows (name ∷ rest) l reached) (sym b)
+    ∙ ap (λ (l : List (List ℕ)). old ++ reached_rows l counts reached) (sym a) ∙ h) added
+
+pub finding_next : (code_name : ℕ → List ℕ) (runs : List RunFacts) (old new whole : List ℕ) (n : ℕ) (found rest : List FindingFacts) (f : FindingFacts) (run : Option RunFacts)
+    → found ≡ f ∷ rest → run ≡ slice_get runs n → new ≡ old ++ finding_text code_name f run
+    → old ++ findings_text code_name runs n found ≡ whole → new ++ findings_text code_name runs (n + 1) rest ≡ whole
+finding_next code_name runs old new whole n found rest f run is got added h =
+    goes_on old new (finding_text code_name f (slice_get runs n)) (findings_text code_name runs (n + 1) rest) whole
+    (ap (λ (l : List FindingFacts). old ++ findings_text code_name runs n l) (sym is) ∙ h)
+    (added ∙ ap (λ (r : Option RunFacts). old ++ finding_text code_name f r) got)
+
+pub cause_next : (code_name : ℕ → List ℕ) (runs : List RunFacts) (old new whole : List ℕ) (n : ℕ) (causes rest : List CauseFacts) (cause : CauseFacts) (run : Option RunFacts)
+    → causes ≡ cause ∷ rest → run ≡ slice_get runs n → new ≡ old ++ cause_text code_name cause run
+    → old ++ each_cause_text code_name runs n causes ≡ whole → new ++ each_cause_text code_name runs (n + 1) rest ≡ whole
+cause_next code_name runs old new whole n causes rest cause run is got added h =
+    goes_on old new (cause_text code_name cause (slice_get runs n)) (each_cause_text code_name runs (n + 1) rest) whole
+    (ap (λ (l : List CauseFacts). old ++ each_cause_text code_name runs n l) (sym is) ∙ h)
+    (added ∙ ap (λ (r : Option RunFacts). old ++ cause_text code_name cause r) got)
