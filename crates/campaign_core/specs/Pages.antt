@@ -41,11 +41,16 @@ abbrev pub depth_text : Option ℕ → List ℕ
 depth_text None = codes "none"
 depth_text (Some depth) = decimal depth
 
-unfoldable pub settings_text : Campaign → List ℕ
-settings_text c =
-    codes "max_hits = " ++ decimal c.max_hits ++ codes "\ndepth = " ++ depth_text c.depth ++ codes "\npairs = " ++ bool_text c.plans.pairs
-    ++ codes "\nstorms = " ++ decimal c.plans.storms ++ codes "\nrate = " ++ decimal c.plans.rate
-    ++ codes "\nlisted scenarios: " ++ decimal (length c.plans.listed) ++ codes "\n"
+unfoldable pub limits_text : ℕ → Option ℕ → List ℕ
+limits_text max_hits depth = codes "max_hits = " ++ decimal max_hits ++ codes "\ndepth = " ++ depth_text depth
+
+unfoldable pub listing_text : Bool → ℕ → ℕ → ℕ → List ℕ
+listing_text pairs storms rate listed =
+    codes "\npairs = " ++ bool_text pairs ++ codes "\nstorms = " ++ decimal storms ++ codes "\nrate = " ++ decimal rate
+    ++ codes "\nlisted scenarios: " ++ decimal listed ++ codes "\n"
+
+abbrev pub settings_text : Campaign → List ℕ
+settings_text c = limits_text c.max_hits c.depth ++ listing_text c.plans.pairs c.plans.storms c.plans.rate (length c.plans.listed)
 
 abbrev pub about : Campaign → NotesFacts → AboutFacts
 about c notes = record {

@@ -1,11 +1,11 @@
 //! The page of a whole campaign.
-ghost use Rattle.std.specs.Prelude.{◌≡◌, ◌≤◌, false, length, map, option_map, string_bytes, take, IfOk, IfErr, OnOk};
+ghost use Rattle.std.specs.Prelude.{◌≡◌, ◌≤◌, ◌++◌, false, length, map, option_map, string_bytes, IfOk, IfErr, OnOk};
 ghost use Rattle.std.specs.Io.KnownBytes.{Appends};
 ghost use Rattle.plan_gen.specs.PlanList.{most_plans};
-ghost use Rattle.report_page.specs.Page.{most_causes};
 ghost use Rattle.campaign_core.specs.Headline.{campaign_in, plans, first_failure, EachIsMinimal, EachIsTried};
 ghost use Rattle.campaign_core.specs.CommandTexts.{IsFault};
-ghost use Rattle.campaign_core.specs.Pages.{bool_text, depth_text, settings_text, run_of_finding, run_of_cause, run_under, cause_runs, campaign_page_text};
+ghost use Rattle.campaign_core.specs.Pages.{bool_text, depth_text, limits_text, listing_text, settings_text};
+ghost use Rattle.campaign_core.specs.Pages.{run_of_finding, run_of_cause, run_under, cause_runs, campaign_page_text};
 ghost use Rattle.campaign_core.specs.inside.Results.{IsRan};
 
 use crate::ending::{CampaignFault, Ending};
@@ -16,8 +16,8 @@ use crate::ran::{Ran, run_campaign};
 use crate::reporting::report_of;
 use crate::subject::{Host, Subject};
 use campaign_given::CampaignSettings;
-use report::{Cause, Finding, Growth, write_report};
-use report_page::{About, MOST_CAUSES, page_text};
+use report::{Cause, Finding, Growth, Report, write_report};
+use report_page::{About, first_causes, page_text};
 use run_explained::{ToldRun, tell};
 use scenario_values::Scenario;
 use std::alloc::{AllocError, Global};
@@ -63,20 +63,54 @@ fn depth_text(alloc: Global, depth: Option<u32>) -> Result<String, AllocError>
     }
 }
 
+#[tactic(auto, unfolding(crate::specs::Pages::limits_text))]
+fn write_limits(
+    alloc: Global,
+    out: &mut String,
+    max_hits: u32,
+    depth: Option<u32>,
+) -> Result<(), AllocError>
+    ensures { OnOk result (string_bytes out.new ≡ string_bytes out.old ++ limits_text max_hits depth) }
+{
+    let depth = depth_text(alloc, depth)?;
+    write!(out, "max_hits = {max_hits}\ndepth = {depth}")?;
+    Ok(())
+}
+
+#[tactic(auto, unfolding(crate::specs::Pages::listing_text))]
+fn write_listing(
+    out: &mut String,
+    pairs: bool,
+    storms: u32,
+    rate: u32,
+    listed: usize,
+) -> Result<(), AllocError>
+    ensures { OnOk result (string_bytes out.new ≡ string_bytes out.old ++ listing_text pairs storms rate listed) }
+{
+    let pairs = bool_text(pairs);
+    write!(
+        out,
+        "\npairs = {pairs}\nstorms = {storms}\nrate = {rate}\nlisted scenarios: {listed}\n"
+    )?;
+    Ok(())
+}
+
 /// The settings that every campaign has.
 fn settings_text<T: Target>(alloc: Global, subject: &Subject<'_, T>) -> Result<String, AllocError>
     ensures { IfOk result (λ text. string_bytes text ≡ settings_text (campaign_in T.Target subject.now)) }
 {
     let settings = subject.settings;
-    let max_hits = settings.max_hits;
-    let depth = depth_text(alloc, settings.depth)?;
-    let pairs = bool_text(settings.pairs);
-    let storms = settings.storms;
-    let rate = settings.rate;
     let listed = settings.scenarios.len();
-    format!(in alloc;
-        "max_hits = {max_hits}\ndepth = {depth}\npairs = {pairs}\nstorms = {storms}\nrate = {rate}\nlisted scenarios: {listed}\n"
-    )
+    let mut out = String::new(alloc);
+    write_limits(alloc, &mut out, settings.max_hits, settings.depth)?;
+    write_listing(
+        &mut out,
+        settings.pairs,
+        settings.storms,
+        settings.rate,
+        listed,
+    )?;
+    Ok(out)
 }
 
 /// The run of a scenario under a stream number, on a twin of the target.
@@ -95,7 +129,7 @@ fn run_of<T: Target>(
     tell(alloc, twin, subject.workload, &case, MOST_HITS)
 }
 
-fn finding_runs<T: Target>(
+fn each_finding_run<T: Target>(
     alloc: Global,
     subject: &Subject<'_, T>,
     findings: &[Finding],
@@ -127,8 +161,19 @@ fn each_cause_run<T: Target>(
     Ok(runs)
 }
 
-/// Of as many causes as a page tells.
-fn cause_runs<T: Target>(
+/// The run of what each first failure was reduced to.
+fn finding_runs<T: Target>(
+    alloc: Global,
+    subject: &Subject<'_, T>,
+    report: &Report<'_>,
+) -> Result<Vec<ToldRun>, AllocError>
+    ensures { IfOk result (λ runs. runs.items ≡ map (run_of_finding (campaign_in T.Target subject.now)) report.now.findings) }
+{
+    each_finding_run(alloc, subject, &report.findings)
+}
+
+/// The runs of the causes of a campaign that grew, of as many as a page tells.
+fn grown_runs<T: Target>(
     alloc: Global,
     subject: &Subject<'_, T>,
     growth: &Option<Growth<'_>>,
@@ -137,11 +182,18 @@ fn cause_runs<T: Target>(
 {
     match growth {
         None => Ok(Vec::new(alloc)),
-        Some(growth) => {
-            let told = growth.causes.len().min(MOST_CAUSES);
-            each_cause_run(alloc, subject, &growth.causes[..told])
-        }
+        Some(growth) => each_cause_run(alloc, subject, first_causes(&growth.causes)),
     }
+}
+
+fn cause_runs<T: Target>(
+    alloc: Global,
+    subject: &Subject<'_, T>,
+    report: &Report<'_>,
+) -> Result<Vec<ToldRun>, AllocError>
+    ensures { IfOk result (λ runs. runs.items ≡ cause_runs (campaign_in T.Target subject.now) report.now.growth) }
+{
+    grown_runs(alloc, subject, &report.growth)
 }
 
 /// The page of a campaign whose plans have run. An error means that memory was refused.
@@ -161,8 +213,8 @@ where
     let report = report_of(host, subject, ran)?;
     let plans = plans_of(subject, &ran.planned);
     let map = map_of(alloc, subject, ran)?;
-    let runs = finding_runs(alloc, subject, &report.findings)?;
-    let cause_runs = cause_runs(alloc, subject, &report.growth)?;
+    let runs = finding_runs(alloc, subject, &report)?;
+    let cause_runs = cause_runs(alloc, subject, &report)?;
     let settings = settings_text(alloc, subject)?;
     let about = About {
         map: map.as_str(),

@@ -1,6 +1,7 @@
 -- Rows that a loop writes.
-use Rattle.std.proofs.Common.{◌≡◌, ℕ, ◌+◌, ◌<◌, zero, suc, List, [], ◌∷◌, ◌++◌, Option, take, drop, get_or, length, ap, sym, refl, ◌∙◌, append_assoc}
+use Rattle.std.proofs.Common.{◌≡◌, ℕ, ◌+◌, ◌-◌, ◌<◌, ◌≤◌, zero, suc, List, [], ◌∷◌, ◌++◌, Option, take, drop, get_or, length, ap, sym, refl, ◌∙◌, append_assoc, arith}
 use Rattle.std.specs.Prelude.{flat_map, slice_get}
+use Rattle.std.proofs.lemmas.List.Concat.{flat_map-append}
 use Rattle.scenario_values.specs.Scenario.{Entries}
 use Rattle.target_trait.specs.declared.judgement.Verdict.{Verdict}
 use Rattle.target_trait.specs.declared.judgement.Verdict.TheVariants as verdict
@@ -9,7 +10,7 @@ use Rattle.report.specs.ReportText.{scenario_text, verdict_text}
 use Rattle.report.proofs.Written.{goes_on, next_of}
 use Rattle.run_explained.specs.Told.{RunFacts}
 use Rattle.report_page.specs.Pieces.{census_row, level_row, reached_row, told_row}
-use Rattle.report_page.specs.Page.{PlanFacts, cause_text, census_rows, each_cause_text, finding_text, findings_text, level_rows, not_passed, plan_row, reached_rows}
+use Rattle.report_page.specs.Page.{PlanFacts, cause_text, census_rows, each_cause_text, finding_text, findings_text, level_rows, not_passed, not_passed_of, plan_row, reached_rows}
 
 pub level_next : (old new whole : List ℕ) (n plans : ℕ) (levels rest : List ℕ) → levels ≡ plans ∷ rest → new ≡ old ++ level_row n plans
     → old ++ level_rows n levels ≡ whole → new ++ level_rows (n + 1) rest ≡ whole
@@ -45,3 +46,39 @@ cause_next code_name runs old new whole n causes rest cause run is got added h =
     goes_on old new (cause_text code_name cause (slice_get runs n)) (each_cause_text code_name runs (n + 1) rest) whole
     (ap (λ (l : List CauseFacts). old ++ each_cause_text code_name runs n l) (sym is) ∙ h)
     (added ∙ ap (λ (r : Option RunFacts). old ++ cause_text code_name cause r) got)
+
+-- the first of two lists one after the other
+take_both : {A : Type 0} (room : ℕ) (xs rest : List A) → take room (xs ++ rest) ≡ take room xs ++ take (room - length xs) rest
+take_both zero xs rest =
+    let none : zero - length xs ≡ zero = omega arith in
+    ap (λ k. take k rest) (sym none)
+take_both (suc room) [] rest =
+    let same : suc room - zero ≡ suc room = omega arith in
+    ap (λ k. take k rest) (sym same)
+take_both (suc room) (x ∷ xs) rest =
+    let one_less : room - length xs ≡ suc room - length (x ∷ xs) = omega arith in
+    ap (λ l. x ∷ l) (take_both room xs rest) ∙ ap (λ k. x ∷ (take room xs ++ take k rest)) one_less
+
+-- the row of a plan is written, or none
+pub told_next : (code_name : ℕ → List ℕ) (old new whole : List ℕ) (room left n : ℕ) (v : Verdict) (plan : Entries) (vs rest : List Verdict) (plans ps : List Entries)
+    → vs ≡ v ∷ rest → plans ≡ plan ∷ ps → new ≡ old ++ flat_map (plan_row code_name) (take room (not_passed_of n v plan))
+    → left ≡ room - length (not_passed_of n v plan)
+    → old ++ flat_map (plan_row code_name) (take room (not_passed n vs plans)) ≡ whole
+    → new ++ flat_map (plan_row code_name) (take left (not_passed (n + 1) rest ps)) ≡ whole
+told_next code_name old new whole room left n v plan vs rest plans ps vs_are ps_are added left_is h =
+    let row : PlanFacts → List ℕ = plan_row code_name in
+    let own : List PlanFacts = not_passed_of n v plan in
+    let more : List PlanFacts = not_passed (n + 1) rest ps in
+    goes_on old new (flat_map row (take room own)) (flat_map row (take left more)) whole
+    (ap (λ (k : ℕ). old ++ (flat_map row (take room own) ++ flat_map row (take k more))) left_is
+    ∙ ap (λ (t : List ℕ). old ++ t) (sym (ap (λ (l : List PlanFacts). flat_map row l) (take_both room own more)
+    ∙ flat_map-append row (take room own) (take (room - length own) more)))
+    ∙ ap (λ (l : List Entries). old ++ flat_map row (take room (not_passed n (v ∷ rest) l))) (sym ps_are)
+    ∙ ap (λ (l : List Verdict). old ++ flat_map row (take room (not_passed n l plans))) (sym vs_are) ∙ h) added
+
+-- all of a list that isn't longer
+pub take_whole : {A : Type 0} (n : ℕ) (xs : List A) → length xs ≤ n → xs ≡ take n xs
+take_whole zero [] h = refl
+take_whole zero (x ∷ xs) h = absurd (omega (arith, h))
+take_whole (suc n) [] h = refl
+take_whole (suc n) (x ∷ xs) h = ap (λ l. x ∷ l) (take_whole n xs (omega (arith, h)))

@@ -5,15 +5,16 @@ ghost use Rattle.report_page.specs.Page.{most_causes, cause_text, each_cause_tex
 ghost use Rattle.report_page.specs.Pieces.{no_depth, causes_begin, cause_head, left_out, more};
 
 use crate::failures::{write_article_end, write_section_end};
-use crate::runs::write_run;
+use crate::runs::{run_at, write_run};
 use crate::texts::{escaped, escaped_scenario};
 use report::{Cause, Growth, Names};
 use run_explained::ToldRun;
+use scenario_values::Scenario;
 use std::alloc::{AllocError, Global};
 use std::fmt::Write;
 
 /// So many causes are told.
-pub const MOST_CAUSES: usize = 100;
+const MOST_CAUSES: usize = 100;
 
 #[tactic(auto, unfolding(crate::specs::Pieces::causes_begin))]
 fn write_begin(out: &mut String, count: usize) -> Result<(), AllocError>
@@ -40,13 +41,13 @@ fn write_cause_head(
     alloc: Global,
     out: &mut String,
     code: &str,
-    cause: &Cause,
+    number: u32,
+    scenario: &Scenario,
 ) -> Result<(), AllocError>
-    ensures { OnOk result (string_bytes out.new ≡ string_bytes out.old ++ cause_head code.now cause.now.number (scenario_text cause.now.scenario)) }
+    ensures { OnOk result (string_bytes out.new ≡ string_bytes out.old ++ cause_head code.now number (scenario_text scenario.now)) }
 {
-    let number = cause.number;
     let code = escaped(alloc, code)?;
-    let scenario = escaped_scenario(alloc, &cause.scenario)?;
+    let scenario = escaped_scenario(alloc, scenario)?;
     write!(
         out,
         "<article id=\"cause-{number}\">\n<h3>{code}: plan {number}"
@@ -66,9 +67,11 @@ fn write_cause<N: Names>(
     ensures { OnOk result (string_bytes out.new ≡ string_bytes out.old
         ++ cause_text (N.code_text names.now) cause.now (option_map (λ r. r.now) run.entry)) }
 {
-    write_cause_head(alloc, out, names.code(cause.code), cause)?;
+    let code = names.code(cause.code);
+    write_cause_head(alloc, out, code, cause.number, &cause.scenario)?;
     write_run(out, false, run)?;
-    write_article_end(out)
+    write_article_end(out)?;
+    Ok(())
 }
 
 fn write_each<N: Names>(
@@ -81,7 +84,7 @@ fn write_each<N: Names>(
     ensures { OnOk result (string_bytes out.new ≡ string_bytes out.old ++ each_cause_text (N.code_text names.now) runs.now 0 causes.now) }
 {
     for (place, cause) in causes.iter().enumerate() {
-        write_cause(alloc, out, names, cause, runs.get(place))?;
+        write_cause(alloc, out, names, cause, run_at(runs, place))?;
     }
     Ok(())
 }
@@ -102,7 +105,18 @@ pub fn write_left_out(out: &mut String, count: usize) -> Result<(), AllocError>
     ensures { OnOk result (string_bytes out.new ≡ string_bytes out.old ++ left_out count) }
 {
     write_more(out, count)?;
-    write_section_end(out)
+    write_section_end(out)?;
+    Ok(())
+}
+
+/// As many causes as are told.
+pub fn first_causes(causes: &[Cause]) -> &[Cause]
+    ensures { result.now ≡ take most_causes causes.now }
+{
+    if causes.len() <= MOST_CAUSES {
+        return causes;
+    }
+    &causes[..MOST_CAUSES]
 }
 
 fn write_all<N: Names>(
@@ -118,10 +132,10 @@ fn write_all<N: Names>(
         ++ left_out (length causes.now - most_causes)) }
 {
     let count = causes.len();
-    let told = count.min(MOST_CAUSES);
     write_begin(out, count)?;
-    write_each(alloc, out, names, runs, &causes[..told])?;
-    write_left_out(out, count - told)
+    write_each(alloc, out, names, runs, first_causes(causes))?;
+    write_left_out(out, count.saturating_sub(MOST_CAUSES))?;
+    Ok(())
 }
 
 /// The causes, with their runs where they are told, of a campaign with a depth.

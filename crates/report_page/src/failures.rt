@@ -4,10 +4,11 @@ ghost use Rattle.report.specs.ReportText.{scenario_text};
 ghost use Rattle.report_page.specs.Page.{finding_text, findings_text, failures_text};
 ghost use Rattle.report_page.specs.Pieces.{finding_head, finding_facts, failures_begin, no_failure, article_end, section_end};
 
-use crate::runs::write_run;
+use crate::runs::{run_at, write_run};
 use crate::texts::{escaped, escaped_scenario};
 use report::{Finding, Names};
 use run_explained::ToldRun;
+use scenario_values::Scenario;
 use std::alloc::{AllocError, Global};
 use std::fmt::Write;
 
@@ -24,17 +25,23 @@ fn write_finding_head(
     write!(
         out,
         "<article id=\"first-{number}\">\n<h3>{code}: plan {number}</h3>\n"
-    )
+    )?;
+    Ok(())
 }
 
 #[tactic(auto, unfolding(crate::specs::Pieces::finding_facts))]
-fn write_finding_facts(alloc: Global, out: &mut String, finding: &Finding) -> Result<(), AllocError>
+fn write_finding_facts(
+    alloc: Global,
+    out: &mut String,
+    scenario: &Scenario,
+    reduced: &Scenario,
+    tests: u64,
+) -> Result<(), AllocError>
     ensures { OnOk result (string_bytes out.new ≡ string_bytes out.old
-        ++ finding_facts (scenario_text finding.now.scenario) (scenario_text finding.now.reduced) finding.now.tests) }
+        ++ finding_facts (scenario_text scenario.now) (scenario_text reduced.now) tests) }
 {
-    let scenario = escaped_scenario(alloc, &finding.scenario)?;
-    let reduced = escaped_scenario(alloc, &finding.reduced)?;
-    let tests = finding.tests;
+    let scenario = escaped_scenario(alloc, scenario)?;
+    let reduced = escaped_scenario(alloc, reduced)?;
     write!(
         out,
         "<dl>\n<dt>scenario</dt>\n<dd><code>{scenario}</code></dd>\n<dt>reduced to</dt>\n<dd><code>{reduced}"
@@ -66,9 +73,16 @@ fn write_finding<N: Names>(
         ++ finding_text (N.code_text names.now) finding.now (option_map (λ r. r.now) run.entry)) }
 {
     write_finding_head(alloc, out, names.code(finding.code), finding.number)?;
-    write_finding_facts(alloc, out, finding)?;
+    write_finding_facts(
+        alloc,
+        out,
+        &finding.scenario,
+        &finding.reduced,
+        finding.tests,
+    )?;
     write_run(out, true, run)?;
-    write_article_end(out)
+    write_article_end(out)?;
+    Ok(())
 }
 
 fn write_findings<N: Names>(
@@ -81,7 +95,7 @@ fn write_findings<N: Names>(
     ensures { OnOk result (string_bytes out.new ≡ string_bytes out.old ++ findings_text (N.code_text names.now) runs.now 0 findings.now) }
 {
     for (place, finding) in findings.iter().enumerate() {
-        write_finding(alloc, out, names, finding, runs.get(place))?;
+        write_finding(alloc, out, names, finding, run_at(runs, place))?;
     }
     Ok(())
 }

@@ -2,7 +2,7 @@
 ghost use Rattle.std.specs.Prelude.{◌≡◌, ◌++◌, length, string_bytes, count_by, OnOk};
 ghost use Rattle.report.specs.BriefText.{is_fail, is_unresolved};
 ghost use Rattle.report_page.specs.Page.{beyond_text, tried_text, outcome_text, head_text};
-ghost use Rattle.report_page.specs.Pieces.{style, page_head, tried_by_census, tried_to_depth, not_whole, all_pass, none_fails, some_fail, contents, map_part};
+ghost use Rattle.report_page.specs.Pieces.{style, page_head, tried_by_census, tried_to_depth, whole, not_whole, all_pass, none_fails, some_fail, contents, map_part};
 
 use crate::texts::{counted, escaped};
 use report::{Growth, Report, failures, unresolved};
@@ -64,7 +64,8 @@ fn write_page_head(alloc: Global, out: &mut String, label: &str) -> Result<(), A
         "<meta name=\"viewport\" content=\"width=device-width, initial-scale=1\"/>\n<title>{label} - Paklour</title>\n"
     )?;
     write_style(out)?;
-    write!(out, "</head>\n<body>\n<header>\n<h1>{label}</h1>\n")
+    write!(out, "</head>\n<body>\n<header>\n<h1>{label}</h1>\n")?;
+    Ok(())
 }
 
 #[tactic(auto, unfolding(crate::specs::Pieces::tried_by_census))]
@@ -85,7 +86,16 @@ fn write_tried_to_depth(out: &mut String, depth: u32, plans: usize) -> Result<()
     write!(
         out,
         "<p>every behaviour with at most {depth}{faults}{plans} runs; "
-    )
+    )?;
+    Ok(())
+}
+
+#[tactic(auto, unfolding(crate::specs::Pieces::whole))]
+fn write_whole(out: &mut String) -> Result<(), AllocError>
+    ensures { OnOk result (string_bytes out.new ≡ string_bytes out.old ++ whole) }
+{
+    out.push_str("whole: there are none with more</p>\n")?;
+    Ok(())
 }
 
 #[tactic(auto, unfolding(crate::specs::Pieces::not_whole))]
@@ -102,7 +112,7 @@ fn write_beyond(out: &mut String, beyond: u64) -> Result<(), AllocError>
     ensures { OnOk result (string_bytes out.new ≡ string_bytes out.old ++ beyond_text beyond) }
 {
     if beyond == 0 {
-        return out.push_str("whole: there are none with more</p>\n");
+        return write_whole(out);
     }
     write_not_whole(out, beyond)
 }
@@ -130,7 +140,8 @@ fn write_all_pass(out: &mut String, plans: usize) -> Result<(), AllocError>
     write!(
         out,
         "<p class=\"verdict good\">no run fails: {plans} of {plans} pass</p>\n"
-    )
+    )?;
+    Ok(())
 }
 
 #[tactic(auto, unfolding(crate::specs::Pieces::none_fails))]
@@ -140,7 +151,8 @@ fn write_none_fails(out: &mut String, plans: usize, unresolved: usize) -> Result
     write!(
         out,
         "<p class=\"verdict open\">no run fails, but {unresolved} of {plans} are unresolved</p>\n"
-    )
+    )?;
+    Ok(())
 }
 
 #[tactic(auto, unfolding(crate::specs::Pieces::some_fail))]
@@ -157,7 +169,8 @@ fn write_some_fail(
     write!(
         out,
         "<p class=\"verdict bad\">{failing} of {plans} runs fail, with {kinds}{codes}; {unresolved} are unresolved</p>\n"
-    )
+    )?;
+    Ok(())
 }
 
 fn write_outcome(

@@ -14,6 +14,6 @@ mod runs;
 mod tables;
 mod texts;
 
-pub use causes::MOST_CAUSES;
+pub use causes::first_causes;
 pub use facts::About;
 pub use page::page_text;

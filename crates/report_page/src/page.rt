@@ -17,17 +17,19 @@ use std::alloc::{AllocError, Global};
 use std::fmt::Write;
 
 #[tactic(auto, unfolding(crate::specs::Pieces::page_end))]
-fn write_end(
+fn write_last(
     alloc: Global,
     out: &mut String,
-    about: &About<'_>,
+    command: &str,
+    version: &str,
     seed: u64,
+    settings: &str,
 ) -> Result<(), AllocError>
-    ensures { OnOk result (string_bytes out.new ≡ string_bytes out.old ++ page_end about.now.command about.now.version seed about.now.settings) }
+    ensures { OnOk result (string_bytes out.new ≡ string_bytes out.old ++ page_end command.now version.now seed settings.now) }
 {
-    let command = escaped(alloc, about.command)?;
-    let version = escaped(alloc, about.version)?;
-    let settings = escaped(alloc, about.settings)?;
+    let command = escaped(alloc, command)?;
+    let version = escaped(alloc, version)?;
+    let settings = escaped(alloc, settings)?;
     write!(
         out,
         "<section id=\"again\">\n<h2>Settings</h2>\n<dl>\n<dt>this page again</dt>\n<dd><code>{command}"
@@ -41,6 +43,25 @@ fn write_end(
         "</dd>\n</dl>\n<pre>{settings}</pre>\n</section>\n</main>\n</body>\n</html>\n"
     )?;
     Ok(())
+}
+
+/// What the page was made of.
+fn write_end(
+    alloc: Global,
+    out: &mut String,
+    about: &About<'_>,
+    seed: u64,
+) -> Result<(), AllocError>
+    ensures { OnOk result (string_bytes out.new ≡ string_bytes out.old ++ page_end about.now.command about.now.version seed about.now.settings) }
+{
+    write_last(
+        alloc,
+        out,
+        about.command,
+        about.version,
+        seed,
+        about.settings,
+    )
 }
 
 /// What was tried, with the map, and how many plans have which verdict.

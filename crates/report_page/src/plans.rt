@@ -1,8 +1,8 @@
 //! The plans that don't pass.
-ghost use Rattle.std.specs.Prelude.{◌≡◌, ◌+◌, ◌-◌, ◌++◌, length, take, string_bytes, count_by, flat_map, OnOk};
+ghost use Rattle.std.specs.Prelude.{◌≡◌, ◌+◌, ◌-◌, ◌++◌, length, take, string_bytes, count_by, flat_map, IfOk, OnOk};
 ghost use Rattle.report.specs.ReportText.{scenario_text, verdict_text};
-ghost use Rattle.report.specs.BriefText.{is_fail, is_pass, is_unresolved};
-ghost use Rattle.report_page.specs.Page.{most_told, not_passed, plan_row, told_text};
+ghost use Rattle.report.specs.BriefText.{is_fail, is_unresolved};
+ghost use Rattle.report_page.specs.Page.{most_told, not_passed, not_passed_of, plan_row, told_text};
 ghost use Rattle.report_page.specs.Pieces.{told_begin, told_row, left_out_plans};
 
 use crate::causes::write_left_out;
@@ -50,10 +50,30 @@ fn write_row<N: Names>(
     Ok(())
 }
 
-fn is_pass(verdict: Verdict) -> bool
-    ensures { result ≡ is_pass verdict }
+/// The row of a plan that doesn't pass, where there is room for one; it answers for how many more there is.
+fn write_next<N: Names>(
+    alloc: Global,
+    out: &mut String,
+    names: &N,
+    room: usize,
+    told: (usize, Verdict),
+    plan: &CampaignPlan<'_>,
+) -> Result<usize, AllocError>
+    ensures text { OnOk result (string_bytes out.new ≡ string_bytes out.old
+        ++ flat_map (plan_row (N.code_text names.now)) (take room (not_passed_of told.0 told.1 plan.now))) }
+    ensures room { IfOk result (λ left. left ≡ room - length (not_passed_of told.0 told.1 plan.now)) }
 {
-    matches!(verdict, Verdict::Pass)
+    let (number, verdict) = told;
+    if room == 0 {
+        return Ok(0);
+    }
+    match verdict {
+        Verdict::Pass => Ok(room),
+        Verdict::Fail(_) | Verdict::Unresolved => {
+            write_row(alloc, out, names, number, verdict, plan)?;
+            Ok(room - 1)
+        }
+    }
 }
 
 fn write_rows<N: Names>(
@@ -69,10 +89,8 @@ fn write_rows<N: Names>(
 {
     let mut room = MOST_TOLD;
     for (number, verdict) in verdicts.iter().enumerate() {
-        if room > 0 && !is_pass(*verdict) {
-            write_row(alloc, out, names, number, *verdict, &plans.plan(number))?;
-            room -= 1;
-        }
+        let plan = plans.plan(number);
+        room = write_next(alloc, out, names, room, (number, *verdict), &plan)?;
     }
     Ok(())
 }
@@ -83,7 +101,8 @@ fn write_more(out: &mut String, count: usize) -> Result<(), AllocError>
     ensures { OnOk result (string_bytes out.new ≡ string_bytes out.old ++ left_out_plans count) }
 {
     out.push_str("</tbody>\n</table>\n</div>\n")?;
-    write_left_out(out, count)
+    write_left_out(out, count)?;
+    Ok(())
 }
 
 /// The plans that don't pass, up to a number of them.

@@ -1,5 +1,5 @@
 //! Runs, hit by hit.
-ghost use Rattle.std.specs.Prelude.{◌≡◌, ◌++◌, codes, if◌then◌else◌, string_bytes, flat_map, option_map, OnOk};
+ghost use Rattle.std.specs.Prelude.{◌≡◌, ◌++◌, codes, if◌then◌else◌, string_bytes, flat_map, option_map, slice_get, OnOk};
 ghost use Rattle.report_page.specs.Page.{hit_text, run_text};
 ghost use Rattle.report_page.specs.Pieces.{left_out_hits, marked, run_begin, run_end};
 
@@ -96,4 +96,11 @@ pub fn write_run(out: &mut String, is_open: bool, run: Option<&ToldRun>) -> Resu
         None => Ok(()),
         Some(run) => write_told(out, is_open, run),
     }
+}
+
+/// The run in this place, where there is one.
+pub fn run_at(runs: &[ToldRun], place: usize) -> Option<&ToldRun>
+    ensures { option_map (λ r. r.now) result ≡ slice_get runs.now place }
+{
+    runs.get(place)
 }

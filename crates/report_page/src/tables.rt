@@ -144,7 +144,8 @@ fn write_level(out: &mut String, level: usize, plans: u32) -> Result<(), AllocEr
     write!(
         out,
         "<tr><th scope=\"row\">with {level}{faults}</th><td class=\"count\">{plans}</td></tr>\n"
-    )
+    )?;
+    Ok(())
 }
 
 fn write_each_level(out: &mut String, levels: &[u32]) -> Result<(), AllocError>
@@ -210,7 +211,8 @@ fn write_census_row(
     write!(
         out,
         "<tr><th scope=\"row\">{point}</th><td class=\"count\">{count}{mark}</td></tr>\n"
-    )
+    )?;
+    Ok(())
 }
 
 fn write_census<N: Names>(
@@ -255,7 +257,8 @@ fn write_reached_row(
     write!(
         out,
         "<tr><th scope=\"row\">{point}</th><td class=\"count\">{count}</td><td class=\"count\">{most}{mark}</td></tr>\n"
-    )
+    )?;
+    Ok(())
 }
 
 fn write_reached<N: Names>(
