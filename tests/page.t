@@ -37,4 +37,4 @@ It ends as the report does, and without a depth it tells that it isn't whole.
 The run of a first failure is told hit by hit, and the hit of its fault is marked.
 
   $ sed -n '/id="first-11"/,/<\/article>/p' grown.html | grep -o '<mark>[^<]*</mark>'
-  <mark>hit 4 replace::sync 1 1*return&#10;</mark>
+  <mark>hit 6 replace::sync 1 return&#10;</mark>
