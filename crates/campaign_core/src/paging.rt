@@ -196,6 +196,33 @@ fn cause_runs<T: Target>(
     grown_runs(alloc, subject, &report.growth)
 }
 
+/// What a page tells beside the report, by the runs of the first failures and those of the causes.
+fn about_of<'a>(
+    map: &'a str,
+    runs: &'a [ToldRun],
+    cause_runs: &'a [ToldRun],
+    notes: &PageNotes<'a>,
+    settings: &'a str,
+) -> About<'a>
+    ensures { result ≡ record {
+      map = map.entry.now;
+      runs = runs.entry.now;
+      cause_runs = cause_runs.entry.now;
+      version = notes.now.version;
+      command = notes.now.command;
+      settings = settings.entry.now;
+    } }
+{
+    About {
+        map,
+        runs,
+        cause_runs,
+        version: notes.version,
+        command: notes.command,
+        settings,
+    }
+}
+
 /// The page of a campaign whose plans have run. An error means that memory was refused.
 fn page_of<T: Target + Send, G: Gate, R: Threads + Wait + Sync>(
     host: &Host<'_, G, R>,
@@ -216,14 +243,13 @@ where
     let runs = finding_runs(alloc, subject, &report)?;
     let cause_runs = cause_runs(alloc, subject, &report)?;
     let settings = settings_text(alloc, subject)?;
-    let about = About {
-        map: map.as_str(),
-        runs: runs.as_slice(),
-        cause_runs: cause_runs.as_slice(),
-        version: notes.version,
-        command: notes.command,
-        settings: settings.as_str(),
-    };
+    let about = about_of(
+        map.as_str(),
+        runs.as_slice(),
+        cause_runs.as_slice(),
+        notes,
+        settings.as_str(),
+    );
     page_text(alloc, subject.target, &report, &plans, &about)
 }
 
