@@ -201,15 +201,16 @@ fn about_of<'a>(
     map: &'a str,
     runs: &'a [ToldRun],
     cause_runs: &'a [ToldRun],
-    notes: &PageNotes<'a>,
+    version: &'a str,
+    command: &'a str,
     settings: &'a str,
 ) -> About<'a>
     ensures { result ≡ record {
       map = map.entry.now;
       runs = runs.entry.now;
       cause_runs = cause_runs.entry.now;
-      version = notes.now.version;
-      command = notes.now.command;
+      version = version.entry.now;
+      command = command.entry.now;
       settings = settings.entry.now;
     } }
 {
@@ -217,8 +218,8 @@ fn about_of<'a>(
         map,
         runs,
         cause_runs,
-        version: notes.version,
-        command: notes.command,
+        version,
+        command,
         settings,
     }
 }
@@ -247,7 +248,8 @@ where
         map.as_str(),
         runs.as_slice(),
         cause_runs.as_slice(),
-        notes,
+        notes.version,
+        notes.command,
         settings.as_str(),
     );
     page_text(alloc, subject.target, &report, &plans, &about)
