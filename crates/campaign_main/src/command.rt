@@ -4,7 +4,7 @@ ghost use Rattle.std.specs.Io.KnownBytes.{Appends};
 ghost use Rattle.plan_gen.specs.PlanList.{most_plans};
 ghost use Rattle.campaign_core.specs.CommandTexts.{IsFault, IsReducedToMinimal};
 ghost use Rattle.campaign_core.specs.Headline.{campaign_in, first_failure, plans, EachIsMinimal};
-ghost use Rattle.campaign_main.specs.Commands.{explain_answer, map_answer, order_answer, plans_answer, reduce_answer, report_in, run_answer, taken, taken_answer, try_answer};
+ghost use Rattle.campaign_main.specs.Commands.{explain_answer, map_answer, order_answer, page_notes, plans_answer, reduce_answer, report_in, run_answer, taken, taken_answer, try_answer};
 ghost use Rattle.campaign_main.specs.Ends.{ComesTo, IsUntaken, Noted};
 ghost use Rattle.campaign_main.specs.Notes.{notes_of};
 ghost use Rattle.campaign_main.specs.Minimal.{ReducesToMinimal};
@@ -15,16 +15,26 @@ use crate::lines::note;
 use crate::notes::{is_doubted, listed_of, notes_on, report_notes_on};
 use crate::steady::check_steady;
 use campaign_core::{
-    CampaignFault, Ending, Host, MachineForm, Subject, brief_campaign, campaign, machine_campaign,
-    map_campaign, plan_list, plan_scenario, reduce_one, try_one,
+    CampaignFault, Ending, Host, MachineForm, PageNotes, Subject, brief_campaign, campaign,
+    explain_one, machine_campaign, map_campaign, page_campaign, plan_list, plan_scenario,
+    reduce_one, try_one,
 };
-use command_words::{Form, Order, Which};
-use run_explained::explain_one;
+use command_words::{Form, Order, VERSION, Which};
 use scenario_grammar::{Scenario, parse};
 use std::sync::Wait;
 use std::thread::Threads;
 use target_trait::{Sink, Target};
 use work_gate::Gate;
+
+/// What a page tells beside the campaign.
+fn page_notes() -> PageNotes<'static>
+    ensures { result ≡ page_notes }
+{
+    PageNotes {
+        version: VERSION,
+        command: "paklour page FILE",
+    }
+}
 
 /// Runs a campaign, and writes its report in this form.
 fn report_plans<T: Target + Send, W: Sink, H: Threads + Wait + Sync, G: Gate>(
@@ -50,6 +60,7 @@ where
         Form::Brief => brief_campaign(host, subject, output),
         Form::Json => machine_campaign(host, subject, MachineForm::Json, output),
         Form::Junit => machine_campaign(host, subject, MachineForm::Junit, output),
+        Form::Page => page_campaign(host, subject, &page_notes(), output),
     }
 }
 
