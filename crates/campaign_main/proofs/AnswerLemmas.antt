@@ -75,12 +75,12 @@ module _ (c : Campaign) (answer : Answer) (text : List ℕ) (found : Conclusion)
 
 -- what comes of a scenario and of its text, where that is the answer
 module _ (answer : Answer) (text : List ℕ) (found : Conclusion) (notes : List ℕ) (is : answer ≡ Ok (text, found, notes)) (old new : Option (List ℕ)) where
-  of_scenario : (failed : Bool) → Appends old new text → failed ≡ false → IsWritten answer old new failed found
+  pub of_scenario : (failed : Bool) → Appends old new text → failed ≡ false → IsWritten answer old new failed found
   of_scenario failed written sound =
       let P : Answer → Type 0 = λ x. IsWritten x old new failed found in
       subst P (sym is) (written, refl, sound)
 
-  short_of_scenario : (failed : Bool) (f : CampaignFault) → LeavesOnly old new failed text f → FallsShort answer old new failed (faults.Campaign f)
+  pub short_of_scenario : (failed : Bool) (f : CampaignFault) → LeavesOnly old new failed text f → FallsShort answer old new failed (faults.Campaign f)
   short_of_scenario failed campaign.TooManyPlans h = absurd h
   short_of_scenario failed campaign.Memory h = h
   short_of_scenario failed (campaign.Write n) h =

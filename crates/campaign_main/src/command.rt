@@ -158,7 +158,7 @@ where
 }
 
 /// The same with what is noted beside the command's text. Nothing is written.
-fn take_noted<T: Target + Send, H: Threads + Wait + Sync, G: Gate>(
+pub fn take_noted<T: Target + Send, H: Threads + Wait + Sync, G: Gate>(
     host: &Host<'_, G, H>,
     subject: &Subject<'_, T>,
     which: &Which,
