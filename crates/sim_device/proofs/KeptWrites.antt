@@ -16,7 +16,8 @@ lays_then a b c p writes k l = record {
       l.names n ∙ ap (λ (e : Entry). record { live = leads_with writes n e.live; lasting = e.lasting }) (k.names n);
   made = l.made ∙ k.made;
   files = λ f within.
-      l.files f (subst (λ m. f < m) (sym k.made) within) ∙ ap (λ (h : Held). record { live = holds_with writes f h.live; lasting = h.lasting }) (k.files f within);
+      l.files f (subst (λ m. f < m) (sym k.made) within)
+      ∙ ap (λ (h : Held). record { live = holds_with writes f h.live; lasting = h.lasting }) (k.files f within);
 }
 
 drop_none : {A : Type 0} (i : ℕ) → drop {A = A} i [] ≡ []
@@ -27,7 +28,8 @@ none_kept : (keep : List Bool) → kept keep [] ≡ []
 none_kept [] = refl
 none_kept (b ∷ keep) = refl
 
-by_answer : (b : Bool) (keep : List Bool) (p : Pending) (writes : List Pending) → kept (b ∷ keep) (p ∷ writes) ≡ cond b (p ∷ kept keep writes) (kept keep writes)
+by_answer : (b : Bool) (keep : List Bool) (p : Pending) (writes : List Pending)
+    → kept (b ∷ keep) (p ∷ writes) ≡ cond b (p ∷ kept keep writes) (kept keep writes)
 by_answer true keep p writes = refl
 by_answer false keep p writes = refl
 
@@ -42,18 +44,21 @@ kept_next (b ∷ keep) (q ∷ writes) zero p within is = by_answer b keep q writ
 kept_next (b ∷ keep) (q ∷ writes) (suc i) p within is = kept_next keep writes i p (omega (arith, within)) is
 
 -- of a file in use
-pub of_files_at : (writes : List Pending) (used i : ℕ) (p : Pending) → AreOfFiles writes used → i < length writes → p ≡ get_or writes i p → IfSome p.file (λ f. f < used)
+pub of_files_at : (writes : List Pending) (used i : ℕ) (p : Pending) → AreOfFiles writes used → i < length writes → p ≡ get_or writes i p
+    → IfSome p.file (λ f. f < used)
 of_files_at [] used i p all within is = absurd (omega (arith, within))
 of_files_at (q ∷ writes) used zero p all within is = subst (λ (x : Pending). IfSome x.file (λ f. f < used)) (sym is) all.0
 of_files_at (q ∷ writes) used (suc i) p all within is = of_files_at writes used i p all.1 (omega (arith, within)) is
 
-laid_then : (a b c : Disk) (keeps : Bool) (p : Pending) (writes : List Pending) → Lays a b (cond keeps (p ∷ []) []) → Lays b c writes → Lays a c (cond keeps (p ∷ writes) writes)
+laid_then : (a b c : Disk) (keeps : Bool) (p : Pending) (writes : List Pending) → Lays a b (cond keeps (p ∷ []) []) → Lays b c writes
+    → Lays a c (cond keeps (p ∷ writes) writes)
 laid_then a b c true p writes k l = lays_then a b c p writes k l
 laid_then a b c false p writes k l = record {
   names = λ n. l.names n ∙ ap (λ (e : Entry). record { live = leads_with writes n e.live; lasting = e.lasting }) (k.names n);
   made = l.made ∙ k.made;
   files = λ f within.
-      l.files f (subst (λ m. f < m) (sym k.made) within) ∙ ap (λ (h : Held). record { live = holds_with writes f h.live; lasting = h.lasting }) (k.files f within);
+      l.files f (subst (λ m. f < m) (sym k.made) within)
+      ∙ ap (λ (h : Held). record { live = holds_with writes f h.live; lasting = h.lasting }) (k.files f within);
 }
 
 -- one turn of the loop over the writes

@@ -24,7 +24,8 @@ begins (Force s ∷ later) before r =
     record { live = more; lasting = more }
 begins (Restart ∷ later) before r = let k = begins later before r in record { live = k.lasting; lasting = k.lasting }
 
-pub forced_stay : {R : Type 0} → (later before : List (LogEffect R)) (r : R) (side : Side) → ((more : List R) × (records (later ++ Force r ∷ before) side ≡ (records before Live ++ r ∷ []) ++ more))
+pub forced_stay : {R : Type 0} → (later before : List (LogEffect R)) (r : R) (side : Side)
+    → ((more : List R) × (records (later ++ Force r ∷ before) side ≡ (records before Live ++ r ∷ []) ++ more))
 forced_stay later before r Live = (begins later before r).live
 forced_stay later before r Lasting = (begins later before r).lasting
 
@@ -42,7 +43,8 @@ live_is (Force r ∷ es) = sym (append-nil (records es Live ++ r ∷ []))
 live_is (Restart ∷ es) = sym (append-nil (records es Lasting))
 
 -- it is what stands behind what lasts
-pub pending_is : {R : Type 0} → (es : List (LogEffect R)) (items : List R) (n : ℕ) → n ≤ length items → items ≡ records es Live → take n items ≡ records es Lasting
+pub pending_is : {R : Type 0} → (es : List (LogEffect R)) (items : List R) (n : ℕ) → n ≤ length items → items ≡ records es Live
+    → take n items ≡ records es Lasting
     → drop n items ≡ unforced es
 pending_is es items n within live lasting =
     ap (drop n) (live ∙ live_is es ∙ ap (λ xs. xs ++ unforced es) (sym lasting)) ∙ drop_at (take n items) (unforced es) n (length-take-le n items within)
@@ -57,7 +59,8 @@ as_many xs more kept few all =
 
 pub restarted : {R : Type 0} → (es : List (LogEffect R)) (items new : List R) (n more : ℕ) (keep : List Bool) → n ≤ length items
     → LogStandsFor (record { live = items; lasting = take n items }) es
-    → (kept_front keep ≤ length items - n → more ≡ kept_front keep) → (length items - n ≤ kept_front keep → more ≡ length items - n) → new ≡ take (n + more) items
+    → (kept_front keep ≤ length items - n → more ≡ kept_front keep) → (length items - n ≤ kept_front keep → more ≡ length items - n)
+    → new ≡ take (n + more) items
     → ◌≡◌ {A = Log R} (record { live = new; lasting = take (n + more) new }) (record { live = survivors es keep; lasting = survivors es keep })
 restarted {R} es items new n more keep within k few all is =
     let rest : length (drop n items) ≡ length items - n = length-drop n items in
@@ -74,6 +77,8 @@ restarted {R} es items new n more keep within k few all is =
     ap (λ (l : List R). record { live = survivors es keep; lasting = l }) lasting in
     first ∙ second
 
-pub pending_slice : {R : Type 0} → (es : List (LogEffect R)) (items : List R) (n : ℕ) → n ≤ length items → LogStandsFor (record { live = items; lasting = take n items }) es
+pub pending_slice : {R : Type 0} → (es : List (LogEffect R)) (items : List R) (n : ℕ) → n ≤ length items
+    → LogStandsFor (record { live = items; lasting = take n items }) es
     → take (length items - n) (drop n items) ≡ unforced es
-pending_slice es items n within k = take_all (length items - n) (drop n items) (omega (arith, length-drop n items)) ∙ pending_is es items n within k.live k.lasting
+pending_slice es items n within k =
+    take_all (length items - n) (drop n items) (omega (arith, length-drop n items)) ∙ pending_is es items n within k.live k.lasting

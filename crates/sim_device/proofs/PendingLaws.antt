@@ -35,7 +35,8 @@ fewer test (p ∷ writes) used h = by_test (test p) p (filter test writes) used 
     by_test true p writes used k h = (k, h)
     by_test false p writes used k h = h
 
-written_more : (writes : List Pending) (c : Call) (bytes : List ℕ) (o : Option ℕ) (used : ℕ) → AreOfFiles writes used → InUse used o → AreOfFiles (further writes (written c bytes o)) used
+written_more : (writes : List Pending) (c : Call) (bytes : List ℕ) (o : Option ℕ) (used : ℕ) → AreOfFiles writes used → InUse used o
+    → AreOfFiles (further writes (written c bytes o)) used
 written_more writes c bytes None used h k = h
 written_more writes c [] (Some f) used h k = h
 written_more writes c (byte ∷ bytes) (Some f) used h k = one_more writes (record { call = c; file = Some f; bytes = byte ∷ bytes }) used h k
@@ -43,7 +44,8 @@ written_more writes c (byte ∷ bytes) (Some f) used h k = one_more writes (reco
 shortened_more : (writes : List Pending) (n count size : ℕ) (o : Option ℕ) (used : ℕ) → AreOfFiles writes used → InUse used o
     → AreOfFiles (further writes (shortened n count size o)) used
 shortened_more writes n count size None used h k = h
-shortened_more writes n count size (Some f) used h k = by_test (nat_lt count size) writes (record { call = call.Truncate n count; file = Some f; bytes = [] }) used h k
+shortened_more writes n count size (Some f) used h k =
+    by_test (nat_lt count size) writes (record { call = call.Truncate n count; file = Some f; bytes = [] }) used h k
   where
     by_test : (b : Bool) (writes : List Pending) (p : Pending) (used : ℕ) → AreOfFiles writes used → InUse used p.file → AreOfFiles (further writes (cond b (Some p) None)) used
     by_test true writes p used h k = one_more writes p used h k
@@ -60,8 +62,10 @@ pub pending_of_files : (es : List Effect) → AreOfFiles (pending es) (created e
 pending_of_files [] = tt
 pending_of_files (Create m ∷ es) =
     one_more (pending es) (renames (call.Create m) (Some (created es))) (created es + 1) (more_files (pending es) (created es) (created es + 1) (omega arith) (pending_of_files es)) (omega arith)
-pending_of_files (Append m bytes ∷ es) = written_more (pending es) (call.Append m (long es (leads es Live m))) bytes (leads es Live m) (created es) (pending_of_files es) (led_in_use es m)
-pending_of_files (Write m place bytes ∷ es) = written_more (pending es) (call.WriteAt m place) bytes (leads es Live m) (created es) (pending_of_files es) (led_in_use es m)
+pending_of_files (Append m bytes ∷ es) =
+    written_more (pending es) (call.Append m (long es (leads es Live m))) bytes (leads es Live m) (created es) (pending_of_files es) (led_in_use es m)
+pending_of_files (Write m place bytes ∷ es) =
+    written_more (pending es) (call.WriteAt m place) bytes (leads es Live m) (created es) (pending_of_files es) (led_in_use es m)
 pending_of_files (Truncate m count ∷ es) =
     shortened_more (pending es) m count (long es (leads es Live m)) (leads es Live m) (created es) (pending_of_files es) (led_in_use es m)
 pending_of_files (Sync m ∷ es) = fewer (λ p. not (is_to (leads es Live m) p)) (pending es) (created es) (pending_of_files es)
@@ -123,7 +127,8 @@ leads_test false writes p n x e = refl
 leads_shortened : (writes : List Pending) (m count size : ℕ) (o : Option ℕ) (n : ℕ) (x : Option ℕ)
     → leads_with (further writes (shortened m count size o)) n x ≡ leads_with writes n x
 leads_shortened writes m count size None n x = refl
-leads_shortened writes m count size (Some f) n x = leads_test (nat_lt count size) writes (record { call = call.Truncate m count; file = Some f; bytes = [] }) n x refl
+leads_shortened writes m count size (Some f) n x =
+    leads_test (nat_lt count size) writes (record { call = call.Truncate m count; file = Some f; bytes = [] }) n x refl
 
 first_of : (a b : Bool) → not (a && b) ≡ false → a ≡ true
 first_of true b e = refl
@@ -156,17 +161,21 @@ leads_contents (p ∷ writes) n x =
 pub all_names : (es : List Effect) (n : ℕ) → leads_with (pending es) n (leads es Lasting n) ≡ leads es Live n
 all_names [] n = refl
 all_names (Create m ∷ es) n =
-    leads_more (pending es) (renames (call.Create m) (Some (created es))) n (leads es Lasting n) ∙ ap (led_by (call.Create m) (Some (created es)) n) (all_names es n)
+    leads_more (pending es) (renames (call.Create m) (Some (created es))) n (leads es Lasting n)
+    ∙ ap (led_by (call.Create m) (Some (created es)) n) (all_names es n)
 all_names (Append m bytes ∷ es) n =
     leads_written (pending es) (call.Append m (long es (leads es Live m))) bytes (leads es Live m) n (leads es Lasting n) refl ∙ all_names es n
 all_names (Write m place bytes ∷ es) n = leads_written (pending es) (call.WriteAt m place) bytes (leads es Live m) n (leads es Lasting n) refl ∙ all_names es n
 all_names (Truncate m count ∷ es) n = leads_shortened (pending es) m count (long es (leads es Live m)) (leads es Live m) n (leads es Lasting n) ∙ all_names es n
 all_names (Sync m ∷ es) n = leads_unsynced (leads es Live m) (pending es) n (leads es Lasting n) ∙ all_names es n
 all_names (Rename a b ∷ es) n =
-    leads_more (pending es) (renames (call.Rename a b) (leads es Live a)) n (leads es Lasting n) ∙ ap (led_by (call.Rename a b) (leads es Live a) n) (all_names es n)
+    leads_more (pending es) (renames (call.Rename a b) (leads es Live a)) n (leads es Lasting n)
+    ∙ ap (led_by (call.Rename a b) (leads es Live a) n) (all_names es n)
 all_names (Link a b ∷ es) n =
-    leads_more (pending es) (renames (call.Link a b) (leads es Live a)) n (leads es Lasting n) ∙ ap (led_by (call.Link a b) (leads es Live a) n) (all_names es n)
-all_names (Unlink m ∷ es) n = leads_more (pending es) (renames (call.Unlink m) None) n (leads es Lasting n) ∙ ap (led_by (call.Unlink m) None n) (all_names es n)
+    leads_more (pending es) (renames (call.Link a b) (leads es Live a)) n (leads es Lasting n)
+    ∙ ap (led_by (call.Link a b) (leads es Live a) n) (all_names es n)
+all_names (Unlink m ∷ es) n =
+    leads_more (pending es) (renames (call.Unlink m) None) n (leads es Lasting n) ∙ ap (led_by (call.Unlink m) None n) (all_names es n)
 all_names (SyncDir ∷ es) n = leads_contents (pending es) n (leads es Live n)
 all_names (PowerCut ∷ es) n = refl
 
@@ -201,12 +210,14 @@ holds_named : (writes : List Pending) (c : Call) (o : Option ℕ) (f : ℕ) (x l
     → holds_with (writes ++ renames c o ∷ []) f x ≡ live
 holds_named writes c o f x live e h = holds_more writes (renames c o) f x ∙ names_alone_held (renames c o) f (holds_with writes f x) e ∙ h
 
-holds_written : (writes : List Pending) (c : Call) (bytes : List ℕ) (o : Option ℕ) (f : ℕ) (x live : List ℕ) → held_by c [] live ≡ live → holds_with writes f x ≡ live
+holds_written : (writes : List Pending) (c : Call) (bytes : List ℕ) (o : Option ℕ) (f : ℕ) (x live : List ℕ) → held_by c [] live ≡ live
+    → holds_with writes f x ≡ live
     → holds_with (further writes (written c bytes o)) f x ≡ cond (is_file f o) (held_by c bytes live) live
 holds_written writes c bytes None f x live none h = h
 holds_written writes c [] (Some g) f x live none h = h ∙ sym (ap (λ (l : List ℕ). cond (is_file f (Some g)) l live) none ∙ same_both (is_file f (Some g)) live)
 holds_written writes c (byte ∷ bytes) (Some g) f x live none h =
-    holds_more writes (record { call = c; file = Some g; bytes = byte ∷ bytes }) f x ∙ ap (held_with (record { call = c; file = Some g; bytes = byte ∷ bytes }) f) h
+    holds_more writes (record { call = c; file = Some g; bytes = byte ∷ bytes }) f x
+    ∙ ap (held_with (record { call = c; file = Some g; bytes = byte ∷ bytes }) f) h
 
 at_end : (bytes old : List ℕ) → overwritten (length old) bytes old ≡ old ++ bytes
 at_end [] old = sym (append-nil old)
@@ -216,7 +227,8 @@ at_end (byte ∷ bytes) old =
     ∙ append-nil (old ++ (byte ∷ bytes))
 
 -- what is appended is written where the file ends
-appended_here : (b : Bool) (place : ℕ) (bytes old : List ℕ) → (b ≡ true → place ≡ length old) → cond b (overwritten place bytes old) old ≡ cond b (old ++ bytes) old
+appended_here : (b : Bool) (place : ℕ) (bytes old : List ℕ) → (b ≡ true → place ≡ length old)
+    → cond b (overwritten place bytes old) old ≡ cond b (old ++ bytes) old
 appended_here true place bytes old h = ap (λ p. overwritten p bytes old) (h refl) ∙ at_end bytes old
 appended_here false place bytes old h = refl
 
@@ -229,7 +241,8 @@ cut_here : (b : Bool) (count : ℕ) (old : List ℕ) → (b ≡ true → length 
 cut_here true count old h = sym (take_all count old (h refl))
 cut_here false count old h = refl
 
-holds_cut : (b : Bool) (writes : List Pending) (m count g f : ℕ) (x live : List ℕ) → holds_with writes f x ≡ live → (b ≡ false → is_file f (Some g) ≡ true → length live ≤ count)
+holds_cut : (b : Bool) (writes : List Pending) (m count g f : ℕ) (x live : List ℕ) → holds_with writes f x ≡ live
+    → (b ≡ false → is_file f (Some g) ≡ true → length live ≤ count)
     → holds_with (further writes (cond b (Some (record { call = call.Truncate m count; file = Some g; bytes = [] })) None)) f x ≡ cond (is_file f (Some g)) (take count live) live
 holds_cut true writes m count g f x live h k =
     holds_more writes (record { call = call.Truncate m count; file = Some g; bytes = [] }) f x
@@ -244,7 +257,8 @@ holds_shortened es writes m count (Some g) f x h =
     (λ less is. subst (λ k. k ≤ count) (long_here es (Some g) f is) (ltb-false count (length (contents es Live g)) less))
 
 -- after a sync of the file, no write to it is left
-holds_left : (b : Bool) (p : Pending) (rest : List Pending) (f : ℕ) (y : List ℕ) → (b ≡ true → held_with p f y ≡ y) → holds_with rest f y ≡ y → holds_with (cond b (p ∷ rest) rest) f y ≡ y
+holds_left : (b : Bool) (p : Pending) (rest : List Pending) (f : ℕ) (y : List ℕ) → (b ≡ true → held_with p f y ≡ y) → holds_with rest f y ≡ y
+    → holds_with (cond b (p ∷ rest) rest) f y ≡ y
 holds_left true p rest f y h k = ap (holds_with rest f) (h refl) ∙ k
 holds_left false p rest f y h k = k
 
@@ -280,7 +294,8 @@ to_other : (o : Option ℕ) (p : Pending) (f : ℕ) (x : List ℕ) → is_file f
 to_other None p f x other e = absurd cc
 to_other (Some g) p f x other e = other_held p f x (other_file f g p.file (second_of (is_of_contents p.call) (is_file g p.file) e) other)
 
-holds_unsynced : (o : Option ℕ) (f : ℕ) → is_file f o ≡ false → (writes : List Pending) (x : List ℕ) → holds_with (filter (λ p. not (is_to o p)) writes) f x ≡ holds_with writes f x
+holds_unsynced : (o : Option ℕ) (f : ℕ) → is_file f o ≡ false → (writes : List Pending) (x : List ℕ)
+    → holds_with (filter (λ p. not (is_to o p)) writes) f x ≡ holds_with writes f x
 holds_unsynced o f other [] x = refl
 holds_unsynced o f other (p ∷ writes) x =
     holds_kept (not (is_to o p)) p (filter (λ p. not (is_to o p)) writes) writes f x (to_other o p f x other) (holds_unsynced o f other writes)
@@ -329,8 +344,10 @@ all_contents (Write m place bytes ∷ es) f made =
 all_contents (Truncate m count ∷ es) f made = holds_shortened es (pending es) m count (leads es Live m) f (contents es Lasting f) (all_contents es f made)
 all_contents (Sync m ∷ es) f made =
     holds_sync (leads es Live m) f (is_file f (leads es Live m)) refl (pending es) (contents es Live f) (contents es Lasting f) (all_contents es f made)
-all_contents (Rename a b ∷ es) f made = holds_named (pending es) (call.Rename a b) (leads es Live a) f (contents es Lasting f) (contents es Live f) refl (all_contents es f made)
-all_contents (Link a b ∷ es) f made = holds_named (pending es) (call.Link a b) (leads es Live a) f (contents es Lasting f) (contents es Live f) refl (all_contents es f made)
+all_contents (Rename a b ∷ es) f made =
+    holds_named (pending es) (call.Rename a b) (leads es Live a) f (contents es Lasting f) (contents es Live f) refl (all_contents es f made)
+all_contents (Link a b ∷ es) f made =
+    holds_named (pending es) (call.Link a b) (leads es Live a) f (contents es Lasting f) (contents es Live f) refl (all_contents es f made)
 all_contents (Unlink m ∷ es) f made = holds_named (pending es) (call.Unlink m) None f (contents es Lasting f) (contents es Live f) refl (all_contents es f made)
 all_contents (SyncDir ∷ es) f made = holds_contents f (pending es) (contents es Lasting f) ∙ all_contents es f made
 all_contents (PowerCut ∷ es) f made = refl
