@@ -4,3 +4,4 @@ pub mod Never
 pub mod Running
 pub mod Machine
 pub mod Tables
+pub mod CutPlays
