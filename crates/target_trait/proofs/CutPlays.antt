@@ -1,9 +1,8 @@
 -- Laws of what the cut asks.
-use Rattle.std.proofs.Common.{◌≡◌, ℕ, ◌<◌, nat_lt, Bool, true, false, cond, List, [], ◌∷◌, ◌++◌, map, length, None, refl, ap, sym, subst, ◌∙◌, suc, append_assoc, arith}
+use Rattle.std.proofs.Common.{◌≡◌, ℕ, Bool, true, false, cond, List, [], ◌∷◌, ◌++◌, map, length, refl, ap, sym, subst, ◌∙◌, suc, append_assoc, arith}
 use Rattle.std.proofs.lemmas.List.{append-nil}
-use Rattle.std.proofs.lemmas.Bool.{lt-ltb, le-ltb}
-use Rattle.action_eval.specs.Answers.{Reply, Go, Return}
-use Rattle.target_trait.specs.declared.judgement.Judgement.{Judgement}
+use Rattle.std.proofs.lemmas.Bool.{le-ltb}
+use Rattle.action_eval.specs.Answers.{Reply}
 use Rattle.target_trait.specs.Play.{Move, Ask, Done, IsDone}
 use Rattle.target_trait.specs.Cuts.{Cut, no_cut, judgement_of, keeps, cut_asks, by_own, asks_from, asks_with, IsAsking, AsksAll, answer_to}
 
@@ -22,6 +21,7 @@ after_own asks cut keep done [] answers h over = here answers
   where
     stop : IsDone (asks done)
     stop = subst (λ own. IsDone (asks own)) (append-nil done) over
+
     here : (answers : List Reply) → asks_from asks cut keep done answers ≡ cut_asks cut keep (done ++ []) answers
     here [] = ends (asks done) (asks done) (cut_asks cut keep done []) stop ∙ ap (λ own. cut_asks cut keep own []) (sym (append-nil done))
     here (a ∷ rest) =
@@ -59,12 +59,14 @@ same_end : (m : Move) → by_own m m (Done (judgement_of m)) ≡ m
 same_end (Ask p) = refl
 same_end (Done j) = refl
 
-unchanged_from : (asks : List Reply → Move) (point : ℕ) (done rest : List Reply) → AsksAll asks done rest → asks_from asks (no_cut asks) point done rest ≡ asks (done ++ rest)
+unchanged_from : (asks : List Reply → Move) (point : ℕ) (done rest : List Reply) → AsksAll asks done rest
+    → asks_from asks (no_cut asks) point done rest ≡ asks (done ++ rest)
 unchanged_from asks point done [] h = same_end (asks done) ∙ ap asks (sym (append-nil done))
 unchanged_from asks point done (a ∷ rest) h =
     asks_on (asks done) (asks_from asks (no_cut asks) point (done ++ a ∷ []) rest) (cut_asks (no_cut asks) point done (a ∷ rest)) h.0
     ∙ unchanged_from asks point (done ++ a ∷ []) rest h.1
     ∙ ap asks (append_assoc done (a ∷ []) rest)
 
-pub unchanged : (asks : List Reply → Move) (point : ℕ) (answers : List Reply) → AsksAll asks [] answers → asks_with asks (no_cut asks) point answers ≡ asks answers
+pub unchanged : (asks : List Reply → Move) (point : ℕ) (answers : List Reply) → AsksAll asks [] answers
+    → asks_with asks (no_cut asks) point answers ≡ asks answers
 unchanged asks point answers h = unchanged_from asks point [] answers h

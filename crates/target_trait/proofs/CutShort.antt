@@ -1,5 +1,5 @@
 -- Where nothing is asked after a halt, a play that ends where it is cut short is the play, and so is what is told of it.
-use Rattle.std.proofs.Common.{◌≡◌, ℕ, zero, suc, ◌<◌, ◌≤◌, ◌||◌, Bool, true, false, cond, List, [], ◌∷◌, ◌++◌, length, nat_lt, Option, Some, None, inl, inr, refl, ap, sym, subst, ◌∙◌, arith, length-append}
+use Rattle.std.proofs.Common.{◌≡◌, ℕ, zero, suc, ◌||◌, Bool, true, false, cond, List, [], ◌∷◌, ◌++◌, length, take, Option, Some, None, inl, inr, refl, ap, sym, subst, ◌∙◌, arith, length-append}
 use Rattle.std.specs.List.{list_any}
 use Rattle.std.specs.Option.{option_or}
 use Rattle.std.proofs.lemmas.Bool.{cases_lt, lt-ltb, le-ltb}
@@ -7,12 +7,12 @@ use Rattle.scenario_values.specs.declared.term.Task.{Task}
 use Rattle.scenario_values.specs.declared.term.Task.TheVariants as task
 use Rattle.action_eval.specs.declared.answer.Stop.{Stop}
 use Rattle.action_eval.specs.declared.answer.Stop.TheVariants as stop
-use Rattle.action_eval.specs.Answers.{Given, Run, Hit, Reply, Go, Return, Halt, GoesOn, start, hit, next, replies, reply_to, asked, stopped, stopped_by, stop_of, is_over, history_of, notes_of, total_millis, words_of}
+use Rattle.action_eval.specs.Answers.{Given, Run, Hit, Reply, Go, Return, Halt, GoesOn, and_then, start, hit, next, replies, reply_to, asked, stopped, stopped_by, stop_of, is_over, history_of, notes_of, total_millis, words_of}
 use Rattle.action_eval.proofs.Histories.{history-hit, stopped-more}
 use Rattle.action_eval.proofs.CallerLemmas.{replies_more, goes_on}
 use Rattle.target_trait.specs.declared.judgement.Verdict.{Verdict}
 use Rattle.target_trait.specs.Play.{Move, Ask, Done, IsDone}
-use Rattle.target_trait.specs.Outcomes.{play, moved, judged, verdict_of, Told, told, outcome}
+use Rattle.target_trait.specs.Outcomes.{play, moved, verdict_of, Told, told, outcome}
 use Rattle.target_trait.specs.Cuts.{is_pause, is_cut_short, play_on, verdict_by, told_on, outcome_on}
 
 -- ---- what has not stopped isn't cut short
@@ -60,7 +60,8 @@ last_paused [] x e = or_false (is_pause x.did)
     or_false : (b : Bool) → (b || false) ≡ b
     or_false true = refl
     or_false false = refl
-last_paused (h ∷ hits) x e = by_first (is_pause h.did) (list_any (λ (y : Hit). is_pause y.did) hits) (list_any (λ (y : Hit). is_pause y.did) (hits ++ x ∷ [])) (is_pause x.did) e (last_paused hits x)
+last_paused (h ∷ hits) x e =
+    by_first (is_pause h.did) (list_any (λ (y : Hit). is_pause y.did) hits) (list_any (λ (y : Hit). is_pause y.did) (hits ++ x ∷ [])) (is_pause x.did) e (last_paused hits x)
   where
     by_first : (b rest more last : Bool) → (b || rest) ≡ false → (rest ≡ false → more ≡ last) → (b || more) ≡ last
     by_first true rest more last e k = absurd cc
@@ -85,9 +86,11 @@ verdict_last r p m running =
       | inl room ↦
           let within : is_over (hit r p) ≡ false = le-ltb r.given.limit (length (hit r p).hits) (omega (arith, room, length-append r.hits (p ∷ []))) in
           let stops : stopped (hit r p) ≡ stop_of x.did =
-          ap (λ b. cond b (Some stop.Limit) (stopped_by (history_of (hit r p)))) within ∙ ap stopped_by (history-hit r p room) ∙ stopped-more (history_of r) x k.rest in
+          ap (λ b. cond b (Some stop.Limit) (stopped_by (history_of (hit r p)))) within ∙ ap stopped_by (history-hit r p room)
+          ∙ stopped-more (history_of r) x k.rest in
           let paused : is_cut_short (hit r p) ≡ is_pause x.did =
-          ap (λ b. b || any_pause (history_of (hit r p))) within ∙ ap any_pause (history-hit r p room) ∙ last_paused (history_of r) x (none_paused (history_of r) k.rest) in
+          ap (λ b. b || any_pause (history_of (hit r p))) within ∙ ap any_pause (history-hit r p room)
+          ∙ last_paused (history_of r) x (none_paused (history_of r) k.rest) in
           ap (λ s. verdict_of s m) stops ∙ by_task x.did m ∙ sym (ap (λ b. verdict_by b m) paused)
       | inr full ↦
           let past : is_over (hit r p) ≡ true = lt-ltb r.given.limit (length (hit r p).hits) (omega (arith, full, length-append r.hits (p ∷ []))) in
@@ -97,7 +100,8 @@ verdict_last r p m running =
 
 -- ---- plays
 
-told_by_verdict : (asks : List Reply → Move) (r : Run) → verdict_of (stopped r) (asks (replies r)) ≡ verdict_by (is_cut_short r) (asks (replies r)) → told asks r ≡ told_on asks r
+told_by_verdict : (asks : List Reply → Move) (r : Run) → verdict_of (stopped r) (asks (replies r)) ≡ verdict_by (is_cut_short r) (asks (replies r))
+    → told asks r ≡ told_on asks r
 told_by_verdict asks r e =
     ap (λ (v : Verdict). let t : Told = record { verdict = v; asked = asked r; notes = notes_of (history_of r); millis = total_millis (history_of r); words = words_of (history_of r) } in t) e
 
@@ -154,9 +158,16 @@ same_plays asks halts (suc n) r running =
     (λ p. one_hit asks halts n (same_plays asks halts n) r p running (reply_to r p) refl)
     ∙ sym (ap (λ b. told_on asks (cond b r (moved (asks (replies r)) r (λ p. play_on n asks (hit r p))))) (not_short r running))
 
-pub same_outcome : (asks : List Reply → Move) (g : Given) → ((before rest : List Reply) → IsDone (asks (before ++ Halt ∷ rest))) → outcome asks g ≡ outcome_on asks g
+take_none : (n : ℕ) → take {A = ℕ} n [] ≡ []
+take_none zero = refl
+take_none (suc n) = refl
+
+nothing_stopped : (g : Given) → stopped (start g) ≡ None
+nothing_stopped g =
+    ap (λ b. cond b (Some stop.Limit) (stopped_by (history_of (start g)))) (le-ltb g.limit 0 (omega arith))
+    ∙ ap (λ (l : List ℕ). stopped_by (and_then g [] l)) (take_none g.limit)
+
+pub same_outcome : (asks : List Reply → Move) (g : Given) → ((before rest : List Reply) → IsDone (asks (before ++ Halt ∷ rest)))
+    → outcome asks g ≡ outcome_on asks g
 unfolding Same Halts
 same_outcome asks g halts = same_plays asks halts (suc g.limit) (start g) (nothing_stopped g)
-  where
-    nothing_stopped : (g : Given) → stopped (start g) ≡ None
-    nothing_stopped g = by_limit g

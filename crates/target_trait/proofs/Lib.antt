@@ -5,3 +5,4 @@ pub mod Running
 pub mod Machine
 pub mod Tables
 pub mod CutPlays
+pub mod CutShort

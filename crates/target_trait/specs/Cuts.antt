@@ -2,7 +2,7 @@
 -- `power::keep`, once for each write that is pending, in the order in which the writes were made. A return keeps the write, and every other answer
 -- loses it. Then the target is judged over what is left. A pause, and the limit of hits, end a run as everywhere: nothing further is asked, by the
 -- cut neither, and nothing is known. A panic at a hit of the cut means no more than a write that is lost.
-use Rattle.std.specs.Prelude.{◌≡◌, ℕ, zero, suc, ◌||◌, nat_lt, if◌then◌else◌, Bool, true, false, List, [], ◌∷◌, ◌++◌, map, length, Option, None}
+use Rattle.std.specs.Prelude.{ℕ, zero, suc, ◌||◌, nat_lt, if◌then◌else◌, Bool, true, false, List, [], ◌∷◌, ◌++◌, map, length, None}
 use Rattle.std.specs.List.{list_any}
 use Rattle.scenario_values.specs.declared.term.Task.{Task}
 use Rattle.scenario_values.specs.declared.term.Task.TheVariants as task

@@ -1,11 +1,11 @@
 //! Laws on outcomes, as contracts of functions that do nothing.
-ghost use Rattle.std.specs.Prelude.{◌≡◌, ◌++◌, ℕ, Bool, List, [], map, length};
+ghost use Rattle.std.specs.Prelude.{◌≡◌, ◌∷◌, ◌++◌, ℕ, Bool, List, [], map, length};
 ghost use Rattle.scenario_values.specs.Scenario.{Entries};
-ghost use Rattle.action_eval.specs.Answers.{Reply, given_of};
+ghost use Rattle.action_eval.specs.Answers.{Given, Halt, Reply, given_of};
 ghost use Rattle.action_eval.specs.SameMeaning.{MeansTheSame, meaning_of};
 ghost use Rattle.target_trait.specs.Outcomes.{outcome, verdict_with, SameVerdicts};
 ghost use Rattle.target_trait.specs.Play.{Move, Done, IsDone};
-ghost use Rattle.target_trait.specs.Cuts.{Cut, AsksAll, asks_with, cut_asks, answer_to, no_cut};
+ghost use Rattle.target_trait.specs.Cuts.{Cut, AsksAll, asks_with, cut_asks, answer_to, no_cut, outcome_on};
 
 /// The verdict of a case is that of its outcome.
 pub fn verdict_of_outcome()
@@ -31,4 +31,10 @@ pub fn cut_asks_after_the_target()
         → length keep ≡ cut.pending own → asks_with asks cut point (own ++ map answer_to keep) ≡ Done (cut.judge own keep) }
     ensures unchanged { (asks : List Reply → Move) (point : ℕ) (answers : List Reply) → AsksAll asks [] answers
         → asks_with asks (no_cut asks) point answers ≡ asks answers }
+{}
+
+/// For what asks nothing after a halt, as each target does by itself, a play that ends where a pause or the limit cuts it short is told as the play.
+pub fn cut_short_is_told_alike()
+    ensures { (asks : List Reply → Move) (g : Given) → ((before rest : List Reply) → IsDone (asks (before ++ Halt ∷ rest)))
+        → outcome asks g ≡ outcome_on asks g }
 {}
