@@ -4,3 +4,5 @@ pub mod Never
 pub mod Running
 pub mod Machine
 pub mod Tables
+pub mod CutPlays
+pub mod CutShort

@@ -12,7 +12,10 @@ mod telling;
 pub use action_eval::{Answer, Note, Session, Stop};
 pub use case::{Case, Outcome, run_case, run_session, run_verdict};
 pub use judgement::{Judgement, Verdict};
-pub use laws::{same_meaning_same_outcome, verdict_of_outcome};
+pub use laws::{
+    cut_asks_after_the_target, cut_short_is_told_alike, same_meaning_same_outcome,
+    verdict_of_outcome,
+};
 pub use output::{Out, Sink};
 pub use protocol::{ByTable, Protocol};
 pub use target::Target;
