@@ -1,5 +1,5 @@
 -- Plans that grow from what is told of runs are the part of the subject's list that is known.
-use Rattle.std.proofs.Common.{◌≡◌, ℕ, zero, suc, ◌≤◌, ◌&&◌, Bool, true, false, cond, List, [], ◌∷◌, ◌++◌, refl, ap, sym, ◌∙◌, arith}
+use Rattle.std.proofs.Common.{◌≡◌, ℕ, zero, suc, ◌+◌, ◌≤◌, ◌&&◌, Bool, true, false, cond, List, [], ◌∷◌, ◌++◌, refl, ap, sym, ◌∙◌, arith}
 use Rattle.std.specs.Prelude.{Contains, flat_map, Option, Some, None}
 use Rattle.std.specs.List.{AllByRecursion, filter}
 use Rattle.std.proofs.lemmas.List.Elements.{filter-append, Contains-append_left}
@@ -61,7 +61,7 @@ children_part t d n known plan a c grows =
 in_grown : (t : Subject) (d n : ℕ) (plan : List Rig) → n ≤ d → Contains (level t n) plan → Contains (grown t d) plan
 in_grown t d n plan le c = Contains-append_left (levels t d) (onward t d) plan (level_in_levels t d n plan le c)
 
-pub level_is : (t : Subject) → IsLawful t → (d n : ℕ) (known : KnownRuns) → Agrees t d known → n ≤ d → filter (is_reached known) (level t n) ≡ level_known t.kinds known n
+pub level_is : (t : Subject) → IsLawful t → (d n : ℕ) (known : KnownRuns) → Agrees t d known → n ≤ d + 1 → filter (is_reached known) (level t n) ≡ level_known t.kinds known n
 unfolding level level_known
 level_is t l d zero known a le = refl
 level_is t l d (suc n) known a le =
@@ -71,11 +71,11 @@ level_is t l d (suc n) known a le =
 
 pub levels_is : (t : Subject) → IsLawful t → (d n : ℕ) (known : KnownRuns) → Agrees t d known → n ≤ d → filter (is_reached known) (levels t n) ≡ levels_known t.kinds known n
 unfolding levels levels_known
-levels_is t l d zero known a le = level_is t l d zero known a le
+levels_is t l d zero known a le = level_is t l d zero known a (omega (arith, le))
 levels_is t l d (suc n) known a le =
     filter-append (is_reached known) (levels t n) (level t (suc n))
     ∙ ap (λ (x : List (List Rig)). x ++ filter (is_reached known) (level t (suc n))) (levels_is t l d n known a (omega (arith, le)))
-    ∙ ap (λ (x : List (List Rig)). levels_known t.kinds known n ++ x) (level_is t l d (suc n) known a le)
+    ∙ ap (λ (x : List (List Rig)). levels_known t.kinds known n ++ x) (level_is t l d (suc n) known a (omega (arith, le)))
 
 -- ---- those from then on
 
@@ -123,11 +123,15 @@ onward_part t d known (r ∷ rs) a c goes = by_kind r.kind refl
     by_kind OnwardReturn e = never OnwardReturn e refl
     by_kind OncePanic e = never OncePanic e refl
 
-pub part_is : (t : Subject) → IsLawful t → (d : ℕ) (known : KnownRuns) → Agrees t d known → known_part t d known ≡ part_known t.kinds known d
+pub onward_is : (t : Subject) → IsLawful t → (d : ℕ) (known : KnownRuns) → Agrees t d known
+    → filter (is_reached_onward known) (onward t d) ≡ flat_map (λ plan. onward_told plan (hits_of known plan)) (level_known t.kinds known d)
 unfolding onward
-part_is t l d known a =
-    ap (λ (x : List (List Rig)). x ++ filter (is_reached_onward known) (flat_map (onward_of t) (level t d))) (levels_is t l d d known a (omega arith))
-    ∙ ap (λ (x : List (List Rig)). levels_known t.kinds known d ++ x)
-    (filter_flat (is_reached known) (is_reached_onward known) (onward_of t) (λ plan. onward_told plan (hits_of known plan)) (level t d)
+onward_is t l d known a =
+    filter_flat (is_reached known) (is_reached_onward known) (onward_of t) (λ plan. onward_told plan (hits_of known plan)) (level t d)
     (all_by_contains _ (level t d) (λ plan c. onward_part t d known plan a (in_grown t d d plan (omega arith) c) (all_contains (GoesOnwardByAsked t) (level t d) plan (goes_onward_by_asked t l d) c)))
-    ∙ ap (flat_map (λ plan. onward_told plan (hits_of known plan))) (level_is t l d d known a (omega arith)))
+    ∙ ap (flat_map (λ plan. onward_told plan (hits_of known plan))) (level_is t l d d known a (omega arith))
+
+pub part_is : (t : Subject) → IsLawful t → (d : ℕ) (known : KnownRuns) → Agrees t d known → known_part t d known ≡ part_known t.kinds known d
+part_is t l d known a =
+    ap (λ (x : List (List Rig)). x ++ filter (is_reached_onward known) (onward t d)) (levels_is t l d d known a (omega arith))
+    ∙ ap (λ (x : List (List Rig)). levels_known t.kinds known d ++ x) (onward_is t l d known a)

@@ -24,6 +24,11 @@ points_from before (p ∷ ps) = ap (λ (l : List ℕ). p ∷ l) (points_from (be
 asked_met : (asks : List Reply → Move) (g : Given) → points_met (run asks g) ≡ (outcome asks g).asked
 asked_met asks g = points_of_sites (run asks g) ∙ ap (map (λ (s : Site). s.point)) (run_sites asks g) ∙ points_from [] (outcome asks g).asked
 
+-- the points that a plan's run meets are those that its case asks
+pub plan_asked : (t : Subject) (plan : List Rig) → points_met (run_of_plan t plan) ≡ (outcome t.asks (given_for t plan 0 0)).asked
+unfolding run_of_plan
+plan_asked t plan = asked_met t.asks (given_for t plan 0 0)
+
 -- what a plan's run asks is what is told of it
 pub asked_told : (t : Subject) (plan : List Rig) (hits : List ℕ) → points_met (run_of_plan t plan) ≡ hits → (outcome t.asks (given_for t plan 0 0)).asked ≡ hits
 unfolding run_of_plan

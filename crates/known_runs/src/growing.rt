@@ -1,13 +1,15 @@
 //! Plans that grow from runs that are known.
-ghost use Rattle.std.specs.Prelude.{◌≡◌, ◌+◌, ◌-◌, ◌<◌, ◌≤◌, ◌++◌, ◌&&◌, [], length, map, slice_index_or, IfOk, OnOk, IsErrOf};
+ghost use Rattle.std.specs.Prelude.{◌≡◌, ◌+◌, ◌-◌, ◌<◌, ◌≤◌, ◌++◌, ◌∷◌, ◌&&◌, [], length, map, slice_index_or, IfOk, OnOk, IsErrOf};
+ghost use Rattle.std.specs.List.{AllByRecursion};
 ghost use Rattle.grown_plans.specs.GrownPlans.{Subject, usual_kinds};
 ghost use Rattle.grown_plans.specs.AskedPoints.{is_last_return, onward_if};
 ghost use Rattle.grown_plans.specs.Kept.{GrewFrom, plan_of};
 ghost use Rattle.grown_plans.specs.Promises.{IsLawful};
 ghost use Rattle.known_runs.specs.Known.{Agrees};
-ghost use Rattle.known_runs.specs.KnownPart.{known_part};
+ghost use Rattle.known_runs.specs.KnownPlans.{AreKnown};
 ghost use Rattle.known_runs.specs.declared.growing.KnownFault.TheVariants.{Memory};
 ghost use Rattle.known_runs.specs.inside.Grown.{kept_known, kept_over, onward_known, onward_over};
+ghost use Rattle.known_runs.specs.inside.GrownLevels.{AreLevels, HasOnward};
 
 use crate::table::{Look, RunTable};
 use action_eval::Rig;
@@ -202,6 +204,112 @@ fn onward_from<T: RunTable>(
     Ok(onward)
 }
 
+/// How many children the plans from this number on have, where their hits are told.
+fn count_children<T: RunTable>(
+    alloc: Global,
+    table: &T,
+    plans: &GrownPlans,
+    first: usize,
+) -> Result<u64, AllocError>
+    requires within { first ≤ length plans.now }
+    requires few { length plans.now ≤ 65536 }
+    ensures { IfOk result (λ count. count ≡ length (kept_over (T.known table.now) plans.now first (length plans.now - first))) }
+{
+    let mut children = Vec::new(alloc);
+    let mut workspace = Workspace::new(alloc);
+    let mut count = 0u64;
+    for number in first..plans.len() {
+        children.clear();
+        add_children_of(table, plans, number, &mut workspace, &mut children)?;
+        // so many children are more than the hits of any memory
+        let Some(more) = count.checked_add(children.len() as u64) else {
+            return Err(AllocError);
+        };
+        count = more;
+    }
+    Ok(count)
+}
+
+/// Levels that have grown, the first plan of the last one, and how many plans each has.
+#[derive(Drop)]
+struct Levels {
+    plans: GrownPlans,
+    sizes: Vec<u32>,
+    last: usize,
+}
+
+/// Adds how many plans a level has.
+fn push_size(sizes: &mut Vec<u32>, size: usize) -> Result<(), AllocError>
+    requires { size ≤ 65536 }
+    ensures { OnOk result (sizes.new.items ≡ sizes.old.items ++ size ∷ []) }
+{
+    sizes.push(size as u32)?;
+    Ok(())
+}
+
+/// Grows levels 0 to a depth, of at most so many plans.
+fn grow_levels<T: RunTable>(
+    alloc: Global,
+    table: &T,
+    depth: u32,
+    most: usize,
+) -> Result<Levels, KnownFault>
+    requires some { 0 < most }
+    requires few { most ≤ 65536 }
+    ensures levels { IfOk result (AreLevels (T.known table.now) depth) }
+    ensures few { IfOk result (λ levels. length levels.plans ≤ most) }
+{
+    let mut plans = GrownPlans::new(alloc);
+    let mut sizes = Vec::new(alloc);
+    push_size(&mut sizes, 1)?;
+    let mut last = 0;
+    for _ in 0..depth {
+        last = add_level(alloc, table, &mut plans, last, most)?;
+        push_size(&mut sizes, plans.len() - last)?;
+    }
+    Ok(Levels { plans, sizes, last })
+}
+
+/// Plans of a list that are known by now.
+#[derive(Debug, Drop)]
+pub struct KnownPlans {
+    /// The plans, in the order of the list.
+    pub plans: GrownPlans,
+    /// How many of them each level has, from level 0 to that of the depth.
+    pub levels: Vec<u32>,
+    /// How many of them have their last fault from then on.
+    pub onward: u32,
+    /// How many plans of the level after the last one are known.
+    pub beyond: u64,
+}
+
+/// Adds the plans of the last level with their last fault from then on.
+fn with_onward<T: RunTable>(
+    alloc: Global,
+    table: &T,
+    levels: Levels,
+    beyond: u64,
+    most: usize,
+) -> Result<KnownPlans, KnownFault>
+    requires last { levels.last ≤ length levels.plans }
+    requires plans { length levels.plans ≤ 65536 }
+    requires most { most ≤ 65536 }
+    ensures added { IfOk result (HasOnward (T.known table.now) levels beyond) }
+    ensures few { IfOk result (λ known. length known.plans ≤ most) }
+{
+    let Levels { plans, sizes, last } = levels;
+    let mut plans = plans;
+    let onward = onward_from(alloc, table, &plans, last)?;
+    check_room(most, plans.len(), onward.len())?;
+    plans.add(onward.as_slice())?;
+    Ok(KnownPlans {
+        plans,
+        levels: sizes,
+        onward: onward.len() as u32,
+        beyond,
+    })
+}
+
 /// The plans of a list to a depth that are known by now, in its order: of each level the children of plans whose hits are told, and after the
 /// last one those of its plans with their last fault from then on. A plan is known once the hits of each plan that it grew from are, so
 /// levels wait for nothing; and of each lawful subject that agrees with the table they are the known part of its list.
@@ -212,22 +320,17 @@ pub fn known_plans<T: RunTable>(
     table: &T,
     depth: u32,
     most: usize,
-) -> Result<GrownPlans, KnownFault>
+) -> Result<KnownPlans, KnownFault>
     requires { most ≤ 65536 }
-    ensures known { IfOk result (λ plans. (t : Subject) → IsLawful t → t.kinds ≡ usual_kinds → Agrees t depth (T.known table.now)
-        → plans ≡ known_part t depth (T.known table.now)) }
-    ensures few { IfOk result (λ plans. length plans ≤ most) }
+    ensures known { IfOk result (λ known. (t : Subject) → IsLawful t → t.kinds ≡ usual_kinds → Agrees t depth (T.known table.now)
+        → AreKnown t depth (T.known table.now) known) }
+    ensures short { IfOk result (λ known. AllByRecursion (λ plan. length plan ≤ depth) known.plans) }
+    ensures few { IfOk result (λ known. length known.plans ≤ most) }
 {
     if most == 0 {
         return Err(KnownFault::TooManyPlans);
     }
-    let mut plans = GrownPlans::new(alloc);
-    let mut last = 0;
-    for _ in 0..depth {
-        last = add_level(alloc, table, &mut plans, last, most)?;
-    }
-    let onward = onward_from(alloc, table, &plans, last)?;
-    check_room(most, plans.len(), onward.len())?;
-    plans.add(onward.as_slice())?;
-    Ok(plans)
+    let levels = grow_levels(alloc, table, depth, most)?;
+    let beyond = count_children(alloc, table, &levels.plans, levels.last)?;
+    with_onward(alloc, table, levels, beyond, most)
 }

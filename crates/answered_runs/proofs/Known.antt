@@ -1,0 +1,137 @@
+-- What answers tell of scenarios that they don't name, of each component that agrees with them.
+use Rattle.std.proofs.Common.{◌≡◌, ℕ, ◌≤◌, ◌<◌, ◌^◌, Bool, true, false, List, [], ◌∷◌, length, map, refl, ap, sym, ◌∙◌, subst, arith, inl, inr, ◌⊎◌}
+use Rattle.std.specs.Prelude.{Contains, Option, Some, None, IfSome, option_and_then, nat_le, nat_lt, ◌&&◌, ◌||◌, ◌==◌, not}
+use Rattle.std.specs.List.{AllByRecursion, list_all}
+use Rattle.std.specs.Str.{bytes_eq}
+use Rattle.std.proofs.lemmas.Slice.Eq.{bytes_eq-Decides}
+use Rattle.scenario_values.specs.Scenario.{Entries, IsScenario}
+use Rattle.scenario_values.specs.Printed.{printed}
+use Rattle.action_eval.specs.Answers.{given_of}
+use Rattle.action_eval.specs.Catalogue.{IsCatalogue}
+use Rattle.action_eval.specs.declared.rig.Kind.{Kind}
+use Rattle.action_eval.specs.declared.rig.Kind.TheVariants.{OnceReturn, OnwardReturn, OncePanic}
+use Rattle.action_eval.specs.declared.rig.Rig.{Rig}
+use Rattle.action_eval.specs.declared.rig.Site.{Site}
+use Rattle.action_eval.specs.Rigging.{rigging}
+use Rattle.action_eval.proofs.Rigged.{rigging_keeps}
+use Rattle.target_trait.specs.Outcomes.{outcome, verdict_with}
+use Rattle.target_trait.specs.declared.judgement.Verdict.{Verdict}
+use Rattle.target_trait.proofs.Verdicts.{verdict_is}
+use Rattle.plan_gen.specs.RiggedAnswers.{AreInOrder, IsBefore, is_onward}
+use Rattle.answer_text.specs.Runs.{KnownRuns}
+use Rattle.answer_text.specs.declared.runs.ToldRun.{ToldRun}
+use Rattle.answer_text.proofs.Members.{same_printed}
+use Rattle.grown_plans.specs.GrownPlans.{Subject, is_before, usual_kinds}
+use Rattle.grown_plans.specs.Promises.{verdict_of_rigs}
+use Rattle.grown_plans.proofs.Members.{all_map, all_weaker, contains_head, contains_tail}
+use Rattle.known_runs.proofs.Steps.{same_verdict}
+use Rattle.answered_runs.specs.Answered.{answered, plan_runs}
+use Rattle.answered_runs.specs.Components.{AgreesWithRuns, IsComponent, IsTrueRun}
+use Rattle.answered_runs.specs.Rigged.{are_in_order, are_lawful, are_once, are_small, if_made, make, most_hit, points_into, rigs_of_scenario}
+use Rattle.answered_runs.specs.Verdicts.{AreVerdictsOf, told_or, verdict_by, walked_by}
+use Rattle.answered_runs.proofs.Runs.{agree}
+
+-- ---- tests that hold
+
+left : (a b : Bool) → (a && b) ≡ true → a ≡ true
+left true b e = refl
+left false b e = absurd cc
+
+right : (a b : Bool) → (a && b) ≡ true → b ≡ true
+right true b e = e
+right false b e = absurd cc
+
+passes : {A : Type 0} (p : A → Bool) (xs : List A) → list_all p xs ≡ true → AllByRecursion (λ x. p x ≡ true) xs
+passes p [] e = tt
+passes p (x ∷ xs) e = (left (p x) (list_all p xs) e, passes p xs (right (p x) (list_all p xs) e))
+
+before : (a b : Site) → is_before a b ≡ true → IsBefore a b
+before a b e = at (nat_lt a.point b.point) refl e
+  where
+    at : (c : Bool) → nat_lt a.point b.point ≡ c → (c || ((a.point == b.point) && nat_lt a.hit b.hit)) ≡ true → IsBefore a b
+    at true f g = inl (omega (arith, f))
+    at false f g =
+        let same = left (a.point == b.point) (nat_lt a.hit b.hit) g in
+        let less = right (a.point == b.point) (nat_lt a.hit b.hit) g in
+        inr (omega (arith, same), omega (arith, less))
+
+in_order : (rigs : List Rig) → are_in_order rigs ≡ true → AreInOrder (map (λ (r : Rig). r.site) rigs)
+in_order [] e = tt
+in_order (r ∷ rs) e =
+    let first = left (nat_lt 0 r.site.hit) (list_all (λ (s : Rig). is_before r.site s.site) rs && are_in_order rs) e in
+    let more = right (nat_lt 0 r.site.hit) (list_all (λ (s : Rig). is_before r.site s.site) rs && are_in_order rs) e in
+    let all = passes (λ (s : Rig). is_before r.site s.site) rs (left (list_all (λ (s : Rig). is_before r.site s.site) rs) (are_in_order rs) more) in (
+      omega (arith, first),
+      all_map (λ (t : Site). IsBefore r.site t) (λ (s : Rig). s.site) rs
+          (all_weaker (λ (s : Rig). is_before r.site s.site ≡ true) (λ (s : Rig). IsBefore r.site s.site) (λ s f. before r.site s.site f) rs all),
+      in_order rs (right (list_all (λ (s : Rig). is_before r.site s.site) rs) (are_in_order rs) more),
+    )
+
+of_kinds : (kinds : ℕ → List Kind) → kinds ≡ usual_kinds → (r : Rig) → not (is_onward r.kind) ≡ true → Contains (kinds r.site.point) r.kind
+of_kinds kinds usual r e = subst (λ (ks : ℕ → List Kind). Contains (ks r.site.point) r.kind) (sym usual) (at r.kind e)
+  where
+    at : (kind : Kind) → not (is_onward kind) ≡ true → Contains (OnceReturn ∷ OncePanic ∷ []) kind
+    at OnceReturn f = contains_head OnceReturn (OncePanic ∷ [])
+    at OnwardReturn f = absurd cc
+    at OncePanic f = contains_tail OnceReturn OncePanic (OncePanic ∷ []) (contains_head OncePanic [])
+
+-- ---- the rigged hits of a scenario
+
+rigs_is : (rigs rs : List Rig) → Some rigs ≡ Some rs → rigs ≡ rs
+rigs_is rigs rs e = cc
+
+made : (points : List (List ℕ)) (s : Entries) (rigs : List Rig) → rigs_of_scenario points s ≡ Some rigs → make points rigs s ≡ true
+made points s rigs e = by_found (points_into s 0 points []) e
+  where
+    by_test : (rs : List Rig) (b : Bool) → make points rs s ≡ b → cond b (Some rs) None ≡ Some rigs → make points rigs s ≡ true
+    by_test rs true f g = ap (λ (x : List Rig). make points x s) (sym (rigs_is rs rigs g)) ∙ f
+    by_test rs false f g = absurd cc
+
+    by_found : (o : Option (List Rig)) → option_and_then (if_made points s) o ≡ Some rigs → make points rigs s ≡ true
+    by_found None f = absurd cc
+    by_found (Some rs) f = by_test rs (make points rs s) refl f
+
+record Lawful (rigs : List Rig) : Type 0 where
+  few : length rigs ≤ 64
+  small : AllByRecursion (λ r. r.site.hit < 2 ^ 32) rigs
+  once : AllByRecursion (λ r. not (is_onward r.kind) ≡ true) rigs
+  ordered : AreInOrder (map (λ (r : Rig). r.site) rigs)
+
+lawful : (rigs : List Rig) → are_lawful rigs ≡ true → Lawful rigs
+lawful rigs e =
+    let a = left (nat_le (length rigs) 64) (are_small rigs && are_once rigs && are_in_order rigs) e in
+    let f = right (nat_le (length rigs) 64) (are_small rigs && are_once rigs && are_in_order rigs) e in
+    let b = left (are_small rigs) (are_once rigs && are_in_order rigs) f in
+    let g = right (are_small rigs) (are_once rigs && are_in_order rigs) f in
+    record {
+      few = omega (arith, a);
+      small = all_weaker (λ (r : Rig). nat_le r.site.hit most_hit ≡ true) (λ (r : Rig). r.site.hit < 2 ^ 32) (λ r h. omega (arith, h)) rigs (passes (λ (r : Rig). nat_le r.site.hit most_hit) rigs b);
+      once = passes (λ (r : Rig). not (is_onward r.kind)) rigs (left (are_once rigs) (are_in_order rigs) g);
+      ordered = in_order rigs (right (are_once rigs) (are_in_order rigs) g);
+    }
+
+verdict_some : (v w : Verdict) → Some v ≡ Some w → v ≡ w
+verdict_some v w e = cc
+
+-- ---- the verdicts
+
+pub true_of : (t : Subject) (points : List (List ℕ)) (told : KnownRuns) (depth : ℕ) → IsComponent points t → depth ≤ 64 → AgreesWithRuns t told → AreVerdictsOf t (verdict_by (answered points told) depth)
+true_of t points told depth is low agrees s v ok known seed stream = by_told (told s) (agrees s ok) known
+  where
+    catalogue : IsCatalogue points
+    catalogue = subst IsCatalogue is.names is.lawful.catalogue
+
+    by_rigs : (o : Option (List Rig)) → rigs_of_scenario points s ≡ o → walked_by (answered points told) depth o ≡ Some v → (outcome t.asks (given_of s t.names seed stream t.limit)).verdict ≡ v
+    by_rigs None e k = absurd cc
+    by_rigs (Some rigs) e k =
+        let m = made points s rigs e in
+        let l = lawful rigs (left (are_lawful rigs) (bytes_eq (printed (rigging points rigs)) (printed s)) m) in
+        let prints : printed (rigging points rigs) ≡ printed s = bytes_eq-Decides (printed (rigging points rigs)) (printed s) .forth (right (are_lawful rigs) (bytes_eq (printed (rigging points rigs)) (printed s)) m) in
+        let same : rigging points rigs ≡ s = same_printed (rigging points rigs) s (rigging_keeps points rigs catalogue l.few l.small) ok prints in
+        let kinds = all_weaker (λ (r : Rig). not (is_onward r.kind) ≡ true) (λ (r : Rig). Contains (t.kinds r.site.point) r.kind) (of_kinds t.kinds is.usual) rigs l.once in
+        let w : (seed stream : ℕ) → verdict_of_rigs t seed stream rigs ≡ v = same_verdict (plan_runs (answered points told)) rigs depth (Some v) (sym k) t is.lawful (agree t points told depth is low agrees) l.ordered kinds in
+        sym (verdict_is t.asks t.names seed t.limit stream s) ∙ ap (verdict_with t.asks t.names seed t.limit stream) (sym same ∙ ap (λ (names : List (List ℕ)). rigging names rigs) (sym is.names)) ∙ w seed stream
+
+    by_told : (o : Option ToldRun) → IfSome o (IsTrueRun t s) → told_or (answered points told) depth s o ≡ Some v → (outcome t.asks (given_of s t.names seed stream t.limit)).verdict ≡ v
+    by_told (Some r) h k = h.verdict seed stream ∙ verdict_some r.verdict v k
+    by_told None h k = by_rigs (rigs_of_scenario points s) refl k

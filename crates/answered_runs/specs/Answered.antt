@@ -1,0 +1,36 @@
+-- What answers tell of the runs of plans that grow.
+use Rattle.std.specs.Prelude.{ℕ, ◌&&◌, Bool, List, Option, None, Some, length, nat_le, nat_lt, option_map, option_and_then, if◌then◌else◌}
+use Rattle.std.specs.List.{list_all}
+use Rattle.scenario_values.specs.Tidied.{tidied}
+use Rattle.action_eval.specs.declared.rig.Rig.{Rig}
+use Rattle.answer_text.specs.Hits.{most_hits, points_of}
+use Rattle.answer_text.specs.Runs.{KnownRuns}
+use Rattle.answer_text.specs.declared.hits.Stretch.{Stretch}
+use Rattle.answer_text.specs.declared.runs.ToldRun.{ToldRun}
+use Rattle.campaign_plans.specs.GrownScenarios.{grown_scenario}
+use Rattle.known_runs.specs.Known.{Told}
+use Rattle.known_runs.specs.Known.{KnownRuns as PlanRuns}
+use Rattle.known_runs.specs.Looks.{told}
+
+-- the names of a component's points, and what answers tell of each tidied scenario
+pub record Answered : Type 0 where
+  pub points : List (List ℕ)
+  pub told : KnownRuns
+
+abbrev pub answered : List (List ℕ) → KnownRuns → Answered
+answered points told = record { points = points; told = told }
+
+-- the points of a run's hits, one for each. A line tells hits of its points alone, at most 64 of them, and no more hits than this.
+abbrev pub is_low : Stretch → Bool
+is_low s = nat_lt s.point 64
+
+abbrev pub hits_by : List Stretch → Option (List ℕ)
+hits_by hits = if list_all is_low hits && nat_le (length (points_of hits)) most_hits then Some (points_of hits) else None
+
+-- what is told of a run, by what a line tells
+abbrev pub told_of : ToldRun → Told
+told_of r = told r.verdict (option_and_then hits_by r.hits)
+
+-- what is told of the run of a plan of at most 64 faults: what answers tell of its scenario, tidied
+abbrev pub plan_runs : Answered → PlanRuns
+plan_runs a plan = if nat_le (length plan) 64 then option_map told_of (a.told (tidied (grown_scenario a.points plan))) else None

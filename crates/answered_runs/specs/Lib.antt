@@ -1,0 +1,5 @@
+pub mod Answered
+pub mod Components
+pub mod Rigged
+pub mod Verdicts
+pub mod inside

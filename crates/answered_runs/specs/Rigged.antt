@@ -1,0 +1,76 @@
+-- The rigged hits that a scenario is made of, where it is one of hits that fail or panic once each.
+use Rattle.std.specs.Prelude.{ℕ, ◌+◌, ◌==◌, ◌&&◌, Bool, true, not, List, [], ◌∷◌, ◌++◌, Option, None, Some, option_and_then, nat_le, nat_lt, length, if◌then◌else◌}
+use Rattle.std.specs.List.{list_all}
+use Rattle.std.specs.Option.{option_map_or}
+use Rattle.std.specs.Str.{bytes_eq}
+use Rattle.scenario_values.specs.Printed.{printed}
+use Rattle.scenario_values.specs.Scenario.{Entries, chain_at, entry_of}
+use Rattle.scenario_values.specs.declared.term.Task.{Task}
+use Rattle.scenario_values.specs.declared.term.Task.TheVariants as task
+use Rattle.scenario_values.specs.declared.term.Term.{Term}
+use Rattle.action_eval.specs.declared.rig.Kind.{Kind}
+use Rattle.action_eval.specs.declared.rig.Kind.TheVariants.{OnceReturn, OncePanic}
+use Rattle.action_eval.specs.declared.rig.Rig.{Rig}
+use Rattle.action_eval.specs.declared.rig.Site.{Site}
+use Rattle.action_eval.specs.Rigging.{rig, rigging}
+use Rattle.plan_gen.specs.RiggedAnswers.{is_onward}
+use Rattle.grown_plans.specs.GrownPlans.{is_before}
+
+abbrev pub most_hit : ℕ
+most_hit = 4294967295
+
+-- the rigged hits with one more, of this kind
+abbrev pub with_kind : ℕ → ℕ → Kind → List Rig → List Rig
+with_kind point hit kind rigs = rigs ++ rig (record { point = point; hit = hit }) kind ∷ []
+
+-- what a task does that acts so often: nothing, or it is that of a rigged hit, which acts once
+abbrev pub with_task : ℕ → ℕ → ℕ → Task → List Rig → Option (List Rig)
+with_task point hit count task.Off rigs = Some rigs
+with_task point hit count (task.Return None) rigs = if count == 1 then Some (with_kind point hit OnceReturn rigs) else None
+with_task point hit count (task.Panic None) rigs = if count == 1 then Some (with_kind point hit OncePanic rigs) else None
+with_task point hit count _ rigs = None
+
+-- the rigged hits with those of a term that acts at the hits of a point after one and up to another; none where it is no such term
+abbrev pub with_term : ℕ → ℕ → ℕ → Term → List Rig → Option (List Rig)
+with_term point hit count t rigs = if (t.share == 1000000) && nat_le hit most_hit then with_task point hit count t.task rigs else None
+
+-- the rigged hits with those of a chain, after so many hits of its point
+unfoldable pub chain_into : ℕ → ℕ → List Term → List Rig → Option (List Rig)
+chain_into point done [] rigs = Some rigs
+chain_into point done (t ∷ ts) rigs = elim t.count [
+  | None ↦ None
+  | Some count ↦ option_and_then (chain_into point (done + count) ts) (with_term point (done + count) count t rigs)
+]
+
+-- the chain of a point's name; none where the scenario doesn't name it
+abbrev pub chain_named : Entries → List ℕ → List Term
+chain_named s name = option_map_or (chain_at s) (entry_of s name) []
+
+-- and with those of points, numbered from one on
+unfoldable pub points_into : Entries → ℕ → List (List ℕ) → List Rig → Option (List Rig)
+points_into s point [] rigs = Some rigs
+points_into s point (name ∷ names) rigs = option_and_then (points_into s (point + 1) names) (chain_into point 0 (chain_named s name) rigs)
+
+-- whether rigged hits are in order, each of a once-fault, and make just this scenario
+abbrev pub are_in_order : List Rig → Bool
+are_in_order [] = true
+are_in_order (r ∷ rs) = nat_lt 0 r.site.hit && list_all (λ s. is_before r.site s.site) rs && are_in_order rs
+
+abbrev pub are_once : List Rig → Bool
+are_once rigs = list_all (λ r. not (is_onward r.kind)) rigs
+
+abbrev pub are_small : List Rig → Bool
+are_small rigs = list_all (λ r. nat_le r.site.hit most_hit) rigs
+
+abbrev pub are_lawful : List Rig → Bool
+are_lawful rigs = nat_le (length rigs) 64 && are_small rigs && are_once rigs && are_in_order rigs
+
+abbrev pub make : List (List ℕ) → List Rig → Entries → Bool
+make points rigs s = are_lawful rigs && bytes_eq (printed (rigging points rigs)) (printed s)
+
+abbrev pub if_made : List (List ℕ) → Entries → List Rig → Option (List Rig)
+if_made points s rigs = if make points rigs s then Some rigs else None
+
+-- the rigged hits of a scenario
+abbrev pub rigs_of_scenario : List (List ℕ) → Entries → Option (List Rig)
+rigs_of_scenario points s = option_and_then (if_made points s) (points_into s 0 points [])

@@ -1,0 +1,13 @@
+//! Runs of a component that somebody else runs, as texts of answers tell them: what is known by them of plans that grow.
+#![tactic(auto)]
+
+mod laws;
+mod rigged;
+mod scenarios;
+mod table;
+mod verdicts;
+
+pub use laws::{answers_tell_plans, answers_tell_verdicts};
+pub use rigged::rigs_of_scenario;
+pub use scenarios::{plan_scenario, rigged_scenario};
+pub use table::AnsweredRuns;

@@ -1,0 +1,206 @@
+//! The rigged hits that a scenario is made of.
+ghost use Rattle.std.specs.Prelude.{◌≡◌, ◌≤◌, not, nat_le, length, option_map, IfOk, OnOk};
+ghost use Rattle.std.specs.List.{list_all};
+ghost use Rattle.action_eval.specs.Answers.{texts};
+ghost use Rattle.action_eval.specs.Catalogue.{IsCatalogue};
+ghost use Rattle.plan_gen.specs.RiggedAnswers.{is_onward};
+ghost use Rattle.grown_plans.specs.GrownPlans.{is_before};
+ghost use Rattle.answered_runs.specs.Rigged.{are_in_order, are_lawful, are_once, are_small, chain_into, chain_named, make, most_hit, points_into, rigs_of_scenario, with_kind, with_task};
+ghost use Rattle.answered_runs.specs.inside.Steps.{Took};
+
+use crate::scenarios::rigged_scenario;
+use action_eval::{Kind, Rig, Site};
+use scenario_grammar::print;
+use scenario_values::{Scenario, Task, Term};
+use std::alloc::{AllocError, Global};
+
+/// The share of a term that acts at each hit that reaches it.
+const FULL: u32 = 1000000;
+
+/// A scenario is made of at most so many rigged hits.
+const MOST_RIGS: usize = 64;
+
+/// Adds a rigged hit.
+fn push(rigs: &mut Vec<Rig>, site: Site, kind: Kind) -> Result<(), AllocError>
+    ensures { OnOk result (rigs.new.items ≡ with_kind site.point site.hit kind rigs.old.items) }
+{
+    rigs.push(Rig { site, kind })
+}
+
+/// Adds what a task does that acts so often up to a hit, where that is nothing or a rigged hit's. Tells whether it is.
+fn push_task(
+    rigs: &mut Vec<Rig>,
+    site: Site,
+    count: u32,
+    task: &Task,
+) -> Result<bool, AllocError>
+    ensures { IfOk result (Took (with_task site.point site.hit count task.now rigs.old.items) rigs.new.items) }
+{
+    match task {
+        Task::Off => Ok(true),
+        Task::Return(None) if count == 1 => {
+            push(rigs, site, Kind::OnceReturn)?;
+            Ok(true)
+        }
+        Task::Panic(None) if count == 1 => {
+            push(rigs, site, Kind::OncePanic)?;
+            Ok(true)
+        }
+        _ => Ok(false),
+    }
+}
+
+/// Adds what the terms of a point do. Tells whether they are those of rigged hits that act once each.
+fn push_chain(rigs: &mut Vec<Rig>, point: u32, terms: &[Term]) -> Result<bool, AllocError>
+    ensures { IfOk result (Took (chain_into point 0 terms.now rigs.old.items) rigs.new.items) }
+{
+    let mut done = 0u32;
+    for term in terms {
+        let Some(count) = term.count else {
+            return Ok(false);
+        };
+        let Some(hit) = done.checked_add(count) else {
+            return Ok(false);
+        };
+        let is_full = term.share == FULL;
+        if !is_full || !push_task(rigs, Site { point, hit }, count, &term.task)? {
+            return Ok(false);
+        }
+        done = hit;
+    }
+    Ok(true)
+}
+
+/// Adds what a scenario does at a point of this name. Tells whether that is made of rigged hits that act once each.
+fn push_point(
+    rigs: &mut Vec<Rig>,
+    scenario: &Scenario,
+    point: u32,
+    name: &str,
+) -> Result<bool, AllocError>
+    ensures { IfOk result (Took (chain_into point 0 (chain_named scenario.now name.now) rigs.old.items) rigs.new.items) }
+{
+    match scenario.entry_of(name) {
+        Some(entry) => push_chain(rigs, point, scenario.chain(entry)),
+        None => push_chain(rigs, point, &[]),
+    }
+}
+
+/// Adds what a scenario does at each of the points. Tells whether that is made of rigged hits that act once each.
+fn push_points(
+    rigs: &mut Vec<Rig>,
+    scenario: &Scenario,
+    points: &[&str],
+) -> Result<bool, AllocError>
+    requires { length points.now ≤ 64 }
+    ensures { IfOk result (Took (points_into scenario.now 0 (texts points.now) rigs.old.items) rigs.new.items) }
+{
+    let mut point = 0u32;
+    for name in points {
+        if !push_point(rigs, scenario, point, name)? {
+            return Ok(false);
+        }
+        point += 1;
+    }
+    Ok(true)
+}
+
+/// Whether a site stands before another one, in the order of points, and of the hits of each.
+fn is_before(a: Site, b: Site) -> bool
+    ensures { result ≡ is_before a b }
+{
+    a.point < b.point || (a.point == b.point && a.hit < b.hit)
+}
+
+/// Whether a rigged hit stands before all of these.
+fn is_before_all(first: &Rig, rigs: &[Rig]) -> bool
+    ensures { result ≡ list_all (λ s. is_before first.now.site s.site) rigs.now }
+{
+    rigs.iter().all(|rig| is_before(first.site, rig.site))
+}
+
+/// Whether rigged hits are in order, and counted from 1.
+fn are_in_order(rigs: &[Rig]) -> bool
+    ensures { result ≡ are_in_order rigs.now }
+{
+    let mut rest = rigs;
+    while let Some((first, more)) = rest.split_first() {
+        if first.site.hit == 0 || !is_before_all(first, more) {
+            return false;
+        }
+        rest = more;
+    }
+    true
+}
+
+/// Whether a rigged hit acts once.
+fn is_once(rig: &Rig) -> bool
+    ensures { result ≡ not (is_onward rig.now.kind) }
+{
+    !matches!(rig.kind, Kind::OnwardReturn)
+}
+
+fn are_once(rigs: &[Rig]) -> bool
+    ensures { result ≡ are_once rigs.now }
+{
+    rigs.iter().all(|rig| is_once(rig))
+}
+
+/// Whether the number of a rigged hit fits 32 bits.
+fn is_small(rig: &Rig) -> bool
+    ensures { result ≡ nat_le rig.now.site.hit most_hit }
+{
+    rig.site.hit <= u32::MAX
+}
+
+fn are_small(rigs: &[Rig]) -> bool
+    ensures { result ≡ are_small rigs.now }
+{
+    rigs.iter().all(|rig| is_small(rig))
+}
+
+/// Whether a scenario can be made of rigged hits, in order, that act once each.
+fn are_lawful(rigs: &[Rig]) -> bool
+    ensures { result ≡ are_lawful rigs.now }
+{
+    rigs.len() <= MOST_RIGS && are_small(rigs) && are_once(rigs) && are_in_order(rigs)
+}
+
+/// Whether rigged hits are the faults of just this scenario.
+fn make(
+    alloc: Global,
+    points: &[&str],
+    rigs: &[Rig],
+    scenario: &Scenario,
+) -> Result<bool, AllocError>
+    requires { IsCatalogue (texts points.now) }
+    ensures { IfOk result (λ is. is ≡ make (texts points.now) rigs.now scenario.now) }
+{
+    if !are_lawful(rigs) {
+        return Ok(false);
+    }
+    let made = rigged_scenario(alloc, points, rigs)?;
+    let text = print(alloc, &made)?;
+    let given = print(alloc, scenario)?;
+    Ok(text.as_str() == given.as_str())
+}
+
+/// The rigged hits of a scenario, in order, where it is made of at most 64 that act once each. An error means that memory was refused.
+pub fn rigs_of_scenario(
+    alloc: Global,
+    points: &[&str],
+    scenario: &Scenario,
+) -> Result<Option<Vec<Rig>>, AllocError>
+    requires { IsCatalogue (texts points.now) }
+    ensures { IfOk result (λ rigs. option_map (λ r. r.items) rigs ≡ rigs_of_scenario (texts points.now) scenario.now) }
+{
+    let mut rigs = Vec::new(alloc);
+    if !push_points(&mut rigs, scenario, points)? {
+        return Ok(None);
+    }
+    if make(alloc, points, rigs.as_slice(), scenario)? {
+        Ok(Some(rigs))
+    } else {
+        Ok(None)
+    }
+}

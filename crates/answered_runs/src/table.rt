@@ -1,0 +1,148 @@
+//! A table of runs, by answers that tell their hits.
+ghost use Rattle.std.specs.Prelude.{◌≡◌, ◌<◌, ◌≤◌, ◌^◌, ◌++◌, length, replicate, option_map, Some, IfOk, OnOk};
+ghost use Rattle.std.specs.List.{AllByRecursion, list_all};
+ghost use Rattle.scenario_values.specs.Tidied.{tidied};
+ghost use Rattle.action_eval.specs.Answers.{texts};
+ghost use Rattle.action_eval.specs.Catalogue.{IsCatalogue};
+ghost use Rattle.answer_text.specs.Hits.{points_of};
+ghost use Rattle.answer_text.specs.Runs.{told_in};
+ghost use Rattle.known_runs.specs.Looks.{IsLook};
+ghost use Rattle.answered_runs.specs.Answered.{answered, is_low, told_of};
+
+use crate::scenarios::plan_scenario;
+use action_eval::Rig;
+use answer_text::{Runs, Stretch, ToldRun};
+use known_runs::{Look, RunTable};
+use scenario_values::Scenario;
+use std::alloc::{AllocError, Global};
+use std::marker::Model;
+
+/// Plans have at most so many faults.
+const MOST_FAULTS: usize = 64;
+
+/// A catalogue has at most so many points.
+const MOST_POINTS: u32 = 64;
+
+/// The most hits that a line tells.
+const MOST_HITS: usize = 4294967295;
+
+/// The runs that answers tell of a component with these points: a plan's run is the one that was told of the plan's scenario, tidied.
+/// Contracts see the names of the points, and what is told of each tidied scenario.
+pub struct AnsweredRuns<'a> {
+    alloc: Global,
+    points: &'a [&'a str],
+    runs: &'a Runs,
+}
+
+impl<'a> Model for AnsweredRuns<'a> {
+    ghost use Rattle.action_eval.specs.Answers.{texts};
+    ghost use Rattle.action_eval.specs.Catalogue.{IsCatalogue};
+    ghost use Rattle.answer_text.specs.Runs.{told_in};
+    ghost use Rattle.answered_runs.specs.Answered.{Answered};
+
+    ghost Value = { Answered };
+
+    ghost view = { λ a. record { points = texts a.points.now; told = told_in a.runs.now } };
+
+    ghost invariant = { λ a. IsCatalogue (texts a.points.now) };
+}
+
+impl<'a> AnsweredRuns<'a> {
+    /// The runs that were read, of a component with these points.
+    pub fn new(alloc: Global, points: &'a [&'a str], runs: &'a Runs) -> Self
+        requires { IsCatalogue (texts points.now) }
+        ensures { result ≡ answered (texts points.now) (told_in runs.now) }
+    {
+        AnsweredRuns {
+            alloc,
+            points,
+            runs,
+        }
+    }
+
+    /// The names of the points, which are a catalogue's.
+    pub fn points(&self) -> &'a [&'a str]
+        ensures names { texts result.now ≡ self.now.points }
+        ensures lawful { IsCatalogue self.now.points }
+    {
+        self.points
+    }
+
+    /// What was told of the run of a scenario once it is tidied. An error means that memory was refused.
+    pub fn told(&self, scenario: &Scenario) -> Result<Option<&ToldRun>, AllocError>
+        ensures { IfOk result (λ told. option_map (λ r. r.now) told ≡ self.now.told (tidied scenario.now)) }
+    {
+        self.runs.told(self.alloc, scenario)
+    }
+}
+
+/// Adds so many hits of a point.
+fn push_stretch(hits: &mut Vec<u32>, stretch: &Stretch) -> Result<(), AllocError>
+    ensures { OnOk result (hits.new.items ≡ hits.old.items ++ replicate stretch.now.count stretch.now.point) }
+{
+    let stretch = *stretch;
+    for _ in 0..stretch.count {
+        hits.push(stretch.point)?;
+    }
+    Ok(())
+}
+
+/// Adds the points of hits, one for each.
+fn push_hits(hits: &mut Vec<u32>, stretches: &[Stretch]) -> Result<(), AllocError>
+    ensures { OnOk result (hits.new.items ≡ hits.old.items ++ points_of stretches.now) }
+{
+    for stretch in stretches {
+        push_stretch(hits, stretch)?;
+    }
+    Ok(())
+}
+
+/// Whether a point is one that a catalogue may have.
+fn is_low(stretch: &Stretch) -> bool
+    ensures { result ≡ is_low stretch.now }
+{
+    stretch.point < MOST_POINTS
+}
+
+fn are_low(stretches: &[Stretch]) -> bool
+    ensures { result ≡ list_all is_low stretches.now }
+{
+    stretches.iter().all(|stretch| is_low(stretch))
+}
+
+/// What a table tells of a run, with the points of its hits in place of what stood in the list.
+fn look_at(run: &ToldRun, hits: &mut Vec<u32>) -> Result<Look, AllocError>
+    ensures told { IfOk result (IsLook (Some (told_of run.now)) hits.new.items) }
+    ensures points { OnOk result (AllByRecursion (λ p. p < 64) hits.new.items) }
+    ensures few { OnOk result (length hits.new.items < 2 ^ 32) }
+{
+    hits.clear();
+    let Some(told) = &run.hits else {
+        return Ok(Look::Unseen(run.verdict));
+    };
+    push_hits(hits, told.stretches())?;
+    if are_low(told.stretches()) && hits.len() <= MOST_HITS {
+        Ok(Look::Seen(run.verdict))
+    } else {
+        hits.clear();
+        Ok(Look::Unseen(run.verdict))
+    }
+}
+
+impl<'a> RunTable for AnsweredRuns<'a> {
+    ghost use Rattle.answered_runs.specs.Answered.{plan_runs};
+
+    ghost known = { plan_runs };
+
+    fn look(&self, faults: &[Rig], hits: &mut Vec<u32>) -> Result<Look, AllocError> {
+        hits.clear();
+        if faults.len() > MOST_FAULTS {
+            return Ok(Look::Unknown);
+        }
+        let scenario = plan_scenario(self.alloc, self.points, faults)?;
+        match self.runs.told(self.alloc, &scenario)? {
+            Some(run) => look_at(run, hits),
+            None => Ok(Look::Unknown),
+        }
+    }
+}
