@@ -87,3 +87,15 @@ is 'no census of nothing' 'census: nothing was hit' "$(./census "$here/nothing" 
 printf '1\tstore::flush\t1\tgo\tx\n2\tlibc::read\t1\tgo\tx\n3\tstore::flush\t2\tgo\tx\n' > "$here/mixed"
 is 'points of others come last' 'points = ["libc::read", "store::flush"]
 hits = [1, 2]' "$(./census "$here/mixed")"
+
+# The hits of a run, as an answer tells them.
+try none mkdir b create a write b write c fsync rename a sub/b folder . fsync
+is 'the hits of a run, those of one point in a row together' \
+    "$(cut -f 2 "$here/run/trace" | uniq -c | awk '{ printf "%s%s%s", between, ($1 > 1 ? $1 "*" : ""), $2; between = ";" } END { print "" }')" \
+    "$(./census --hits "$here/run/trace")"
+printf '1\ta\t1\tgo\tx\n2\ta\t2\tgo\tx\n3\tb\t1\treturn\tx\n4\ta\t3\tgo\tx\n' > "$here/faulty"
+is 'the hits of a run with faults' '2*a;b;a' "$(./census --hits "$here/faulty")"
+is 'the hits of a run without any' '' "$(./census --hits "$here/nothing")"
+printf '1\ta\t1\tgo\tx\n3\ta\t2\tgo\tx\n' > "$here/gap"
+./census --hits "$here/gap" > "$here/said" 2>&1
+is 'no hits of what is no trace' '2 census: line 2 is no line of a trace' "$? $(cat "$here/said")"

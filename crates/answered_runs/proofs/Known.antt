@@ -1,8 +1,9 @@
 -- What answers tell of scenarios that they don't name, of each component that agrees with them.
-use Rattle.std.proofs.Common.{◌≡◌, ℕ, ◌≤◌, ◌<◌, ◌^◌, Bool, true, false, List, [], ◌∷◌, length, map, refl, ap, sym, ◌∙◌, subst, arith, inl, inr, ◌⊎◌}
+use Rattle.std.proofs.Common.{◌≡◌, ℕ, ◌≤◌, ◌<◌, ◌^◌, Bool, true, false, cond, List, [], ◌∷◌, length, map, refl, ap, sym, ◌∙◌, subst, arith, inl, inr, ◌⊎◌}
 use Rattle.std.specs.Prelude.{Contains, Option, Some, None, IfSome, option_and_then, nat_le, nat_lt, ◌&&◌, ◌||◌, ◌==◌, not}
 use Rattle.std.specs.List.{AllByRecursion, list_all}
 use Rattle.std.specs.Str.{bytes_eq}
+use Rattle.std.proofs.lemmas.Bool.{eqb-true, leb-true, ltb-true}
 use Rattle.std.proofs.lemmas.Slice.Eq.{bytes_eq-Decides}
 use Rattle.scenario_values.specs.Scenario.{Entries, IsScenario}
 use Rattle.scenario_values.specs.Printed.{printed}
@@ -25,7 +26,7 @@ use Rattle.grown_plans.specs.GrownPlans.{Subject, is_before, usual_kinds}
 use Rattle.grown_plans.specs.Promises.{verdict_of_rigs}
 use Rattle.grown_plans.proofs.Members.{all_map, all_weaker, contains_head, contains_tail}
 use Rattle.known_runs.proofs.Steps.{same_verdict}
-use Rattle.answered_runs.specs.Answered.{answered, plan_runs}
+use Rattle.answered_runs.specs.Answered.{plan_runs}
 use Rattle.answered_runs.specs.Components.{AgreesWithRuns, IsComponent, IsTrueRun}
 use Rattle.answered_runs.specs.Rigged.{are_in_order, are_lawful, are_once, are_small, if_made, make, most_hit, points_into, rigs_of_scenario}
 use Rattle.answered_runs.specs.Verdicts.{AreVerdictsOf, told_or, verdict_by, walked_by}
@@ -49,22 +50,23 @@ before : (a b : Site) → is_before a b ≡ true → IsBefore a b
 before a b e = at (nat_lt a.point b.point) refl e
   where
     at : (c : Bool) → nat_lt a.point b.point ≡ c → (c || ((a.point == b.point) && nat_lt a.hit b.hit)) ≡ true → IsBefore a b
-    at true f g = inl (omega (arith, f))
+    at true f g = inl (ltb-true a.point b.point f)
     at false f g =
         let same = left (a.point == b.point) (nat_lt a.hit b.hit) g in
         let less = right (a.point == b.point) (nat_lt a.hit b.hit) g in
-        inr (omega (arith, same), omega (arith, less))
+        inr (eqb-true a.point b.point same, ltb-true a.hit b.hit less)
 
 in_order : (rigs : List Rig) → are_in_order rigs ≡ true → AreInOrder (map (λ (r : Rig). r.site) rigs)
 in_order [] e = tt
 in_order (r ∷ rs) e =
-    let first = left (nat_lt 0 r.site.hit) (list_all (λ (s : Rig). is_before r.site s.site) rs && are_in_order rs) e in
-    let more = right (nat_lt 0 r.site.hit) (list_all (λ (s : Rig). is_before r.site s.site) rs && are_in_order rs) e in
-    let all = passes (λ (s : Rig). is_before r.site s.site) rs (left (list_all (λ (s : Rig). is_before r.site s.site) rs) (are_in_order rs) more) in (
-      omega (arith, first),
+    let front = left (nat_lt 0 r.site.hit && list_all (λ (s : Rig). is_before r.site s.site) rs) (are_in_order rs) e in
+    let more = right (nat_lt 0 r.site.hit && list_all (λ (s : Rig). is_before r.site s.site) rs) (are_in_order rs) e in
+    let first = left (nat_lt 0 r.site.hit) (list_all (λ (s : Rig). is_before r.site s.site) rs) front in
+    let all = passes (λ (s : Rig). is_before r.site s.site) rs (right (nat_lt 0 r.site.hit) (list_all (λ (s : Rig). is_before r.site s.site) rs) front) in (
+      ltb-true 0 r.site.hit first,
       all_map (λ (t : Site). IsBefore r.site t) (λ (s : Rig). s.site) rs
           (all_weaker (λ (s : Rig). is_before r.site s.site ≡ true) (λ (s : Rig). IsBefore r.site s.site) (λ s f. before r.site s.site f) rs all),
-      in_order rs (right (list_all (λ (s : Rig). is_before r.site s.site) rs) (are_in_order rs) more),
+      in_order rs more,
     )
 
 of_kinds : (kinds : ℕ → List Kind) → kinds ≡ usual_kinds → (r : Rig) → not (is_onward r.kind) ≡ true → Contains (kinds r.site.point) r.kind
@@ -99,15 +101,15 @@ record Lawful (rigs : List Rig) : Type 0 where
 
 lawful : (rigs : List Rig) → are_lawful rigs ≡ true → Lawful rigs
 lawful rigs e =
-    let a = left (nat_le (length rigs) 64) (are_small rigs && are_once rigs && are_in_order rigs) e in
-    let f = right (nat_le (length rigs) 64) (are_small rigs && are_once rigs && are_in_order rigs) e in
-    let b = left (are_small rigs) (are_once rigs && are_in_order rigs) f in
-    let g = right (are_small rigs) (are_once rigs && are_in_order rigs) f in
+    let f = left (nat_le (length rigs) 64 && are_small rigs && are_once rigs) (are_in_order rigs) e in
+    let g = left (nat_le (length rigs) 64 && are_small rigs) (are_once rigs) f in
+    let a = left (nat_le (length rigs) 64) (are_small rigs) g in
+    let b = right (nat_le (length rigs) 64) (are_small rigs) g in
     record {
-      few = omega (arith, a);
-      small = all_weaker (λ (r : Rig). nat_le r.site.hit most_hit ≡ true) (λ (r : Rig). r.site.hit < 2 ^ 32) (λ r h. omega (arith, h)) rigs (passes (λ (r : Rig). nat_le r.site.hit most_hit) rigs b);
-      once = passes (λ (r : Rig). not (is_onward r.kind)) rigs (left (are_once rigs) (are_in_order rigs) g);
-      ordered = in_order rigs (right (are_once rigs) (are_in_order rigs) g);
+      few = leb-true (length rigs) 64 a;
+      small = all_weaker (λ (r : Rig). nat_le r.site.hit most_hit ≡ true) (λ (r : Rig). r.site.hit < 2 ^ 32) (λ r h. let le = leb-true r.site.hit most_hit h in omega (arith, le)) rigs (passes (λ (r : Rig). nat_le r.site.hit most_hit) rigs b);
+      once = passes (λ (r : Rig). not (is_onward r.kind)) rigs (right (nat_le (length rigs) 64 && are_small rigs) (are_once rigs) f);
+      ordered = in_order rigs (right (nat_le (length rigs) 64 && are_small rigs && are_once rigs) (are_in_order rigs) e);
     }
 
 verdict_some : (v w : Verdict) → Some v ≡ Some w → v ≡ w
@@ -115,23 +117,23 @@ verdict_some v w e = cc
 
 -- ---- the verdicts
 
-pub true_of : (t : Subject) (points : List (List ℕ)) (told : KnownRuns) (depth : ℕ) → IsComponent points t → depth ≤ 64 → AgreesWithRuns t told → AreVerdictsOf t (verdict_by (answered points told) depth)
+pub true_of : (t : Subject) (points : List (List ℕ)) (told : KnownRuns) (depth : ℕ) → IsComponent points t → depth ≤ 64 → AgreesWithRuns t told → AreVerdictsOf t (verdict_by points told depth)
 true_of t points told depth is low agrees s v ok known seed stream = by_told (told s) (agrees s ok) known
   where
     catalogue : IsCatalogue points
     catalogue = subst IsCatalogue is.names is.lawful.catalogue
 
-    by_rigs : (o : Option (List Rig)) → rigs_of_scenario points s ≡ o → walked_by (answered points told) depth o ≡ Some v → (outcome t.asks (given_of s t.names seed stream t.limit)).verdict ≡ v
+    by_rigs : (o : Option (List Rig)) → rigs_of_scenario points s ≡ o → walked_by (plan_runs points told) depth o ≡ Some v → (outcome t.asks (given_of s t.names seed stream t.limit)).verdict ≡ v
     by_rigs None e k = absurd cc
     by_rigs (Some rigs) e k =
         let m = made points s rigs e in
         let l = lawful rigs (left (are_lawful rigs) (bytes_eq (printed (rigging points rigs)) (printed s)) m) in
-        let prints : printed (rigging points rigs) ≡ printed s = bytes_eq-Decides (printed (rigging points rigs)) (printed s) .forth (right (are_lawful rigs) (bytes_eq (printed (rigging points rigs)) (printed s)) m) in
+        let prints : printed (rigging points rigs) ≡ printed s = (bytes_eq-Decides (printed (rigging points rigs)) (printed s)).0 (right (are_lawful rigs) (bytes_eq (printed (rigging points rigs)) (printed s)) m) in
         let same : rigging points rigs ≡ s = same_printed (rigging points rigs) s (rigging_keeps points rigs catalogue l.few l.small) ok prints in
         let kinds = all_weaker (λ (r : Rig). not (is_onward r.kind) ≡ true) (λ (r : Rig). Contains (t.kinds r.site.point) r.kind) (of_kinds t.kinds is.usual) rigs l.once in
-        let w : (seed stream : ℕ) → verdict_of_rigs t seed stream rigs ≡ v = same_verdict (plan_runs (answered points told)) rigs depth (Some v) (sym k) t is.lawful (agree t points told depth is low agrees) l.ordered kinds in
+        let w : (seed stream : ℕ) → verdict_of_rigs t seed stream rigs ≡ v = same_verdict (plan_runs points told) rigs depth (Some v) (sym k) t is.lawful (agree t points told depth is low agrees) l.ordered kinds in
         sym (verdict_is t.asks t.names seed t.limit stream s) ∙ ap (verdict_with t.asks t.names seed t.limit stream) (sym same ∙ ap (λ (names : List (List ℕ)). rigging names rigs) (sym is.names)) ∙ w seed stream
 
-    by_told : (o : Option ToldRun) → IfSome o (IsTrueRun t s) → told_or (answered points told) depth s o ≡ Some v → (outcome t.asks (given_of s t.names seed stream t.limit)).verdict ≡ v
+    by_told : (o : Option ToldRun) → IfSome o (IsTrueRun t s) → told_or (walked_by (plan_runs points told) depth (rigs_of_scenario points s)) o ≡ Some v → (outcome t.asks (given_of s t.names seed stream t.limit)).verdict ≡ v
     by_told (Some r) h k = h.verdict seed stream ∙ verdict_some r.verdict v k
     by_told None h k = by_rigs (rigs_of_scenario points s) refl k

@@ -4,7 +4,7 @@ use Rattle.std.specs.List.{list_all}
 use Rattle.scenario_values.specs.Tidied.{tidied}
 use Rattle.action_eval.specs.declared.rig.Rig.{Rig}
 use Rattle.answer_text.specs.Hits.{most_hits, points_of}
-use Rattle.answer_text.specs.Runs.{KnownRuns}
+use Rattle.answer_text.specs.Runs.{KnownRuns, RunBook, told_in}
 use Rattle.answer_text.specs.declared.hits.Stretch.{Stretch}
 use Rattle.answer_text.specs.declared.runs.ToldRun.{ToldRun}
 use Rattle.campaign_plans.specs.GrownScenarios.{grown_scenario}
@@ -12,13 +12,13 @@ use Rattle.known_runs.specs.Known.{Told}
 use Rattle.known_runs.specs.Known.{KnownRuns as PlanRuns}
 use Rattle.known_runs.specs.Looks.{told}
 
--- the names of a component's points, and what answers tell of each tidied scenario
+-- the names of a component's points, and what answers tell of each printed form
 pub record Answered : Type 0 where
   pub points : List (List ℕ)
-  pub told : KnownRuns
+  pub book : RunBook
 
-abbrev pub answered : List (List ℕ) → KnownRuns → Answered
-answered points told = record { points = points; told = told }
+abbrev pub answered : List (List ℕ) → RunBook → Answered
+answered points book = record { points = points; book = book }
 
 -- the points of a run's hits, one for each. A line tells hits of its points alone, at most 64 of them, and no more hits than this.
 abbrev pub is_low : Stretch → Bool
@@ -32,5 +32,8 @@ abbrev pub told_of : ToldRun → Told
 told_of r = told r.verdict (option_and_then hits_by r.hits)
 
 -- what is told of the run of a plan of at most 64 faults: what answers tell of its scenario, tidied
-abbrev pub plan_runs : Answered → PlanRuns
-plan_runs a plan = if nat_le (length plan) 64 then option_map told_of (a.told (tidied (grown_scenario a.points plan))) else None
+abbrev pub plan_runs : List (List ℕ) → KnownRuns → PlanRuns
+plan_runs points known plan = if nat_le (length plan) 64 then option_map told_of (known (tidied (grown_scenario points plan))) else None
+
+abbrev pub runs_in : Answered → PlanRuns
+runs_in a = plan_runs a.points (told_in a.book)

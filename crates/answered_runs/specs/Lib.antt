@@ -1,4 +1,6 @@
 pub mod Answered
+pub mod Asked
+pub mod Broken
 pub mod Components
 pub mod Rigged
 pub mod Verdicts

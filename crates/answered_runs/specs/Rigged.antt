@@ -1,5 +1,5 @@
 -- The rigged hits that a scenario is made of, where it is one of hits that fail or panic once each.
-use Rattle.std.specs.Prelude.{ℕ, ◌+◌, ◌==◌, ◌&&◌, Bool, true, not, List, [], ◌∷◌, ◌++◌, Option, None, Some, option_and_then, nat_le, nat_lt, length, if◌then◌else◌}
+use Rattle.std.specs.Prelude.{ℕ, ◌+◌, ◌==◌, ◌&&◌, Bool, true, not, List, [], ◌∷◌, ◌++◌, Option, None, Some, option_and_then, option_map, nat_le, nat_lt, length, if◌then◌else◌}
 use Rattle.std.specs.List.{list_all}
 use Rattle.std.specs.Option.{option_map_or}
 use Rattle.std.specs.Str.{bytes_eq}
@@ -34,13 +34,18 @@ with_task point hit count _ rigs = None
 abbrev pub with_term : ℕ → ℕ → ℕ → Term → List Rig → Option (List Rig)
 with_term point hit count t rigs = if (t.share == 1000000) && nat_le hit most_hit then with_task point hit count t.task rigs else None
 
--- the rigged hits with those of a chain, after so many hits of its point
+-- the same after so many hits of the point, with how many there are then; none of a term without a count
+abbrev pub counted_into : ℕ → ℕ → Term → List Rig → Option ℕ → Option (ℕ × List Rig)
+counted_into point done t rigs None = None
+counted_into point done t rigs (Some count) = option_map (λ more. (done + count, more)) (with_term point (done + count) count t rigs)
+
+abbrev pub term_into : ℕ → ℕ → Term → List Rig → Option (ℕ × List Rig)
+term_into point done t rigs = counted_into point done t rigs t.count
+
+-- and with those of a chain
 unfoldable pub chain_into : ℕ → ℕ → List Term → List Rig → Option (List Rig)
 chain_into point done [] rigs = Some rigs
-chain_into point done (t ∷ ts) rigs = elim t.count [
-  | None ↦ None
-  | Some count ↦ option_and_then (chain_into point (done + count) ts) (with_term point (done + count) count t rigs)
-]
+chain_into point done (t ∷ ts) rigs = option_and_then (λ next. chain_into point next.0 ts next.1) (term_into point done t rigs)
 
 -- the chain of a point's name; none where the scenario doesn't name it
 abbrev pub chain_named : Entries → List ℕ → List Term

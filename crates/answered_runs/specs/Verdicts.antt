@@ -6,23 +6,25 @@ use Rattle.action_eval.specs.declared.rig.Rig.{Rig}
 use Rattle.target_trait.specs.Outcomes.{outcome}
 use Rattle.target_trait.specs.declared.judgement.Verdict.{Verdict}
 use Rattle.grown_plans.specs.GrownPlans.{Subject}
+use Rattle.answer_text.specs.Runs.{KnownRuns}
 use Rattle.answer_text.specs.declared.runs.ToldRun.{ToldRun}
+use Rattle.known_runs.specs.Known.{KnownRuns as PlanRuns}
 use Rattle.known_runs.specs.Walks.{verdict_walked}
-use Rattle.answered_runs.specs.Answered.{Answered, plan_runs}
+use Rattle.answered_runs.specs.Answered.{plan_runs}
 use Rattle.answered_runs.specs.Rigged.{rigs_of_scenario}
 
 -- the verdict that rigged hits come to
-abbrev pub walked_by : Answered → ℕ → Option (List Rig) → Option Verdict
-walked_by a depth None = None
-walked_by a depth (Some rigs) = verdict_walked (plan_runs a) rigs depth
+abbrev pub walked_by : PlanRuns → ℕ → Option (List Rig) → Option Verdict
+walked_by runs depth None = None
+walked_by runs depth (Some rigs) = verdict_walked runs rigs depth
 
 -- what was told of a scenario, or else what its rigged hits come to
-abbrev pub told_or : Answered → ℕ → Entries → Option ToldRun → Option Verdict
-told_or a depth s None = walked_by a depth (rigs_of_scenario a.points s)
-told_or a depth s (Some r) = Some r.verdict
+abbrev pub told_or : Option Verdict → Option ToldRun → Option Verdict
+told_or walked None = walked
+told_or walked (Some r) = Some r.verdict
 
-abbrev pub verdict_by : Answered → ℕ → Entries → Option Verdict
-verdict_by a depth s = told_or a depth s (a.told s)
+abbrev pub verdict_by : List (List ℕ) → KnownRuns → ℕ → Entries → Option Verdict
+verdict_by points known depth s = told_or (walked_by (plan_runs points known) depth (rigs_of_scenario points s)) (known s)
 
 -- each verdict that is known is a component's, under whatever seed and stream number
 abbrev pub AreVerdictsOf : Subject → (Entries → Option Verdict) → Type 0

@@ -5,8 +5,8 @@ ghost use Rattle.action_eval.specs.Answers.{texts};
 ghost use Rattle.action_eval.specs.Catalogue.{IsCatalogue};
 ghost use Rattle.plan_gen.specs.RiggedAnswers.{is_onward};
 ghost use Rattle.grown_plans.specs.GrownPlans.{is_before};
-ghost use Rattle.answered_runs.specs.Rigged.{are_in_order, are_lawful, are_once, are_small, chain_into, chain_named, make, most_hit, points_into, rigs_of_scenario, with_kind, with_task};
-ghost use Rattle.answered_runs.specs.inside.Steps.{Took};
+ghost use Rattle.answered_runs.specs.Rigged.{are_in_order, are_lawful, are_once, are_small, chain_into, chain_named, make, most_hit, points_into, rigs_of_scenario, term_into, with_kind, with_task};
+ghost use Rattle.answered_runs.specs.inside.Steps.{Took, TookTo};
 
 use crate::scenarios::rigged_scenario;
 use action_eval::{Kind, Rig, Site};
@@ -24,7 +24,8 @@ const MOST_RIGS: usize = 64;
 fn push(rigs: &mut Vec<Rig>, site: Site, kind: Kind) -> Result<(), AllocError>
     ensures { OnOk result (rigs.new.items ≡ with_kind site.point site.hit kind rigs.old.items) }
 {
-    rigs.push(Rig { site, kind })
+    rigs.push(Rig { site, kind })?;
+    Ok(())
 }
 
 /// Adds what a task does that acts so often up to a hit, where that is nothing or a rigged hit's. Tells whether it is.
@@ -50,23 +51,38 @@ fn push_task(
     }
 }
 
+/// Adds what a term does after so many hits of a point, where it acts up to a hit of a rigged one's kind. Answers that hit.
+fn push_term(
+    rigs: &mut Vec<Rig>,
+    point: u32,
+    done: u32,
+    term: &Term,
+) -> Result<Option<u32>, AllocError>
+    ensures { IfOk result (TookTo (term_into point done term.now rigs.old.items) rigs.new.items) }
+{
+    let Some(count) = term.count else {
+        return Ok(None);
+    };
+    let Some(hit) = done.checked_add(count) else {
+        return Ok(None);
+    };
+    if term.share == FULL && push_task(rigs, Site { point, hit }, count, &term.task)? {
+        Ok(Some(hit))
+    } else {
+        Ok(None)
+    }
+}
+
 /// Adds what the terms of a point do. Tells whether they are those of rigged hits that act once each.
 fn push_chain(rigs: &mut Vec<Rig>, point: u32, terms: &[Term]) -> Result<bool, AllocError>
     ensures { IfOk result (Took (chain_into point 0 terms.now rigs.old.items) rigs.new.items) }
 {
     let mut done = 0u32;
     for term in terms {
-        let Some(count) = term.count else {
-            return Ok(false);
-        };
-        let Some(hit) = done.checked_add(count) else {
-            return Ok(false);
-        };
-        let is_full = term.share == FULL;
-        if !is_full || !push_task(rigs, Site { point, hit }, count, &term.task)? {
-            return Ok(false);
+        match push_term(rigs, point, done, term)? {
+            Some(hit) => done = hit,
+            None => return Ok(false),
         }
-        done = hit;
     }
     Ok(true)
 }

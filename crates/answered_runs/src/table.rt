@@ -37,12 +37,11 @@ pub struct AnsweredRuns<'a> {
 impl<'a> Model for AnsweredRuns<'a> {
     ghost use Rattle.action_eval.specs.Answers.{texts};
     ghost use Rattle.action_eval.specs.Catalogue.{IsCatalogue};
-    ghost use Rattle.answer_text.specs.Runs.{told_in};
     ghost use Rattle.answered_runs.specs.Answered.{Answered};
 
     ghost Value = { Answered };
 
-    ghost view = { λ a. record { points = texts a.points.now; told = told_in a.runs.now } };
+    ghost view = { λ a. record { points = texts a.points.now; book = a.runs.now } };
 
     ghost invariant = { λ a. IsCatalogue (texts a.points.now) };
 }
@@ -51,7 +50,7 @@ impl<'a> AnsweredRuns<'a> {
     /// The runs that were read, of a component with these points.
     pub fn new(alloc: Global, points: &'a [&'a str], runs: &'a Runs) -> Self
         requires { IsCatalogue (texts points.now) }
-        ensures { result ≡ answered (texts points.now) (told_in runs.now) }
+        ensures { result ≡ answered (texts points.now) runs.now }
     {
         AnsweredRuns {
             alloc,
@@ -70,7 +69,7 @@ impl<'a> AnsweredRuns<'a> {
 
     /// What was told of the run of a scenario once it is tidied. An error means that memory was refused.
     pub fn told(&self, scenario: &Scenario) -> Result<Option<&ToldRun>, AllocError>
-        ensures { IfOk result (λ told. option_map (λ r. r.now) told ≡ self.now.told (tidied scenario.now)) }
+        ensures { IfOk result (λ told. option_map (λ r. r.now) told ≡ told_in self.now.book (tidied scenario.now)) }
     {
         self.runs.told(self.alloc, scenario)
     }
@@ -130,9 +129,9 @@ fn look_at(run: &ToldRun, hits: &mut Vec<u32>) -> Result<Look, AllocError>
 }
 
 impl<'a> RunTable for AnsweredRuns<'a> {
-    ghost use Rattle.answered_runs.specs.Answered.{plan_runs};
+    ghost use Rattle.answered_runs.specs.Answered.{runs_in};
 
-    ghost known = { plan_runs };
+    ghost known = { runs_in };
 
     fn look(&self, faults: &[Rig], hits: &mut Vec<u32>) -> Result<Look, AllocError> {
         hits.clear();

@@ -1,6 +1,8 @@
 //! Verdicts of scenarios, by what answers tell of runs.
 ghost use Rattle.std.specs.Prelude.{◌≡◌, IfOk};
 ghost use Rattle.scenario_values.specs.Tidied.{tidied};
+ghost use Rattle.answer_text.specs.Runs.{told_in};
+ghost use Rattle.answered_runs.specs.Answered.{runs_in};
 ghost use Rattle.answered_runs.specs.Rigged.{rigs_of_scenario};
 ghost use Rattle.answered_runs.specs.Verdicts.{verdict_by, walked_by};
 
@@ -18,7 +20,7 @@ fn walked(
     depth: u32,
     scenario: &Scenario,
 ) -> Result<Option<Verdict>, AllocError>
-    ensures { IfOk result (λ verdict. verdict ≡ walked_by runs.now depth (rigs_of_scenario runs.now.points scenario.now)) }
+    ensures { IfOk result (λ verdict. verdict ≡ walked_by (runs_in runs.now) depth (rigs_of_scenario runs.now.points scenario.now)) }
 {
     match rigs_of_scenario(alloc, runs.points(), scenario)? {
         Some(rigs) => verdict_of(alloc, runs, rigs.as_slice(), depth),
@@ -36,7 +38,7 @@ impl<'a> AnsweredRuns<'a> {
         depth: u32,
         scenario: &Scenario,
     ) -> Result<Option<Verdict>, AllocError>
-        ensures { IfOk result (λ verdict. verdict ≡ verdict_by self.now depth (tidied scenario.now)) }
+        ensures { IfOk result (λ verdict. verdict ≡ verdict_by self.now.points (told_in self.now.book) depth (tidied scenario.now)) }
     {
         if let Some(run) = self.told(scenario)? {
             return Ok(Some(run.verdict));

@@ -13,7 +13,7 @@ use Rattle.grown_plans.proofs.Apart.{level_in_levels}
 use Rattle.grown_plans.proofs.Onward.{runs_nothing_twice}
 use Rattle.known_runs.specs.Known.{KnownRuns, Told, hits_of}
 use Rattle.known_runs.specs.KnownPart.{are_told, is_reached, is_reached_onward, known_part, once_of, to_run}
-use Rattle.known_runs.specs.Promises.{EndsWhole, RunsEachOnce}
+use Rattle.known_runs.specs.Promises.{EndsSeen, EndsWhole, RunsEachOnce}
 use Rattle.known_runs.proofs.Listed.{filter_all, children_reached}
 
 -- ---- members that pass a test
@@ -34,7 +34,7 @@ none_left {A} p (x ∷ xs) e = by_test (none_left p xs) (p x) refl e
     by_test rest true f h = absurd cc
     by_test rest false f h = (f, rest h)
 
-filtered : {A : Type 0} (p : A → Bool) (Q : A → Type 0) (xs : List A) → AllByRecursion Q xs → AllByRecursion Q (filter p xs)
+pub filtered : {A : Type 0} (p : A → Bool) (Q : A → Type 0) (xs : List A) → AllByRecursion Q xs → AllByRecursion Q (filter p xs)
 filtered p Q [] a = tt
 filtered {A} p Q (x ∷ xs) a = by_test (p x) (filtered p Q xs a.1)
   where
@@ -110,11 +110,22 @@ has_hits t d known e each plan c reached =
     let told = all_contains (λ (p : List Rig). is_reached known p ≡ true → is_none (known p) ≡ false) (levels t d) plan (held (is_reached known) (λ (p : List Rig). is_none (known p) ≡ false) (levels t d) front) c in
     sym (each plan) ∙ told_none (known plan) (told reached)
 
-pub ends_whole : (t : Subject) (d : ℕ) (known : KnownRuns) → EndsWhole t d known
-ends_whole t d known e each =
-    let h = has_hits t d known e each in
+whole_by : (t : Subject) (d : ℕ) (known : KnownRuns) → HasHits t d known → known_part t d known ≡ grown t d
+whole_by t d known h =
     ap (λ (x : List (List Rig)). x ++ filter (is_reached_onward known) (onward t d)) (filter_all (is_reached known) true (levels t d) (levels_reached t d known h d (omega arith)))
     ∙ ap (λ (x : List (List Rig)). levels t d ++ x) (filter_all (is_reached_onward known) true (onward t d) (onward_reached t d known h))
+
+pub ends_seen : (t : Subject) (d : ℕ) (known : KnownRuns) → EndsSeen t d known
+ends_seen t d known all =
+    let front : AllByRecursion (λ p. are_told (hits_of known p) ≡ true) (filter (is_reached known) (levels t d)) =
+    all_left (λ (p : List Rig). are_told (hits_of known p) ≡ true) (filter (is_reached known) (levels t d)) (filter (is_reached_onward known) (onward t d)) all
+    in
+    whole_by t d known
+    (λ plan c reached. all_contains (λ (p : List Rig). is_reached known p ≡ true → are_told (hits_of known p) ≡ true) (levels t d) plan
+    (held (is_reached known) (λ (p : List Rig). are_told (hits_of known p) ≡ true) (levels t d) front) c reached)
+
+pub ends_whole : (t : Subject) (d : ℕ) (known : KnownRuns) → EndsWhole t d known
+ends_whole t d known e each = whole_by t d known (has_hits t d known e each)
 
 -- ---- each plan once
 

@@ -1,5 +1,5 @@
 -- What known runs tell of every subject that agrees with them.
-use Rattle.std.specs.Prelude.{◌≡◌, ◌≢◌, ℕ, List, [], Some, map, Contains}
+use Rattle.std.specs.Prelude.{◌≡◌, ◌≢◌, ℕ, true, List, [], Some, map, Contains}
 use Rattle.std.specs.List.{AllByRecursion}
 use Rattle.action_eval.specs.declared.rig.Rig.{Rig}
 use Rattle.action_eval.specs.Answers.{given_of}
@@ -27,6 +27,10 @@ WalksRight t d known =
 abbrev pub EndsWhole : Subject → ℕ → KnownRuns → Type 0
 EndsWhole t d known =
     to_run t d known ≡ [] → ((plan : List Rig) → are_told (known plan) ≡ are_told (hits_of known plan)) → known_part t d known ≡ grown t d
+
+-- where the hits of each plan of the part that is known are told, this part is the whole list
+abbrev pub EndsSeen : Subject → ℕ → KnownRuns → Type 0
+EndsSeen t d known = AllByRecursion (λ plan. are_told (hits_of known plan) ≡ true) (known_part t d known) → known_part t d known ≡ grown t d
 
 -- no plan is to be run twice
 abbrev pub RunsEachOnce : Subject → ℕ → KnownRuns → Type 0

@@ -4,7 +4,7 @@ ghost use Rattle.grown_plans.specs.GrownPlans.{Subject};
 ghost use Rattle.grown_plans.specs.Promises.{IsLawful};
 ghost use Rattle.known_runs.specs.Breaks.{BreaksNever};
 ghost use Rattle.known_runs.specs.Known.{Agrees, KnownRuns};
-ghost use Rattle.known_runs.specs.Promises.{EndsWhole, RunsEachOnce, WalksRight};
+ghost use Rattle.known_runs.specs.Promises.{EndsSeen, EndsWhole, RunsEachOnce, WalksRight};
 
 /// Of every lawful subject that agrees with what is known of runs, the plan that a walk over them comes to has the run, and so the verdict, of
 /// the rigged hits that it follows.
@@ -15,6 +15,11 @@ pub fn known_runs_tell_others()
 /// Where nothing of the known part of a list is left to be run, and the hits of each run that is told are, this part is the whole list.
 pub fn nothing_to_run_is_the_whole_list()
     ensures { (t : Subject) (d : ℕ) (known : KnownRuns) → EndsWhole t d known }
+{}
+
+/// Where the hits of each plan of the known part of a list are told, this part is the whole list.
+pub fn hits_of_all_are_the_whole_list()
+    ensures { (t : Subject) (d : ℕ) (known : KnownRuns) → EndsSeen t d known }
 {}
 
 /// No plan is to be run twice.

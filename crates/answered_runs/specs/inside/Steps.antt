@@ -1,8 +1,13 @@
 -- Rigged hits, found term by term; the private contracts cite it.
-use Rattle.std.specs.Prelude.{◌≡◌, Bool, true, false, List, Option, None, Some}
+use Rattle.std.specs.Prelude.{◌≡◌, ℕ, Bool, true, false, List, Option, None, Some}
 use Rattle.action_eval.specs.declared.rig.Rig.{Rig}
 
 -- whether there are such rigged hits, and then these are they
 abbrev pub Took : Option (List Rig) → List Rig → Bool → Type 0
 Took found rigs true = found ≡ Some rigs
 Took found rigs false = found ≡ None
+
+-- the same with how many hits of the point there are then
+abbrev pub TookTo : Option (ℕ × List Rig) → List Rig → Option ℕ → Type 0
+TookTo found rigs None = found ≡ None
+TookTo found rigs (Some hit) = found ≡ Some (hit, rigs)

@@ -3,6 +3,6 @@ use Rattle.action_eval.specs.declared.rig.Rig.{Rig}
 use Rattle.answered_runs.proofs.Runs.{rigs_few}
 use Rattle.answered_runs.proofs.scenarios.plan_scenario.Goals as goal
 
-pub scenario_of-requires-clause-few : goal.scenario_of-requires-clause-few
-scenario_of-requires-clause-few c =
-    subst (λ (rs : List Rig). length rs ≤ 64) (sym (c.as_slice-2.ensures.value ∙ c.in_ok-rigs_of.ensures)) (rigs_few c.args.faults.now c.requires.few)
+pub rigged_scenario-requires-clause-few : goal.rigged_scenario-requires-clause-few
+rigged_scenario-requires-clause-few c =
+    subst (λ (rs : List Rig). length rs ≤ 64) (sym (c.as_slice.ensures.value ∙ c.in_ok-rigs_of.ensures)) (rigs_few c.args.faults.now c.requires.few)
