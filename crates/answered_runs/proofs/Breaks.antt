@@ -17,6 +17,8 @@ use Rattle.known_runs.specs.KnownPart.{is_reached, is_reached_onward, known_part
 use Rattle.known_runs.specs.declared.breaks.Break.{Break}
 use Rattle.known_runs.proofs.Breaking.{breaks_never}
 use Rattle.known_runs.proofs.Ends.{filtered}
+use Rattle.answer_text.specs.Runs.{KnownRuns as Answers}
+use Rattle.answered_runs.specs.Components.{AgreesWithRuns, IsComponent}
 use Rattle.answered_runs.specs.Broken.{break_at, break_told, first_break}
 
 abbrev Whole : KnownRuns → List Rig → Type 0
@@ -111,6 +113,8 @@ found_here runs n plans rest plan how whole is some e =
 pub found_nowhere : (runs : KnownRuns) (n : ℕ) (plans : List (List Rig)) (whole : Option (ℕ × Break)) → plans ≡ [] → first_break runs n plans ≡ whole → None ≡ whole
 found_nowhere runs n plans whole is e = sym (ap (first_break runs n) is) ∙ e
 
-pub never_found : {A : Type 0} (o : Option A) → o ≡ None → IfSome o (λ x. ⊥)
-never_found None e = tt
-never_found (Some x) e = absurd cc
+-- where each component that agrees has no break, none agrees with one
+pub some_never : {A : Type 0} (o : Option A) (points : List (List ℕ)) (told : Answers) → ((t : Subject) → IsComponent points t → AgreesWithRuns t told → o ≡ None)
+    → IfSome o (λ x. (t : Subject) → IsComponent points t → AgreesWithRuns t told → ⊥)
+some_never None points told h = tt
+some_never (Some x) points told h = λ t is agrees. let none : Some x ≡ None = h t is agrees in absurd cc

@@ -4,4 +4,5 @@ pub mod Broken
 pub mod Components
 pub mod Rigged
 pub mod Verdicts
+pub mod WholeList
 pub mod inside

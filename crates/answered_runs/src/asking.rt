@@ -3,7 +3,8 @@ ghost use Rattle.std.specs.Prelude.{◌≡◌, ◌≤◌, ◌∷◌, ◌++◌, [
 ghost use Rattle.std.specs.List.{AllByRecursion};
 ghost use Rattle.report.specs.ReportText.{text_of};
 ghost use Rattle.answer_text.specs.Runs.{told_in};
-ghost use Rattle.grown_plans.specs.GrownPlans.{Subject};
+ghost use Rattle.grown_plans.specs.GrownPlans.{Subject, usual_kinds};
+ghost use Rattle.known_runs.specs.ToldPart.{part_known};
 ghost use Rattle.answered_runs.specs.Answered.{runs_in};
 ghost use Rattle.answered_runs.specs.Asked.{asks_text, lines_for};
 ghost use Rattle.answered_runs.specs.Components.{AgreesWithRuns, IsComponent};
@@ -72,8 +73,9 @@ pub fn asks(
 ) -> Result<String, KnownFault>
     requires depth { depth ≤ 64 }
     requires most { most ≤ 65536 }
+    ensures lines { IfOk result (λ text. string_bytes text ≡ text_of (lines_for runs.now (part_known usual_kinds (runs_in runs.now) depth))) }
     // For every component that agrees with the answers.
-    ensures { IfOk result (λ text. (t : Subject) → IsComponent runs.now.points t → AgreesWithRuns t (told_in runs.now.book)
+    ensures asked { IfOk result (λ text. (t : Subject) → IsComponent runs.now.points t → AgreesWithRuns t (told_in runs.now.book)
         → string_bytes text ≡ asks_text t depth (runs_in runs.now)) }
 {
     let known = known_plans(alloc, runs, depth, most)?;

@@ -1,8 +1,8 @@
 //! Runs that break with those that they ought to begin like.
 ghost use Rattle.std.specs.Prelude.{◌≡◌, ◌≤◌, ⊥, IfOk, IfSome};
 ghost use Rattle.answer_text.specs.Runs.{told_in};
-ghost use Rattle.grown_plans.specs.GrownPlans.{Subject};
-ghost use Rattle.known_runs.specs.KnownPart.{known_part};
+ghost use Rattle.grown_plans.specs.GrownPlans.{Subject, usual_kinds};
+ghost use Rattle.known_runs.specs.ToldPart.{part_known};
 ghost use Rattle.answered_runs.specs.Answered.{runs_in};
 ghost use Rattle.answered_runs.specs.Broken.{break_at, first_break};
 ghost use Rattle.answered_runs.specs.Components.{AgreesWithRuns, IsComponent};
@@ -60,8 +60,8 @@ fn first_break(
 }
 
 /// The first plan that is known by now, by its number in the list of those, whose run is told and breaks with that of the plan which it grew
-/// from: before its last fault it hits another point, or that fault isn't met. What it is when there is one, no component of which it could
-/// be told does: the component doesn't do the same each time, or the lines are of two.
+/// from: before its last fault it hits another point, or that fault isn't met. Plans with a fault from then on aren't looked at. Where there is
+/// such a run, what the component asks next doesn't follow from the answers so far, or the answers are those of two.
 ///
 /// There are at most so many known plans, of at most 65536; they are refused as too many where a level, or those from then on, would make
 /// more.
@@ -73,12 +73,10 @@ pub fn broken_run(
 ) -> Result<Option<(usize, Break)>, KnownFault>
     requires depth { depth ≤ 64 }
     requires most { most ≤ 65536 }
+    ensures first { IfOk result (λ found. found ≡ first_break (runs_in runs.now) 0 (part_known usual_kinds (runs_in runs.now) depth)) }
     // No component agrees with answers of which a run breaks.
     ensures none { IfOk result (λ found. IfSome found (λ broken. (t : Subject) → IsComponent runs.now.points t
         → AgreesWithRuns t (told_in runs.now.book) → ⊥)) }
-    // Of each that agrees this is the first break of the known part of its list, which has none.
-    ensures first { IfOk result (λ found. (t : Subject) → IsComponent runs.now.points t → AgreesWithRuns t (told_in runs.now.book)
-        → found ≡ first_break (runs_in runs.now) 0 (known_part t depth (runs_in runs.now))) }
 {
     let known = known_plans(alloc, runs, depth, most)?;
     Ok(first_break(alloc, runs, &known.plans)?)

@@ -8,6 +8,7 @@ mod rigged;
 mod scenarios;
 mod table;
 mod verdicts;
+mod whole;
 
 pub use asking::asks;
 pub use broken::broken_run;
@@ -15,3 +16,4 @@ pub use laws::{answers_tell_plans, answers_tell_verdicts};
 pub use rigged::rigs_of_scenario;
 pub use scenarios::{plan_scenario, rigged_scenario};
 pub use table::AnsweredRuns;
+pub use whole::{Gap, Listed, listed_plans};

@@ -1,5 +1,5 @@
 -- Where nothing is left to be run, the part of a list that is known is the whole list; and no plan is to be run twice.
-use Rattle.std.proofs.Common.{◌≡◌, ◌≢◌, ℕ, zero, suc, ◌≤◌, ◌&&◌, Bool, true, false, cond, List, [], ◌∷◌, ◌++◌, refl, ap, sym, ◌∙◌, arith}
+use Rattle.std.proofs.Common.{◌≡◌, ◌≢◌, ℕ, zero, suc, ◌+◌, ◌≤◌, length, ◌&&◌, Bool, true, false, cond, List, [], ◌∷◌, ◌++◌, refl, ap, sym, ◌∙◌, arith}
 use Rattle.std.specs.Prelude.{Contains, Option, Some, None, is_none}
 use Rattle.std.specs.List.{AllByRecursion, filter}
 use Rattle.action_eval.specs.declared.rig.Rig.{Rig}
@@ -55,7 +55,7 @@ told_none (Some told) e = refl
 abbrev HasHits : Subject → ℕ → KnownRuns → Type 0
 HasHits t d known = (plan : List Rig) → Contains (levels t d) plan → is_reached known plan ≡ true → are_told (hits_of known plan) ≡ true
 
-level_reached : (t : Subject) (d : ℕ) (known : KnownRuns) → HasHits t d known → (n : ℕ) → n ≤ d → AllByRecursion (λ plan. is_reached known plan ≡ true) (level t n)
+level_reached : (t : Subject) (d : ℕ) (known : KnownRuns) → HasHits t d known → (n : ℕ) → n ≤ d + 1 → AllByRecursion (λ plan. is_reached known plan ≡ true) (level t n)
 unfolding level
 level_reached t d known h zero le = (refl, tt)
 level_reached t d known h (suc n) le =
@@ -69,9 +69,9 @@ level_reached t d known h (suc n) le =
 
 levels_reached : (t : Subject) (d : ℕ) (known : KnownRuns) → HasHits t d known → (n : ℕ) → n ≤ d → AllByRecursion (λ plan. is_reached known plan ≡ true) (levels t n)
 unfolding levels
-levels_reached t d known h zero le = level_reached t d known h zero le
+levels_reached t d known h zero le = level_reached t d known h zero (omega (arith, le))
 levels_reached t d known h (suc n) le =
-    all_append (λ (plan : List Rig). is_reached known plan ≡ true) (levels t n) (level t (suc n)) (levels_reached t d known h n (omega (arith, le))) (level_reached t d known h (suc n) le)
+    all_append (λ (plan : List Rig). is_reached known plan ≡ true) (levels t n) (level t (suc n)) (levels_reached t d known h n (omega (arith, le))) (level_reached t d known h (suc n) (omega (arith, le)))
 
 of_leaf : (t : Subject) (known : KnownRuns) (plan : List Rig) → are_told (hits_of known plan) ≡ true → is_reached known plan ≡ true → AllByRecursion (λ y. is_reached_onward known y ≡ true) (onward_of t plan)
 of_leaf t known [] told reached = tt
@@ -120,9 +120,15 @@ ends_seen t d known all =
     let front : AllByRecursion (λ p. are_told (hits_of known p) ≡ true) (filter (is_reached known) (levels t d)) =
     all_left (λ (p : List Rig). are_told (hits_of known p) ≡ true) (filter (is_reached known) (levels t d)) (filter (is_reached_onward known) (onward t d)) all
     in
-    whole_by t d known
-    (λ plan c reached. all_contains (λ (p : List Rig). is_reached known p ≡ true → are_told (hits_of known p) ≡ true) (levels t d) plan
-    (held (is_reached known) (λ (p : List Rig). are_told (hits_of known p) ≡ true) (levels t d) front) c reached)
+    let h : HasHits t d known =
+    λ plan c reached. all_contains (λ (p : List Rig). is_reached known p ≡ true → are_told (hits_of known p) ≡ true) (levels t d) plan
+    (held (is_reached known) (λ (p : List Rig). are_told (hits_of known p) ≡ true) (levels t d) front) c reached
+    in
+    record {
+      list = whole_by t d known h;
+      levels = λ n le. ap length (filter_all (is_reached known) true (level t n) (level_reached t d known h n le));
+      onward_size = ap length (filter_all (is_reached_onward known) true (onward t d) (onward_reached t d known h));
+    }
 
 pub ends_whole : (t : Subject) (d : ℕ) (known : KnownRuns) → EndsWhole t d known
 ends_whole t d known e each = whole_by t d known (has_hits t d known e each)

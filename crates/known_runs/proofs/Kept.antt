@@ -21,7 +21,8 @@ use Rattle.known_runs.specs.KnownPlans.{AreKnown, level_size}
 use Rattle.known_runs.specs.declared.growing.KnownPlans.{KnownPlans}
 use Rattle.known_runs.specs.declared.growing.Levels.{Levels}
 use Rattle.known_runs.specs.inside.GrownLevels.{AreLevels, HasOnward, size_known}
-use Rattle.known_runs.specs.inside.Grown.{children_known, children_told, kept_known, kept_over, kept_told, level_known, levels_known, onward_known, onward_over, onward_told, part_known}
+use Rattle.known_runs.specs.ToldPart.{children_known, children_told, level_known, levels_known, onward_told, part_known}
+use Rattle.known_runs.specs.inside.Grown.{kept_known, kept_over, kept_told, onward_known, onward_over}
 use Rattle.known_runs.proofs.Listed.{level_is, onward_is, part_is}
 
 -- ---- one plan more
@@ -266,6 +267,9 @@ known_is known d l k beyond levels more grows t lawful usual agrees =
       beyond = more.beyond_is ∙ grows ∙ next_size known d l.last l.plans last ∙ ap (size_known known) one ∙ size_of known d (d + 1) t lawful usual agrees (omega arith);
     }
 
+pub known_grown : (known : KnownRuns) (d : ℕ) (l : Levels) (k : KnownPlans) (beyond : ℕ) → AreLevels known d l → HasOnward known l beyond k → k.plans ≡ part_known usual_kinds known d
+known_grown known d l k beyond levels more = part_is_known known d l.last l.plans k.plans (record { are = levels.are; count = levels.count }) more.plans
+
 pub known_short : (known : KnownRuns) (d : ℕ) (l : Levels) (k : KnownPlans) (beyond : ℕ) → AreLevels known d l → HasOnward known l beyond k → AllByRecursion (λ plan. length plan ≤ d) k.plans
 known_short known d l k beyond levels more =
-    subst (λ (ps : List (List Rig)). AllByRecursion (λ plan. length plan ≤ d) ps) (sym (part_is_known known d l.last l.plans k.plans (record { are = levels.are; count = levels.count }) more.plans)) (part_short known d)
+    subst (λ (ps : List (List Rig)). AllByRecursion (λ plan. length plan ≤ d) ps) (sym (known_grown known d l k beyond levels more)) (part_short known d)

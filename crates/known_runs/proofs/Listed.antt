@@ -16,7 +16,7 @@ use Rattle.grown_plans.proofs.Apart.{level_in_levels}
 use Rattle.grown_plans.proofs.AskedSites.{grows_by_asked, goes_onward_by_asked}
 use Rattle.known_runs.specs.Known.{Agrees, KnownRuns, hits_of}
 use Rattle.known_runs.specs.KnownPart.{are_told, is_reached, is_reached_onward, known_part, once_of}
-use Rattle.known_runs.specs.inside.Grown.{children_known, children_told, level_known, levels_known, onward_told, part_known}
+use Rattle.known_runs.specs.ToldPart.{children_known, children_told, level_known, levels_known, onward_told, part_known}
 use Rattle.known_runs.proofs.Sites.{asked_told, hits_true}
 
 -- ---- members that pass a test

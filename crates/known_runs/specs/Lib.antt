@@ -1,6 +1,7 @@
 pub mod Known
 pub mod Looks
 pub mod KnownPart
+pub mod ToldPart
 pub mod KnownPlans
 pub mod Walks
 pub mod Breaks

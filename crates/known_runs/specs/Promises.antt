@@ -1,15 +1,16 @@
 -- What known runs tell of every subject that agrees with them.
-use Rattle.std.specs.Prelude.{◌≡◌, ◌≢◌, ℕ, true, List, [], Some, map, Contains}
-use Rattle.std.specs.List.{AllByRecursion}
+use Rattle.std.specs.Prelude.{◌≡◌, ◌≢◌, ℕ, ◌+◌, ◌≤◌, length, true, List, [], Some, map, Contains}
+use Rattle.std.specs.List.{AllByRecursion, filter}
 use Rattle.action_eval.specs.declared.rig.Rig.{Rig}
 use Rattle.action_eval.specs.Answers.{given_of}
 use Rattle.action_eval.specs.Rigging.{rigging}
 use Rattle.plan_gen.specs.RiggedAnswers.{AreInOrder}
 use Rattle.grown_plans.specs.Runs.{run}
-use Rattle.grown_plans.specs.GrownPlans.{Subject, run_of_plan, grown, levels}
+use Rattle.grown_plans.specs.GrownPlans.{Subject, run_of_plan, grown, level, levels, onward}
 use Rattle.grown_plans.specs.Promises.{EachTwo, verdict_of_rigs, verdict_of_plan}
 use Rattle.known_runs.specs.Known.{KnownRuns, hits_of}
-use Rattle.known_runs.specs.KnownPart.{are_told, known_part, to_run}
+use Rattle.known_runs.specs.KnownPart.{are_told, is_reached_onward, known_part, to_run}
+use Rattle.known_runs.specs.KnownPlans.{level_size}
 use Rattle.known_runs.specs.Walks.{walk}
 
 -- rigged hits have the run and the verdict of a plan, under every seed and stream number
@@ -28,9 +29,15 @@ abbrev pub EndsWhole : Subject → ℕ → KnownRuns → Type 0
 EndsWhole t d known =
     to_run t d known ≡ [] → ((plan : List Rig) → are_told (known plan) ≡ are_told (hits_of known plan)) → known_part t d known ≡ grown t d
 
--- where the hits of each plan of the part that is known are told, this part is the whole list
+-- the part that is known is the whole list, each level of it and the one after the last
+pub record IsWholeList (t : Subject) (d : ℕ) (known : KnownRuns) : Type 0 where
+  pub list : known_part t d known ≡ grown t d
+  pub levels : (n : ℕ) → n ≤ d + 1 → level_size t known n ≡ length (level t n)
+  pub onward_size : length (filter (is_reached_onward known) (onward t d)) ≡ length (onward t d)
+
+-- so it is where the hits of each plan of the part that is known are told
 abbrev pub EndsSeen : Subject → ℕ → KnownRuns → Type 0
-EndsSeen t d known = AllByRecursion (λ plan. are_told (hits_of known plan) ≡ true) (known_part t d known) → known_part t d known ≡ grown t d
+EndsSeen t d known = AllByRecursion (λ plan. are_told (hits_of known plan) ≡ true) (known_part t d known) → IsWholeList t d known
 
 -- no plan is to be run twice
 abbrev pub RunsEachOnce : Subject → ℕ → KnownRuns → Type 0

@@ -7,6 +7,7 @@ ghost use Rattle.grown_plans.specs.Kept.{GrewFrom, plan_of};
 ghost use Rattle.grown_plans.specs.Promises.{IsLawful};
 ghost use Rattle.known_runs.specs.Known.{Agrees};
 ghost use Rattle.known_runs.specs.KnownPlans.{AreKnown};
+ghost use Rattle.known_runs.specs.ToldPart.{part_known};
 ghost use Rattle.known_runs.specs.declared.growing.KnownFault.TheVariants.{Memory};
 ghost use Rattle.known_runs.specs.inside.Grown.{kept_known, kept_over, onward_known, onward_over};
 ghost use Rattle.known_runs.specs.inside.GrownLevels.{AreLevels, HasOnward};
@@ -324,6 +325,7 @@ pub fn known_plans<T: RunTable>(
     requires { most ≤ 65536 }
     ensures known { IfOk result (λ known. (t : Subject) → IsLawful t → t.kinds ≡ usual_kinds → Agrees t depth (T.known table.now)
         → AreKnown t depth (T.known table.now) known) }
+    ensures grown { IfOk result (λ known. known.plans ≡ part_known usual_kinds (T.known table.now) depth) }
     ensures short { IfOk result (λ known. AllByRecursion (λ plan. length plan ≤ depth) known.plans) }
     ensures few { IfOk result (λ known. length known.plans ≤ most) }
 {

@@ -1,38 +1,9 @@
--- Plans as they grow from what is told of runs; the private contracts cite it.
-use Rattle.std.specs.Prelude.{ℕ, zero, suc, ◌+◌, List, [], ◌∷◌, ◌++◌, Option, None, Some, slice_index_or}
-use Rattle.std.specs.List.{flat_map}
+-- Plans as a list keeps them, grown from what is told of runs; the private contracts cite it.
+use Rattle.std.specs.Prelude.{ℕ, zero, suc, ◌+◌, List, [], ◌++◌, Option, None, Some, slice_index_or}
 use Rattle.action_eval.specs.declared.rig.Rig.{Rig}
-use Rattle.action_eval.specs.declared.rig.Kind.{Kind}
 use Rattle.grown_plans.specs.Kept.{Grew, kept_children}
-use Rattle.grown_plans.specs.AskedPoints.{children_by, onward_by}
 use Rattle.known_runs.specs.Known.{KnownRuns, hits_of}
-
--- the children of a plan whose hits are told
-abbrev pub children_told : (ℕ → List Kind) → List Rig → Option (List ℕ) → List (List Rig)
-children_told kinds plan None = []
-children_told kinds plan (Some hits) = children_by kinds plan hits
-
-abbrev pub children_known : (ℕ → List Kind) → KnownRuns → List Rig → List (List Rig)
-children_known kinds known plan = children_told kinds plan (hits_of known plan)
-
-unfoldable pub level_known : (ℕ → List Kind) → KnownRuns → ℕ → List (List Rig)
-level_known kinds known zero = [] ∷ []
-level_known kinds known (suc n) = flat_map (children_known kinds known) (level_known kinds known n)
-
-unfoldable pub levels_known : (ℕ → List Kind) → KnownRuns → ℕ → List (List Rig)
-levels_known kinds known zero = level_known kinds known zero
-levels_known kinds known (suc d) = levels_known kinds known d ++ level_known kinds known (suc d)
-
--- and the plan with its last fault from then on
-abbrev pub onward_told : List Rig → Option (List ℕ) → List (List Rig)
-onward_told plan None = []
-onward_told plan (Some hits) = onward_by plan hits
-
-abbrev pub part_known : (ℕ → List Kind) → KnownRuns → ℕ → List (List Rig)
-part_known kinds known d =
-    levels_known kinds known d ++ flat_map (λ plan. onward_told plan (hits_of known plan)) (level_known kinds known d)
-
--- ---- as a list keeps them
+use Rattle.known_runs.specs.ToldPart.{onward_told}
 
 abbrev pub kept_told : ℕ → List Rig → Option (List ℕ) → List Grew
 kept_told n plan None = []

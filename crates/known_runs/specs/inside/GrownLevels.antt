@@ -3,7 +3,8 @@ use Rattle.std.specs.Prelude.{◌≡◌, ℕ, ◌+◌, ◌-◌, ◌++◌, length
 use Rattle.std.specs.List.{range_with_len}
 use Rattle.grown_plans.specs.GrownPlans.{usual_kinds}
 use Rattle.known_runs.specs.Known.{KnownRuns}
-use Rattle.known_runs.specs.inside.Grown.{level_known, levels_known, onward_over}
+use Rattle.known_runs.specs.ToldPart.{level_known, levels_known}
+use Rattle.known_runs.specs.inside.Grown.{onward_over}
 use Rattle.known_runs.specs.declared.growing.Levels.{Levels}
 use Rattle.known_runs.specs.declared.growing.KnownPlans.{KnownPlans}
 

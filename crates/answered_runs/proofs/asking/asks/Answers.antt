@@ -13,8 +13,12 @@ pub lines-requires : goal.lines-requires
 lines-requires c =
     all_weaker (λ (plan : List Rig). length plan ≤ c.args.depth) (λ (plan : List Rig). length plan ≤ 64) (λ plan le. omega (arith, le, c.requires.depth)) c.in_ok-known.known.plans c.in_ok-known.ensures.short
 
-pub returns : goal.returns
-returns c = λ t is agrees.
+pub returns-clause-lines : goal.returns-clause-lines
+returns-clause-lines c =
+    c.in_ok-lines.ensures ∙ ap (λ (plans : List (List Rig)). text_of (lines_for c.args.runs.now plans)) c.in_ok-known.ensures.grown
+
+pub returns-clause-asked : goal.returns-clause-asked
+returns-clause-asked c = λ t is agrees.
     let a = c.args.runs.now in
     let known = c.in_ok-known.ensures.known t is.lawful is.usual (agree t a.points (told_in a.book) c.args.depth is c.requires.depth agrees) in
     c.in_ok-lines.ensures ∙ ap (λ (plans : List (List Rig)). text_of (lines_for a plans)) known.plans

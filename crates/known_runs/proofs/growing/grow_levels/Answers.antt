@@ -1,7 +1,7 @@
 use Rattle.std.proofs.Common.{◌≡◌, ◌+◌, ◌∙◌, ℕ, length, map, subst, sym, ap, arith}
 use Rattle.std.specs.List.{range_with_len}
 use Rattle.grown_plans.specs.GrownPlans.{usual_kinds}
-use Rattle.known_runs.specs.inside.Grown.{levels_known}
+use Rattle.known_runs.specs.ToldPart.{levels_known}
 use Rattle.known_runs.specs.inside.GrownLevels.{size_known}
 use Rattle.known_runs.proofs.Kept.{LastLevel, starts, next_last, first_size, sizes_more}
 use Rattle.known_runs.proofs.growing.grow_levels.Goals as goal
