@@ -1,6 +1,6 @@
 -- No run breaks of a component that agrees with the answers.
 use Rattle.std.proofs.Common.{◌≡◌, ℕ, zero, suc, ◌+◌, ◌<◌, ◌≤◌, Bool, true, false, cond, List, [], ◌∷◌, ◌++◌, length, drop, get_or, refl, ap, sym, ◌∙◌, subst, arith}
-use Rattle.std.specs.Prelude.{Contains, Option, Some, None, IfSome, ⊥, ◌&&◌}
+use Rattle.std.specs.Prelude.{Contains, Option, Some, None, IfSome, ◌&&◌}
 use Rattle.std.proofs.lemmas.List.Elements.{Contains-append_left}
 use Rattle.std.specs.List.{AllByRecursion, filter}
 use Rattle.action_eval.specs.declared.rig.Rig.{Rig}
@@ -70,14 +70,13 @@ true_at t d n runs plan agrees le c =
     all_contains (λ (p : List Rig). IfSome (runs p) (IsTrueOf t p)) (grown t d) plan agrees (Contains-append_left (levels t d) (onward t d) plan (level_in_levels t d n plan le c))
 
 level_whole : (t : Subject) → IsLawful t → (d n : ℕ) (runs : KnownRuns) → Agrees t d runs → n ≤ d → AllByRecursion (Whole runs) (level t n)
-unfolding level
+unfolding level TailIn
 level_whole t l d zero runs agrees le = (refl, tt)
 level_whole t l d (suc n) runs agrees le =
     all_by_contains (Whole runs) (level t (suc n)) (λ child c.
     at child (true_at t d (suc n) runs child agrees le c) (all_contains (TailIn t n) (level t (suc n)) child (tails t n) c) (all_contains (Continues t) (level t (suc n)) child (breaks_never t l (suc n)) c))
   where
     at : (child : List Rig) → IfSome (runs child) (IsTrueOf t child) → TailIn t n child → Continues t child → Whole runs child
-    unfolding TailIn
     at [] h c k = refl
     at (r ∷ parent) h c k = child_whole t runs r parent (true_at t d n runs parent agrees (omega (arith, le)) c) h k
 

@@ -3,4 +3,4 @@ pub mod Known
 pub mod Found
 pub mod Lines
 pub mod Breaks
-pub mod Whole
+pub mod WholeLists

@@ -3,10 +3,13 @@ use Rattle.std.proofs.Common.{◌≡◌, ℕ, zero, suc, arith, ◌+◌, ◌<◌
 use Rattle.std.specs.Prelude.{Option, Some, None, is_none}
 use Rattle.std.specs.List.{AllByRecursion, filter}
 use Rattle.std.proofs.lemmas.Grind.{flat_map-append}
-use Rattle.std.proofs.lemmas.List.{map-append, take_all, take_more}
+use Rattle.std.proofs.lemmas.List.{append-nil, map-append, take_more}
 use Rattle.std.proofs.lemmas.List.Elements.{filter-append}
 use Rattle.action_eval.specs.declared.rig.Rig.{Rig}
-use Rattle.report.specs.ReportText.{ended, text_of}
+use Rattle.scenario_values.specs.Scenario.{Entries}
+use Rattle.scenario_values.specs.Tidied.{tidied}
+use Rattle.campaign_plans.specs.GrownScenarios.{grown_scenario}
+use Rattle.report.specs.ReportText.{ended, scenario_text, text_of}
 use Rattle.known_runs.specs.Known.{Told}
 use Rattle.grown_plans.specs.GrownPlans.{Subject}
 use Rattle.known_runs.specs.KnownPart.{known_part}
@@ -20,6 +23,17 @@ line_of a plan e = ap (λ (o : Option Told). map (plan_line a.points) (cond (is_
 
 pub no_line : (a : Answered) (plan : List Rig) (told : Told) → runs_in a plan ≡ Some told → lines_for a (plan ∷ []) ≡ []
 no_line a plan told e = ap (λ (o : Option Told). map (plan_line a.points) (cond (is_none o) (plan ∷ []) [])) e
+
+pub asked_line : (a : Answered) (plan : List Rig) (s t : Entries) (old mid new : List ℕ) → runs_in a plan ≡ None → s ≡ grown_scenario a.points plan → t ≡ tidied s → mid ≡ old ++ scenario_text t → new ≡ mid ++ 10 ∷ []
+    → new ≡ old ++ text_of (lines_for a (plan ∷ []))
+asked_line a plan s t old mid new untold is tidy written ends =
+    let same : scenario_text t ≡ plan_line a.points plan = ap scenario_text (tidy ∙ ap tidied is) in
+    ends ∙ ap (λ (x : List ℕ). x ++ 10 ∷ []) written ∙ append_assoc old (scenario_text t) (10 ∷ [])
+    ∙ ap (λ (x : List ℕ). old ++ (x ++ 10 ∷ [])) same ∙ ap (λ (x : List ℕ). old ++ x) (sym (append-nil (plan_line a.points plan ++ 10 ∷ [])))
+    ∙ ap (λ (ls : List (List ℕ)). old ++ text_of ls) (sym (line_of a plan untold))
+
+pub told_line : (a : Answered) (plan : List Rig) (told : Told) (old : List ℕ) → runs_in a plan ≡ Some told → old ≡ old ++ text_of (lines_for a (plan ∷ []))
+told_line a plan told old e = sym (append-nil old) ∙ ap (λ (ls : List (List ℕ)). old ++ text_of ls) (sym (no_line a plan told e))
 
 -- ---- one plan more
 

@@ -34,18 +34,15 @@ fn add_line(
             let scenario = plan_scenario(alloc, runs.points(), faults)?;
             let tidied = tidy(alloc, &scenario)?;
             write_scenario(alloc, text, &tidied)?;
-            text.push_str("\n")
+            text.push_str("\n")?;
+            Ok(())
         }
         Look::Unseen(_) | Look::Seen(_) => Ok(()),
     }
 }
 
 /// The lines for the plans of which nothing is told, in order.
-fn lines(
-    alloc: Global,
-    runs: &AnsweredRuns<'_>,
-    plans: &GrownPlans,
-) -> Result<String, AllocError>
+fn lines(alloc: Global, runs: &AnsweredRuns<'_>, plans: &GrownPlans) -> Result<String, AllocError>
     requires { AllByRecursion (λ plan. length plan ≤ 64) plans.now }
     ensures { IfOk result (λ text. string_bytes text ≡ text_of (lines_for runs.now plans.now)) }
 {

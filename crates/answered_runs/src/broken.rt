@@ -1,5 +1,5 @@
 //! Runs that break with those that they ought to begin like.
-ghost use Rattle.std.specs.Prelude.{◌≡◌, ◌≤◌, ⊥, IfOk, IfSome};
+ghost use Rattle.std.specs.Prelude.{◌≡◌, ◌≤◌, IfOk, IfSome};
 ghost use Rattle.answer_text.specs.Runs.{told_in};
 ghost use Rattle.grown_plans.specs.GrownPlans.{Subject, usual_kinds};
 ghost use Rattle.known_runs.specs.ToldPart.{part_known};

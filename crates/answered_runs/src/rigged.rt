@@ -29,12 +29,7 @@ fn push(rigs: &mut Vec<Rig>, site: Site, kind: Kind) -> Result<(), AllocError>
 }
 
 /// Adds what a task does that acts so often up to a hit, where that is nothing or a rigged hit's. Tells whether it is.
-fn push_task(
-    rigs: &mut Vec<Rig>,
-    site: Site,
-    count: u32,
-    task: &Task,
-) -> Result<bool, AllocError>
+fn push_task(rigs: &mut Vec<Rig>, site: Site, count: u32, task: &Task) -> Result<bool, AllocError>
     ensures { IfOk result (Took (with_task site.point site.hit count task.now rigs.old.items) rigs.new.items) }
 {
     match task {

@@ -31,11 +31,7 @@ pub fn rigged_scenario(alloc: Global, points: &[&str], rigs: &[Rig]) -> Result<S
 
 /// The scenario of a plan of at most 64 faults, the last one to act first, over the names of the points. An error means that memory was
 /// refused.
-pub fn plan_scenario(
-    alloc: Global,
-    points: &[&str],
-    faults: &[Rig],
-) -> Result<Scenario, AllocError>
+pub fn plan_scenario(alloc: Global, points: &[&str], faults: &[Rig]) -> Result<Scenario, AllocError>
     requires lawful { IsCatalogue (texts points.now) }
     requires few { length faults.now ≤ 64 }
     ensures { IfOk result (λ scenario. scenario ≡ grown_scenario (texts points.now) faults.now) }

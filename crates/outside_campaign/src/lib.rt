@@ -10,7 +10,6 @@ mod reduction;
 mod refusal;
 mod reporting;
 mod results;
-mod table;
 mod telling;
 mod verdicts;
 

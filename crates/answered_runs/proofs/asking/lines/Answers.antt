@@ -9,12 +9,12 @@ use Rattle.answered_runs.proofs.asking.lines.Goals as goal
 pub add_line-requires : goal.add_line-requires
 add_line-requires c =
     let less : c.loop-number.number < length c.args.plans.now = omega (arith, c.loop-number-test.true, c.len-number-end.ensures) in
-    subst (λ (plan : List Rig). length plan ≤ 64) (sym (c.as_slice.ensures.value ∙ c.in_ok-faults_of.ensures)) (short_at 64 c.args.plans.now c.loop-number.number less c.requires)
+    subst (λ (plan : List Rig). length plan ≤ 64) (sym (c.as_slice-faults.ensures.value ∙ c.in_ok-faults_of.ensures)) (short_at 64 c.args.plans.now c.loop-number.number less c.requires)
 
 pub loop-number-preserved : goal.loop-number-preserved
 loop-number-preserved c =
     let less : c.loop-number.number < length c.args.plans.now = omega (arith, c.loop-number-test.true, c.len-number-end.ensures) in
-    lines_more c.args.runs.now c.args.plans.now c.loop-number.number c.as_slice.result.now (string_bytes c.loop-number.text) (string_bytes c.add_line.new.text) less (c.as_slice.ensures.value ∙ c.in_ok-faults_of.ensures)
+    lines_more c.args.runs.now c.args.plans.now c.loop-number.number c.as_slice-faults.result.now (string_bytes c.loop-number.text) (string_bytes c.add_line.new.text) less (c.as_slice-faults.ensures.value ∙ c.in_ok-faults_of.ensures)
     c.loop-number.invariant c.in_ok-add_line.ensures
 
 pub returns : goal.returns

@@ -1,7 +1,7 @@
 use Rattle.answer_text.specs.Runs.{told_in}
 use Rattle.answered_runs.specs.Answered.{runs_in}
 use Rattle.answered_runs.proofs.Runs.{agree}
-use Rattle.answered_runs.proofs.Whole.{listed}
+use Rattle.answered_runs.proofs.WholeLists.{listed}
 use Rattle.answered_runs.proofs.whole.listed_plans.Goals as goal
 
 pub returns-clause-whole : goal.returns-clause-whole
