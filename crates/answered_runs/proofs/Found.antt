@@ -1,5 +1,5 @@
 -- Rigged hits, found term by term and point by point.
-use Rattle.std.proofs.Common.{◌≡◌, ℕ, ◌+◌, Bool, true, false, List, [], ◌∷◌, Option, Some, None, refl, ap, sym, ◌∙◌}
+use Rattle.std.proofs.Common.{◌≡◌, ℕ, ◌+◌, Bool, true, false, List, [], ◌∷◌, Option, Some, None, ap, sym, ◌∙◌}
 use Rattle.std.specs.Prelude.{option_and_then}
 use Rattle.scenario_values.specs.Scenario.{Entries}
 use Rattle.scenario_values.specs.declared.term.Term.{Term}

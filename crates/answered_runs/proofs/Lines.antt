@@ -1,5 +1,5 @@
 -- Lines for plans, added one after another.
-use Rattle.std.proofs.Common.{◌≡◌, ℕ, zero, suc, arith, ◌+◌, ◌<◌, ◌≤◌, Bool, true, false, cond, List, [], ◌∷◌, ◌++◌, length, map, take, get_or, refl, ap, sym, ◌∙◌, append_assoc}
+use Rattle.std.proofs.Common.{◌≡◌, ℕ, zero, suc, arith, ◌+◌, ◌<◌, ◌≤◌, Bool, cond, List, [], ◌∷◌, ◌++◌, length, map, take, get_or, ap, sym, ◌∙◌, append_assoc}
 use Rattle.std.specs.Prelude.{Option, Some, None, is_none}
 use Rattle.std.specs.List.{AllByRecursion, filter}
 use Rattle.std.proofs.lemmas.Grind.{flat_map-append}
@@ -11,10 +11,8 @@ use Rattle.scenario_values.specs.Tidied.{tidied}
 use Rattle.campaign_plans.specs.GrownScenarios.{grown_scenario}
 use Rattle.report.specs.ReportText.{ended, scenario_text, text_of}
 use Rattle.known_runs.specs.Known.{Told}
-use Rattle.grown_plans.specs.GrownPlans.{Subject}
-use Rattle.known_runs.specs.KnownPart.{known_part}
 use Rattle.answered_runs.specs.Answered.{Answered, runs_in}
-use Rattle.answered_runs.specs.Asked.{asks_text, lines_for, plan_line}
+use Rattle.answered_runs.specs.Asked.{lines_for, plan_line}
 
 -- ---- one plan
 

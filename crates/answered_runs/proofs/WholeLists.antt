@@ -12,7 +12,6 @@ use Rattle.known_runs.specs.KnownPart.{are_told}
 use Rattle.known_runs.specs.KnownPlans.{AreKnown, level_size}
 use Rattle.known_runs.specs.Looks.{told}
 use Rattle.known_runs.specs.Promises.{IsWholeList}
-use Rattle.known_runs.specs.declared.growing.KnownPlans.{KnownPlans}
 use Rattle.known_runs.proofs.Ends.{ends_seen}
 use Rattle.answered_runs.specs.WholeList.{AreListed, AreSeen}
 use Rattle.answered_runs.specs.declared.whole.Gap.{Gap}

@@ -2,7 +2,6 @@
 use Rattle.std.specs.Prelude.{ℕ, ◌&&◌, Bool, List, Option, None, Some, length, nat_le, nat_lt, option_map, option_and_then, if◌then◌else◌}
 use Rattle.std.specs.List.{list_all}
 use Rattle.scenario_values.specs.Tidied.{tidied}
-use Rattle.action_eval.specs.declared.rig.Rig.{Rig}
 use Rattle.answer_text.specs.Hits.{most_hits, points_of}
 use Rattle.answer_text.specs.Runs.{KnownRuns, RunBook, told_in}
 use Rattle.answer_text.specs.declared.hits.Stretch.{Stretch}

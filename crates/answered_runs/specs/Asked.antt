@@ -1,5 +1,5 @@
 -- What is still to be run of the plans that grow.
-use Rattle.std.specs.Prelude.{ℕ, List, Option, map, is_none}
+use Rattle.std.specs.Prelude.{ℕ, List, map, is_none}
 use Rattle.std.specs.List.{filter}
 use Rattle.scenario_values.specs.Tidied.{tidied}
 use Rattle.action_eval.specs.declared.rig.Rig.{Rig}

@@ -11,7 +11,6 @@ use Rattle.scenario_values.specs.declared.term.Term.{Term}
 use Rattle.action_eval.specs.declared.rig.Kind.{Kind}
 use Rattle.action_eval.specs.declared.rig.Kind.TheVariants.{OnceReturn, OncePanic}
 use Rattle.action_eval.specs.declared.rig.Rig.{Rig}
-use Rattle.action_eval.specs.declared.rig.Site.{Site}
 use Rattle.action_eval.specs.Rigging.{rig, rigging}
 use Rattle.plan_gen.specs.RiggedAnswers.{is_onward}
 use Rattle.grown_plans.specs.GrownPlans.{is_before}

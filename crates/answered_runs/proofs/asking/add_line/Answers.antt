@@ -1,4 +1,4 @@
-use Rattle.std.proofs.Common.{string_bytes, sym, ◌∙◌, rules}
+use Rattle.std.proofs.Common.{string_bytes, rules}
 use Rattle.answered_runs.proofs.Lines.{asked_line}
 use Rattle.answered_runs.proofs.asking.add_line.Goals as goal
 

@@ -1,4 +1,4 @@
-use Rattle.std.proofs.Common.{◌≡◌, ◌≤◌, List, ℕ, length, map, ap, sym, ◌∙◌, arith}
+use Rattle.std.proofs.Common.{◌≤◌, List, ℕ, length, map, ap, sym, ◌∙◌, arith}
 use Rattle.grown_plans.proofs.Members.{all_weaker}
 use Rattle.action_eval.specs.declared.rig.Rig.{Rig}
 use Rattle.report.specs.ReportText.{text_of}

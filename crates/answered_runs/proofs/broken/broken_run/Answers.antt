@@ -1,5 +1,4 @@
-use Rattle.std.proofs.Common.{◌≡◌, List, ap, sym, ◌∙◌}
-use Rattle.action_eval.specs.declared.rig.Rig.{Rig}
+use Rattle.std.proofs.Common.{ap, ◌∙◌}
 use Rattle.answer_text.specs.Runs.{told_in}
 use Rattle.answered_runs.specs.Answered.{runs_in}
 use Rattle.answered_runs.specs.Broken.{first_break}

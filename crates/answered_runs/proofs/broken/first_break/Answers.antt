@@ -1,9 +1,8 @@
-use Rattle.std.proofs.Common.{◌≡◌, ◌<◌, ◌≤◌, ◌+◌, ◌∷◌, ◌∙◌, List, [], drop, length, ap, arith, sym}
+use Rattle.std.proofs.Common.{◌≡◌, ◌<◌, ◌+◌, ◌∷◌, ◌∙◌, List, [], drop, length, ap, arith, sym}
 use Rattle.action_eval.specs.declared.rig.Rig.{Rig}
 use Rattle.plan_gen.proofs.Lists.{next_of, none_left}
 use Rattle.answered_runs.specs.Answered.{runs_in}
-use Rattle.answered_runs.specs.Broken.{break_at}
-use Rattle.answered_runs.proofs.Breaks.{found_here, found_nowhere, goes_on}
+use Rattle.answered_runs.proofs.Breaks.{found_nowhere, goes_on}
 use Rattle.answered_runs.proofs.broken.first_break.Goals as goal
 
 pub loop-number-preserved : goal.loop-number-preserved

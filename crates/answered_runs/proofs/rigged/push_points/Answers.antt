@@ -1,4 +1,4 @@
-use Rattle.std.proofs.Common.{ap, sym, ◌+◌, ◌∙◌, rules}
+use Rattle.std.proofs.Common.{ap, ◌+◌, rules}
 use Rattle.action_eval.specs.Answers.{texts}
 use Rattle.plan_gen.proofs.Lists.{next_of, none_left}
 use Rattle.answered_runs.proofs.Found.{points_go, points_stop, points_end, took_all, took_none}

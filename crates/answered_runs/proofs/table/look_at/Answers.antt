@@ -1,7 +1,6 @@
-use Rattle.std.proofs.Common.{List, ℕ, subst, sym, ap, ◌∙◌, ◌++◌, ◌<◌, ◌≡◌, true, [], rules}
+use Rattle.std.proofs.Common.{List, ℕ, subst, sym, ap, ◌∙◌, ◌++◌, ◌<◌, ◌≡◌, true, rules}
 use Rattle.std.specs.List.{AllByRecursion, list_all}
 use Rattle.answer_text.specs.Hits.{points_of}
-use Rattle.answer_text.specs.declared.hits.Stretch.{Stretch}
 use Rattle.answered_runs.specs.Answered.{is_low}
 use Rattle.answered_runs.proofs.Runs.{low_hits}
 use Rattle.answered_runs.proofs.table.look_at.Goals as goal

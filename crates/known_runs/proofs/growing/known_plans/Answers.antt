@@ -1,7 +1,4 @@
-use Rattle.std.proofs.Common.{◌≡◌, ◌≤◌, List, length, subst, sym}
-use Rattle.std.specs.List.{AllByRecursion}
 use Rattle.std.proofs.lemmas.Result.{IfOk-weaker}
-use Rattle.action_eval.specs.declared.rig.Rig.{Rig}
 use Rattle.known_runs.specs.inside.GrownLevels.{HasOnward}
 use Rattle.known_runs.proofs.Kept.{known_grown, known_is, known_short}
 use Rattle.known_runs.proofs.growing.known_plans.Goals as goal
