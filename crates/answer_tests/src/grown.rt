@@ -73,7 +73,7 @@ fn a_list_is_whole_where_all_hits_are_told(rt: HostRuntime) -> Result<(), Fail> 
         return Err(Fail::from("there are few plans"));
     };
     assert!(&rt; listed.gap.is_none());
-    assert!(&rt; listed.known.levels.as_slice() == [1, 4]);
+    assert!(&rt; listed.known.levels.as_slice() == [1, 4].as_slice());
     assert_eq!(&rt; listed.known.onward, 0);
     assert_eq!(&rt; listed.known.beyond, 2);
     let Ok(open) = listed_plans(alloc, &runs, 2, 65536) else {

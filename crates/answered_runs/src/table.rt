@@ -28,6 +28,7 @@ const MOST_HITS: usize = 4294967295;
 
 /// The runs that answers tell of a component with these points: a plan's run is the one that was told of the plan's scenario, tidied.
 /// Contracts see the names of the points, and what is told of each tidied scenario.
+#[derive(Drop)]
 pub struct AnsweredRuns<'a> {
     alloc: Global,
     points: &'a [&'a str],
