@@ -10,6 +10,7 @@ mod reduction;
 mod refusal;
 mod reporting;
 mod results;
+mod table;
 mod telling;
 mod verdicts;
 

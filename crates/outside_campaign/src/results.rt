@@ -2,13 +2,13 @@
 ghost use Rattle.std.specs.Prelude.{◌≡◌, ◌<◌, ◌≤◌, length, IfOk};
 ghost use Rattle.std.specs.List.{AllByRecursion};
 ghost use Rattle.scenario_values.specs.Scenario.{IsScenario};
-ghost use Rattle.answer_text.specs.Known.{KnownVerdicts, verdict_in};
+ghost use Rattle.answer_text.specs.Known.{KnownVerdicts};
 ghost use Rattle.outside_campaign.specs.Asked.{plan_verdicts};
 ghost use Rattle.outside_campaign.specs.inside.Results.{IsFirst, AreWithVerdicts, AreResults};
 
 use crate::findings::{Findings, findings_known};
+use crate::table::VerdictTable;
 use crate::verdicts::{Verdicts, plan_verdicts, verdicts_known};
-use answer_text::Known;
 use plan_gen::PlanList;
 use report::Finding;
 use result_book::first_failures_of;
@@ -55,13 +55,13 @@ fn with_verdicts(
 
 /// What is told of these plans by what is known: the results of each component that agrees with it, or the first scenario that is to be
 /// tried. An error means that memory was refused.
-pub fn results_known(
+pub fn results_known<K: VerdictTable>(
     alloc: Global,
-    known: &Known,
+    known: &K,
     plans: &PlanList<'_>,
 ) -> Result<Results, AllocError>
     requires { length plans.now ≤ 65536 }
-    ensures { IfOk result (AreResults (verdict_in known.now) plans.now) }
+    ensures { IfOk result (AreResults (K.verdicts known.now) plans.now) }
 {
     let verdicts = plan_verdicts(alloc, known, plans)?;
     let failures = first_failures_of(alloc, verdicts.as_slice())?;

@@ -2,11 +2,11 @@
 ghost use Rattle.std.specs.Prelude.{◌≡◌, length, IfOk, OnOk};
 ghost use Rattle.std.specs.List.{AllByRecursion};
 ghost use Rattle.scenario_values.specs.Scenario.{IsScenario};
-ghost use Rattle.answer_text.specs.Known.{KnownVerdicts, verdict_in};
+ghost use Rattle.answer_text.specs.Known.{KnownVerdicts};
 ghost use Rattle.outside_campaign.specs.Asked.{plan_verdicts};
 ghost use Rattle.outside_campaign.specs.inside.Verdicts.{AreVerdicts};
 
-use answer_text::Known;
+use crate::table::VerdictTable;
 use plan_gen::PlanList;
 use scenario_values::{Scenario, tidy};
 use std::alloc::{AllocError, Global};
@@ -22,19 +22,19 @@ pub enum Verdicts {
 }
 
 /// The verdict of each plan, where it is known. An error means that memory was refused.
-pub fn plan_verdicts(
+pub fn plan_verdicts<K: VerdictTable>(
     alloc: Global,
-    known: &Known,
+    known: &K,
     plans: &PlanList<'_>,
 ) -> Result<Vec<Option<Verdict>>, AllocError>
-    ensures verdicts { IfOk result (λ verdicts. verdicts.items ≡ plan_verdicts (verdict_in known.now) plans.now) }
+    ensures verdicts { IfOk result (λ verdicts. verdicts.items ≡ plan_verdicts (K.verdicts known.now) plans.now) }
     ensures lawful { OnOk result (AllByRecursion (λ s. IsScenario s) plans.now) }
 {
     let mut verdicts = Vec::with_capacity(alloc, plans.len())?;
     for number in 0..plans.len() {
         let scenario = plans.plan(number).scenario(alloc)?;
         let _ = scenario.entries();
-        let verdict = known.verdict_of(alloc, &scenario)?;
+        let verdict = known.look_up(alloc, &scenario)?;
         verdicts.push(verdict)?;
     }
     Ok(verdicts)
