@@ -88,7 +88,7 @@ Another program, a file that is missing, a checksum of another file, a commit th
   [1]
   $ write "$(printf '%040d' 1)" 'kit one' > $text
   $ held | grep '^dist'
-  dist: commit 0000000000000000000000000000000000000001 isn't in the history of this one, or the clone has no whole history
+  dist: commit 0000000000000000000000000000000000000001 isn't in the history of this one
   $ write "$(git rev-parse HEAD)" 'kit one' > $text
   $ held | sed "s/$(git rev-parse HEAD)/HEAD/"
   dist: --version isn't paklour 99.0.0, as commit HEAD has it
@@ -110,3 +110,13 @@ Words that it doesn't know, and commits.
   [1]
   $ tools/prove_program --commit nosuch --stamp 2>&1 | tail -n 1
   no files of a commit nosuch
+
+A clone without the whole history has no such commit: there the checksum alone is held.
+
+  $ git reset -q --hard "$commit" && mkdir -p dist && cp "$(command -v paklour)" $program && write "$commit" 'kit one' > $text
+  $ git add . && git commit -qm five && git clone -q --depth 1 "file://$PWD" ../shallow && cd ../shallow
+  $ held
+  dist: held to its checksum alone: this clone has no whole history, and commit COMMIT isn't in it
+  $ echo more >> $program
+  $ held | grep '^dist'
+  dist: the checksum is another
