@@ -8,7 +8,7 @@ use Rattle.campaign_core.specs.Headline.{Campaign}
 use Rattle.command_words.specs.declared.words.Order.{Order}
 use Rattle.report.specs.ReportText.{ended}
 use Rattle.campaign_main.specs.Commands.{Answer, bad_settings, of_text, order_answer}
-use Rattle.campaign_main.specs.Minimal.{ReducesToMinimal}
+use Rattle.campaign_main.specs.Promises.{KeepsPromises}
 
 -- the answer to what a text of settings gives, by what a campaign over the target is given by it
 abbrev pub own_given_answer : Order → (Given → Campaign) → Read Given → Answer
@@ -23,9 +23,9 @@ own_text_answer order campaign text = own_given_answer order campaign (own_setti
 unfoldable pub own_answer : Order → (Given → Campaign) → List ℕ → Answer
 own_answer order campaign bytes = of_text (own_text_answer order campaign) bytes
 
--- each reduced scenario in the command's text is minimal, where the text gives settings
-abbrev pub OwnReducesToMinimal : Order → (Given → Campaign) → List ℕ → Type 0
-OwnReducesToMinimal order campaign text = IfOk (own_settings_of text) (λ given. ReducesToMinimal order (campaign given))
+-- what is promised of the command's text, where the text gives settings
+abbrev pub OwnKeepsPromises : Order → (Given → Campaign) → List ℕ → Type 0
+OwnKeepsPromises order campaign text = IfOk (own_settings_of text) (λ given. KeepsPromises order (campaign given))
 
 -- ---- a target that takes words
 
