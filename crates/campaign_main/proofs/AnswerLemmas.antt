@@ -297,3 +297,9 @@ pub short-up : (answer : Answer) (old new : Option (List ℕ)) (failed : Bool) (
     → FallsShort answer old new failed fault → ComesTo answer old new failed result
 short-up answer old new failed (Ok found) fault is short = absurd is
 short-up answer old new failed (Err f) fault is short = let P : CommandFault → Type 0 = λ x. FallsShort answer old new failed x in subst P (sym is) short
+
+-- ---- two promises of a call
+
+pub both-kept : {V E A B : Type 0} (r : Result V E) → OnOk r A → OnOk r B → OnOk r (A × B)
+both-kept (Ok v) a b = (a, b)
+both-kept (Err x) a b = tt

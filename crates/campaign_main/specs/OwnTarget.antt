@@ -14,7 +14,7 @@ use Rattle.command_words.specs.declared.words.Order.TheVariants as order
 use Rattle.report.specs.ReportText.{ended}
 use Rattle.run_explained.specs.Tales.{telling_text}
 use Rattle.campaign_main.specs.Commands.{Answer, bad_settings, of_text, of_verdict, order_answer, taken, taken_answer}
-use Rattle.campaign_main.specs.Minimal.{ReducesToMinimal}
+use Rattle.campaign_main.specs.Promises.{KeepsPromises}
 use Rattle.campaign_main.specs.Notes.{notes_of}
 
 -- the answer to what a text of settings gives, by what a campaign over the target is given by it
@@ -30,9 +30,9 @@ own_text_answer order campaign text = own_given_answer order campaign (own_setti
 unfoldable pub own_answer : Order → (Given → Campaign) → List ℕ → Answer
 own_answer order campaign bytes = of_text (own_text_answer order campaign) bytes
 
--- each reduced scenario in the command's text is minimal, where the text gives settings
-abbrev pub OwnReducesToMinimal : Order → (Given → Campaign) → List ℕ → Type 0
-OwnReducesToMinimal order campaign text = IfOk (own_settings_of text) (λ given. ReducesToMinimal order (campaign given))
+-- what is promised of the command's text, where the text gives settings
+abbrev pub OwnKeepsPromises : Order → (Given → Campaign) → List ℕ → Type 0
+OwnKeepsPromises order campaign text = IfOk (own_settings_of text) (λ given. KeepsPromises order (campaign given))
 
 -- ---- a target that takes words
 

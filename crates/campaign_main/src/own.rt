@@ -5,8 +5,8 @@ ghost use Rattle.campaign_settings.specs.declared.own.OwnSettings.{OwnSettings};
 ghost use Rattle.campaign_main.specs.Commands.{Answer, order_answer};
 ghost use Rattle.campaign_main.specs.Ends.{EndsAs, IsRefused, IsTold, Leaves, OnWhole, RefusesWith, Tells, TellsAs, TellsNotes, TellsRefusal};
 ghost use Rattle.campaign_main.specs.FaultLines.{memory_line};
-ghost use Rattle.campaign_main.specs.Minimal.{ReducesToMinimal};
-ghost use Rattle.campaign_main.specs.OwnTarget.{OwnReducesToMinimal, own_answer, own_text_answer, own_words_line, worded_answer, worded_text_answer};
+ghost use Rattle.campaign_main.specs.Promises.{KeepsPromises};
+ghost use Rattle.campaign_main.specs.OwnTarget.{OwnKeepsPromises, own_answer, own_text_answer, own_words_line, worded_answer, worded_text_answer};
 
 use crate::command::command;
 use crate::exit::{Exit, exit_of};
@@ -68,7 +68,7 @@ where
         (W.told output.new) (W.has_failed output.new) }
     ensures told { TellsAs result (order_answer order.now (campaign_on T.Target target.old workload.now settings.now))
         (E.told faults.old) (E.told faults.new) (E.has_failed faults.new) }
-    ensures minimal { OnWhole result (ReducesToMinimal order.now (campaign_on T.Target target.old workload.now settings.now)) }
+    ensures promises { OnWhole result (KeepsPromises order.now (campaign_on T.Target target.old workload.now settings.now)) }
 {
     let subject = Subject {
         target: &*target,
@@ -102,7 +102,7 @@ where
         (W.told output.new) (W.has_failed output.new) }
     ensures told { TellsAs result (own_text_answer order.now (campaign_on T.Target target.old workload.now) text.now)
         (E.told faults.old) (E.told faults.new) (E.has_failed faults.new) }
-    ensures minimal { OnWhole result (OwnReducesToMinimal order.now (campaign_on T.Target target.old workload.now) text.now) }
+    ensures promises { OnWhole result (OwnKeepsPromises order.now (campaign_on T.Target target.old workload.now) text.now) }
 {
     match Settings::read_own(host.alloc, text) {
         Ok(settings) => perform_settings(host, order, target, workload, &settings, output, faults),
@@ -152,7 +152,7 @@ where
     ensures cause { result ≡ Exit.Refused → IfSome (R.remaining reader.old)
         (λ bytes. IsRefused (own_answer order.now (campaign_on T.Target target.old workload.now) bytes) (E.told faults.old) (E.told faults.new)
         (E.has_failed faults.new)) }
-    ensures minimal { OnWhole result (IfSome (R.remaining reader.old) (OwnReducesToMinimal order.now (campaign_on T.Target target.old workload.now))) }
+    ensures promises { OnWhole result (IfSome (R.remaining reader.old) (OwnKeepsPromises order.now (campaign_on T.Target target.old workload.now))) }
     ensures output { Leaves result (W.told output.old) (W.told output.new) (W.has_failed output.new) }
     ensures told { Tells order.now result (E.told faults.old) (E.told faults.new) (E.has_failed faults.new) }
 {

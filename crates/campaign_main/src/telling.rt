@@ -2,7 +2,7 @@
 ghost use Rattle.std.specs.Prelude.{◌≡◌, false, OnOk};
 ghost use Rattle.campaign_core.specs.Headline.{campaign_in, campaign_on};
 ghost use Rattle.campaign_main.specs.Ends.{ComesTo, EndsAs, Noted, OnWhole, TellsAs};
-ghost use Rattle.campaign_main.specs.Minimal.{ReducesToMinimal};
+ghost use Rattle.campaign_main.specs.Promises.{KeepsPromises};
 ghost use Rattle.campaign_main.specs.OwnTarget.{telling_answer};
 
 use crate::command::{command, take_noted};
@@ -70,7 +70,7 @@ where
     ensures noted { Noted (telling_answer (T.state_of subject.now.target.now subject.now.workload.now)
         (T.reason_of subject.now.target.now subject.now.workload.now) order.now (campaign_in T.Target subject.now))
         (E.told faults.old) (E.told faults.new) (E.has_failed faults.new) result }
-    ensures minimal { OnOk result (ReducesToMinimal order.now (campaign_in T.Target subject.now)) }
+    ensures promises { OnOk result (KeepsPromises order.now (campaign_in T.Target subject.now)) }
 {
     match order {
         Order::Explain(which) => explain_which(host, subject, which, output, faults),
@@ -104,7 +104,7 @@ where
         (campaign_on T.Target target.old workload.now settings.now)) (W.told output.old) (W.told output.new) (W.has_failed output.new) }
     ensures told { TellsAs result (telling_answer (T.state_of target.old workload.now) (T.reason_of target.old workload.now) order.now
         (campaign_on T.Target target.old workload.now settings.now)) (E.told faults.old) (E.told faults.new) (E.has_failed faults.new) }
-    ensures minimal { OnWhole result (ReducesToMinimal order.now (campaign_on T.Target target.old workload.now settings.now)) }
+    ensures promises { OnWhole result (KeepsPromises order.now (campaign_on T.Target target.old workload.now settings.now)) }
 {
     let subject = Subject {
         target: &*target,
