@@ -48,7 +48,7 @@ have begun have ended, but for those of a row of 16.
   >     for n in $(seq $1); do printf ', ['; seq -s , $2 | sed 's/[0-9][0-9]*/"&"/g' | tr -d '\n'; printf ']'; done
   >     echo ']'
   > }
-  $ for size in '2 2' '200 2' '900 2' '900 40'; do
+  $ for size in '2 2' '200 2' '900 2' '400 40'; do
   >     long $size > slow
   >     paklour run --brief --progress slow 2>&1 > /dev/null | lines | tr '<' '\n' > shown
   >     ! grep -q ' a second' shown || break
