@@ -6,11 +6,9 @@ ghost use Rattle.grown_plans.specs.Begun.{AreOrdinals, IsBegun, Serves};
 ghost use Rattle.grown_plans.specs.Kept.{kept_children};
 ghost use Rattle.grown_plans.specs.inside.Ends.{EndsAt, EndsPlan, last_site};
 
+use crate::counts::count_none;
 use action_eval::{Rig, Site};
 use std::alloc::{AllocError, Global};
-
-/// A catalogue has at most so many points.
-const MOST_POINTS: usize = 64;
 
 /// How a plan grows.
 #[derive(Clone, Copy, Debug, PartialEq, Eq)]
@@ -33,15 +31,6 @@ pub struct Begun {
     pub counts: Vec<u32>,
     /// How many of all hits each point has.
     pub whole: Vec<u32>,
-}
-
-/// Puts no hit of any point in place of what stood in the list.
-fn count_none(counts: &mut Vec<u32>) -> Result<(), AllocError>
-    ensures { OnOk result (AreCounts counts.new.items []) }
-{
-    counts.clear();
-    counts.resize(MOST_POINTS, 0)?;
-    Ok(())
 }
 
 /// The hit of a plan's last fault.

@@ -6,11 +6,9 @@ ghost use Rattle.grown_plans.specs.Kept.{kept_at, kept_children};
 ghost use Rattle.grown_plans.specs.inside.Counted.{is_site_of, next_site};
 
 use crate::child::Child;
+use crate::counts::count_none;
 use action_eval::{Kind, Rig, Site};
 use std::alloc::AllocError;
-
-/// A catalogue has at most so many points.
-const MOST_POINTS: usize = 64;
 
 /// The next hit of a point, which is counted.
 fn next_site(counts: &mut Vec<u32>, point: u32) -> Site
@@ -72,8 +70,7 @@ pub fn add_children(
     ensures counts { OnOk result (AreCounts counts.new.items asked.now) }
     ensures again { IfOk result (λ is_again. is_again ≡ is_asked_again plan.now asked.now) }
 {
-    counts.clear();
-    counts.resize(MOST_POINTS, 0)?;
+    count_none(counts)?;
     let mut is_past = plan.is_empty();
     let mut is_again = false;
     for point in asked {

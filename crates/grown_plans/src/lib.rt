@@ -3,6 +3,7 @@
 
 mod begun;
 mod child;
+mod counts;
 mod growing;
 mod laws;
 mod list;

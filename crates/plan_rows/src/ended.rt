@@ -1,5 +1,6 @@
 //! What a gate is told of plans that have been run.
-ghost use Rattle.std.specs.Prelude.{◌≡◌, ◌^◌, ◌-◌, length, min};
+ghost use Rattle.std.specs.Prelude.{◌≡◌, ◌^◌, ◌-◌, length, min, count_by};
+ghost use Rattle.target_trait.specs.Verdicts.{is_fail};
 
 use target_trait::Verdict;
 use work_gate::Ended;
@@ -8,17 +9,16 @@ use work_gate::Ended;
 /// number.
 pub fn ended_of(verdicts: &[Verdict], children: usize) -> Ended
     ensures plans { result.plans ≡ min (length verdicts.now) (2 ^ 32 - 1) }
+    ensures failing { result.failing ≡ min (count_by is_fail verdicts.now) (2 ^ 32 - 1) }
     ensures children { result.children ≡ min children (2 ^ 32 - 1) }
 {
-    let mut failing = 0u32;
-    for verdict in verdicts {
-        if matches!(verdict, Verdict::Fail(_)) {
-            failing = failing.saturating_add(1);
-        }
-    }
+    let failing = verdicts
+        .iter()
+        .filter(|verdict| matches!(verdict, Verdict::Fail(_)))
+        .count();
     Ended {
         plans: at_most(verdicts.len()),
-        failing,
+        failing: at_most(failing),
         children: at_most(children),
     }
 }

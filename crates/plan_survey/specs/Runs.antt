@@ -5,7 +5,7 @@ use Rattle.scenario_values.specs.Scenario.{Entries}
 use Rattle.action_eval.specs.Answers.{Reply, given_of}
 use Rattle.target_trait.specs.Outcomes.{Told, outcome}
 use Rattle.target_trait.specs.Play.{Move}
-use Rattle.report.specs.BriefText.{is_unresolved}
+use Rattle.target_trait.specs.Verdicts.{is_unresolved}
 
 -- the runs of plans that are numbered from n on; a run has its plan's number as the stream number
 abbrev pub runs_from : (ℕ → Entries → Told) → ℕ → List Entries → List Told

@@ -2,7 +2,7 @@ ghost use Rattle.std.specs.Prelude.{◌≡◌, ◌<◌, [], ◌+◌, not, if◌t
 ghost use Rattle.std.specs.List.{range_with_len};
 ghost use Rattle.action_eval.specs.Answers.{given_of};
 ghost use Rattle.target_trait.specs.Outcomes.{outcome};
-ghost use Rattle.report.specs.BriefText.{is_unresolved};
+ghost use Rattle.target_trait.specs.Verdicts.{is_unresolved};
 ghost use Rattle.plan_survey.specs.Runs.{is_asked, runs_of, unreached_in, unresolved_in};
 
 use campaign_plans::CampaignPlans;

@@ -11,7 +11,7 @@ use Rattle.std.proofs.lemmas.List.FromFn.{get_or-range_with_len}
 use Rattle.target_trait.specs.declared.judgement.Verdict.{Verdict}
 use Rattle.target_trait.specs.declared.judgement.Verdict.TheVariants as verdict
 use Rattle.report.specs.ReportText.{verdict_line, verdict_lines, ended, text_of}
-use Rattle.report.specs.BriefText.{is_pass}
+use Rattle.target_trait.specs.Verdicts.{is_pass}
 use Rattle.report.specs.inside.Tens.{tens_of, passed_line, ten_passed}
 
 -- a number is its tens and its last digit

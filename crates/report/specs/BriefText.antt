@@ -4,24 +4,9 @@ use Rattle.std.specs.Fmt.{decimal}
 use Rattle.scenario_values.specs.Scenario.{Entries}
 use Rattle.target_trait.specs.declared.judgement.Verdict.{Verdict}
 use Rattle.target_trait.specs.declared.judgement.Verdict.TheVariants as verdict
+use Rattle.target_trait.specs.Verdicts.{is_pass, is_unresolved}
 use Rattle.report.specs.Reports.{FindingFacts, ReportFacts}
 use Rattle.report.specs.ReportText.{verdict_text, scenario_text, head_lines, census_lines, growth_lines, count_line, findings_lines, causes_lines}
-
-abbrev pub is_pass : Verdict → Bool
-is_pass verdict.Pass = true
-is_pass (verdict.Fail code) = false
-is_pass verdict.Unresolved = false
-
-abbrev pub is_unresolved : Verdict → Bool
-is_unresolved verdict.Pass = false
-is_unresolved (verdict.Fail code) = false
-is_unresolved verdict.Unresolved = true
-
--- whether a verdict is a failure, with whatever code
-abbrev pub is_fail : Verdict → Bool
-is_fail verdict.Pass = false
-is_fail (verdict.Fail code) = true
-is_fail verdict.Unresolved = false
 
 -- whether a verdict is a failure with this code
 abbrev pub is_fail_with : ℕ → Verdict → Bool

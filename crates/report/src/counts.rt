@@ -1,6 +1,6 @@
 //! How many verdicts are of which kind.
 ghost use Rattle.std.specs.Prelude.{◌≡◌, count_by};
-ghost use Rattle.report.specs.BriefText.{is_pass, is_fail, is_unresolved};
+ghost use Rattle.target_trait.specs.Verdicts.{is_pass, is_fail, is_unresolved};
 
 use target_trait::Verdict;
 

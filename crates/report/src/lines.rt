@@ -3,7 +3,7 @@ ghost use Rattle.std.specs.Prelude.{◌≡◌, ◌+◌, ◌-◌, ◌*◌, ◌%�
 ghost use Rattle.std.specs.Fmt.{decimal};
 ghost use Rattle.std.specs.List.{list_all};
 ghost use Rattle.report.specs.ReportText.{verdict_text, scenario_text, head_lines, census_line, census_lines, growth_lines, count_line, verdict_line};
-ghost use Rattle.report.specs.BriefText.{is_pass};
+ghost use Rattle.target_trait.specs.Verdicts.{is_pass};
 ghost use Rattle.report.specs.inside.Tens.{tens_of, ten_passed};
 ghost use Rattle.report.specs.ReportText.{verdict_lines, finding_lines, findings_lines, causes_lines, report_lines, ended, text_of};
 

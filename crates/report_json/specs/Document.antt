@@ -10,7 +10,7 @@ use Rattle.scenario_values.specs.Printed.{printed}
 use Rattle.target_trait.specs.declared.judgement.Verdict.{Verdict}
 use Rattle.target_trait.specs.declared.judgement.Verdict.TheVariants as verdict
 use Rattle.report.specs.Reports.{FindingFacts, CauseFacts, GrowthFacts, ReportFacts}
-use Rattle.report.specs.BriefText.{is_pass, is_fail, is_unresolved}
+use Rattle.target_trait.specs.Verdicts.{is_pass, is_fail, is_unresolved}
 
 -- the form of the document, which gets another number where members change their names or what they say
 abbrev pub form : ℕ

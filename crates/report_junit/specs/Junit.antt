@@ -8,7 +8,7 @@ use Rattle.target_trait.specs.declared.judgement.Verdict.TheVariants as verdict
 use Rattle.xml_text.specs.Xml.{escaped}
 use Rattle.report.specs.Reports.{FindingFacts, ReportFacts}
 use Rattle.report.specs.ReportText.{scenario_text}
-use Rattle.report.specs.BriefText.{is_fail, is_unresolved}
+use Rattle.target_trait.specs.Verdicts.{is_fail, is_unresolved}
 
 -- ---- a case
 

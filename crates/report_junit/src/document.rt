@@ -1,6 +1,6 @@
 //! The document.
 ghost use Rattle.std.specs.Prelude.{◌≡◌, ◌++◌, length, string_bytes, codes, count_by, IfOk, OnOk};
-ghost use Rattle.report.specs.BriefText.{is_fail, is_unresolved};
+ghost use Rattle.target_trait.specs.Verdicts.{is_fail, is_unresolved};
 ghost use Rattle.report_junit.specs.Junit.{cases_text, suite_head, suite_counts, suite_end, document_text};
 
 use crate::cases::write_case;

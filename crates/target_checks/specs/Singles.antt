@@ -1,9 +1,8 @@
 -- What a target is asked to keep first of all: its promise in a run without faults, and under each single fault.
-use Rattle.std.specs.Prelude.{ℕ, Bool, true, false, List, [], find, not, Option}
+use Rattle.std.specs.Prelude.{ℕ, Bool, List, [], find, not, Option}
 use Rattle.scenario_values.specs.Scenario.{Entries}
 use Rattle.action_eval.specs.Answers.{Reply}
-use Rattle.target_trait.specs.declared.judgement.Verdict.{Verdict}
-use Rattle.target_trait.specs.declared.judgement.Verdict.TheVariants.{Pass, Fail, Unresolved}
+use Rattle.target_trait.specs.Verdicts.{is_pass}
 use Rattle.target_trait.specs.Outcomes.{verdict_with}
 use Rattle.target_trait.specs.Play.{Move}
 use Rattle.plan_gen.specs.Census.{census_of}
@@ -15,11 +14,6 @@ seed = 7
 
 abbrev pub limit : ℕ
 limit = 1000
-
-abbrev pub is_pass : Verdict → Bool
-is_pass Pass = true
-is_pass (Fail code) = false
-is_pass Unresolved = false
 
 -- whether what is asked passes under a scenario
 abbrev pub passes : (List Reply → Move) → List (List ℕ) → Entries → Bool

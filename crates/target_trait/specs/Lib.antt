@@ -5,3 +5,4 @@ pub mod Play
 pub mod Outcomes
 pub mod Output
 pub mod Failing
+pub mod Verdicts

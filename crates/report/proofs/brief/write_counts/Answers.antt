@@ -1,7 +1,8 @@
 use Rattle.std.proofs.Common.{ℕ, List, ap, ◌++◌, ◌∷◌, [], ◌∙◌, codes, count_by, flat_map, string_bytes}
 use Rattle.std.specs.Fmt.{decimal}
 use Rattle.std.proofs.lemmas.Result.{on_ok_weaker}
-use Rattle.report.specs.BriefText.{is_pass, code_count}
+use Rattle.target_trait.specs.Verdicts.{is_pass}
+use Rattle.report.specs.BriefText.{code_count}
 use Rattle.report.proofs.ToldLines.{five_pieces, on_ok_if}
 use Rattle.report.proofs.brief.write_counts.Goals as goal
 

@@ -1,7 +1,7 @@
 use Rattle.std.proofs.Common.{◌≡◌, List, ℕ, Vec, Global, ◌++◌, length, count_by, ap, ◌∙◌}
 use Rattle.std.specs.String.{string_bytes}
 use Rattle.report.specs.Reports.{ReportFacts}
-use Rattle.report.specs.BriefText.{is_fail, is_unresolved}
+use Rattle.target_trait.specs.Verdicts.{is_fail, is_unresolved}
 use Rattle.report_junit.specs.Junit.{cases_text, suite_head, suite_counts, suite_end}
 use Rattle.report_junit.proofs.document.junit_text.Goals as goal
 
