@@ -8,12 +8,13 @@ use Rattle.target_trait.specs.Play.{Move}
 use Rattle.plan_gen.specs.PlanList.{Asked}
 
 -- how many workers there are; how many hits of a run are answered; up to how many faults each behaviour is tried with, where plans grow from
--- each run's own hits; and what is asked of the list of plans, the seed of every draw among it
+-- each run's own hits; what is asked of the list of plans, the seed of every draw among it; and the text that all of it was read from
 pub record Given : Type 0 where
   pub workers : ℕ
   pub max_hits : ℕ
   pub depth : Option ℕ
   pub plans : Asked
+  pub source : List ℕ
 
 -- what holds where nothing else is given
 abbrev pub defaults : Given
@@ -22,7 +23,12 @@ defaults = record {
   max_hits = 1000;
   depth = None;
   plans = record { pairs = false; storms = 0; rate = 100; listed = []; seed = 0 };
+  source = [];
 }
+
+-- the same, as read from a text
+abbrev pub read_from : List ℕ → Given → Given
+read_from text g = record { workers = g.workers; max_hits = g.max_hits; depth = g.depth; plans = g.plans; source = text }
 
 -- the ranges; with a depth there are no pairs
 pub record IsGiven (g : Given) : Type 0 where

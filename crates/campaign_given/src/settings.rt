@@ -1,10 +1,10 @@
 //! The settings of a campaign.
 ghost use Rattle.std.specs.Prelude.{◌≡◌, ◌≤◌, ◌<◌, IfSome, false, length};
 ghost use Rattle.std.proofs.Props.{props};
-ghost use Rattle.campaign_given.specs.Given.{defaults, IsGiven};
+ghost use Rattle.campaign_given.specs.Given.{defaults, read_from, IsGiven};
 
 use plan_gen::PlanSettings;
-use scenario_values::Scenario;
+use scenario_values::{Scenario, Text};
 use std::alloc::Global;
 use std::marker::Model;
 use target_trait::Case;
@@ -47,6 +47,8 @@ pub struct CampaignSettings {
     pub depth: Option<u32>,
     /// The scenarios that are tried besides, up to 1000.
     pub scenarios: Vec<Scenario>,
+    /// The text that the settings were read from, which a page shows. It is empty where a program made them.
+    pub source: Text,
     ghost seed_high: { seed ≤ 9223372036854775807 },
     ghost workers_low: { 1 ≤ workers },
     ghost workers_high: { workers ≤ 64 },
@@ -70,12 +72,13 @@ impl Model for CampaignSettings {
       max_hits = s.max_hits;
       depth = s.depth;
       plans = record { pairs = s.pairs; storms = s.storms; rate = s.rate; listed = s.scenarios.items; seed = s.seed };
+      source = s.source;
     } };
 }
 
 impl CampaignSettings {
     /// What holds where nothing is given: seed 0, one worker, at most 1000 hits, no pairs, no storms, 100 of a thousand sites for a storm, no
-    /// depth, and no listed scenarios. A program that brings a target of its own sets from here what differs.
+    /// depth, no listed scenarios, and no text. A program that brings a target of its own sets from here what differs.
     pub fn new(alloc: Global) -> Self
         ensures { result ≡ defaults }
     {
@@ -88,7 +91,15 @@ impl CampaignSettings {
             rate: RATE_IF_MISSING,
             depth: None,
             scenarios: Vec::new(alloc),
+            source: Text::from_string(String::new(alloc)),
         }
+    }
+
+    /// The same settings, as read from this text.
+    pub fn read_from(self, source: Text) -> Self
+        ensures { result ≡ read_from source self }
+    {
+        CampaignSettings { source, ..self }
     }
 
     /// How many workers there are.

@@ -2,7 +2,7 @@
 -- a variant and a table `own`.
 use Rattle.std.specs.Prelude.{Option, Some, None, List, [], Result, Ok, codes, option_map}
 use Rattle.toml.specs.Data.{Data, string, integer, float, boolean, datetime, array, table, Members, member, no_members, as_str, as_table, get_member}
-use Rattle.campaign_given.specs.Given.{Given}
+use Rattle.campaign_given.specs.Given.{Given, read_from}
 use Rattle.campaign_settings.specs.Keys.{Text}
 use Rattle.campaign_settings.specs.Lists.{before}
 use Rattle.campaign_settings.specs.Values.{typed}
@@ -29,7 +29,7 @@ own_settings_in ms = after (known_in Own ms) (λ _. given_in ms)
 
 -- a text's settings, or its first fault
 abbrev pub own_settings_of : Text → Read Given
-own_settings_of text = after (members_of text) own_settings_in
+own_settings_of text = after (after (members_of text) own_settings_in) (λ given. Ok (read_from text given))
 
 -- ---- words
 
@@ -70,6 +70,10 @@ worded_settings_in ms =
     after (keyed key.Own (words_at (get_member (codes "own") ms))) (λ words.
     Ok (record { words = record { variant = variant; table = words }; campaign = campaign })))))
 
+-- the settings that were read from a text
+abbrev pub worded_from : Text → OwnSettings → OwnSettings
+worded_from text s = record { words = s.words; campaign = read_from text s.campaign }
+
 -- a text's settings with its words, or its first fault
 abbrev pub worded_settings_of : Text → Read OwnSettings
-worded_settings_of text = after (members_of text) worded_settings_in
+worded_settings_of text = after (after (members_of text) worded_settings_in) (λ s. Ok (worded_from text s))

@@ -7,7 +7,7 @@ use Rattle.toml.specs.Data.{Data, Members, get_member, member, no_members}
 use Rattle.toml.specs.Parse.{parse_document}
 use Rattle.scenario_grammar.specs.FirstFault.{Fault, reading}
 use Rattle.scenario_values.specs.Scenario.{Entries}
-use Rattle.campaign_given.specs.Given.{Given, defaults}
+use Rattle.campaign_given.specs.Given.{Given, defaults, read_from}
 use Rattle.file_replace.specs.declared.variant.Variant.{Variant as ReplaceVariant}
 use Rattle.maildir_target.specs.declared.variant.Variant.{Variant as MaildirVariant}
 use Rattle.commit_target.specs.declared.variant.Variant.{Variant as CommitVariant}
@@ -196,7 +196,7 @@ pub record IsPlanning (p : Planning) : Type 0 where
   pub low_depth : IfSome p.depth (λ faults. faults ≤ 64)
   pub depth_without_pairs : IfSome p.depth (λ _. p.pairs ≡ false)
 
--- what a campaign is given, by these numbers and the listed scenarios
+-- what a campaign is given, by these numbers and the listed scenarios, from no text yet
 abbrev pub campaign_of : Running → Planning → List Entries → Given
 campaign_of running planning scenarios = record {
   workers = running.workers;
@@ -209,6 +209,7 @@ campaign_of running planning scenarios = record {
     listed = scenarios;
     seed = running.seed;
   };
+  source = [];
 }
 
 -- ---- the whole
@@ -237,9 +238,13 @@ parsed (Some ms) = Ok ms
 abbrev pub members_of : Text → Read Members
 members_of text = if nat_lt 1048576 (length text) then Err too_long else parsed (parse_document text)
 
+-- the settings that were read from a text
+abbrev pub settings_from : Text → Settings → Settings
+settings_from text s = record { choice = s.choice; campaign = read_from text s.campaign }
+
 -- a text's settings, or its first fault
 abbrev pub settings_of : Text → Read Settings
-settings_of text = after (members_of text) settings_in
+settings_of text = after (after (members_of text) settings_in) (λ s. Ok (settings_from text s))
 
 -- ---- refusals
 

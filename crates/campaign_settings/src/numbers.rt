@@ -12,7 +12,8 @@ use campaign_given::{
     CampaignSettings, MAX_HITS_IF_MISSING, PAIRS_IF_MISSING, RATE_IF_MISSING, SEED_IF_MISSING,
     STORMS_IF_MISSING, WORKERS_IF_MISSING,
 };
-use scenario_grammar::Scenario;
+use scenario_grammar::{Scenario, Text};
+use std::alloc::Global;
 use toml::Table;
 
 // How runs are made.
@@ -120,8 +121,9 @@ pub fn read_planning_for(setup: Setup, table: &Table) -> Result<Planning, Settin
     }
 }
 
-// The settings of a campaign, by these numbers and its listed scenarios.
+// The settings of a campaign, by these numbers and its listed scenarios, from no text yet.
 pub fn campaign_of(
+    alloc: Global,
     running: Running,
     planning: Planning,
     scenarios: Vec<Scenario>,
@@ -140,5 +142,6 @@ pub fn campaign_of(
         rate: planning.rate,
         depth: planning.depth,
         scenarios,
+        source: Text::from_string(String::new(alloc)),
     }
 }

@@ -13,6 +13,7 @@ use crate::settings::Settings;
 use crate::tables::{keyed, read_choice, refuse_unknown};
 use crate::values::{read_setup, read_target, value_at};
 use campaign_given::CampaignSettings;
+use scenario_grammar::Text;
 use std::alloc::Global;
 use toml::Table;
 
@@ -28,7 +29,9 @@ impl Settings {
         ensures refused { IfErr result (RefusedBy (settings_of text.now)) }
     {
         let table = read_toml(alloc, text)?;
-        read_members(alloc, &table)
+        let Settings { choice, campaign } = read_members(alloc, &table)?;
+        let campaign = campaign.read_from(Text::copy_of(alloc, text)?);
+        Ok(Settings { choice, campaign })
     }
 
     /// The settings that a text of TOML gives to a program that brings its own target: the keys are those of a bundled target but `target`,
@@ -39,7 +42,8 @@ impl Settings {
         ensures refused { IfErr result (RefusedBy (own_settings_of text.now)) }
     {
         let table = read_toml(alloc, text)?;
-        read_own_members(alloc, &table)
+        let campaign = read_own_members(alloc, &table)?;
+        Ok(campaign.read_from(Text::copy_of(alloc, text)?))
     }
 
     /// The same of a program whose target takes words: beside the keys of `read_own` there may be a `variant`, a text, and a table `own` of
@@ -50,7 +54,9 @@ impl Settings {
         ensures refused { IfErr result (RefusedBy (worded_settings_of text.now)) }
     {
         let table = read_toml(alloc, text)?;
-        read_worded_members(alloc, &table)
+        let OwnSettings { words, campaign } = read_worded_members(alloc, &table)?;
+        let campaign = campaign.read_from(Text::copy_of(alloc, text)?);
+        Ok(OwnSettings { words, campaign })
     }
 }
 
@@ -109,7 +115,7 @@ fn read_given(alloc: Global, table: &Table) -> Result<CampaignSettings, Settings
     let running = read_running(table)?;
     let planning = read_planning(table)?;
     let scenarios = read_listed(alloc, value_at(table, "scenarios"))?;
-    Ok(campaign_of(running, planning, scenarios))
+    Ok(campaign_of(alloc, running, planning, scenarios))
 }
 
 // The settings of this target.
@@ -124,6 +130,6 @@ fn read_for(alloc: Global, target: TargetName, table: &Table) -> Result<Settings
     let choice = read_choice(alloc, target, setup, table)?;
     Ok(Settings {
         choice,
-        campaign: campaign_of(running, planning, scenarios),
+        campaign: campaign_of(alloc, running, planning, scenarios),
     })
 }
