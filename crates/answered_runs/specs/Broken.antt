@@ -1,5 +1,6 @@
 -- Where a run that is told breaks with that of the plan which its own grew from.
-use Rattle.std.specs.Prelude.{ℕ, ◌+◌, List, [], ◌∷◌, Option, None, Some, if◌then◌else◌}
+use Rattle.std.specs.Prelude.{◌≡◌, ℕ, ◌<◌, List, [], ◌∷◌, Option, None, Some, if◌then◌else◌, length, slice_index_or, take}
+use Rattle.std.specs.List.{AllByRecursion}
 use Rattle.action_eval.specs.declared.rig.Rig.{Rig}
 use Rattle.action_eval.specs.declared.rig.Site.{Site}
 use Rattle.plan_gen.specs.RiggedAnswers.{is_onward}
@@ -18,7 +19,12 @@ abbrev pub break_at : KnownRuns → List Rig → Option Break
 break_at runs [] = None
 break_at runs (r ∷ parent) = if is_onward r.kind then None else break_told r.site (hits_of runs parent) (hits_of runs (r ∷ parent))
 
--- the first of these plans whose run breaks so, by its number, from one on
-abbrev pub first_break : KnownRuns → ℕ → List (List Rig) → Option (ℕ × Break)
-first_break runs n [] = None
-first_break runs n (plan ∷ plans) = elim (break_at runs plan) [ None ↦ first_break runs (n + 1) plans | Some how ↦ Some (n, how) ]
+-- a run that doesn't break so, as far as it is told
+abbrev pub IsUnbroken : KnownRuns → List Rig → Type 0
+IsUnbroken runs plan = break_at runs plan ≡ None
+
+-- the first of these plans whose run breaks, by its number, and how
+abbrev pub IsFirstBreak : KnownRuns → List (List Rig) → Option (ℕ × Break) → Type 0
+IsFirstBreak runs plans None = AllByRecursion (IsUnbroken runs) plans
+IsFirstBreak runs plans (Some (n, how)) =
+    (n < length plans) × (break_at runs (slice_index_or plans n []) ≡ Some how) × AllByRecursion (IsUnbroken runs) (take n plans)

@@ -4,7 +4,7 @@ ghost use Rattle.answer_text.specs.Runs.{told_in};
 ghost use Rattle.grown_plans.specs.GrownPlans.{Subject, usual_kinds};
 ghost use Rattle.known_runs.specs.ToldPart.{part_known};
 ghost use Rattle.answered_runs.specs.Answered.{runs_in};
-ghost use Rattle.answered_runs.specs.Broken.{break_at, first_break};
+ghost use Rattle.answered_runs.specs.Broken.{IsFirstBreak, break_at};
 ghost use Rattle.answered_runs.specs.Components.{AgreesWithRuns, IsComponent};
 
 use crate::table::AnsweredRuns;
@@ -44,7 +44,7 @@ fn first_break(
     runs: &AnsweredRuns<'_>,
     plans: &GrownPlans,
 ) -> Result<Option<(usize, Break)>, AllocError>
-    ensures { IfOk result (λ found. found ≡ first_break (runs_in runs.now) 0 plans.now) }
+    ensures { IfOk result (IsFirstBreak (runs_in runs.now) plans.now) }
 {
     let mut faults = Vec::new(alloc);
     let mut hits = Vec::new(alloc);
@@ -73,7 +73,7 @@ pub fn broken_run(
 ) -> Result<Option<(usize, Break)>, KnownFault>
     requires depth { depth ≤ 64 }
     requires most { most ≤ 65536 }
-    ensures first { IfOk result (λ found. found ≡ first_break (runs_in runs.now) 0 (part_known usual_kinds (runs_in runs.now) depth)) }
+    ensures first { IfOk result (IsFirstBreak (runs_in runs.now) (part_known usual_kinds (runs_in runs.now) depth)) }
     // No component agrees with answers of which a run breaks.
     ensures none { IfOk result (λ found. IfSome found (λ broken. (t : Subject) → IsComponent runs.now.points t
         → AgreesWithRuns t (told_in runs.now.book) → ⊥)) }
