@@ -123,12 +123,12 @@ impl Begun {
         ensures ends { OnOk result (EndsPlan plan.now asked.now self.new.hits) }
     {
         let Some(site) = last_site(plan) else {
-            self.parent = None;
+            self.forget();
             return Ok(());
         };
         let counted = count_of(self.counts.as_slice(), site.point);
         if self.parent != Some(parent) || counted >= site.hit {
-            self.parent = None;
+            self.forget();
             count_none(&mut self.counts)?;
             self.hits = 0;
         }
