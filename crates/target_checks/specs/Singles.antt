@@ -1,5 +1,5 @@
 -- What a target is asked to keep first of all: its promise in a run without faults, and under each single fault.
-use Rattle.std.specs.Prelude.{ℕ, Bool, List, [], find, not, Option}
+use Rattle.std.specs.Prelude.{ℕ, Bool, false, List, [], find, not, Option}
 use Rattle.scenario_values.specs.Scenario.{Entries}
 use Rattle.action_eval.specs.Answers.{Reply}
 use Rattle.target_trait.specs.Verdicts.{is_pass}
