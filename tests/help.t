@@ -62,7 +62,7 @@ Each option has an example.
     paklour map my.toml > map.svg
   draws a row of plans for each point, each plan in the colour of its verdict.
   $ paklour help page | grep -e ' --progress'
-        --progress  Show on standard error, in one line, how far plans or a reduction are
+        --progress  Show on standard error how far it is; --progress=plain: in lines, for logs
   $ paklour help page | sed -n '/^Example/,$p'
   Example:
     paklour page my.toml > page.html

@@ -9,6 +9,8 @@ use Rattle.campaign_progress.specs.declared.shown.Shown.TheVariants.{Over, Line,
 use Rattle.campaign_progress.specs.declared.told.Standing.{Standing}
 use Rattle.campaign_progress.specs.declared.told.Told.{Told}
 use Rattle.campaign_progress.specs.declared.told.Told.TheVariants.{Plans, Tests}
+use Rattle.work_gate.specs.declared.Phase.{Phase}
+use Rattle.work_gate.specs.declared.Phase.TheVariants as phase
 use Rattle.work_gate.specs.declared.Stage.{Stage}
 use Rattle.work_gate.specs.declared.Stage.TheVariants.{Listed, Level, Onward}
 
@@ -49,6 +51,13 @@ standing_text s = title_text s.stage ++ (decimal s.begun ++ (codes " of " ++ (de
 abbrev pub told_text : Told → List ℕ
 told_text (Plans standing) = standing_text standing
 told_text (Tests begun) = codes "reducing: test " ++ decimal begun
+
+-- ---- what begins
+
+-- a plan by its number, or a test by that under which its reduction hands it out
+abbrev pub begun_text : Phase → ℕ → List ℕ
+begun_text phase.Plans number = codes "plan " ++ decimal number
+begun_text phase.Cards number = codes "test " ++ decimal number
 
 -- ---- the bytes on standard error
 

@@ -1,13 +1,15 @@
-//! How far a campaign or a reduction is, told on standard error: in one line that is written over, or in lines of a log.
+//! How far a campaign or a reduction is, told on standard error: in one line that is written over, or in lines of a log; or which plan is run.
 #![tactic(auto)]
 
 mod cleared;
+mod naming;
 mod pace;
 mod progress;
 mod shown;
 mod told;
 
 pub use cleared::Cleared;
+pub use naming::{Begun, Naming};
 pub use pace::Pace;
 pub use progress::Progress;
 pub use shown::Shown;
