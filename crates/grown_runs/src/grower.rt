@@ -14,7 +14,7 @@ use plan_rows::{ended_of, row_bounds};
 use std::alloc::{AllocError, Global};
 use std::collections::LinkedList;
 use target_trait::Target;
-use work_gate::{Ended, Gate};
+use work_gate::Gate;
 use worker_pool::Job;
 
 /// What a grower's answers depend on. No value is made.
@@ -39,11 +39,6 @@ pub struct Grower<'a, T: Target, G: Gate> {
     pub workspace: Workspace,
     pub alloc: Global,
     ghost alike: { AskLikeParents (subject_on T.Target target course.now) course.now.plans.now } by { Prim.hlevel props },
-}
-
-/// What a gate is told of a row that came to this.
-fn row_ended(growth: &Growth) -> Ended {
-    ended_of(growth.verdicts.as_slice(), growth.child_count as usize)
 }
 
 impl<'a, T: Target + Send, G: Gate> Job for Grower<'a, T, G>
@@ -84,7 +79,9 @@ where
             course.first + end as usize,
         )?;
         if self.gate.is_watched() {
-            self.gate.ended(row_ended(&growth));
+            let verdicts = growth.verdicts.as_slice();
+            self.gate
+                .ended(ended_of(verdicts, growth.child_count as usize));
         }
         Ok(growth)
     }
