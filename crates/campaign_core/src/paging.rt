@@ -117,7 +117,8 @@ fn settings_text<T: Target>(alloc: Global, subject: &Subject<'_, T>) -> Result<S
 fn shown_settings<T: Target>(alloc: Global, subject: &Subject<'_, T>) -> Result<String, AllocError>
     ensures { IfOk result (λ text. let c = campaign_in T.Target subject.now in string_bytes text ≡ text_or c.source (settings_text c)) }
 {
-    let source = subject.settings.source.as_str();
+    let settings = subject.settings;
+    let source = settings.source.as_str();
     if source.is_empty() {
         settings_text(alloc, subject)
     } else {
