@@ -10,13 +10,6 @@ BUILT = crates/paklour/out/paklour
 PROGRAM = $(BUILT)
 PAGES = $(wildcard share/*/*/*)
 
-# What there is to be made, by the comment above each target.
-help:
-	@awk '/^# /{ text = text (text ? " " : "") substr($$0, 3); next } \
-	    /^[a-z][a-z-]*:/ && text && !($$1 in told) { told[$$1]; sub(/[.] .*/, ".", text); printf "make %-12s%s\n", substr($$1, 1, length($$1) - 1), text } \
-	    { text = "" }' Makefile
-	@echo 'Each is told in README.md or in docs/WORKING.md.'
-
 # A first look: builds the program without proving it, and runs a campaign. A campaign that finds a failure ends with 1, which is no error
 # here.
 run:
@@ -91,5 +84,12 @@ edits: check
 # Proves and builds the benchmarks, and runs them: work counts, which have to be those stored, and times beside them.
 bench:
 	@bench/run
+
+# What there is to be made, by the comment above each target.
+help:
+	@awk '/^# /{ text = text (text ? " " : "") substr($$0, 3); next } \
+	    /^[a-z][a-z-]*:/ && text && !($$1 in told) { told[$$1]; sub(/[.] .*/, ".", text); printf "make %-12s%s\n", substr($$1, 1, length($$1) - 1), text } \
+	    { text = "" }' Makefile
+	@echo 'Each is told in README.md or in docs/WORKING.md.'
 
 .PHONY: help quick run build install uninstall pages dist dist-check examples sessions test check fmt refuse edits bench
