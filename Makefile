@@ -37,12 +37,23 @@ test:
 check:
 	@rt all check
 
+# What a change of one crate needs, as in `make quick CRATE=xml_text`: its layout, its proof and its edits, the tests that name it, run
+# without a proof, and the house rules.
+quick:
+	@[ -f 'crates/$(CRATE)/src/lib.rt' ] || [ -f 'crates/$(CRATE)/src/main.rt' ] || { echo 'make quick CRATE=NAME, a folder of crates/' >&2; exit 2; }
+	@cd 'crates/$(CRATE)' && rt fmt && rt check
+	@tools/wrong_bodies '$(CRATE)'
+	@for tests in $$(sed -n 's/^\([a-z_]*_tests\):.*[: ]$(CRATE)\( .*\)*$$/\1/p' crates.txt); do (cd crates/$$tests && rt try --test) || exit 1; done
+	@tools/house_rules
+
+# Lays out the files of all crates.
 fmt:
 	@for crate in crates/*/; do (cd $$crate && rt fmt) || exit 1; done
 
 ifeq ($(PROGRAM),$(BUILT))
 install: build
 endif
+# Puts the program into PREFIX/bin, with its manual page and completions.
 install:
 	@install -D -m 755 "$(PROGRAM)" "$(DESTDIR)$(PREFIX)/bin/paklour"
 	@for page in $(PAGES); do install -D -m 644 "$$page" "$(DESTDIR)$(PREFIX)/$$page" || exit 1; done
@@ -55,10 +66,10 @@ uninstall:
 pages: build
 	@tools/pages $(BUILT)
 
-# Proves and builds the program of the last commit as that of a release, in dist/; and proves the commit that dist/ names from nothing, and
-# compares what it gives.
+# Proves and builds the program of the last commit as that of a release, in dist/.
 dist:
 	@tools/dist make
+# Proves the commit that dist/ names from nothing, and compares the program's bytes.
 dist-check:
 	@tools/dist again
 
@@ -74,4 +85,11 @@ edits: check
 bench:
 	@bench/run
 
-.PHONY: run build install uninstall pages dist dist-check examples sessions test check fmt refuse edits bench
+# What there is to be made, by the comment above each target.
+help:
+	@awk '/^# /{ text = text (text ? " " : "") substr($$0, 3); next } \
+	    /^[a-z][a-z-]*:/ && text && !($$1 in told) { told[$$1]; sub(/[.] .*/, ".", text); printf "make %-12s%s\n", substr($$1, 1, length($$1) - 1), text } \
+	    { text = "" }' Makefile
+	@echo 'Each is told in README.md or in docs/WORKING.md.'
+
+.PHONY: help quick run build install uninstall pages dist dist-check examples sessions test check fmt refuse edits bench

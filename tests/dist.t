@@ -1,6 +1,6 @@
 `tools/dist held` holds the program of dist/ to the text beside it, to the history, and to what the tree gives. The repository here has just what
 it looks at, its toolchain is a stand-in, and the program of its dist/ is the one that these sessions try. What is expected was worked out by hand
-from docs/WORKING.md, "The built program".
+from docs/WORKING.md, "A release".
 
   $ mkdir -p bin repo/tools repo/examples repo/crates/paklour/src repo/crates/command_words/src
   $ printf '#!/bin/sh\necho kit one\n' > bin/rt && chmod +x bin/rt && PATH=$PWD/bin:$PATH
