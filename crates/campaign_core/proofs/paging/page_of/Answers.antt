@@ -23,7 +23,8 @@ page_text-requires-clause-reached g c =
 pub returns-clause-text : goal.returns-clause-text
 returns-clause-text g c =
     let k : Campaign = campaign_in g.T.Target c.args.subject.now in
-    let linked = c.linked_plans-linked.ensures ∙ ap (λ (r : ReportFacts). rows_to most_told r.verdicts) c.in_ok-report.ensures.report in
+    let linked =
+    c.linked_plans-linked.ensures ∙ ap (λ (r : ReportFacts). rows_to most_told r.verdicts) (c.report.view_is ∙ c.in_ok-report.ensures.report) in
     IfOk-weaker c.page_text.result _ (λ text. text.items ≡ campaign_page_text c.args.notes.now k)
     (λ text h. page_is k c.args.notes.now text.items _ _ _ h c.in_ok-report.ensures.report c.plans_of-plans.ensures
     (c.about_of-about.ensures ∙ about_is k _ _ _ _ _ (c.as_str.ensures.value ∙ c.in_ok-map.ensures ∙ ap (λ (n : ℕ). map_text k.points k.codes (mapped n k)) linked)
