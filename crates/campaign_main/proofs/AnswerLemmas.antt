@@ -1,5 +1,5 @@
 -- Answers, by what a command did.
-use Rattle.std.proofs.Common.{◌≡◌, ◌≤◌, ◌<◌, ◌∙◌, ℕ, Bool, true, false, List, Option, Some, None, Result, Ok, Err, IfErr, IfOk, IsErrAnd, length, refl, sym, ap, is_some, option_map, slice_get, subst, take, if◌then◌else◌}
+use Rattle.std.proofs.Common.{◌≡◌, ◌≤◌, ◌<◌, ◌∙◌, ℕ, Bool, true, false, List, Option, Some, None, Result, Ok, Err, IfErr, IfOk, IsErrAnd, OnOk, length, refl, sym, ap, is_some, option_map, slice_get, subst, take, if◌then◌else◌}
 use Rattle.std.proofs.lemmas.Bool.{false≢true, le-ltb, lt-ltb}
 use Rattle.std.specs.Io.KnownBytes.{Appends}
 use Rattle.scenario_values.specs.Scenario.{Entries}
