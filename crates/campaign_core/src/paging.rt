@@ -117,7 +117,8 @@ fn settings_text<T: Target>(alloc: Global, subject: &Subject<'_, T>) -> Result<S
 fn shown_settings<T: Target>(alloc: Global, subject: &Subject<'_, T>) -> Result<String, AllocError>
     ensures { IfOk result (λ text. let c = campaign_in T.Target subject.now in string_bytes text ≡ text_or c.source (settings_text c)) }
 {
-    let source = subject.settings.source.as_str();
+    let settings = subject.settings;
+    let source = settings.source.as_str();
     if source.is_empty() {
         settings_text(alloc, subject)
     } else {
@@ -252,7 +253,8 @@ where
     let alloc = host.alloc;
     let report = report_of(host, subject, ran)?;
     let plans = plans_of(subject, &ran.planned);
-    let map = map_of(alloc, subject, ran, linked_plans(report.verdicts))?;
+    let linked = linked_plans(report.verdicts);
+    let map = map_of(alloc, subject, ran, linked)?;
     let runs = finding_runs(alloc, subject, &report)?;
     let cause_runs = cause_runs(alloc, subject, &report)?;
     let settings = shown_settings(alloc, subject)?;
