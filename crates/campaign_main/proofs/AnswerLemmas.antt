@@ -300,6 +300,6 @@ short-up answer old new failed (Err f) fault is short = let P : CommandFault →
 
 -- ---- two promises of a call
 
-pub both-kept : {V E A B : Type 0} (r : Result V E) → OnOk r A → OnOk r B → OnOk r (A × B)
-both-kept (Ok v) a b = (a, b)
-both-kept (Err x) a b = tt
+pub both-kept : {V E : Type 0} (A B : Type 0) (r : Result V E) → OnOk r A → OnOk r B → OnOk r (A × B)
+both-kept A B (Ok v) a b = (a, b)
+both-kept A B (Err x) a b = tt
