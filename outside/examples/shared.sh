@@ -5,13 +5,20 @@
 #                 alone, and with all
 #   FAULTS_SYNC   names: a sync of a file makes its name last too; and the library's other variables
 #   TRACE         a file that takes the run's trace
+#   HITS          where it is set, the line ends with a tab and the run's hits in order, as `census --hits` tells them
 #   SHOW          where it is set, what the program said, and each verdict's state, on standard error
 here=$(mktemp -d) || exit 2
 trap 'leave' EXIT
 trap 'exit 2' HUP INT TERM
 export outside here scenario
 under=$outside/examples/under
+hits=
 leave() { rm -rf "$here"; }
+
+# What the examples stand on is built by one command.
+for built in faults.so powercut; do
+    [ -e "$outside/out/$built" ] || { echo "try.sh: not built: make -C $outside" >&2; exit 2; }
+done
 
 # needs PROGRAM..: ends with 2 where one isn't installed
 needs() {
@@ -27,20 +34,23 @@ begin() { "$outside/out/powercut" begin "$here/run" "$here/data" || exit 2; }
 
 verdict() {
     [ -z "${SHOW-}" ] || echo "$1 ${state+in $state}" >&2
-    printf '%s\t%s\n' "$1" "$scenario"
+    printf '%s\t%s%s\n' "$1" "$scenario" "$hits"
     exit 0
 }
 
-# traced: gives the trace to who asked for it, numbered anew, since `commit` puts two together
-traced() { [ -z "${TRACE-}" ] || awk -F '\t' -v OFS='\t' '{ $1 = NR } 1' "$here/run/trace" > "$TRACE"; }
+# traced: gives the trace to who asked for it, numbered anew, since `commit` puts two together; so its hits have no order, and aren't told
+traced() {
+    [ -z "${TRACE-}" ] || awk -F '\t' -v OFS='\t' '{ $1 = NR } 1' "$here/run/trace" > "$TRACE"
+    [ -z "${HITS-}" ] || hits="	$("$outside/census" --hits "$here/run/trace")" || exit 2
+}
 
 # met: a fault that was never met wasn't tried
 met() { [ "$scenario" = none ] || cut -f 4 "$here/run/trace" | grep -qvx go || verdict unresolved; }
 
-# ended: after the program's run, before anything is judged. Where no call was seen and the scenario could be read, the power cut tells
-# that the library wasn't loaded, or not in which program.
+# ended: after the program's run, before anything is judged. Where the library wasn't loaded or no call was seen, and the scenario could be
+# read, the power cut tells that it wasn't loaded, or not in which program.
 ended() {
-    if [ ! -s "$here/run/trace" ] && ! grep -q '^faults: scenario: ' "$here/errors"; then
+    if { [ ! -s "$here/run/loaded" ] || [ ! -s "$here/run/trace" ]; } && ! grep -q '^faults: scenario: ' "$here/errors"; then
         "$outside/out/powercut" cut "$here/run" "$here/data" live && echo 'try.sh: no call on a file was seen' >&2
         exit 2
     fi

@@ -116,9 +116,18 @@ static void say_loaded(void) {
     __atomic_add_fetch(&state->loaded, 1, __ATOMIC_SEQ_CST);
 }
 
+/* Whether `begin` noted another folder: of that one the notes would say nothing. */
+static bool is_other_root(void) {
+    char name[LONG_PATH], noted[PATH_MAX];
+    snprintf(name, sizeof name, "%s/root", run_folder);
+    long length = syscall(SYS_readlink, name, noted, sizeof noted);
+    return length >= 0 && (strlen(root) != (size_t)length || memcmp(noted, root, (size_t)length));
+}
+
 static void set_root(const char *where) {
     if (!realpath(where, root)) refuse("FAULTS_ROOT isn't a folder", where);
     if (!root[1]) refuse("FAULTS_ROOT is too much", root);
+    if (is_other_root()) refuse("FAULTS_ROOT isn't the folder that begin noted", root);
     root_length = strlen(root);
 }
 

@@ -28,6 +28,7 @@ if command -v g++ > "$here/said"; then
 else
     echo 'skipped the client in C++: no g++'
 fi
+is 'no program to hold to it' '1 held: No such file or directory: out/no driver' "$(points/held 'out/no driver' 2> "$here/said"; echo "$? $(cat "$here/said")")"
 is 'a program sees one name of the C client' points_hit "$(nm -g --defined-only out/points.o | cut -d ' ' -f 3)"
 
 # As pip installs it, with no network.

@@ -7,14 +7,14 @@ brief= strict=
 [ "$2" != --brief ] || { brief=yes; set -- "$1" "$3"; }
 [ "$2" != --strict ] || { strict=yes; set -- "$1" "$3"; }
 cat > "$0.in"
-[ -z "${REFUSES-}" ] || { [ "$1" = asks ] && exit 2; }
+[ -z "${REFUSES-}" ] || { [ "$1" = asks ] && { echo 'settings: unknown key what' >&2; exit 2; }; }
+[ -z "${NOTE-}" ] || [ "$brief" ] || echo "$NOTE" >&2
 case $1 in
 asks) cut -f 2 "$0.in" | grep -vxF -f - "$2" | head -n "${ROUND:-3}" ;;
 report)
     [ -z "$brief" ] || sed -n 's/^fail \(.*\)\t/ fail \1 /p' "$0.in" | awk '{ print "verdict " NR $0 }'
     [ -n "$brief" ] || { cut -f 2 "$0.in" | LC_ALL=C sort | paste -s -d ' '; sed -n 's/^\(fail .*\)\t.*/ \1/p' "$0.in" | awk '{ print "verdict " NR $0 }'; }
     grep -q '^fail' "$0.in" && { echo 'first 1 lost of all'; echo 'reduced e=off'; exit 1; }
-    [ -z "${NOTE-}" ] || echo "$NOTE" >&2
     [ -z "$strict" ] || { echo 'strict: no hits without faults' >&2; exit 5; } ;;
 esac
 exit 0
@@ -43,7 +43,7 @@ loop() {
     cat "$here/told" >&2
     return $loop_status
 }
-told() { grep -v ' time left ' "$here/told"; }
+told() { grep -v -e ' time left ' -e ' once more$' "$here/told"; }
 
 is 'the loop goes on until nothing is asked' "$all" "$(loop answers 2> "$here/faults")"
 is 'and tells how far it is' 'loop: answered 0, asked 3, failing 0, time left unknown
@@ -62,14 +62,14 @@ is 'once, as each note' 'a note,strict: no hits without faults' "$(paste -s -d ,
 unset options NOTE
 rm "$here/answers"
 loop tells_nothing > "$here/said" 2>&1
-is 'it stops where no answer comes' "2 loop: no answer came from $here/bin/tells_nothing" "$? $(tail -n 1 "$here/said")"
+is 'it stops where no answer comes' "2 loop: no answer came from $here/bin/tells_nothing, asked first: none" "$? $(tail -n 1 "$here/said")"
 loop tells_another > "$here/said" 2>&1
 is 'or answers to what nobody asked' "2 loop: $here/bin/tells_another answers nothing that is asked" "$? $(tail -n 1 "$here/said")"
 rm "$here/answers"
 REFUSES=yes
 export REFUSES
 loop answers > "$here/said" 2>&1
-is 'or where asks refuses' 2 $?
+is 'or where asks refuses, which is told' '2 settings: unknown key what' "$? $(cat "$here/said")"
 unset REFUSES
 options=--what
 loop answers > "$here/said" 2>&1
@@ -87,23 +87,46 @@ going() { for pid in "$here"/bin/hangs.*.pid; do grep -hs '^State:.[^ZX]' "/proc
 is 'and its children are ended' '3 ' "$(ls "$here"/bin/hangs.*.pid | wc -l) $(going)"
 rm "$here/answers" "$here"/bin/hangs.*.pid
 
-# Stopped, as by Ctrl-C.
-PATH="$here/bin:$PATH" setsid ./loop "$here/three" "$here/answers" "$here/bin/hangs" > "$here/told" 2>&1 &
-stopped=$!
+# stopped NAME SIGNAL GROUP OPTION..: a loop of two runs at once that gets the signal, with its group where GROUP is `-`: its status, how many
+# runs had begun, how many answers there are, and what is left running
+stopped() {
+    name=$1
+    signal=$2
+    group=$3
+    shift 3
+    PATH="$here/bin:$PATH" setsid ./loop -j 2 "$@" "$here/three" "$here/answers" "$here/bin/hangs" > "$here/told" 2>&1 &
+    stopped=$!
+    tries=0
+    until [ "$(cat "$here"/bin/hangs.*.pid 2> "$here/said" | wc -l)" -eq 2 ] || [ "$tries" -ge 300 ]; do sleep 0.1; tries=$((tries + 1)); done
+    kill "-$signal" "$group$stopped"
+    { wait "$stopped"; } 2> "$here/said"
+    ended=$?
+    tries=0
+    while [ -n "$(going)" ] && [ "$tries" -lt 50 ]; do sleep 0.1; tries=$((tries + 1)); done
+    is "$name" '2 2 0 ' "$ended $(ls "$here"/bin/hangs.*.pid | wc -l) $(wc -l < "$here/answers") $(going)"
+    rm "$here/answers" "$here"/bin/hangs.*.pid
+}
+stopped 'a loop that is stopped, as by Ctrl-C, ends what is running' TERM -
+stopped 'and so where the loop alone gets the signal' TERM ''
+stopped 'or loses its terminal' HUP ''
+
+# Killed, it can end nothing; but nothing more is begun.
+printf '%s\n' '#!/bin/sh' 'echo "$1" >> "$0.begun"; sleep 2; printf "pass\t%s\n" "$1"' > "$here/bin/lasts" && chmod +x "$here/bin/lasts"
+PATH="$here/bin:$PATH" ROUND=7 ./loop -j 2 "$here/list" "$here/answers" "$here/bin/lasts" > "$here/told" 2>&1 &
+killed=$!
 tries=0
-until [ "$(cat "$here"/bin/hangs.*.pid 2> "$here/said" | wc -l)" -eq 3 ] || [ "$tries" -ge 100 ]; do sleep 0.1; tries=$((tries + 1)); done
-kill -TERM "-$stopped"
-wait "$stopped"
-is 'a loop that is stopped' 2 $?
-tries=0
-while [ -n "$(going)" ] && [ "$tries" -lt 20 ]; do sleep 0.1; tries=$((tries + 1)); done
-is 'ends what is running' '3 0 ' "$(ls "$here"/bin/hangs.*.pid | wc -l) $(wc -l < "$here/answers") $(going)"
-rm "$here/answers"
+until [ "$(cat "$here/bin/lasts.begun" 2> "$here/said" | wc -l)" -eq 2 ] || [ "$tries" -ge 300 ]; do sleep 0.1; tries=$((tries + 1)); done
+kill -KILL "$killed"
+{ wait "$killed"; } 2> "$here/said"
+sleep 4
+is 'after a loop that was killed no run is begun' 2 "$(wc -l < "$here/bin/lasts.begun")"
+rm -f "$here/answers"
 
 # What fails is run once more.
 loop fails > "$here/said" 2>&1
 is 'a plan that fails but once' '5 loop: told otherwise: fail lost of all, then pass: e=off' "$? $(told)"
 is 'after the report' 'reduced e=off' "$(grep -v '^loop' "$here/said" | tail -n 1)"
+is 'which a line of progress says' 'loop: 2 that fail run once more' "$(grep 'once more$' "$here/said")"
 is 'which may be the brief one' 'fail lost of all e=off' \
     "$(PATH="$here/bin:$PATH" ./loop --brief --no-recheck "$here/list" "$here/answers" "$here/bin/fails" | sed -n 's/^verdict [0-9]* \(fail lost\)/\1/p')"
 options=--no-recheck
@@ -154,6 +177,7 @@ END
         cat "$here/first/where" "$here/second/where" | sort -u | sed 's|.*/||' | paste -s -d ' ')"
     rm "$here/answers"
     unset ROUND
+    stopped 'GNU parallel is ended with the loop' TERM '' --engine parallel
 else
     echo 'skipped the loop with GNU parallel: it is not installed'
 fi

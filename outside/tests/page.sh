@@ -25,11 +25,10 @@ is 'with a wrong path too' 2 "$(tried "$here/none" 'libc::fsync=1*return' | sed 
 mkdir -p "$here/half/outside/out" && cp out/powercut "$here/half/outside/out"
 is 'and where the library is not built' "powercut: no process of the run loaded the shim: LD_PRELOAD leads to no faults.so, or the program can't load it,2" \
     "$(tried "$here/half" 'libc::fsync=1*return')"
-is 'so do the examples' 2 "$(cp -r examples "$here/half/outside" && cp out/replace "$here/half/outside/out" &&
-    "$here/half/outside/examples/replace/try.sh" none > "$here/said" 2>&1; echo $?)"
 printf '%s\n' '#!/bin/sh' 'exec env -i "${0%/*}/saves" "$@"' > "$here/page/clears" && mv "$here/page/save" "$here/page/saves"
 mv "$here/page/clears" "$here/page/save" && chmod +x "$here/page/save"
 is 'and a program that clears its environment' "powercut: no call was seen: a program without the library in its environment: $here/page/saves,2" \
     "$(tried "$outside/.." 'libc::fsync=1*return' | sed 's/^faults: not seen:[^,]*,//')"
 is 'the trace of a run without faults, as the page has it' '5 libc::rename 1 go note' \
     "$(mv "$here/page/saves" "$here/page/save"; TRACE=$here/trace tried "$outside/.." none > "$here/said"; cut -f 1-5 "$here/trace" | sed -n 5p | tr '\t' ' ')"
+is 'and its hits in order' '2*libc::open;libc::write;libc::fsync;libc::rename;libc::fsync' "$(./census --hits "$here/trace")"

@@ -49,6 +49,10 @@ is 'replace twice, what was left is cleared' 'open open write unlink unlink open
 is 'and passes' 'pass	libc::write=1*return;libc::unlink=1*return' "$(cat "$here/said")"
 TRACE=$here/trace examples/replace/try.sh none > "$here/said"
 is 'the census of replace is that of its settings' "$(grep -E '^(points|hits)' examples/replace/outside.toml)" "$(./census "$here/trace")"
+is 'replace, with its hits' 'pass	none	2*libc::open;2*libc::write;libc::fsync;libc::rename;libc::fsync' "$(HITS=yes examples/replace/try.sh none)"
+keep='libc::fsync=1*return;power::keep=3*off->1*return'
+is 'and those of the cut' "fail torn	$keep	2*libc::open;2*libc::write;libc::rename;libc::fsync;4*power::keep" \
+    "$(HITS=yes STATES=keep FLAW=rename_first examples/replace/try.sh "$keep")"
 is 'replace, the scenario in FAILPOINTS' 'fail torn	libc::fsync=1*return' \
     "$(FAILPOINTS='libc::fsync=1*return' FLAW=ignore_sync examples/replace/try.sh)"
 is 'replace under a pause is unresolved' 'unresolved	libc::write=pause' "$(examples/replace/try.sh 'libc::write=pause')"

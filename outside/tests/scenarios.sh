@@ -74,6 +74,11 @@ is 'no FAULTS_RUN' "faults: isn't set: FAULTS_RUN" "$(bare FAULTS_ROOT="$here/da
 is 'FAULTS_RUN of no run' "faults: FAULTS_RUN isn't a run's folder: $here/data" "$(bare FAULTS_ROOT="$here/data" FAULTS_RUN="$here/data")"
 new
 is 'FAULTS_ROOT of nothing' "faults: FAULTS_ROOT isn't a folder: $here/none" "$(bare FAULTS_ROOT="$here/none" FAULTS_RUN="$here/run")"
+for other in "$here" "$here/data/sub"; do
+    is "FAULTS_ROOT is not the folder that is cut: $other" "faults: FAULTS_ROOT isn't the folder that begin noted: $(realpath "$other")" \
+        "$(bare FAULTS_ROOT="$other" FAULTS_RUN="$here/run")"
+done
+is 'but it may have another name' 'create 0' "$(ln -s "$here/data" "$here/way" && bare FAULTS_ROOT="$here/way" FAULTS_RUN="$here/run"; rm "$here/way")"
 
 # The census.
 try none mkdir b create a write b write c fsync rename a sub/b folder . fsync

@@ -35,6 +35,14 @@ else
     database 'EXTRA, both, by the sync' 'libc::fsync=1*off->1*return;libc::write=9*off->1*panic' 'fail corrupt' SYNC=EXTRA
     database 'EXTRA, a fault that is not met' 'libc::mkdir=1*return' unresolved SYNC=EXTRA
 
+    # The third field, written out, is the trace's second column; what the cut asks stands in both.
+    for states in live keep each; do
+        HITS=yes SYNC=EXTRA STATES=$states TRACE=$here/trace examples/sqlite/try.sh 'libc::open=2*off->return;power::keep=1*return' > "$here/told"
+        is "sqlite EXTRA, with its hits, $states" "$(cut -f 2 "$here/trace")" \
+            "$(cut -f 3 "$here/told" | tr ';' '\n' | awk -F '*' '{ for (n = NF > 1 ? $1 : 1; n > 0; n--) print $NF }')"
+        [ $states = keep ] && asks=2 || asks=0
+        is "of which the cut asked $asks" $asks "$(grep -c power::keep "$here/trace")"
+    done
     # Any part of what is pending: the plans of one fault, three of which fail, the first in none of the four states. The
     # journal's name lasts and its removal doesn't, as the folder was never opened for its sync.
     first='libc::open=2*off->return'

@@ -6,11 +6,16 @@
 #   REPLACEMENTS   lists of chunks without blanks, a comma between two lists: ne w
 #   STATES         the states after a power cut that are judged: lasting; keep is what the scenario says of power::keep
 #   TRACE          a file that takes the run's trace
+#   HITS           where it is set, the line ends with a tab and the run's hits in order, as `census --hits` tells them
 outside=$(cd "$(dirname "$0")/../.." && pwd) || exit 2
 scenario=${1-${FAILPOINTS-none}}
 OLD=${OLD-old}
 REPLACEMENTS=${REPLACEMENTS-ne w}
 set -f
+
+for built in faults.so powercut replace; do
+    [ -e "$outside/out/$built" ] || { echo "try.sh: not built: make -C $outside" >&2; exit 2; }
+done
 
 here=$(mktemp -d) || exit 2
 trap 'rm -rf "$here"' EXIT
@@ -25,7 +30,9 @@ status=$?
 
 verdict() {
     [ -z "${TRACE-}" ] || cp "$here/run/trace" "$TRACE" || exit 2
-    printf '%s\t%s\n' "$1" "$scenario"
+    hits=
+    [ -z "${HITS-}" ] || hits="	$("$outside/census" --hits "$here/run/trace")" || exit 2
+    printf '%s\t%s%s\n' "$1" "$scenario" "$hits"
     exit 0
 }
 

@@ -10,6 +10,7 @@
 #   RECOVER        yes: after the cut, by what the scenario says of power::keep, the run goes on: SQLite opens the database
 #                  again under the scenario, commits one transaction more, and the power is cut a second time
 #   TRACE          a file that takes the run's trace
+#   HITS           where it is set, the line ends with a tab and the run's hits in order, as `census --hits` tells them
 # corrupt: the integrity check finds something. half: a transaction has one of its rows. lost: a transaction that was
 # acknowledged isn't there.
 outside=$(cd "$(dirname "$0")/../.." && pwd) || exit 2
@@ -17,6 +18,10 @@ scenario=${1-${FAILPOINTS-none}}
 JOURNAL=${JOURNAL:-DELETE}
 SYNC=${SYNC:-FULL}
 TRANSACTIONS=${TRANSACTIONS:-1}
+
+for built in faults.so powercut; do
+    [ -e "$outside/out/$built" ] || { echo "try.sh: not built: make -C $outside" >&2; exit 2; }
+done
 
 here=$(mktemp -d) || exit 2
 trap 'rm -rf "$here"' EXIT
@@ -45,13 +50,21 @@ runs() {
     workload "$1" "$2" > "$here/workload"
     (cd "$here/data" && LD_PRELOAD="$outside/out/faults.so" FAULTS_ROOT="$here/data" FAULTS_RUN="$here/run" FAILPOINTS="$scenario" \
         timeout -s KILL 20 stdbuf -oL sqlite3 -batch -bail "file://$database" < "$here/workload") >> "$here/said" 2>> "$here/errors"
+    status=$?
+    traced
     # 0 and 1 are SQLite's own, 99 is a panic of the scenario. All else tells nothing of the database.
-    case $? in 0 | 1 | 99) ;; *) verdict unresolved ;; esac
+    case $status in 0 | 1 | 99) ;; *) verdict unresolved ;; esac
 }
 
-verdict() {
+# traced: the trace by now, of the run and of the cut that the scenario names
+traced() {
     [ -z "${TRACE-}" ] || cp "$here/run/trace" "$TRACE" || exit 2
-    printf '%s\t%s\n' "$1" "$scenario"
+    [ -z "${HITS-}" ] || hits="	$("$outside/census" --hits "$here/run/trace")" || exit 2
+}
+
+hits=
+verdict() {
+    printf '%s\t%s%s\n' "$1" "$scenario" "$hits"
     exit 0
 }
 
@@ -77,7 +90,9 @@ judge() {
 # judged STATE..: the cut to that state, and its judgement
 judged() {
     "$outside/out/powercut" cut "$here/run" "$here/data" "$@"
-    case $? in 0) judge ;; 97) verdict unresolved ;; *) exit 2 ;; esac
+    case $? in 0) ;; 97) verdict unresolved ;; *) exit 2 ;; esac
+    [ "$state" != keep ] || traced
+    judge
 }
 
 for state in ${STATES:-lasting names contents live}; do
