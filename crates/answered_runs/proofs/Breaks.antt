@@ -20,7 +20,9 @@ use Rattle.known_runs.proofs.Breaking.{breaks_never}
 use Rattle.known_runs.proofs.Ends.{filtered}
 use Rattle.answer_text.specs.Runs.{KnownRuns as Answers}
 use Rattle.answered_runs.specs.Components.{AgreesWithRuns, IsComponent}
-use Rattle.answered_runs.specs.Broken.{IsFirstBreak, IsUnbroken, break_at, break_told}
+use Rattle.answered_runs.specs.Broken.{AreBroken, IsUnbroken, break_at, break_told}
+use Rattle.answered_runs.specs.Answered.{Answered, runs_in}
+use Rattle.answered_runs.specs.declared.broken.BrokenRun.{BrokenRun}
 
 -- what is told of a plan's hits is true
 hits_true : (t : Subject) (plan : List Rig) (o : Option Told) → IfSome o (IsTrueOf t plan) → IfSome (hits_told o) (λ hits. points_met (run_of_plan t plan) ≡ hits)
@@ -98,7 +100,7 @@ unbroken_more runs plans n plan less is here before =
     subst (λ (ps : List (List Rig)). AllByRecursion (IsUnbroken runs) ps) (sym whole) (all_append (IsUnbroken runs) (take n plans) (plan ∷ []) before (here, tt))
 
 pub unbroken_all : (runs : KnownRuns) (plans : List (List Rig)) (n : ℕ) → length plans ≤ n → AllByRecursion (IsUnbroken runs) (take n plans) → AllByRecursion (IsUnbroken runs) plans
-unbroken_all runs plans n end all = subst (λ (ps : List (List Rig)). AllByRecursion (IsUnbroken runs) ps) (take_all plans n end) all
+unbroken_all runs plans n end all = subst (λ (ps : List (List Rig)). AllByRecursion (IsUnbroken runs) ps) (take_all n plans end) all
 
 -- ---- no break of a component that agrees
 
@@ -107,9 +109,9 @@ none_at runs n how [] all less e = absurd (omega (arith, less))
 none_at runs zero how (plan ∷ plans) all less e = absurd (let f : None ≡ Some how = sym all.0 ∙ e in cc)
 none_at runs (suc n) how (plan ∷ plans) all less e = none_at runs n how plans all.1 (omega (arith, less)) e
 
-pub none_breaks : (t : Subject) → IsLawful t → (d : ℕ) (runs : KnownRuns) (o : Option (ℕ × Break)) → Agrees t d runs → IsFirstBreak runs (known_part t d runs) o → o ≡ None
-none_breaks t l d runs None agrees f = refl
-none_breaks t l d runs (Some (n, how)) agrees f = absurd (none_at runs n how (known_part t d runs) (part_whole t l d runs agrees) f.0 f.1.0)
+pub none_breaks : (t : Subject) → IsLawful t → (d : ℕ) (a : Answered) (o : Option BrokenRun) → Agrees t d (runs_in a) → AreBroken a (known_part t d (runs_in a)) o → o ≡ None
+none_breaks t l d a None agrees f = refl
+none_breaks t l d a (Some b) agrees f = absurd (none_at (runs_in a) b.number b.how (known_part t d (runs_in a)) (part_whole t l d (runs_in a) agrees) f.within f.breaks)
 
 -- where each component that agrees has no break, none agrees with one
 pub some_never : {A : Type 0} (o : Option A) (points : List (List ℕ)) (told : Answers) → ((t : Subject) → IsComponent points t → AgreesWithRuns t told → o ≡ None)
