@@ -1,6 +1,6 @@
 -- Plans as a list keeps them, grown level by level.
 use Rattle.std.proofs.Common.{◌≡◌, ℕ, zero, suc, ◌+◌, ◌-◌, ◌<◌, ◌≤◌, Bool, true, false, cond, List, [], ◌∷◌, ◌++◌, map, length, get_or, refl, ap, sym, ◌∙◌, subst, arith, append_assoc}
-use Rattle.std.specs.Prelude.{Option, Some, None, flat_map, ◌&&◌}
+use Rattle.std.specs.Prelude.{Option, Some, None, flat_map}
 use Rattle.std.proofs.lemmas.List.{append-nil, map-append, length-append, length_push, length-map}
 use Rattle.std.specs.List.{AllByRecursion, filter, range_with_len}
 use Rattle.std.proofs.lemmas.List.FromFn.{map-range_with_len_more}
@@ -11,7 +11,7 @@ use Rattle.action_eval.specs.declared.rig.Kind.{Kind}
 use Rattle.action_eval.specs.declared.rig.Kind.TheVariants.{OnceReturn, OncePanic}
 use Rattle.action_eval.specs.Rigging.{rig}
 use Rattle.grown_plans.specs.GrownPlans.{Subject, usual_kinds, onward}
-use Rattle.grown_plans.specs.AskedPoints.{sites_from, sites_past, from_then_on, goes_onward, is_last_return, onward_if}
+use Rattle.grown_plans.specs.AskedPoints.{sites_from, sites_past, from_then_on, goes_onward}
 use Rattle.grown_plans.specs.Kept.{Grew, GrewFrom, plan_of, kept_at}
 use Rattle.grown_plans.specs.Promises.{IsLawful}
 use Rattle.grown_plans.proofs.Members.{all_append, all_flat, all_weaker}
@@ -22,7 +22,7 @@ use Rattle.known_runs.specs.declared.growing.KnownPlans.{KnownPlans}
 use Rattle.known_runs.specs.declared.growing.Levels.{Levels}
 use Rattle.known_runs.specs.inside.GrownLevels.{AreLevels, HasOnward, size_known}
 use Rattle.known_runs.specs.ToldPart.{children_known, children_told, level_known, levels_known, onward_told, part_known}
-use Rattle.known_runs.specs.inside.Grown.{again_known, again_told, kept_known, kept_over, kept_told, onward_known, onward_over}
+use Rattle.known_runs.specs.inside.Grown.{kept_known, kept_over, kept_told, onward_known, onward_over}
 use Rattle.known_runs.proofs.Listed.{level_is, onward_is, part_is}
 
 -- ---- one plan more
@@ -273,19 +273,3 @@ known_grown known d l k beyond levels more = part_is_known known d l.last l.plan
 pub known_short : (known : KnownRuns) (d : ℕ) (l : Levels) (k : KnownPlans) (beyond : ℕ) → AreLevels known d l → HasOnward known l beyond k → AllByRecursion (λ plan. length plan ≤ d) k.plans
 known_short known d l k beyond levels more =
     subst (λ (ps : List (List Rig)). AllByRecursion (λ plan. length plan ≤ d) ps) (sym (known_grown known d l k beyond levels more)) (part_short known d)
-
--- ---- onward, by whether the last fault's point is hit again
-
-never : (b : Bool) → (b && false) ≡ false
-never true = refl
-never false = refl
-
-onward_told_if : (plan : List Rig) (o : Option (List ℕ)) → onward_if (is_last_return plan && again_told plan o) plan ≡ onward_told plan o
-onward_told_if plan None = ap (λ (b : Bool). onward_if b plan) (never (is_last_return plan))
-onward_told_if plan (Some hits) = refl
-
-pub onward_again : (known : KnownRuns) (plans : List (List Rig)) (n : ℕ) (again : Bool) (old new : List (List Rig)) → again ≡ again_known known plans n
-    → new ≡ old ++ onward_if (is_last_return (get_or plans n []) && again) (get_or plans n []) → new ≡ old ++ onward_known known plans n
-onward_again known plans n again old new is more =
-    more ∙ ap (λ (b : Bool). old ++ onward_if (is_last_return (get_or plans n []) && b) (get_or plans n [])) is
-    ∙ ap (λ (l : List (List Rig)). old ++ l) (onward_told_if (get_or plans n []) (hits_of known (get_or plans n [])))
