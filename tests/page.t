@@ -19,7 +19,7 @@ It ends as the report does, and without a depth it tells that it isn't whole.
   1
   1
   0
-  $ for name in small late grown one; do grep -o '<title>.*</title>' $name.html; grep -A1 '^<h1>' $name.html | tail -n 1; done
+  $ for name in small late grown one; do grep -o '<title>.*Paklour</title>' $name.html; grep -A1 '^<h1>' $name.html | tail -n 1; done
   <title>replace sound - Paklour</title>
   <p>faults at the hits of the run without faults, 19 runs; not whole: without a depth no fault is put where another one leads</p>
   <title>replace late_sync - Paklour</title>
