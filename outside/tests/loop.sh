@@ -94,7 +94,8 @@ stopped() {
     signal=$2
     group=$3
     shift 3
-    PATH="$here/bin:$PATH" setsid ./loop -j 2 "$@" "$here/three" "$here/answers" "$here/bin/hangs" > "$here/told" 2>&1 &
+    # A signal that whoever runs the tests ignores, as nohup does, could not be trapped.
+    PATH="$here/bin:$PATH" env --default-signal=HUP,INT,TERM setsid ./loop -j 2 "$@" "$here/three" "$here/answers" "$here/bin/hangs" > "$here/told" 2>&1 &
     stopped=$!
     tries=0
     until [ "$(cat "$here"/bin/hangs.*.pid 2> "$here/said" | wc -l)" -eq 2 ] || [ "$tries" -ge 300 ]; do sleep 0.1; tries=$((tries + 1)); done
