@@ -42,11 +42,7 @@ fn break_at(
 }
 
 /// The number of the line that tells a plan's run; 0 where none does.
-fn line_told(
-    alloc: Global,
-    runs: &AnsweredRuns<'_>,
-    faults: &[Rig],
-) -> Result<u32, AllocError>
+fn line_told(alloc: Global, runs: &AnsweredRuns<'_>, faults: &[Rig]) -> Result<u32, AllocError>
     requires { length faults.now ≤ 64 }
     ensures { IfOk result (λ line. line ≡ line_told runs.now faults.now) }
 {
@@ -88,7 +84,10 @@ impl fmt::Display for BrokenRun {
         let earlier = self.earlier;
         match self.how {
             Break::Differs(hit) => {
-                write!(f, "answers: line {line}: hits differ from line {earlier} at hit {hit}")
+                write!(
+                    f,
+                    "answers: line {line}: hits differ from line {earlier} at hit {hit}"
+                )
             }
             Break::NotMet => write!(f, "answers: line {line}: fault not met"),
         }
