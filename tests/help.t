@@ -1,6 +1,6 @@
 Help is a text on standard output, and the exit status is 0.
 
-  $ for words in help --help -h 'help run' 'run -h' 'help plans' 'help map' 'help try' 'try --help' 'help reduce' 'help explain' 'help asks' 'help report' 'help help'; do
+  $ for words in help --help -h 'help run' 'run -h' 'help plans' 'help map' 'help page' 'help try' 'try --help' 'help reduce' 'help explain' 'help asks' 'help report' 'help help'; do
   >     paklour $words > text || echo "$words: $?"
   >     grep -q '^Usage: paklour' text || echo "$words: no text"
   >     awk 'length > 100' text
@@ -61,6 +61,12 @@ Each option has an example.
   Example:
     paklour map my.toml > map.svg
   draws a row of plans for each point, each plan in the colour of its verdict.
+  $ paklour help page | grep -e ' --progress'
+        --progress  Show on standard error, in one line, how far plans or a reduction are
+  $ paklour help page | sed -n '/^Example/,$p'
+  Example:
+    paklour page my.toml > page.html
+  tells what was tried and found, with the map and the run of each first failure, hit by hit.
   $ paklour help report | grep -e --brief
         --brief   Count the verdicts that pass, and write the scenario beside each other verdict
     paklour report --brief my.toml < answers

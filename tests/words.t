@@ -69,6 +69,9 @@ What words ask for
   $ asks map f | cut -c 1-4
   <svg
   <sty
+  $ asks page f | cut -c 1-15
+  <!DOCTYPE html>
+  <html lang="en"
   $ asks explain --scenario a=off
   verdict pass
   hit 1 replace::create 1 go
@@ -193,6 +196,8 @@ What is wrong is told on standard error, and nothing is on standard output.
   error: unexpected argument '--brief' found
   $ refused map --plan 1
   error: unexpected argument '--plan' found
+  $ refused page --json
+  error: unexpected argument '--json' found
   $ refused explain
   error: the following required arguments were not provided:
   $ refused explain --plan 1 --scenario a=off
@@ -251,9 +256,9 @@ The file isn't there, or is a folder. No word stands for standard input, which m
   $ rm ./-
   $ mkdir folder
   $ for file in missing.toml folder ''; do
-  >     for command in run plans map 'try --scenario a' 'reduce --scenario a' 'explain --scenario a'; do paklour $command "$file" < given; done
+  >     for command in run plans map page 'try --scenario a' 'reduce --scenario a' 'explain --scenario a'; do paklour $command "$file" < given; done
   > done 2>&1 | uniq -c | tr -s ' '
-   18 settings: not readable
+   21 settings: not readable
   $ paklour run missing.toml
   settings: not readable
   [2]

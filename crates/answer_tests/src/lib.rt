@@ -1,9 +1,11 @@
-//! Tests of texts of answers through their public calls: what is known by them, and the line of each fault; and whole campaigns on
-//! made-up components.
+//! Tests of texts of answers through their public calls: what is known by them, also of plans that grow, and the line of each fault; and
+//! whole campaigns on made-up components.
 #![tactic(auto)]
 
 #[cfg(test)]
 mod campaigns;
+#[cfg(test)]
+mod grown;
 #[cfg(test)]
 mod known;
 #[cfg(test)]

@@ -1,5 +1,6 @@
 pub mod Minimal
 pub mod Firsts
+mod PageRuns
 pub mod PlanNames
 pub mod Gathered
 pub mod PlanRows
@@ -8,6 +9,7 @@ pub mod Shown
 pub mod FirstLevel
 pub mod Grown
 pub mod Causes
+mod EachVerdict
 pub mod Begun
 pub mod Tried
 pub mod Unlisted

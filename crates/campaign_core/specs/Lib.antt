@@ -4,4 +4,5 @@ pub mod Headline
 pub mod Planned
 pub mod CommandTexts
 pub mod Machines
+pub mod Pages
 pub mod inside

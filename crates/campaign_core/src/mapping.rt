@@ -32,7 +32,7 @@ fn grown_part<'p>(planned: &'p Planned<'_>) -> (Option<&'p GrownPlans>, usize)
 }
 
 /// What a campaign whose plans have run comes to, as a map shows it.
-fn map_of<T: Target + Send>(
+pub(crate) fn map_of<T: Target + Send>(
     alloc: Global,
     subject: &Subject<'_, T>,
     ran: &Ran<'_>,

@@ -75,12 +75,12 @@ module _ (c : Campaign) (answer : Answer) (text : List ℕ) (found : Conclusion)
 
 -- what comes of a scenario and of its text, where that is the answer
 module _ (answer : Answer) (text : List ℕ) (found : Conclusion) (notes : List ℕ) (is : answer ≡ Ok (text, found, notes)) (old new : Option (List ℕ)) where
-  of_scenario : (failed : Bool) → Appends old new text → failed ≡ false → IsWritten answer old new failed found
+  pub of_scenario : (failed : Bool) → Appends old new text → failed ≡ false → IsWritten answer old new failed found
   of_scenario failed written sound =
       let P : Answer → Type 0 = λ x. IsWritten x old new failed found in
       subst P (sym is) (written, refl, sound)
 
-  short_of_scenario : (failed : Bool) (f : CampaignFault) → LeavesOnly old new failed text f → FallsShort answer old new failed (faults.Campaign f)
+  pub short_of_scenario : (failed : Bool) (f : CampaignFault) → LeavesOnly old new failed text f → FallsShort answer old new failed (faults.Campaign f)
   short_of_scenario failed campaign.TooManyPlans h = absurd h
   short_of_scenario failed campaign.Memory h = h
   short_of_scenario failed (campaign.Write n) h =
@@ -297,3 +297,9 @@ pub short-up : (answer : Answer) (old new : Option (List ℕ)) (failed : Bool) (
     → FallsShort answer old new failed fault → ComesTo answer old new failed result
 short-up answer old new failed (Ok found) fault is short = absurd is
 short-up answer old new failed (Err f) fault is short = let P : CommandFault → Type 0 = λ x. FallsShort answer old new failed x in subst P (sym is) short
+
+-- ---- two promises of a call
+
+pub both-kept : {V E A B : Type 0} (r : Result V E) → OnOk r A → OnOk r B → OnOk r (A × B)
+both-kept (Ok v) a b = (a, b)
+both-kept (Err x) a b = tt

@@ -21,7 +21,7 @@ use Rattle.campaign_main.specs.Ends.{EndsAs, FallsShort, IsCutOff, IsEndOf, IsRe
 use Rattle.campaign_main.specs.declared.exit.Conclusion.{Conclusion}
 use Rattle.campaign_main.specs.declared.exit.Conclusion.TheVariants.{Clean, Failed, Doubtful}
 use Rattle.campaign_main.specs.Exit.{exit_of}
-use Rattle.campaign_main.specs.Minimal.{ReducesToMinimal, TextReducesToMinimal}
+use Rattle.campaign_main.specs.Promises.{KeepsPromises, TextKeepsPromises}
 use Rattle.campaign_main.specs.FaultLines.{refusal_line, scenario_line, settings_line, read_fault_line, unreadable_line}
 
 -- whether this end is Refused
@@ -207,10 +207,10 @@ module _ (order : Order) (text : List ℕ) where
     unfolding text_answer
     answer-chosen = let f : Read Settings → Answer = given_answer order in ap f is
 
-    pub text-minimal : IfSome (campaign_for s.campaign s.choice) (ReducesToMinimal order) → TextReducesToMinimal order text
-    text-minimal minimal =
-        let P : Read Settings → Type 0 = λ r. IfOk r (λ s. IfSome (campaign_for s.campaign s.choice) (ReducesToMinimal order)) in
-        subst P (sym is) minimal
+    pub text-promises : IfSome (campaign_for s.campaign s.choice) (KeepsPromises order) → TextKeepsPromises order text
+    text-promises kept =
+        let P : Read Settings → Type 0 = λ r. IfOk r (λ s. IfSome (campaign_for s.campaign s.choice) (KeepsPromises order)) in
+        subst P (sym is) kept
 
 -- ---- by the bytes
 

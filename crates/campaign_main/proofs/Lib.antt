@@ -6,3 +6,4 @@ pub mod QuestionLemmas
 pub mod ToldLemmas
 mod TextLemmas
 mod StrictLemmas
+pub mod TellingLemmas

@@ -1,5 +1,5 @@
 -- What a command answers to the bytes of its settings: its text and its end, or why it is refused.
-use Rattle.std.specs.Prelude.{ℕ, Bool, false, List, length, Option, Some, None, is_some, Result, Ok, Err, nat_lt, if◌then◌else◌, slice_get, string_bytes}
+use Rattle.std.specs.Prelude.{ℕ, Bool, false, List, codes, length, Option, Some, None, is_some, Result, Ok, Err, nat_lt, if◌then◌else◌, slice_get, string_bytes}
 use Rattle.std.specs.Str.{is_utf8}
 use Rattle.scenario_values.specs.Scenario.{Entries}
 use Rattle.scenario_grammar.specs.FirstFault.{Fault, reading}
@@ -23,9 +23,10 @@ use Rattle.campaign_settings.specs.declared.settings.Settings.{Settings}
 use Rattle.campaign_core.specs.Headline.{Campaign, campaign_of, say, plans, report_text, brief_report_text, campaign_map_text, first_failure}
 use Rattle.campaign_core.specs.CommandTexts.{counted, plan_lines, plans_text, try_text, tried, reduce_text}
 use Rattle.campaign_core.specs.Machines.{machine_text}
+use Rattle.campaign_core.specs.Pages.{NotesFacts, campaign_page_text}
 use Rattle.campaign_core.specs.declared.machines.MachineForm.TheVariants as machine
 use Rattle.command_words.specs.declared.words.Form.{Form}
-use Rattle.command_words.specs.declared.words.Form.TheVariants.{Whole, Brief, Json, Junit}
+use Rattle.command_words.specs.declared.words.Form.TheVariants.{Whole, Brief, Json, Junit, Page}
 use Rattle.command_words.specs.declared.words.Order.{Order}
 use Rattle.command_words.specs.declared.words.Order.TheVariants as order
 use Rattle.command_words.specs.declared.words.Which.{Which}
@@ -33,7 +34,8 @@ use Rattle.command_words.specs.declared.words.Which.TheVariants.{Scenario, Plan}
 use Rattle.run_explained.specs.Explained.{explain_text}
 use Rattle.campaign_main.specs.declared.exit.Conclusion.{Conclusion}
 use Rattle.campaign_main.specs.declared.exit.Conclusion.TheVariants.{Clean}
-use Rattle.campaign_main.specs.Exit.{concluded, is_fail}
+use Rattle.target_trait.specs.Verdicts.{is_fail}
+use Rattle.campaign_main.specs.Exit.{concluded}
 use Rattle.campaign_main.specs.Notes.{is_doubted, listed_notes, notes_of, report_notes}
 
 -- ---- answers
@@ -62,12 +64,17 @@ Answer = Result (List ℕ × Conclusion × List ℕ) Refusal
 abbrev pub of_few_plans : List Entries → List ℕ × Conclusion × List ℕ → Answer
 of_few_plans plans text = if nat_lt most_plans (length plans) then Err too_many_plans else Ok text
 
+-- what a page tells beside the campaign
+abbrev pub page_notes : NotesFacts
+page_notes = record { version = codes "0.2.0"; command = codes "paklour page FILE" }
+
 -- the report of a form
 abbrev pub report_in : Form → Campaign → List ℕ
 report_in Whole c = report_text c
 report_in Brief c = brief_report_text c
 report_in Json c = machine_text machine.Json c
 report_in Junit c = machine_text machine.Junit c
+report_in Page c = campaign_page_text page_notes c
 
 -- the report, whether a plan fails, and what is noted, which counts where the report is to be strict
 unfoldable pub run_answer : Form → Bool → Campaign → Answer

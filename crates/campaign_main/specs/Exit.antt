@@ -1,7 +1,5 @@
 -- How a command ended, as an exit status, and which end stands for what was found.
 use Rattle.std.specs.Prelude.{ℕ, Bool, true, false}
-use Rattle.target_trait.specs.declared.judgement.Verdict.{Verdict}
-use Rattle.target_trait.specs.declared.judgement.Verdict.TheVariants as verdict
 use Rattle.campaign_main.specs.declared.exit.Exit.{Exit}
 use Rattle.campaign_main.specs.declared.exit.Conclusion.{Conclusion}
 use Rattle.campaign_main.specs.declared.exit.Conclusion.TheVariants.{Clean, Failed, Doubtful}
@@ -27,9 +25,3 @@ abbrev pub exit_of : Conclusion → Exit
 exit_of Clean = Kept
 exit_of Failed = Found
 exit_of Doubtful = Doubted
-
--- a verdict that is fail
-abbrev pub is_fail : Verdict → Bool
-is_fail verdict.Pass = false
-is_fail (verdict.Fail _) = true
-is_fail verdict.Unresolved = false

@@ -3,7 +3,7 @@ pub mod FaultLines
 pub mod Notes
 pub mod Commands
 pub mod Ends
-pub mod Minimal
+pub mod Promises
 pub mod OwnTarget
 pub mod QuestionNotes
 pub mod Questions

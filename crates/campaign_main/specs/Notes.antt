@@ -4,7 +4,7 @@ use Rattle.std.specs.Fmt.{decimal}
 use Rattle.std.specs.List.{list_all, list_any}
 use Rattle.std.specs.Str.{bytes_eq}
 use Rattle.scenario_values.specs.Scenario.{Entries}
-use Rattle.report.specs.BriefText.{is_unresolved}
+use Rattle.target_trait.specs.Verdicts.{is_unresolved}
 use Rattle.report.specs.ReportText.{ended, text_of}
 use Rattle.plan_gen.specs.PlanList.{Asked}
 use Rattle.plan_survey.specs.Runs.{runs_from, unreached_in, unresolved_in}

@@ -5,7 +5,7 @@ use Rattle.std.specs.List.{slice_split}
 use Rattle.std.specs.Option.{option_map_or}
 use Rattle.scenario_values.specs.Scenario.{Entries}
 use Rattle.scenario_values.specs.Tidied.{tidied}
-use Rattle.report.specs.BriefText.{is_unresolved}
+use Rattle.target_trait.specs.Verdicts.{is_unresolved}
 use Rattle.report.specs.ReportText.{text_of}
 use Rattle.answer_text.specs.Answers.{Answer as Told}
 use Rattle.answer_text.specs.FirstFault.{answer_in}

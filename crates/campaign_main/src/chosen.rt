@@ -2,7 +2,7 @@
 ghost use Rattle.std.specs.Prelude.{◌≡◌, false, IfSome, OnOk};
 ghost use Rattle.campaign_main.specs.Commands.{campaign_for, choice_answer};
 ghost use Rattle.campaign_main.specs.Ends.{ComesTo, Noted};
-ghost use Rattle.campaign_main.specs.Minimal.{ReducesToMinimal};
+ghost use Rattle.campaign_main.specs.Promises.{KeepsPromises};
 
 use crate::command::command;
 use crate::exit::Conclusion;
@@ -35,7 +35,7 @@ pub fn chosen_command<W: Sink, E: Sink, H: Threads + Wait + Sync, G: Gate>(
         (W.has_failed output.new) result }
     ensures noted { Noted (choice_answer order.now settings.now choice.now)
         (E.told faults.old) (E.told faults.new) (E.has_failed faults.new) result }
-    ensures minimal { OnOk result (IfSome (campaign_for settings.now choice.now) (ReducesToMinimal order.now)) }
+    ensures promises { OnOk result (IfSome (campaign_for settings.now choice.now) (KeepsPromises order.now)) }
 {
     match choice {
         Choice::Replace(variant, work) => {

@@ -3,11 +3,11 @@ ghost use Rattle.std.specs.Prelude.{◌≡◌, ◌≤◌, false, length, option_
 ghost use Rattle.std.specs.Io.KnownBytes.{Appends};
 ghost use Rattle.plan_gen.specs.PlanList.{most_plans};
 ghost use Rattle.campaign_core.specs.CommandTexts.{IsFault, IsReducedToMinimal};
-ghost use Rattle.campaign_core.specs.Headline.{campaign_in, first_failure, plans, EachIsMinimal};
-ghost use Rattle.campaign_main.specs.Commands.{explain_answer, map_answer, order_answer, plans_answer, reduce_answer, report_in, run_answer, taken, taken_answer, try_answer};
+ghost use Rattle.campaign_core.specs.Headline.{campaign_in, first_failure, plans};
+ghost use Rattle.campaign_main.specs.Commands.{explain_answer, map_answer, order_answer, page_notes, plans_answer, reduce_answer, report_in, run_answer, taken, taken_answer, try_answer};
 ghost use Rattle.campaign_main.specs.Ends.{ComesTo, IsUntaken, Noted};
 ghost use Rattle.campaign_main.specs.Notes.{notes_of};
-ghost use Rattle.campaign_main.specs.Minimal.{ReducesToMinimal};
+ghost use Rattle.campaign_main.specs.Promises.{KeepsPromises, RunKeepsPromises};
 
 use crate::exit::{Conclusion, concluded, is_fail};
 use crate::fault::CommandFault;
@@ -15,16 +15,26 @@ use crate::lines::note;
 use crate::notes::{is_doubted, listed_of, notes_on, report_notes_on};
 use crate::steady::check_steady;
 use campaign_core::{
-    CampaignFault, Ending, Host, MachineForm, Subject, brief_campaign, campaign, machine_campaign,
-    map_campaign, plan_list, plan_scenario, reduce_one, try_one,
+    CampaignFault, Ending, Host, MachineForm, PageNotes, Subject, brief_campaign, campaign,
+    explain_one, machine_campaign, map_campaign, page_campaign, plan_list, plan_scenario,
+    reduce_one, try_one,
 };
-use command_words::{Form, Order, Which};
-use run_explained::explain_one;
+use command_words::{Form, Order, VERSION, Which};
 use scenario_grammar::{Scenario, parse};
 use std::sync::Wait;
 use std::thread::Threads;
 use target_trait::{Sink, Target};
 use work_gate::Gate;
+
+/// What a page tells beside the campaign.
+fn page_notes() -> PageNotes<'static>
+    ensures { result ≡ page_notes }
+{
+    PageNotes {
+        version: VERSION,
+        command: "paklour page FILE",
+    }
+}
 
 /// Runs a campaign, and writes its report in this form.
 fn report_plans<T: Target + Send, W: Sink, H: Threads + Wait + Sync, G: Gate>(
@@ -39,7 +49,7 @@ where
     ensures text { IfOk result (λ _. Appends (W.told output.old) (W.told output.new)
         (report_in form (campaign_in T.Target subject.now))) }
     ensures first { IfOk result (λ ending. ending.first ≡ option_map (λ f. f.0) (first_failure (campaign_in T.Target subject.now))) }
-    ensures minimal { OnOk result (EachIsMinimal (campaign_in T.Target subject.now)) }
+    ensures promises { OnOk result (RunKeepsPromises (campaign_in T.Target subject.now)) }
     ensures few { OnOk result (length (plans (campaign_in T.Target subject.now)) ≤ most_plans) }
     ensures sound { OnOk result (W.has_failed output.new ≡ false) }
     ensures fault { IfErr result (let c = campaign_in T.Target subject.now in IsFault c (report_in form c)
@@ -50,6 +60,7 @@ where
         Form::Brief => brief_campaign(host, subject, output),
         Form::Json => machine_campaign(host, subject, MachineForm::Json, output),
         Form::Junit => machine_campaign(host, subject, MachineForm::Junit, output),
+        Form::Page => page_campaign(host, subject, &page_notes(), output),
     }
 }
 
@@ -70,7 +81,7 @@ where
         (W.told output.new) (W.has_failed output.new) result }
     ensures noted { Noted (run_answer form strict (campaign_in T.Target subject.now))
         (E.told faults.old) (E.told faults.new) (E.has_failed faults.new) result }
-    ensures minimal { OnOk result (EachIsMinimal (campaign_in T.Target subject.now)) }
+    ensures promises { OnOk result (RunKeepsPromises (campaign_in T.Target subject.now)) }
 {
     let notes = report_notes_on(host, subject, strict)?;
     let ending = report_plans(host, subject, form, output)?;
@@ -147,7 +158,7 @@ where
 }
 
 /// The same with what is noted beside the command's text. Nothing is written.
-fn take_noted<T: Target + Send, H: Threads + Wait + Sync, G: Gate>(
+pub fn take_noted<T: Target + Send, H: Threads + Wait + Sync, G: Gate>(
     host: &Host<'_, G, H>,
     subject: &Subject<'_, T>,
     which: &Which,
@@ -271,7 +282,7 @@ where
         (W.told output.new) (W.has_failed output.new) result }
     ensures noted { Noted (order_answer order.now (campaign_in T.Target subject.now))
         (E.told faults.old) (E.told faults.new) (E.has_failed faults.new) result }
-    ensures minimal { OnOk result (ReducesToMinimal order.now (campaign_in T.Target subject.now)) }
+    ensures promises { OnOk result (KeepsPromises order.now (campaign_in T.Target subject.now)) }
 {
     match order {
         Order::Run {

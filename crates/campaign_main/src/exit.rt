@@ -1,6 +1,7 @@
 //! How a command ended.
 ghost use Rattle.std.specs.Prelude.{◌≡◌};
-ghost use Rattle.campaign_main.specs.Exit.{status_of, concluded, exit_of, is_fail};
+ghost use Rattle.target_trait.specs.Verdicts.{is_fail};
+ghost use Rattle.campaign_main.specs.Exit.{status_of, concluded, exit_of};
 
 use target_trait::Verdict;
 

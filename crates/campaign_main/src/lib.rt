@@ -16,6 +16,7 @@ mod performing;
 mod questions;
 mod refusals;
 mod steady;
+mod telling;
 
 pub use campaign_core::{
     CampaignFault, Ending, Host, Subject, campaign, plan_list, plan_scenario, reduce_one, try_one,
@@ -38,5 +39,6 @@ pub use performing::perform;
 pub use questions::perform_outside;
 pub use refusals::{refuse_words, unreadable_settings, unreadable_words};
 pub use scenario_grammar::{Kind, Scenario, ScenarioFault, Text, parse};
-pub use target_trait::{Judgement, Out, Session, Sink, Stop, Target, Verdict};
+pub use target_trait::{Judgement, Out, Session, Sink, Stop, Target, TellingTarget, Verdict};
+pub use telling::perform_telling;
 pub use work_gate::{FreeGate, Gate};

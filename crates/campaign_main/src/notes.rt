@@ -2,7 +2,7 @@
 //! to.
 ghost use Rattle.std.specs.Prelude.{◌≡◌, ◌<◌, ◌++◌, [], All, Some, length, nat_lt, slice_index_or, string_bytes, IfErr, IfOk, OnOk};
 ghost use Rattle.action_eval.specs.Answers.{texts};
-ghost use Rattle.report.specs.BriefText.{is_unresolved};
+ghost use Rattle.target_trait.specs.Verdicts.{is_unresolved};
 ghost use Rattle.report.specs.ReportText.{ended, text_of};
 ghost use Rattle.plan_survey.specs.Runs.{runs_from, unreached_in, unresolved_in};
 ghost use Rattle.campaign_core.specs.CommandTexts.{IsUnlisted, tried};

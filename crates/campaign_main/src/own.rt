@@ -1,11 +1,12 @@
 //! The commands over a target that the program brings itself, by any reader and any sinks.
-ghost use Rattle.std.specs.Prelude.{◌≡◌, ℕ, List, false, IfErr, IfOk, IfSome, OnOk, string_bytes};
+ghost use Rattle.std.specs.Prelude.{◌≡◌, ℕ, List, None, false, IfErr, IfOk, IfSome, OnOk, string_bytes};
 ghost use Rattle.campaign_core.specs.Headline.{campaign_on};
 ghost use Rattle.campaign_settings.specs.declared.own.OwnSettings.{OwnSettings};
 ghost use Rattle.campaign_main.specs.Commands.{Answer, order_answer};
-ghost use Rattle.campaign_main.specs.Ends.{EndsAs, IsRefused, Leaves, OnWhole, RefusesWith, Tells, TellsAs, TellsNotes, TellsRefusal};
-ghost use Rattle.campaign_main.specs.Minimal.{ReducesToMinimal};
-ghost use Rattle.campaign_main.specs.OwnTarget.{OwnReducesToMinimal, own_answer, own_text_answer, own_words_line, worded_answer, worded_text_answer};
+ghost use Rattle.campaign_main.specs.Ends.{EndsAs, IsRefused, IsTold, Leaves, OnWhole, RefusesWith, Tells, TellsAs, TellsNotes, TellsRefusal};
+ghost use Rattle.campaign_main.specs.FaultLines.{memory_line};
+ghost use Rattle.campaign_main.specs.Promises.{KeepsPromises};
+ghost use Rattle.campaign_main.specs.OwnTarget.{OwnKeepsPromises, own_answer, own_text_answer, own_words_line, worded_answer, worded_text_answer};
 
 use crate::command::command;
 use crate::exit::{Exit, exit_of};
@@ -22,6 +23,29 @@ use std::thread::Threads;
 use target_laws::broken_law;
 use target_trait::{Sink, Target};
 use work_gate::Gate;
+
+/// The end of a command over a target that is seen to break a law, whose line is told then, or where memory is refused. No proved target
+/// breaks one.
+pub fn broken_off<T: Target, E: Sink>(
+    alloc: Global,
+    subject: &Subject<'_, T>,
+    faults: &mut E,
+) -> Option<Exit>
+    requires { E.has_failed faults.old ≡ false }
+    ensures end { IfSome result (λ end. (end ≡ Exit.Memory) × IsTold memory_line (E.told faults.old) (E.told faults.new) (E.has_failed faults.new)) }
+    ensures untold { result ≡ None → faults.new ≡ faults.old }
+{
+    let Subject {
+        target,
+        workload,
+        settings,
+    } = subject;
+    match broken_law(alloc, *target, *workload, settings.seed, settings.max_hits) {
+        Ok(None) => None,
+        Ok(Some(law)) => Some(unlawful(alloc, law, faults)),
+        Err(AllocError) => Some(no_memory(faults)),
+    }
+}
 
 /// Does what is ordered with this target on this workload, under these settings, and writes the command's text to the output: what
 /// [`perform_target`] does once it has read settings, with the same lines and ends.
@@ -44,22 +68,19 @@ where
         (W.told output.new) (W.has_failed output.new) }
     ensures told { TellsAs result (order_answer order.now (campaign_on T.Target target.old workload.now settings.now))
         (E.told faults.old) (E.told faults.new) (E.has_failed faults.new) }
-    ensures minimal { OnWhole result (ReducesToMinimal order.now (campaign_on T.Target target.old workload.now settings.now)) }
+    ensures promises { OnWhole result (KeepsPromises order.now (campaign_on T.Target target.old workload.now settings.now)) }
 {
-    let alloc = host.alloc;
-    match broken_law(alloc, target, workload, settings.seed, settings.max_hits) {
-        Ok(None) => {}
-        Ok(Some(law)) => return unlawful(alloc, law, faults),
-        Err(AllocError) => return no_memory(faults),
-    }
     let subject = Subject {
         target: &*target,
         workload,
         settings,
     };
+    if let Some(exit) = broken_off(host.alloc, &subject, faults) {
+        return exit;
+    }
     match command(host, &subject, order, output, faults) {
         Ok(conclusion) => exit_of(conclusion),
-        Err(fault) => unanswered(alloc, &fault, faults),
+        Err(fault) => unanswered(host.alloc, &fault, faults),
     }
 }
 
@@ -81,7 +102,7 @@ where
         (W.told output.new) (W.has_failed output.new) }
     ensures told { TellsAs result (own_text_answer order.now (campaign_on T.Target target.old workload.now) text.now)
         (E.told faults.old) (E.told faults.new) (E.has_failed faults.new) }
-    ensures minimal { OnWhole result (OwnReducesToMinimal order.now (campaign_on T.Target target.old workload.now) text.now) }
+    ensures promises { OnWhole result (OwnKeepsPromises order.now (campaign_on T.Target target.old workload.now) text.now) }
 {
     match Settings::read_own(host.alloc, text) {
         Ok(settings) => perform_settings(host, order, target, workload, &settings, output, faults),
@@ -131,7 +152,7 @@ where
     ensures cause { result ≡ Exit.Refused → IfSome (R.remaining reader.old)
         (λ bytes. IsRefused (own_answer order.now (campaign_on T.Target target.old workload.now) bytes) (E.told faults.old) (E.told faults.new)
         (E.has_failed faults.new)) }
-    ensures minimal { OnWhole result (IfSome (R.remaining reader.old) (OwnReducesToMinimal order.now (campaign_on T.Target target.old workload.now))) }
+    ensures promises { OnWhole result (IfSome (R.remaining reader.old) (OwnKeepsPromises order.now (campaign_on T.Target target.old workload.now))) }
     ensures output { Leaves result (W.told output.old) (W.told output.new) (W.has_failed output.new) }
     ensures told { Tells order.now result (E.told faults.old) (E.told faults.new) (E.has_failed faults.new) }
 {

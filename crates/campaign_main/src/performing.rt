@@ -2,7 +2,7 @@
 ghost use Rattle.std.specs.Prelude.{◌≡◌, false, IfSome};
 ghost use Rattle.campaign_main.specs.Commands.{answer_of, campaign_for, choice_answer, text_answer};
 ghost use Rattle.campaign_main.specs.Ends.{EndsAs, IsRefused, Leaves, OnWhole, Tells, TellsAs, TellsNotes};
-ghost use Rattle.campaign_main.specs.Minimal.{ReducesToMinimal, TextReducesToMinimal};
+ghost use Rattle.campaign_main.specs.Promises.{KeepsPromises, TextKeepsPromises};
 
 use crate::chosen::chosen_command;
 use crate::exit::{Exit, exit_of};
@@ -33,7 +33,7 @@ fn perform_chosen<W: Sink, E: Sink, H: Threads + Wait + Sync, G: Gate>(
     ensures end { EndsAs result (choice_answer order.now settings.now choice.now) (W.told output.old) (W.told output.new) (W.has_failed output.new) }
     ensures told { TellsAs result (choice_answer order.now settings.now choice.now)
         (E.told faults.old) (E.told faults.new) (E.has_failed faults.new) }
-    ensures minimal { OnWhole result (IfSome (campaign_for settings.now choice.now) (ReducesToMinimal order.now)) }
+    ensures promises { OnWhole result (IfSome (campaign_for settings.now choice.now) (KeepsPromises order.now)) }
 {
     match chosen_command(host, order, choice, settings, output, faults) {
         Ok(conclusion) => exit_of(conclusion),
@@ -54,7 +54,7 @@ fn perform_text<W: Sink, E: Sink, H: Threads + Wait + Sync, G: Gate>(
     ensures end { EndsAs result (text_answer order.now text.now) (W.told output.old) (W.told output.new) (W.has_failed output.new) }
     ensures told { TellsAs result (text_answer order.now text.now)
         (E.told faults.old) (E.told faults.new) (E.has_failed faults.new) }
-    ensures minimal { OnWhole result (TextReducesToMinimal order.now text.now) }
+    ensures promises { OnWhole result (TextKeepsPromises order.now text.now) }
 {
     match Settings::read(host.alloc, text) {
         Ok(settings) => {
@@ -105,7 +105,7 @@ pub fn perform<R: Read, W: Sink, E: Sink, H: Threads + Wait + Sync, G: Gate>(
         TellsNotes (answer_of order.now bytes) (E.told faults.old) (E.told faults.new) (E.has_failed faults.new))) }
     ensures cause { result ≡ Exit.Refused → IfSome (R.remaining reader.old)
         (λ bytes. IsRefused (answer_of order.now bytes) (E.told faults.old) (E.told faults.new) (E.has_failed faults.new)) }
-    ensures minimal { OnWhole result (IfSome (R.remaining reader.old) (TextReducesToMinimal order.now)) }
+    ensures promises { OnWhole result (IfSome (R.remaining reader.old) (TextKeepsPromises order.now)) }
     ensures output { Leaves result (W.told output.old) (W.told output.new) (W.has_failed output.new) }
     ensures told { Tells order.now result (E.told faults.old) (E.told faults.new) (E.has_failed faults.new) }
 {

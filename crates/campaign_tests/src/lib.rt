@@ -37,6 +37,8 @@ mod running;
 #[cfg(test)]
 mod streams;
 #[cfg(test)]
+mod tales;
+#[cfg(test)]
 mod three_codes;
 #[cfg(test)]
 mod writing;

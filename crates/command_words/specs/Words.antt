@@ -14,7 +14,7 @@ use Rattle.clap.specs.declared.error.Error.{Error}
 use Rattle.clap.specs.declared.error.kind.ErrorKind.TheVariants.{ArgumentConflict, DisplayHelp, DisplayVersion, MissingRequiredArgument, OutOfMemory}
 use Rattle.clap.specs.declared.parser.matches.Found.{Found}
 use Rattle.command_words.specs.declared.words.Form.{Form}
-use Rattle.command_words.specs.declared.words.Form.TheVariants.{Whole, Brief, Json, Junit}
+use Rattle.command_words.specs.declared.words.Form.TheVariants.{Whole, Brief, Json, Junit, Page}
 use Rattle.command_words.specs.declared.words.Line.{Line}
 use Rattle.command_words.specs.declared.words.Line.TheVariants.{Own, Outside}
 use Rattle.command_words.specs.declared.words.Order.{Order}
@@ -122,7 +122,8 @@ with_commands app (s ∷ rest) = with_commands (with_subcommand app s) rest
 
 abbrev pub campaign_commands : List Shape
 campaign_commands =
-    (shown_app (rechecked_app (report_app (codes "run")))).top ∷ (file_app (codes "plans")).top ∷ (shown_app (file_app (codes "map"))).top ∷ []
+    (shown_app (rechecked_app (report_app (codes "run")))).top ∷ (file_app (codes "plans")).top ∷ (shown_app (file_app (codes "map"))).top
+    ∷ (shown_app (file_app (codes "page"))).top ∷ []
 
 abbrev pub scenario_commands : List Shape
 scenario_commands =
@@ -227,10 +228,15 @@ form_of v = form_by (is_set v.brief) (is_set v.json) (is_set v.junit)
 abbrev pub progress_form_of : Values → ProgressForm
 progress_form_of v = if is_set v.progress_plain then shows.Plain else (if is_set v.progress then shows.Line else shows.Off)
 
+-- a report is that of `run` in the form that its flags name, or that of `page`, which takes no such flag
+abbrev pub IsReport : Text → Values → Form → Bool → Bool → Type 0
+IsReport name v form strict recheck =
+    ((name ≡ codes "run") × (form_of v ≡ Some form) × (strict ≡ is_set v.strict) × (recheck ≡ is_set v.recheck))
+    ⊎ ((name ≡ codes "page") × (form ≡ Page) × (strict ≡ false) × (recheck ≡ false))
+
 -- the order that a command's name and its values give
 abbrev pub IsOrder : Text → Values → Order → Type 0
-IsOrder name v (order.Run form strict recheck) =
-    (name ≡ codes "run") × (form_of v ≡ Some form) × (strict ≡ is_set v.strict) × (recheck ≡ is_set v.recheck)
+IsOrder name v (order.Run form strict recheck) = IsReport name v form strict recheck
 IsOrder name v order.Plans = name ≡ codes "plans"
 IsOrder name v order.Map = name ≡ codes "map"
 IsOrder name v (order.Try which) = (name ≡ codes "try") × IsWhich v which
@@ -265,7 +271,7 @@ IsScenarioName name = (name ≡ codes "try") ⊎ ((name ≡ codes "reduce") ⊎ 
 
 -- the names of the commands over a target
 abbrev pub IsOrderName : Text → Type 0
-IsOrderName name = ((name ≡ codes "run") ⊎ ((name ≡ codes "plans") ⊎ (name ≡ codes "map"))) ⊎ IsScenarioName name
+IsOrderName name = ((name ≡ codes "run") ⊎ ((name ≡ codes "plans") ⊎ ((name ≡ codes "map") ⊎ (name ≡ codes "page")))) ⊎ IsScenarioName name
 
 -- the names of the questions
 abbrev pub IsQuestionName : Text → Type 0

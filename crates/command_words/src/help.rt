@@ -8,6 +8,8 @@ pub const RUN: &str = "Run a campaign and write its report; with no command at a
 
 pub const MAP: &str = "Run a campaign and write a picture of it, as SVG";
 
+pub const PAGE: &str = "Run a campaign and write a page of it, as HTML";
+
 pub const PLANS: &str = "Write the plans of a campaign, one scenario each, without running them";
 
 /// How a campaign is run.
@@ -29,6 +31,12 @@ pub const MAP_EXAMPLES: &str = "\
 Example:
   paklour map my.toml > map.svg
 draws a row of plans for each point, each plan in the colour of its verdict.";
+
+/// How a campaign is shown.
+pub const PAGE_EXAMPLES: &str = "\
+Example:
+  paklour page my.toml > page.html
+tells what was tried and found, with the map and the run of each first failure, hit by hit.";
 
 /// How plans are listed.
 pub const PLANS_EXAMPLES: &str = "\

@@ -36,6 +36,8 @@ pub enum Form {
     Json,
     /// JUnit's XML.
     Junit,
+    /// A page, as HTML.
+    Page,
 }
 
 /// In which form the program shows how far plans or a reduction are, while they run.
@@ -85,7 +87,7 @@ pub enum Question {
 #[derive(Debug, Drop)]
 pub enum Line {
     /// A command over a target. `file` has the settings; `None` where they come from standard input. `progress` is how the program shows how far
-    /// plans or a reduction are while they run; it is for run, map and reduce alone, and off for each other command.
+    /// plans or a reduction are while they run; it is for run, map, page and reduce alone, and off for each other command.
     Own {
         order: Order,
         progress: ProgressForm,
@@ -265,12 +267,17 @@ fn run_command<'a>(alloc: Global) -> Result<Command<'a>, AllocError>
     with_progress(alloc, command)
 }
 
-// The command that runs a campaign and draws it.
-fn map_command<'a>(alloc: Global) -> Result<Command<'a>, AllocError>
-    ensures app { IfOk result (λ command. app_of command ≡ shown_app (file_app (codes "map"))) }
+// A command of this name that runs a campaign and shows it.
+fn drawn_command<'a>(
+    alloc: Global,
+    name: &'a str,
+    about: &'a str,
+    examples: &'a str,
+) -> Result<Command<'a>, AllocError>
+    ensures app { IfOk result (λ command. app_of command ≡ shown_app (file_app name.entry.now)) }
     ensures local { IfOk result (λ command. (fields_of command).has_globals ≡ false) }
 {
-    let command = file_command(alloc, "map", help::MAP, help::MAP_EXAMPLES)?;
+    let command = file_command(alloc, name, about, examples)?;
     with_progress(alloc, command)
 }
 
@@ -341,7 +348,10 @@ fn with_campaigns<'a>(alloc: Global, command: Command<'a>) -> Result<Command<'a>
     let command = with(command, run_command(alloc))?;
     let plans = file_command(alloc, "plans", help::PLANS, help::PLANS_EXAMPLES);
     let command = with(command, plans)?;
-    with(command, map_command(alloc))
+    let map = drawn_command(alloc, "map", help::MAP, help::MAP_EXAMPLES);
+    let command = with(command, map)?;
+    let page = drawn_command(alloc, "page", help::PAGE, help::PAGE_EXAMPLES);
+    with(command, page)
 }
 
 // The command with what is done over one scenario.
@@ -558,6 +568,11 @@ fn order_of<'a>(alloc: Global, name: &str, own: &ArgMatches<'a>) -> Result<Order
         }),
         "plans" => Ok(Order::Plans),
         "map" => Ok(Order::Map),
+        "page" => Ok(Order::Run {
+            form: Form::Page,
+            strict: false,
+            recheck: false,
+        }),
         "try" => Ok(Order::Try(which_of(alloc, name, own)?)),
         "reduce" => Ok(Order::Reduce(which_of(alloc, name, own)?)),
         "explain" => Ok(Order::Explain(which_of(alloc, name, own)?)),

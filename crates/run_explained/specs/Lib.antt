@@ -1,3 +1,4 @@
 pub mod Explained
 pub mod Tales
+pub mod Told
 pub mod inside

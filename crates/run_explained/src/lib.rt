@@ -5,8 +5,8 @@ mod hits;
 mod idle;
 mod tales;
 mod telling;
-mod writing;
+mod told;
 
 pub use tales::explain_telling;
 pub use telling::{Explained, explain};
-pub use writing::{explain_one, explain_one_telling};
+pub use told::{HitLine, ToldRun, tell};

@@ -9,17 +9,13 @@ use Rattle.report_junit.specs.Junit.{document_text}
 use Rattle.campaign_core.specs.Headline.{Campaign, campaign_in, plans, report, say}
 use Rattle.campaign_core.specs.Machines.{machine_text}
 use Rattle.campaign_core.specs.declared.machines.MachineForm.{MachineForm}
+use Rattle.campaign_core.proofs.EachVerdict.{verdicts_each}
 use Rattle.campaign_core.proofs.Grown.{reached_counts}
 use Rattle.campaign_core.proofs.machines.machine_text_of.Goals as goal
 
--- there is a verdict for each plan
-verdicts-each : (k : Campaign) (r : ReportFacts) (ps : List Entries) → r ≡ report k → ps ≡ plans k → length r.verdicts ≡ length ps
-verdicts-each k r ps is all =
-    ap (λ (x : ReportFacts). length x.verdicts) is ∙ length_verdicts (say k) 0 (plans k) ∙ sym (ap (λ (x : List Entries). length x) all)
-
 pub json_text-requires-clause-verdicts : goal.json_text-requires-clause-verdicts
 json_text-requires-clause-verdicts g c =
-    verdicts-each (campaign_in g.T.Target c.args.subject.now) c.in_ok-report.report c.plans_of-plans.result c.in_ok-report.ensures.report c.plans_of-plans.ensures
+    verdicts_each (campaign_in g.T.Target c.args.subject.now) c.in_ok-report.report c.plans_of-plans.result c.in_ok-report.ensures.report c.plans_of-plans.ensures
 
 pub json_text-requires-clause-reached : goal.json_text-requires-clause-reached
 json_text-requires-clause-reached g c =
@@ -29,7 +25,7 @@ json_text-requires-clause-reached g c =
 
 pub junit_text-requires : goal.junit_text-requires
 junit_text-requires g c =
-    verdicts-each (campaign_in g.T.Target c.args.subject.now) c.in_ok-report.report c.plans_of-plans.result c.in_ok-report.ensures.report c.plans_of-plans.ensures
+    verdicts_each (campaign_in g.T.Target c.args.subject.now) c.in_ok-report.report c.plans_of-plans.result c.in_ok-report.ensures.report c.plans_of-plans.ensures
 
 pub returns-in-Json-clause-text : goal.returns-in-Json-clause-text
 returns-in-Json-clause-text g c =

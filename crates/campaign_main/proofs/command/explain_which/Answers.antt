@@ -4,7 +4,8 @@ use Rattle.action_eval.specs.Answers.{given_of}
 use Rattle.run_explained.specs.Explained.{explain_text}
 use Rattle.campaign_core.specs.CommandTexts.{tried, LeavesOnly}
 use Rattle.campaign_core.specs.Headline.{campaign_on}
-use Rattle.campaign_main.specs.Exit.{concluded, is_fail}
+use Rattle.target_trait.specs.Verdicts.{is_fail}
+use Rattle.campaign_main.specs.Exit.{concluded}
 use Rattle.campaign_main.specs.declared.fault.CommandFault.TheVariants.{Campaign}
 use Rattle.campaign_main.proofs.AnswerLemmas.{short-up, explain-noted, explain-short, explain-written}
 use Rattle.campaign_main.proofs.NoteLemmas.{err-noted}

@@ -1,5 +1,6 @@
 use Rattle.std.proofs.Common.{◌∙◌, None, ap, false}
-use Rattle.campaign_main.specs.Exit.{concluded, is_fail}
+use Rattle.target_trait.specs.Verdicts.{is_fail}
+use Rattle.campaign_main.specs.Exit.{concluded}
 use Rattle.campaign_main.specs.declared.fault.CommandFault.TheVariants.{Campaign}
 use Rattle.campaign_main.proofs.AnswerLemmas.{reduce-noted, reduce-short, reduce-written, short-up}
 use Rattle.campaign_main.proofs.NoteLemmas.{err-noted}

@@ -2,7 +2,8 @@ use Rattle.std.proofs.Common.{◌∙◌, None, ap, false, subst}
 use Rattle.std.specs.Io.KnownBytes.{Appends}
 use Rattle.campaign_core.specs.CommandTexts.{try_text, tried, LeavesOnly}
 use Rattle.campaign_core.specs.Headline.{campaign_on}
-use Rattle.campaign_main.specs.Exit.{concluded, is_fail}
+use Rattle.target_trait.specs.Verdicts.{is_fail}
+use Rattle.campaign_main.specs.Exit.{concluded}
 use Rattle.campaign_main.specs.declared.fault.CommandFault.TheVariants.{Campaign}
 use Rattle.campaign_main.proofs.AnswerLemmas.{short-up, try-noted, try-short, try-written}
 use Rattle.campaign_main.proofs.NoteLemmas.{err-noted}

@@ -1,6 +1,6 @@
 use Rattle.std.proofs.Common.{◌≡◌, ◌∙◌, [], List, ap, length}
 use Rattle.scenario_values.specs.Scenario.{Entries}
-use Rattle.report.specs.BriefText.{is_unresolved}
+use Rattle.target_trait.specs.Verdicts.{is_unresolved}
 use Rattle.plan_survey.specs.Runs.{runs_from, unreached_in, unresolved_in}
 use Rattle.campaign_core.specs.CommandTexts.{tried}
 use Rattle.campaign_core.specs.Headline.{campaign_in, campaign_on, plans, say}

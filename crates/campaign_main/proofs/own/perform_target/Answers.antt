@@ -2,7 +2,7 @@ use Rattle.std.proofs.Common.{List, ℕ, Err, ap, inl, subst}
 use Rattle.campaign_main.specs.declared.exit.Exit.{Exit}
 use Rattle.campaign_main.specs.Commands.{Answer}
 use Rattle.campaign_main.specs.Ends.{EndsAs, IsRefused, TellsAs, TellsNotes}
-use Rattle.campaign_main.specs.OwnTarget.{OwnReducesToMinimal, own_answer, own_text_answer}
+use Rattle.campaign_main.specs.OwnTarget.{OwnKeepsPromises, own_answer, own_text_answer}
 use Rattle.campaign_core.specs.Headline.{campaign_on}
 use Rattle.campaign_main.proofs.EndLemmas.{cause-unread, read-answer, read-whole, refuses-whole, tells-unread, whole-map}
 use Rattle.campaign_main.proofs.NoteLemmas.{may-own, some-tells, told-notes}
@@ -41,10 +41,10 @@ returns-in-Err-clause-cause g c =
 pub returns-in-Err-clause-told : goal.returns-in-Err-clause-told
 returns-in-Err-clause-told g c = tells-unread c.args.order.now c.in-Err.fault c.unread.result _ _ _ c.unread.ensures.end c.unread.ensures.memory
 
-pub returns-in-Ok-clause-minimal : goal.returns-in-Ok-clause-minimal
-returns-in-Ok-clause-minimal g c =
-    let P : List ℕ → Type 0 = OwnReducesToMinimal c.args.order.now (campaign_on g.T.Target c.args.target.now c.args.workload.now) in
-    whole-map c.target_text.result _ _ (λ h. read-whole _ _ _ P c.as_str-text.ensures.value c.in-Ok.ensures.ok h) c.target_text.ensures.minimal
+pub returns-in-Ok-clause-promises : goal.returns-in-Ok-clause-promises
+returns-in-Ok-clause-promises g c =
+    let P : List ℕ → Type 0 = OwnKeepsPromises c.args.order.now (campaign_on g.T.Target c.args.target.now c.args.workload.now) in
+    whole-map c.target_text.result _ _ (λ h. read-whole _ _ _ P c.as_str-text.ensures.value c.in-Ok.ensures.ok h) c.target_text.ensures.promises
 
 pub returns-in-Ok-clause-told : goal.returns-in-Ok-clause-told
 returns-in-Ok-clause-told g c = some-tells _ _ _ c.args.order.now _ c.target_text.result (may-own c.args.order.now (campaign_on g.T.Target c.args.target.now c.args.workload.now) c.as_str-text.result.now) c.target_text.ensures.told

@@ -1,7 +1,7 @@
 use Rattle.std.proofs.Common.{List, ℕ, Err, ap, inl, subst}
 use Rattle.campaign_main.specs.declared.exit.Exit.{Exit}
 use Rattle.campaign_main.specs.Commands.{Answer, answer_of, text_answer}
-use Rattle.campaign_main.specs.Minimal.{TextReducesToMinimal}
+use Rattle.campaign_main.specs.Promises.{TextKeepsPromises}
 use Rattle.campaign_main.specs.Ends.{EndsAs, IsRefused, TellsAs, TellsNotes}
 use Rattle.campaign_main.proofs.EndLemmas.{cause-unread, read-answer, read-whole, refuses-whole, tells-unread, whole-map}
 use Rattle.campaign_main.proofs.NoteLemmas.{may-text, some-tells, told-notes}
@@ -37,10 +37,10 @@ returns-in-Err-clause-cause g c =
 pub returns-in-Err-clause-told : goal.returns-in-Err-clause-told
 returns-in-Err-clause-told g c = tells-unread c.args.order.now c.in-Err.fault c.unread.result _ _ _ c.unread.ensures.end c.unread.ensures.memory
 
-pub returns-in-Ok-clause-minimal : goal.returns-in-Ok-clause-minimal
-returns-in-Ok-clause-minimal g c =
-    let P : List ℕ → Type 0 = TextReducesToMinimal c.args.order.now in
-    whole-map c.perform_text.result _ _ (λ h. read-whole _ _ _ P c.as_str.ensures.value c.in-Ok.ensures.ok h) c.perform_text.ensures.minimal
+pub returns-in-Ok-clause-promises : goal.returns-in-Ok-clause-promises
+returns-in-Ok-clause-promises g c =
+    let P : List ℕ → Type 0 = TextKeepsPromises c.args.order.now in
+    whole-map c.perform_text.result _ _ (λ h. read-whole _ _ _ P c.as_str.ensures.value c.in-Ok.ensures.ok h) c.perform_text.ensures.promises
 
 pub returns-in-Ok-clause-told : goal.returns-in-Ok-clause-told
 returns-in-Ok-clause-told g c = some-tells _ _ _ c.args.order.now _ c.perform_text.result (may-text c.args.order.now c.as_str.result.now) c.perform_text.ensures.told

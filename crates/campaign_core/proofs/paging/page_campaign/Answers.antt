@@ -1,0 +1,17 @@
+use Rattle.std.proofs.Common.{refl}
+use Rattle.campaign_core.specs.Headline.{Campaign, campaign_in, plans, say}
+use Rattle.campaign_core.proofs.Firsts.{first_is}
+use Rattle.campaign_core.proofs.Tried.{tried_by}
+use Rattle.campaign_core.proofs.paging.page_campaign.Goals as goal
+
+pub returns-clause-first : goal.returns-clause-first
+returns-clause-first g c =
+    let k : Campaign = campaign_in g.T.Target c.args.subject.now in
+    let ran = c.in_ok-ran.ensures.ran in
+    first_is (say k) (plans k) (plans k) c.in_ok-ran.ran.results.firsts.items c.ending.result.first c.ending.ensures ran.results.1 refl
+
+pub returns-clause-promises : goal.returns-clause-promises
+returns-clause-promises g c =
+    let subject = c.args.subject.now in
+    tried_by (campaign_in g.T.Target subject) (c.each_behaviour_is_tried.ensures.promises subject.target.now subject.workload.now subject.settings.now)
+    (c.each_behaviour_is_tried.ensures.causes (campaign_in g.T.Target subject))

@@ -1,0 +1,121 @@
+//! The commands over a target that tells of the end of a run.
+ghost use Rattle.std.specs.Prelude.{◌≡◌, false, OnOk};
+ghost use Rattle.campaign_core.specs.Headline.{campaign_in, campaign_on};
+ghost use Rattle.campaign_main.specs.Ends.{ComesTo, EndsAs, Noted, OnWhole, TellsAs};
+ghost use Rattle.campaign_main.specs.Promises.{KeepsPromises};
+ghost use Rattle.campaign_main.specs.OwnTarget.{telling_answer};
+
+use crate::command::{command, take_noted};
+use crate::exit::{Conclusion, Exit, concluded, exit_of, is_fail};
+use crate::fault::CommandFault;
+use crate::lines::{note, unanswered};
+use crate::own::broken_off;
+use campaign_core::{Host, Subject, explain_one_telling};
+use campaign_given::CampaignSettings;
+use command_words::{Order, Which};
+use std::sync::Wait;
+use std::thread::Threads;
+use target_trait::{Sink, TellingTarget};
+use work_gate::Gate;
+
+/// Tells the run of the scenario that the command takes, and its end.
+fn explain_which<T: TellingTarget + Send, W: Sink, E: Sink, H: Threads + Wait + Sync, G: Gate>(
+    host: &Host<'_, G, H>,
+    subject: &Subject<'_, T>,
+    which: &Which,
+    output: &mut W,
+    faults: &mut E,
+) -> Result<Conclusion, CommandFault>
+where
+    T::Workload: Sync,
+    requires output { W.has_failed output.old ≡ false }
+    requires faults { E.has_failed faults.old ≡ false }
+    ensures text { ComesTo (telling_answer (T.state_of subject.now.target.now subject.now.workload.now)
+        (T.reason_of subject.now.target.now subject.now.workload.now) (Order.Explain which.now) (campaign_in T.Target subject.now))
+        (W.told output.old) (W.told output.new) (W.has_failed output.new) result }
+    ensures noted { Noted (telling_answer (T.state_of subject.now.target.now subject.now.workload.now)
+        (T.reason_of subject.now.target.now subject.now.workload.now) (Order.Explain which.now) (campaign_in T.Target subject.now))
+        (E.told faults.old) (E.told faults.new) (E.has_failed faults.new) result }
+{
+    let (stream, scenario, notes) = take_noted(host, subject, which)?;
+    let mut twin = subject.target.twin()?;
+    let verdict = explain_one_telling(
+        host.alloc,
+        &mut twin,
+        subject.workload,
+        subject.settings,
+        stream,
+        &scenario,
+        output,
+    )?;
+    note(notes.as_str(), faults);
+    Ok(concluded(is_fail(verdict), false))
+}
+
+/// Does what is ordered with this target, as [`command`] does; an explained run tells its end too.
+fn telling_command<T: TellingTarget + Send, W: Sink, E: Sink, H: Threads + Wait + Sync, G: Gate>(
+    host: &Host<'_, G, H>,
+    subject: &Subject<'_, T>,
+    order: &Order,
+    output: &mut W,
+    faults: &mut E,
+) -> Result<Conclusion, CommandFault>
+where
+    T::Workload: Sync,
+    requires output { W.has_failed output.old ≡ false }
+    requires faults { E.has_failed faults.old ≡ false }
+    ensures text { ComesTo (telling_answer (T.state_of subject.now.target.now subject.now.workload.now)
+        (T.reason_of subject.now.target.now subject.now.workload.now) order.now (campaign_in T.Target subject.now))
+        (W.told output.old) (W.told output.new) (W.has_failed output.new) result }
+    ensures noted { Noted (telling_answer (T.state_of subject.now.target.now subject.now.workload.now)
+        (T.reason_of subject.now.target.now subject.now.workload.now) order.now (campaign_in T.Target subject.now))
+        (E.told faults.old) (E.told faults.new) (E.has_failed faults.new) result }
+    ensures promises { OnOk result (KeepsPromises order.now (campaign_in T.Target subject.now)) }
+{
+    match order {
+        Order::Explain(which) => explain_which(host, subject, which, output, faults),
+        _ => command(host, subject, order, output, faults),
+    }
+}
+
+/// Does what [`crate::perform_settings`] does, with the same lines and ends, over a target that tells of the end of a run: `explain` writes
+/// two lines more, `state` with the state in which the run was judged, and `judged` with the reason, as the target words them
+/// ([`run_explained::explain_telling`] says how they are written, and when one is left out).
+pub fn perform_telling<
+    T: TellingTarget + Send,
+    W: Sink,
+    E: Sink,
+    H: Threads + Wait + Sync,
+    G: Gate,
+>(
+    host: &Host<'_, G, H>,
+    order: &Order,
+    target: &mut T,
+    workload: &T::Workload,
+    settings: &CampaignSettings,
+    output: &mut W,
+    faults: &mut E,
+) -> Exit
+where
+    T::Workload: Sync,
+    requires output { W.has_failed output.old ≡ false }
+    requires faults { E.has_failed faults.old ≡ false }
+    ensures end { EndsAs result (telling_answer (T.state_of target.old workload.now) (T.reason_of target.old workload.now) order.now
+        (campaign_on T.Target target.old workload.now settings.now)) (W.told output.old) (W.told output.new) (W.has_failed output.new) }
+    ensures told { TellsAs result (telling_answer (T.state_of target.old workload.now) (T.reason_of target.old workload.now) order.now
+        (campaign_on T.Target target.old workload.now settings.now)) (E.told faults.old) (E.told faults.new) (E.has_failed faults.new) }
+    ensures promises { OnWhole result (KeepsPromises order.now (campaign_on T.Target target.old workload.now settings.now)) }
+{
+    let subject = Subject {
+        target: &*target,
+        workload,
+        settings,
+    };
+    if let Some(exit) = broken_off(host.alloc, &subject, faults) {
+        return exit;
+    }
+    match telling_command(host, &subject, order, output, faults) {
+        Ok(conclusion) => exit_of(conclusion),
+        Err(fault) => unanswered(host.alloc, &fault, faults),
+    }
+}

@@ -1,0 +1,40 @@
+`page` runs a campaign, and writes a page of it: one HTML document, whole in itself. What is expected was worked out by hand from
+docs/PAGE.md and docs/TARGETS.md; page.py compares a page with the report of the same settings, and looks at its elements and links.
+
+  $ cat > small.toml <<'END'
+  > target = "replace"
+  > seed = 7
+  > [replace]
+  > old = "old"
+  > replacements = [["ne", "w"]]
+  > END
+  $ sed '1a variant = "late_sync"' small.toml > late.toml
+  $ sed '3a depth = 2' late.toml > grown.toml
+  $ sed '1a depth = 1' small.toml > one.toml
+
+It ends as the report does, and without a depth it tells that it isn't whole.
+
+  $ for name in small late grown one; do paklour run $name.toml > $name.report; paklour page $name.toml > $name.html; echo $?; done
+  0
+  1
+  1
+  0
+  $ for name in small late grown one; do grep -o '<title>.*</title>' $name.html; grep -A1 '^<h1>' $name.html | tail -n 1; done
+  <title>replace sound - Paklour</title>
+  <p>faults at the hits of the run without faults, 19 runs; not whole: without a depth no fault is put where another one leads</p>
+  <title>replace late_sync - Paklour</title>
+  <p>faults at the hits of the run without faults, 19 runs; not whole: without a depth no fault is put where another one leads</p>
+  <title>replace late_sync - Paklour</title>
+  <p>every behaviour with at most 2 faults, 19 runs; whole: there are none with more</p>
+  <title>replace sound - Paklour</title>
+  <p>every behaviour with at most 1 fault, 13 runs; not whole: 8 with one fault more are left out</p>
+  $ for name in small late grown one; do python3 "$TESTDIR/page.py" $name.html $name.report; done
+  0 first failures, 0 causes, 0 differences
+  1 first failures, 0 causes, 0 differences
+  1 first failures, 2 causes, 0 differences
+  0 first failures, 0 causes, 0 differences
+
+The run of a first failure is told hit by hit, and the hit of its fault is marked.
+
+  $ sed -n '/id="first-11"/,/<\/article>/p' grown.html | grep -o '<mark>[^<]*</mark>'
+  <mark>hit 6 replace::sync 1 return&#10;</mark>
