@@ -99,7 +99,17 @@ impl CampaignSettings {
     pub fn read_from(self, source: Text) -> Self
         ensures { result ≡ read_from source self }
     {
-        CampaignSettings { source, ..self }
+        CampaignSettings {
+            seed: self.seed,
+            workers: self.workers,
+            max_hits: self.max_hits,
+            pairs: self.pairs,
+            storms: self.storms,
+            rate: self.rate,
+            depth: self.depth,
+            scenarios: self.scenarios,
+            source,
+        }
     }
 
     /// How many workers there are.
