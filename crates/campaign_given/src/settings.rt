@@ -96,20 +96,11 @@ impl CampaignSettings {
     }
 
     /// The same settings, as read from this text.
-    pub fn read_from(self, source: Text) -> Self
+    pub fn read_from(mut self, source: Text) -> Self
         ensures { result ≡ read_from source self }
     {
-        CampaignSettings {
-            seed: self.seed,
-            workers: self.workers,
-            max_hits: self.max_hits,
-            pairs: self.pairs,
-            storms: self.storms,
-            rate: self.rate,
-            depth: self.depth,
-            scenarios: self.scenarios,
-            source,
-        }
+        self.source = source;
+        self
     }
 
     /// How many workers there are.
