@@ -4,6 +4,7 @@
 mod asking;
 mod driving;
 mod findings;
+mod forms;
 mod laws;
 mod planned;
 mod reduction;
@@ -14,10 +15,12 @@ mod telling;
 mod verdicts;
 
 pub use driving::write_asks;
+pub use forms::{Form, Shown, text_in};
 pub use laws::{
     nothing_is_asked_where_nothing_is_to_be_tried, reductions_come_to_what_is_asked,
     what_is_asked_is_unanswered,
 };
 pub use planned::{borrowed, list_plans, planned as outside_plans};
 pub use refusal::OutsideFault;
-pub use reporting::{write_brief, write_told};
+pub use reporting::{write_brief, write_report_in, write_told};
+pub use telling::Words;

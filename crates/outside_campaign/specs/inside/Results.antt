@@ -12,16 +12,12 @@ use Rattle.campaign_given.specs.Description.{Description}
 use Rattle.outside_campaign.specs.Outside.{Component, say}
 use Rattle.outside_campaign.specs.inside.Verdicts.{AreVerdicts}
 use Rattle.plan_gen.specs.PlanList.{most_plans}
-use Rattle.report.specs.BriefText.{brief_lines}
-use Rattle.report.specs.ReportText.{report_lines, text_of}
 use Rattle.answer_text.specs.FirstFault.{reading_of}
 use Rattle.campaign_given.specs.Given.{Given}
 use Rattle.campaign_core.specs.declared.ending.CampaignFault.TheVariants as campaign
-use Rattle.outside_campaign.specs.Campaigns.{plans, code_name, report_text, brief_report_text, untried, untried_by}
+use Rattle.outside_campaign.specs.Campaigns.{plans, untried, untried_by}
 use Rattle.outside_campaign.specs.declared.refusal.OutsideFault.{OutsideFault}
 use Rattle.outside_campaign.specs.declared.refusal.OutsideFault.TheVariants as refusal
-use Rattle.outside_campaign.specs.declared.telling.Form.{Form}
-use Rattle.outside_campaign.specs.declared.telling.Form.TheVariants.{Whole, Brief}
 use Rattle.outside_campaign.specs.declared.verdicts.Verdicts.TheVariants as verdicts
 use Rattle.outside_campaign.specs.declared.results.Results.{Results}
 use Rattle.outside_campaign.specs.declared.results.Results.TheVariants.{Told, NotAnswered}
@@ -59,18 +55,6 @@ facts_of outside seed verdicts findings = record {
   findings = findings;
   growth = None;
 }
-
--- the text of a report in this form, by the results of these plans
-abbrev pub text_in : Form → Description → ℕ → List Verdict → List FindingFacts → List Entries → List ℕ
-text_in Whole outside seed verdicts findings plans =
-    text_of (report_lines outside.points (code_name outside.codes) (facts_of outside seed verdicts findings))
-text_in Brief outside seed verdicts findings plans =
-    text_of (brief_lines outside.points (code_name outside.codes) (facts_of outside seed verdicts findings) plans)
-
--- the same of a component
-abbrev pub report_in : Form → Description → Given → Component → List ℕ
-report_in Whole = report_text
-report_in Brief = brief_report_text
 
 -- why there is no such text: the answers' first fault, the first scenario that is still to be tried, too many plans, or want of memory
 abbrev pub IsUntold : Description → Given → List ℕ → OutsideFault → Type 0
