@@ -5,6 +5,8 @@
 #[cfg(test)]
 mod campaigns;
 #[cfg(test)]
+mod forms;
+#[cfg(test)]
 mod grown;
 #[cfg(test)]
 mod known;
