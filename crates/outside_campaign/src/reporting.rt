@@ -16,6 +16,7 @@ use crate::telling::{first_number, report_of, told_text};
 use answer_text::read;
 use campaign_core::Ending;
 use campaign_given::{CampaignSettings, Outside};
+use campaign_plans::CampaignPlans;
 use report::write_report;
 use std::alloc::Global;
 use target_trait::Sink;
@@ -39,7 +40,8 @@ fn told(
 {
     let known = read(alloc, outside.codes.as_slice(), answers)?;
     let points = borrowed(alloc, outside.points.as_slice())?;
-    let plans = planned(alloc, points.as_slice(), outside, settings)?;
+    let list = planned(alloc, points.as_slice(), outside, settings)?;
+    let plans = CampaignPlans::by_census(&list);
     match results_known(alloc, &known, &plans)? {
         Results::NotAnswered(scenario) => Err(OutsideFault::NotAnswered(scenario)),
         Results::Told(verdicts, findings) => {

@@ -1,13 +1,12 @@
 //! What a report tells, by the words of the settings.
-ghost use Rattle.std.specs.Prelude.{◌≡◌, ◌<◌, None, length, IfOk, option_map, slice_get};
-ghost use Rattle.outside_campaign.specs.Campaigns.{code_name, plans, shown};
+ghost use Rattle.std.specs.Prelude.{◌≡◌, ◌<◌, [], None, length, IfOk, option_map, slice_get};
+ghost use Rattle.outside_campaign.specs.Campaigns.{code_name, plans as listed, shown};
 ghost use Rattle.outside_campaign.specs.Forms.{text_in};
 ghost use Rattle.outside_campaign.specs.inside.Results.{facts_of};
 
 use crate::forms::{Form, Shown, text_in};
 use campaign_given::{CampaignSettings, Outside};
 use campaign_plans::CampaignPlans;
-use plan_gen::PlanList;
 use report::{Finding, Names, Report};
 use std::alloc::{AllocError, Global};
 use target_trait::Verdict;
@@ -60,6 +59,25 @@ pub fn report_of<'a>(
     }
 }
 
+/// What is shown of plans of which none grew.
+fn shown_of<'a>(plans: &'a CampaignPlans<'a>, pairs: bool, settings: &'a str) -> Shown<'a>
+    ensures { result ≡ record {
+      plans = plans.entry.now;
+      pairs = pairs;
+      grown = [];
+      onward = 0;
+      settings = settings.entry.now;
+    } }
+{
+    Shown {
+        plans,
+        pairs,
+        grown: None,
+        onward: 0,
+        settings,
+    }
+}
+
 /// The text of a report on the plans of these settings. An error means that memory was refused.
 pub fn told_text(
     alloc: Global,
@@ -67,23 +85,16 @@ pub fn told_text(
     outside: &Outside,
     settings: &CampaignSettings,
     report: &Report<'_>,
-    list: &PlanList<'_>,
+    plans: &CampaignPlans<'_>,
 ) -> Result<Vec<u8>, AllocError>
-    requires plans { list.now ≡ plans outside.now settings.now }
+    requires plans { plans.now ≡ listed outside.now settings.now }
     requires census { report.now.census ≡ outside.now.hits }
     requires growth { report.now.growth ≡ None }
-    requires each { length report.now.verdicts ≡ length list.now }
+    requires each { length report.now.verdicts ≡ length plans.now }
     ensures { IfOk result (λ text. text.items ≡ text_in form.now outside.now.points (code_name outside.now.codes) report.now (shown outside.now settings.now)) }
 {
     let words = Words { outside: &*outside };
-    let plans = CampaignPlans::by_census(&*list);
-    let shown = Shown {
-        plans: &plans,
-        pairs: settings.pairs,
-        grown: None,
-        onward: 0,
-        settings: settings.source.as_str(),
-    };
+    let shown = shown_of(&*plans, settings.pairs, settings.source.as_str());
     text_in(alloc, form, &words, report, &shown)
 }
 

@@ -22,11 +22,6 @@ use Rattle.outside_campaign.specs.declared.verdicts.Verdicts.TheVariants as verd
 use Rattle.outside_campaign.specs.declared.results.Results.{Results}
 use Rattle.outside_campaign.specs.declared.results.Results.TheVariants.{Told, NotAnswered}
 
--- these verdicts and findings are those of a component
-pub record AreOf (component : Component) (plans : List Entries) (verdicts : List Verdict) (findings : List FindingFacts) : Type 0 where
-  pub verdicts_are : verdicts ≡ verdicts_from (say component) 0 plans
-  pub findings_are : findings ≡ map (finding (say component) plans) (first_failures (numbered (verdicts_from (say component) 0 plans)))
-
 -- the first of these
 abbrev pub IsFirst : List Entries → Results → Type 0
 IsFirst cards (Told verdicts findings) = ⊥
@@ -37,12 +32,6 @@ abbrev pub AreWithVerdicts : KnownVerdicts → List Entries → List FindingFact
 AreWithVerdicts known plans findings (Told all told) =
     (told.items ≡ findings) × AreVerdicts known plans (verdicts.All all)
 AreWithVerdicts known plans findings (NotAnswered t) = AreVerdicts known plans (verdicts.NotAnswered t)
-
--- nothing is to be tried, and the results are those of each component that agrees with what is known; or this is the first to be tried
-abbrev pub AreResults : KnownVerdicts → List Entries → Results → Type 0
-AreResults known plans (Told verdicts findings) =
-    (untried known plans ≡ []) × ((component : Component) → Agrees component known → AreOf component plans verdicts.items findings.items)
-AreResults known plans (NotAnswered t) = (more : List Entries) × (untried known plans ≡ t ∷ more)
 
 -- what a report tells, by the settings' words and numbers and by the results
 abbrev pub facts_of : Description → ℕ → List Verdict → List FindingFacts → ReportFacts

@@ -13,14 +13,14 @@ use Rattle.outside_campaign.proofs.reporting.told.Goals as goal
 pub report_of-report-requires : goal.report_of-report-requires
 report_of-report-requires c =
     let h = rw c.in-Told.is at c.in_ok-scenario.ensures in
-    let each = ap length c.as_slice-verdicts.ensures.value ∙ verdicts_each (verdict_in c.in_ok-known.known) c.in_ok-plans.plans c.in-Told.verdicts.items c.in-Told.findings.items h.1 in
-    omega (arith, each, c.in_ok-plans.ensures.some)
+    let each = ap length c.as_slice-verdicts.ensures.value ∙ verdicts_each (verdict_in c.in_ok-known.known) c.by_census-plans.result c.in-Told.verdicts.items c.in-Told.findings.items h.1 in
+    omega (arith, each, ap length c.by_census-plans.ensures, c.in_ok-list.ensures.some)
 
 pub told_text-requires-clause-each : goal.told_text-requires-clause-each
 told_text-requires-clause-each c =
     let h = rw c.in-Told.is at c.in_ok-scenario.ensures in
     ap (λ (r : ReportFacts). length r.verdicts) c.report_of-report.ensures ∙ ap length c.as_slice-verdicts.ensures.value
-    ∙ verdicts_each (verdict_in c.in_ok-known.known) c.in_ok-plans.plans c.in-Told.verdicts.items c.in-Told.findings.items h.1
+    ∙ verdicts_each (verdict_in c.in_ok-known.known) c.by_census-plans.result c.in-Told.verdicts.items c.in-Told.findings.items h.1
 
 pub returns-clause-text : goal.returns-clause-text
 returns-clause-text c =
@@ -28,8 +28,8 @@ returns-clause-text c =
     let codes : c.as_slice.result.now ≡ c.args.outside.now.codes = c.as_slice.ensures.value ∙ ap (λ (d : Description). d.codes) c.outside.view_is in
     let known : verdict_in c.in_ok-known.known ≡ known_by c.args.outside.now.codes c.args.answers.now = c.in_ok-known.ensures.known ∙ ap (λ (names : List (List ℕ)). known_by names c.args.answers.now) codes in
     let facts : ℕ → List Verdict → ReportFacts = λ seed vs. facts_of c.args.outside.now seed vs c.in-Told.findings.items in
-    report_told c.args.form.now c.args.outside.now c.args.settings.now c.args.answers.now (verdict_in c.in_ok-known.known) c.in_ok-plans.plans c.in-Told.verdicts.items c.in-Told.findings.items c.report_of-report.result c.in_ok-text-in-Told.text.items
-    known c.in_ok-plans.ensures.plans h.1
+    report_told c.args.form.now c.args.outside.now c.args.settings.now c.args.answers.now (verdict_in c.in_ok-known.known) c.by_census-plans.result c.in-Told.verdicts.items c.in-Told.findings.items c.report_of-report.result c.in_ok-text-in-Told.text.items
+    known (c.by_census-plans.ensures ∙ c.in_ok-list.ensures.plans) h.1
     (c.report_of-report.ensures ∙ ap (facts c.settings.inside.seed) c.as_slice-verdicts.ensures.value ∙ ap (λ (s : Given). facts s.plans.seed c.in-Told.verdicts.items) c.settings.view_is)
     c.in_ok-text-in-Told.ensures
 
@@ -38,8 +38,8 @@ returns-clause-first c =
     let h = rw c.in-Told.is at c.in_ok-scenario.ensures in
     let codes : c.as_slice.result.now ≡ c.args.outside.now.codes = c.as_slice.ensures.value ∙ ap (λ (d : Description). d.codes) c.outside.view_is in
     let known : verdict_in c.in_ok-known.known ≡ known_by c.args.outside.now.codes c.args.answers.now = c.in_ok-known.ensures.known ∙ ap (λ (names : List (List ℕ)). known_by names c.args.answers.now) codes in
-    first_told c.args.outside.now c.args.settings.now c.args.answers.now (verdict_in c.in_ok-known.known) c.in_ok-plans.plans c.in-Told.verdicts.items c.in-Told.findings.items c.first_number-first.result known
-    c.in_ok-plans.ensures.plans h.1
+    first_told c.args.outside.now c.args.settings.now c.args.answers.now (verdict_in c.in_ok-known.known) c.by_census-plans.result c.in-Told.verdicts.items c.in-Told.findings.items c.first_number-first.result known
+    (c.by_census-plans.ensures ∙ c.in_ok-list.ensures.plans) h.1
     (c.first_number-first.ensures ∙ ap (λ (fs : List FindingFacts). option_map (λ f. f.number) (slice_get fs 0)) c.deref.ensures.value)
 
 pub returns-clause-some : goal.returns-clause-some
