@@ -252,7 +252,8 @@ where
     let alloc = host.alloc;
     let report = report_of(host, subject, ran)?;
     let plans = plans_of(subject, &ran.planned);
-    let map = map_of(alloc, subject, ran, linked_plans(report.verdicts))?;
+    let linked = linked_plans(report.verdicts);
+    let map = map_of(alloc, subject, ran, linked)?;
     let runs = finding_runs(alloc, subject, &report)?;
     let cause_runs = cause_runs(alloc, subject, &report)?;
     let settings = shown_settings(alloc, subject)?;
