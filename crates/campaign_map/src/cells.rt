@@ -359,7 +359,8 @@ fn write_run<N: Names>(
     write_title(alloc, out, names, facts, line, i, cells)?;
     out.push_str("</title></rect>\n")?;
     write_end_of_link(out, facts, worst)?;
-    write_mark(out, facts, line, i)
+    write_mark(out, facts, line, i)?;
+    Ok(())
 }
 
 /// Appends a cell, where it isn't part of the rectangle of the one before it.

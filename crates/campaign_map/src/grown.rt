@@ -127,7 +127,8 @@ fn write_cell_rectangle<N: Names>(
     write_plan_title(alloc, out, names, grown.facts, number)?;
     write_worst_note(alloc, out, names, verdict_at(grown.facts, number), shown)?;
     out.push_str("</title></rect>\n")?;
-    write_end_of_link(out, grown.facts, worst)
+    write_end_of_link(out, grown.facts, worst)?;
+    Ok(())
 }
 
 /// Appends the cell of a plan in a grid, where it has one there.

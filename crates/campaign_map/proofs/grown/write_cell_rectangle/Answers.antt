@@ -14,7 +14,7 @@ returns g c =
     let is : get_or c.args.grown.now.worst.now n Pass ≡ worst_at m fs (front_at fs n) =
     ap (λ (l : List Worst). get_or l n Pass) c.requires.known.worst ∙ get_or-map (worst_at m fs) fs n nowhere Pass c.requires.within in
     rw (
-      c.write_end_of_link.ensures,
+      c.in_ok-write_end_of_link.ensures,
       c.in_ok-push_str.ensures.bytes,
       c.in_ok-write_worst_note.ensures,
       c.in_ok-write_plan_title.ensures,
