@@ -10,10 +10,10 @@ BUILT = crates/paklour/out/paklour
 PROGRAM = $(BUILT)
 PAGES = $(wildcard share/*/*/*)
 
-# A first look: builds the program without proving it, and runs a campaign. A campaign that finds a failure ends with 1, which is no error
-# here.
+# A first look: builds the program without proving it, and runs a campaign; it ends with the name of the page that it wrote, to look at. A
+# campaign that finds a failure is no error here.
 run:
-	@settings=$$(realpath $(FILE)) && cd crates/paklour && { rt try -- run < $$settings || [ $$? -eq 1 ]; }
+	@tools/first_look $(FILE)
 
 # Proves the program with all that it stands on, and builds crates/paklour/out/paklour. What the gate has proved on this machine is taken
 # over, and the gate takes over what is proved here.

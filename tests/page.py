@@ -1,17 +1,21 @@
 """Looks at a page that `page` has written.
 
-    python3 page.py PAGE REPORT
+    python3 page.py PAGE REPORT SETTINGS
 
-PAGE is what `page` writes, REPORT what `run` does of the same settings. The page has to be well-formed XML and HTML whose elements are closed in
-their order; nothing in it may ask for a file or a script; each of its links has to lead to an element of its own, of which there is one; and the
-codes, numbers and scenarios of REPORT have to be those of its articles and rows. Prints each difference, and at last what was looked at.
+PAGE is what `page` writes of SETTINGS, REPORT what `run` does. The page has to be well-formed XML and HTML whose elements are closed in their
+order; nothing in it may ask for a file or a script, and no address but that of SVG's names is in it; it has a style for dark screens and one for
+paper; each of its links has to lead to an element of its own, of which there is one; the codes, numbers and scenarios of REPORT have to be those
+of its articles and rows; each cell of the map whose verdict isn't pass has to lead to a row with that verdict, and no other; and the text of
+SETTINGS stands at its end. Prints each difference, and at last what was looked at.
 """
 import html.parser
+import re
 import sys
 import xml.etree.ElementTree as xml
 
 VOID = {"meta"}
-XHTML = "{http://www.w3.org/2000/svg}"
+NAMES = "http://www.w3.org/2000/svg"
+SVG = "{" + NAMES + "}"
 
 
 class Elements(html.parser.HTMLParser):
@@ -52,12 +56,37 @@ def links(page):
             yield f"{target} leads nowhere"
 
 
-def requests(page):
+def requests(page, text):
+    for address in set(re.findall(r"\w+://[^'\"\s<>]*", text)) - {NAMES}:
+        yield f"{address} is an address"
     for element in page.iter():
-        if element.tag.replace(XHTML, "") in {"script", "link", "img", "iframe", "object", "embed", "image", "use"}:
+        if element.tag.replace(SVG, "") in {"script", "link", "img", "iframe", "object", "embed", "image", "use"}:
             yield f"<{element.tag}> asks for something"
         if element.get("src") or "url(" in (element.text or "") and element.tag.endswith("style"):
             yield "an address is asked for"
+
+
+def styles(page):
+    style = text_of(page.find("head/style"))
+    for word in ("color-scheme:light dark", "@media(prefers-color-scheme:dark)", "@media print"):
+        if word not in style:
+            yield f"no {word} in the style"
+
+
+def cells(page):
+    """Each cell of the map: the class of its colour, and where it leads, if it does."""
+    linked = {a[0]: a.get("href") for a in page.iter(SVG + "a")}
+    rectangles = [element for element in page.iter(SVG + "rect") if element.find(SVG + "title") is not None]
+    return [(element.get("class"), linked.get(element)) for element in rectangles]
+
+
+def leads(page):
+    told = {row.get("id"): text_of(row.findall("td")[0]).split()[0] for row in page.iter("tr") if row.get("id")}
+    for shown, target in cells(page):
+        if shown != "pass" and target is None and len(told) < 1000:
+            yield f"a cell of {shown} leads nowhere"
+        if target is not None and shown.rstrip("0123456789") != told.get(target[1:]):
+            yield f"a cell of {shown} leads to {target}"
 
 
 def articles(page, kind):
@@ -97,20 +126,32 @@ def points(page, lines):
         yield from same("never reached", marked, [name for (name, _), most in zip(census, reached) if most == "0"])
 
 
-def main(name, report):
+def main(name, report, settings):
     with open(name, encoding="utf-8") as file:
         text = file.read()
     with open(report, encoding="utf-8") as file:
         lines = file.read().splitlines()
+    with open(settings, encoding="utf-8") as file:
+        given = file.read()
     elements = Elements()
     elements.feed(text)
     page = xml.fromstring(text)
     wrong = elements.wrong + [f"<{tag}> is left open" for tag in elements.open]
-    for differences in (links(page), requests(page), told(page, lines), points(page, lines)):
+    shown = text_of(page.find(".//*[@id='again']/pre"))
+    for differences in (
+        links(page),
+        requests(page, text),
+        styles(page),
+        leads(page),
+        told(page, lines),
+        points(page, lines),
+        same("settings", shown, given),
+    ):
         wrong.extend(differences)
     for line in wrong:
         print(line)
-    print(f"{len(articles(page, 'first'))} first failures, {len(articles(page, 'cause'))} causes, {len(wrong)} differences")
+    leading = sum(target is not None for _, target in cells(page))
+    print(f"{len(articles(page, 'first'))} first failures, {len(articles(page, 'cause'))} causes, {leading} links in the map, {len(wrong)} differences")
 
 
 main(*sys.argv[1:])

@@ -5,8 +5,8 @@ use Rattle.scenario_values.specs.Scenario.{Entries}
 use Rattle.report.specs.Reports.{ReportFacts}
 use Rattle.run_explained.specs.Told.{RunFacts}
 use Rattle.report_page.specs.Page.{AboutFacts, page_text}
-use Rattle.campaign_core.specs.Headline.{Campaign, campaign_map_text, plans, report}
-use Rattle.campaign_core.specs.Pages.{NotesFacts, about, campaign_page_text, cause_runs, run_of_finding, settings_text}
+use Rattle.campaign_core.specs.Headline.{Campaign, plans, report}
+use Rattle.campaign_core.specs.Pages.{NotesFacts, about, campaign_page_text, cause_runs, run_of_finding, page_map_text, settings_text, text_or}
 
 -- one more run is told
 pub one_more : {A B : Type 0} (f : A → B) (xs : List A) (i : ℕ) (all new : List B) (x : A) (y : B) → i < length xs → new ≡ all ++ y ∷ []
@@ -16,15 +16,15 @@ one_more {A} {B} f xs i all new x y lt added so_far is told =
     ∙ sym (ap (map f) (take_more xs i x lt) ∙ map-append f (take i xs) (get_or xs i x ∷ []))
 
 -- what the page tells beside the report
-pub about_is : (k : Campaign) (notes : NotesFacts) (picture settings : List ℕ) (runs others : List RunFacts) → picture ≡ campaign_map_text k
-    → runs ≡ map (run_of_finding k) (report k).findings → others ≡ cause_runs k (report k).growth → settings ≡ settings_text k
+pub about_is : (k : Campaign) (notes : NotesFacts) (picture settings : List ℕ) (runs others : List RunFacts) → picture ≡ page_map_text k
+    → runs ≡ map (run_of_finding k) (report k).findings → others ≡ cause_runs k (report k).growth → settings ≡ text_or k.source (settings_text k)
     → record { map = picture; runs = runs; cause_runs = others; version = notes.version; command = notes.command; settings = settings } ≡ about k notes
 about_is k notes picture settings runs others drawn told also given =
     let tells : List ℕ → List RunFacts → List RunFacts → List ℕ → AboutFacts = λ p r o s.
     record { map = p; runs = r; cause_runs = o; version = notes.version; command = notes.command; settings = s } in
-    ap (λ p. tells p runs others settings) drawn ∙ ap (λ r. tells (campaign_map_text k) r others settings) told
-    ∙ ap (λ o. tells (campaign_map_text k) (map (run_of_finding k) (report k).findings) o settings) also
-    ∙ ap (λ s. tells (campaign_map_text k) (map (run_of_finding k) (report k).findings) (cause_runs k (report k).growth) s) given
+    ap (λ p. tells p runs others settings) drawn ∙ ap (λ r. tells (page_map_text k) r others settings) told
+    ∙ ap (λ o. tells (page_map_text k) (map (run_of_finding k) (report k).findings) o settings) also
+    ∙ ap (λ s. tells (page_map_text k) (map (run_of_finding k) (report k).findings) (cause_runs k (report k).growth) s) given
 
 pub page_is : (k : Campaign) (notes : NotesFacts) (text : List ℕ) (r : ReportFacts) (ps : List Entries) (a : AboutFacts) → text ≡ page_text k.points k.codes r ps a
     → r ≡ report k → ps ≡ plans k → a ≡ about k notes → text ≡ campaign_page_text notes k

@@ -24,8 +24,8 @@ use Rattle.campaign_core.specs.declared.subject.Subject.{Subject}
 use Rattle.campaign_core.specs.Findings.{report_of, growth_of, ReducesToMinimal, IsCauseAmong}
 
 -- what a campaign is given: what its target asks on the workload, the names of the points and of the codes, the target's label, how many
--- hits of a run are answered, with up to how many faults each behaviour is tried, where its plans grow, and what is asked of the list of
--- plans, the seed among it. How many workers there are isn't among it.
+-- hits of a run are answered, with up to how many faults each behaviour is tried, where its plans grow, what is asked of the list of
+-- plans, the seed among it, and the text that its settings were read from. How many workers there are isn't among it.
 pub record Campaign : Type 0 where
   pub asks : List Reply → Move
   pub points : List (List ℕ)
@@ -34,6 +34,7 @@ pub record Campaign : Type 0 where
   pub max_hits : ℕ
   pub depth : Option ℕ
   pub plans : Asked
+  pub source : List ℕ
 
 abbrev pub campaign_of : (List Reply → Move) → List (List ℕ) → (ℕ → List ℕ) → List ℕ → Given → Campaign
 campaign_of asks points codes label given = record {
@@ -44,6 +45,7 @@ campaign_of asks points codes label given = record {
   max_hits = given.max_hits;
   depth = given.depth;
   plans = given.plans;
+  source = given.source;
 }
 
 -- the same by a target's setup, its workload and settings
@@ -133,9 +135,9 @@ abbrev pub onward_to : Campaign → Option ℕ → ℕ
 onward_to c None = 0
 onward_to c (Some depth) = length (onward (grower c) depth)
 
--- what the map shows
-abbrev pub mapped : Campaign → Mapped
-mapped c = record {
+-- what the map shows, whose cells lead to the plans before this number that don't pass
+abbrev pub mapped : ℕ → Campaign → Mapped
+mapped linked c = record {
   label = c.label;
   census = census c;
   pairs = c.plans.pairs;
@@ -144,8 +146,9 @@ mapped c = record {
   onward = onward_to c c.depth;
   verdicts = verdicts_from (say c) 0 (plans c);
   firsts = first_failures c;
+  linked = linked;
 }
 
--- the map's text
+-- the map's text: a picture by itself
 abbrev pub campaign_map_text : Campaign → List ℕ
-campaign_map_text c = map_text c.points c.codes (mapped c)
+campaign_map_text c = map_text c.points c.codes (mapped 0 c)

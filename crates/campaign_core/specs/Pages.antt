@@ -1,12 +1,13 @@
 -- A campaign's page.
-use Rattle.std.specs.Prelude.{ℕ, Bool, true, false, List, [], ◌++◌, map, take, codes, length, Option, None, Some}
+use Rattle.std.specs.Prelude.{ℕ, Bool, true, false, List, [], ◌∷◌, ◌++◌, map, take, codes, length, Option, None, Some}
 use Rattle.std.specs.Fmt.{decimal}
 use Rattle.scenario_values.specs.Scenario.{Entries}
 use Rattle.action_eval.specs.Answers.{given_of}
 use Rattle.report.specs.Reports.{FindingFacts, CauseFacts, GrowthFacts}
 use Rattle.run_explained.specs.Told.{RunFacts, run_facts}
-use Rattle.report_page.specs.Page.{AboutFacts, most_causes, page_text}
-use Rattle.campaign_core.specs.Headline.{Campaign, plans, report, campaign_map_text}
+use Rattle.report_page.specs.Page.{AboutFacts, most_causes, most_told, page_text, rows_to}
+use Rattle.campaign_map.specs.Map.{map_text}
+use Rattle.campaign_core.specs.Headline.{Campaign, mapped, plans, report}
 
 -- what a page tells that the campaign doesn't: the program's version, and the command that makes the page
 pub record NotesFacts : Type 0 where
@@ -52,14 +53,23 @@ listing_text pairs storms rate listed =
 abbrev pub settings_text : Campaign → List ℕ
 settings_text c = limits_text c.max_hits c.depth ++ listing_text c.plans.pairs c.plans.storms c.plans.rate (length c.plans.listed)
 
+-- the text that the settings were read from, or those lines where a program made them
+abbrev pub text_or : List ℕ → List ℕ → List ℕ
+text_or [] lines = lines
+text_or (byte ∷ more) lines = byte ∷ more
+
+-- the map, whose cells lead to the rows of plans that don't pass
+abbrev pub page_map_text : Campaign → List ℕ
+page_map_text c = map_text c.points c.codes (mapped (rows_to most_told (report c).verdicts) c)
+
 abbrev pub about : Campaign → NotesFacts → AboutFacts
 about c notes = record {
-  map = campaign_map_text c;
+  map = page_map_text c;
   runs = map (run_of_finding c) (report c).findings;
   cause_runs = cause_runs c (report c).growth;
   version = notes.version;
   command = notes.command;
-  settings = settings_text c;
+  settings = text_or c.source (settings_text c);
 }
 
 -- the page

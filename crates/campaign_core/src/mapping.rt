@@ -2,7 +2,8 @@
 ghost use Rattle.std.specs.Prelude.{◌≡◌, ◌≤◌, false, length, option_copied, option_map, string_bytes, IfOk, IfErr, OnOk};
 ghost use Rattle.std.specs.Io.KnownBytes.{Appends};
 ghost use Rattle.plan_gen.specs.PlanList.{most_plans};
-ghost use Rattle.campaign_core.specs.Headline.{campaign_in, plans, campaign_map_text, first_failure};
+ghost use Rattle.campaign_map.specs.Map.{map_text};
+ghost use Rattle.campaign_core.specs.Headline.{campaign_in, mapped, plans, campaign_map_text, first_failure};
 ghost use Rattle.campaign_core.specs.CommandTexts.{IsFault};
 ghost use Rattle.campaign_core.specs.inside.Results.{IsRan};
 ghost use Rattle.campaign_core.specs.Planned.{onward_among};
@@ -31,14 +32,15 @@ fn grown_part<'p>(planned: &'p Planned<'_>) -> (Option<&'p GrownPlans>, usize)
     }
 }
 
-/// What a campaign whose plans have run comes to, as a map shows it.
+/// What a campaign whose plans have run comes to, as a map shows it whose cells lead to the plans before this number.
 pub(crate) fn map_of<T: Target + Send>(
     alloc: Global,
     subject: &Subject<'_, T>,
     ran: &Ran<'_>,
+    linked: usize,
 ) -> Result<String, AllocError>
     requires { IsRan (campaign_in T.Target subject.now) ran.now }
-    ensures { IfOk result (λ text. string_bytes text ≡ campaign_map_text (campaign_in T.Target subject.now)) }
+    ensures { IfOk result (λ text. let c = campaign_in T.Target subject.now in string_bytes text ≡ map_text c.points c.codes (mapped linked c)) }
 {
     each_target_is_a_lawful_subject::<T>();
     let Ran { planned, results } = ran;
@@ -54,6 +56,7 @@ pub(crate) fn map_of<T: Target + Send>(
         onward,
         verdicts: results.verdicts.as_slice(),
         firsts: results.firsts.as_slice(),
+        linked,
     };
     map_text(alloc, subject.target, &facts)
 }
@@ -78,7 +81,7 @@ where
         IsFault c (campaign_map_text c) (W.told sink.old) (W.told sink.new) (W.has_failed sink.new)) }
 {
     let ran = run_campaign(host, subject)?;
-    let text = map_of(host.alloc, subject, &ran)?;
+    let text = map_of(host.alloc, subject, &ran, 0)?;
     write_report(text.as_bytes(), sink)?;
     Ok(ran.results.ending())
 }

@@ -4,7 +4,7 @@ ghost use Rattle.std.specs.Io.KnownBytes.{Appends};
 ghost use Rattle.plan_gen.specs.PlanList.{most_plans};
 ghost use Rattle.campaign_core.specs.Headline.{campaign_in, plans, first_failure, EachIsMinimal, EachIsTried};
 ghost use Rattle.campaign_core.specs.CommandTexts.{IsFault};
-ghost use Rattle.campaign_core.specs.Pages.{bool_text, depth_text, limits_text, listing_text, settings_text};
+ghost use Rattle.campaign_core.specs.Pages.{bool_text, depth_text, limits_text, listing_text, settings_text, text_or};
 ghost use Rattle.campaign_core.specs.Pages.{run_of_finding, run_of_cause, run_under, cause_runs, campaign_page_text};
 ghost use Rattle.campaign_core.specs.inside.Results.{IsRan};
 
@@ -17,7 +17,7 @@ use crate::reporting::report_of;
 use crate::subject::{Host, Subject};
 use campaign_given::CampaignSettings;
 use report::{Cause, Finding, Growth, Report, write_report};
-use report_page::{About, first_causes, page_text};
+use report_page::{About, first_causes, linked_plans, page_text};
 use run_explained::{ToldRun, tell};
 use scenario_values::Scenario;
 use std::alloc::{AllocError, Global};
@@ -111,6 +111,18 @@ fn settings_text<T: Target>(alloc: Global, subject: &Subject<'_, T>) -> Result<S
         listed,
     )?;
     Ok(out)
+}
+
+/// The text that the settings were read from, or those that every campaign has, where a program made them.
+fn shown_settings<T: Target>(alloc: Global, subject: &Subject<'_, T>) -> Result<String, AllocError>
+    ensures { IfOk result (λ text. let c = campaign_in T.Target subject.now in string_bytes text ≡ text_or c.source (settings_text c)) }
+{
+    let source = subject.settings.source.as_str();
+    if source.is_empty() {
+        settings_text(alloc, subject)
+    } else {
+        String::from_str(alloc, source)
+    }
 }
 
 /// The run of a scenario under a stream number, on a twin of the target.
@@ -240,10 +252,11 @@ where
     let alloc = host.alloc;
     let report = report_of(host, subject, ran)?;
     let plans = plans_of(subject, &ran.planned);
-    let map = map_of(alloc, subject, ran)?;
+    let linked = linked_plans(report.verdicts);
+    let map = map_of(alloc, subject, ran, linked)?;
     let runs = finding_runs(alloc, subject, &report)?;
     let cause_runs = cause_runs(alloc, subject, &report)?;
-    let settings = settings_text(alloc, subject)?;
+    let settings = shown_settings(alloc, subject)?;
     let about = about_of(
         map.as_str(),
         runs.as_slice(),

@@ -6,10 +6,10 @@ use Rattle.std.specs.List.{AllByRecursion}
 use Rattle.std.proofs.lemmas.List.{take_more, map-append}
 use Rattle.std.proofs.lemmas.Bool.{and_parts, and_from, and_left, and_right, eqb-true, ne_eqb, cases_Bool, lt-ltb}
 use Rattle.action_eval.specs.declared.rig.Rig.{Rig}
-use Rattle.target_trait.specs.declared.judgement.Verdict.{Verdict}
 use Rattle.campaign_map.specs.GrownCells.{acted, front_of, way, is_same, agrees, worse}
 use Rattle.campaign_map.specs.inside.CellKeys.{Told, CellKey, told, key_of, same_told, same_key, IsFormed}
 use Rattle.campaign_map.specs.declared.fronts.Front.{Front}
+use Rattle.campaign_map.specs.declared.links.Worst.{Worst}
 
 -- ---- keys
 
@@ -64,14 +64,14 @@ same_fault r s = one_bool _ _ there back
 -- ---- one cell told of a plan
 
 -- what each cell comes to where the one of a key is told of a plan's verdict
-abbrev pub IsTold : CellKey → Verdict → (CellKey → Verdict) → (CellKey → Verdict) → Type 0
+abbrev pub IsTold : CellKey → Worst → (CellKey → Worst) → (CellKey → Worst) → Type 0
 IsTold key v old new = (q : CellKey) → new q ≡ cond (same_key key q) (worse (old key) v) (old q)
 
 -- a cell is told of a plan exactly where this is true
-abbrev pub IsBy : Bool → Verdict → (CellKey → Verdict) → (CellKey → Verdict) → CellKey → Type 0
+abbrev pub IsBy : Bool → Worst → (CellKey → Worst) → (CellKey → Worst) → CellKey → Type 0
 IsBy is v old new q = new q ≡ cond is (worse (old q) v) (old q)
 
-told_by : (key q : CellKey) (v : Verdict) (old new : CellKey → Verdict) → IsTold key v old new → IsBy (same_key key q) v old new q
+told_by : (key q : CellKey) (v : Worst) (old new : CellKey → Worst) → IsTold key v old new → IsBy (same_key key q) v old new q
 told_by key q v old new h = elim (cases_Bool (same_key key q)) [ inl is ↦ here is | inr other ↦ there other ]
   where
     here : same_key key q ≡ true → IsBy (same_key key q) v old new q
@@ -80,25 +80,25 @@ told_by key q v old new h = elim (cases_Bool (same_key key q)) [ inl is ↦ here
     there : same_key key q ≡ false → IsBy (same_key key q) v old new q
     there other = h q ∙ rw other refl
 
-skipped : (key q : CellKey) (v : Verdict) (old new : CellKey → Verdict) → IsTold key v old new → same_key key q ≡ false → new q ≡ old q
+skipped : (key q : CellKey) (v : Worst) (old new : CellKey → Worst) → IsTold key v old new → same_key key q ≡ false → new q ≡ old q
 skipped key q v old new h other = h q ∙ rw other refl
 
 -- one skipped before, or after
-after_skipped : (v : Verdict) (old mid new : CellKey → Verdict) (q : CellKey) (is : Bool) → mid q ≡ old q → IsBy is v mid new q → IsBy is v old new q
-after_skipped v old mid new q is before h = h ∙ ap (λ (w : Verdict). cond is (worse w v) w) before
+after_skipped : (v : Worst) (old mid new : CellKey → Worst) (q : CellKey) (is : Bool) → mid q ≡ old q → IsBy is v mid new q → IsBy is v old new q
+after_skipped v old mid new q is before h = h ∙ ap (λ (w : Worst). cond is (worse w v) w) before
 
 -- ---- all cells that a plan is of, by its first two faults and those of a cell
 
-abbrev pub IsOne : Option Rig → Option Rig → Option Rig → Option Rig → Verdict → (CellKey → Verdict) → (CellKey → Verdict) → Type 0
+abbrev pub IsOne : Option Rig → Option Rig → Option Rig → Option Rig → Worst → (CellKey → Worst) → (CellKey → Worst) → Type 0
 IsOne a b f s v old new = (a ≡ None → b ≡ None) → IsBy (agrees a f && agrees b s) v old new (key_of a b)
 
-pub none_told : (v : Verdict) (old new : CellKey → Verdict) (a b s : Option Rig)
+pub none_told : (v : Worst) (old new : CellKey → Worst) (a b s : Option Rig)
     → IsTold (key_of None None) v old new → IsOne a b None s v old new
 none_told v old new None None s first formed = told_by (key_of None None) (key_of None None) v old new first
 none_told v old new None (Some r) s first formed = absurd (let e = formed refl in cc e)
 none_told v old new (Some r) b s first formed = skipped (key_of None None) (key_of (Some r) b) v old new first (and_left _ _ (none_some r))
 
-pub one_told : (v : Verdict) (old mid new : CellKey → Verdict) (f : Rig) (a b : Option Rig)
+pub one_told : (v : Worst) (old mid new : CellKey → Worst) (f : Rig) (a b : Option Rig)
     → IsTold (key_of None None) v old mid → IsTold (key_of (Some f) None) v mid new → IsOne a b (Some f) None v old new
 one_told v old mid new f None None first second formed =
     skipped (key_of (Some f) None) (key_of None None) v mid new second (and_left _ _ (some_none f))
@@ -114,7 +114,7 @@ one_told v old mid new f (Some r) (Some s) first second formed =
     ∙ skipped (key_of None None) q v old mid first (and_left _ _ (none_some r))
     ∙ sym (ap (λ (is : Bool). cond is (worse (old q) v) (old q)) (and_right (is_same r f) false refl))
 
-pub two_told : (v : Verdict) (old mid late new : CellKey → Verdict) (f g : Rig) (a b : Option Rig) → IsTold (key_of None None) v old mid
+pub two_told : (v : Worst) (old mid late new : CellKey → Worst) (f g : Rig) (a b : Option Rig) → IsTold (key_of None None) v old mid
     → IsTold (key_of (Some f) None) v mid late → IsTold (key_of (Some f) (Some g)) v late new → IsOne a b (Some f) (Some g) v old new
 two_told v old mid late new f g None None first second third formed =
     skipped (key_of (Some f) (Some g)) (key_of None None) v late new third (and_left _ _ (some_none f))
@@ -134,14 +134,14 @@ two_told v old mid late new f g (Some r) (Some s) first second third formed =
 
 -- the same, by what a plan's faults are found to be
 
-pub told_one : (v : Verdict) (old mid new : CellKey → Verdict) (f s : Option Rig) → is_none f ≡ false → is_none s ≡ true
+pub told_one : (v : Worst) (old mid new : CellKey → Worst) (f s : Option Rig) → is_none f ≡ false → is_none s ≡ true
     → IsTold (key_of None None) v old mid → IsTold (key_of f None) v mid new → (cell : Front) → IsFormed cell
     → IsBy (agrees cell.first f && agrees cell.second s) v old new (key_of cell.first cell.second)
 told_one v old mid new None s some none first second cell formed = absurd (search (rules, some))
 told_one v old mid new (Some f) (Some s) some none first second cell formed = absurd (search (rules, none))
 told_one v old mid new (Some f) None some none first second cell formed = one_told v old mid new f cell.first cell.second first second formed
 
-pub told_two : (v : Verdict) (old mid late new : CellKey → Verdict) (f s : Option Rig) → is_none f ≡ false → is_none s ≡ false
+pub told_two : (v : Worst) (old mid late new : CellKey → Worst) (f s : Option Rig) → is_none f ≡ false → is_none s ≡ false
     → IsTold (key_of None None) v old mid → IsTold (key_of f None) v mid late → IsTold (key_of f s) v late new → (cell : Front) → IsFormed cell
     → IsBy (agrees cell.first f && agrees cell.second s) v old new (key_of cell.first cell.second)
 told_two v old mid late new None s some other first second third cell formed = absurd (search (rules, some))

@@ -9,7 +9,9 @@ use Rattle.target_trait.specs.declared.judgement.Verdict.TheVariants as verdict
 use Rattle.report.specs.ReportText.{verdict_text, scenario_text}
 use Rattle.campaign_map.specs.Mapped.{Mapped}
 use Rattle.xml_text.specs.Xml.{escaped}
+use Rattle.campaign_map.specs.Links.{worst_by, link, end_of_link}
 use Rattle.campaign_map.specs.declared.cells.Line.{Line}
+use Rattle.campaign_map.specs.declared.links.Worst.{Worst}
 
 -- up to so many plans, each is a rectangle of its own
 abbrev pub most_alone : ℕ
@@ -107,10 +109,14 @@ abbrev pub cells_rectangle : Mapped → Line → ℕ → ℕ → List ℕ
 cells_rectangle m line i n =
     rectangle (class (verdict_at m (number_at line i))) (across line i) (below line i) (if line.down then 1 else n) (if line.down then n else 1)
 
--- the rectangle that begins at a cell
+-- the rectangle that begins at a cell, which leads to the plan of that one
+abbrev pub worst_in : Mapped → Line → ℕ → Worst
+worst_in m line i = worst_by (verdict_at m (number_at line i)) (number_at line i)
+
 unfoldable pub run_text : (ℕ → List ℕ) → Mapped → Line → ℕ → List ℕ
 run_text code_name m line i =
-    cells_rectangle m line i (run_length m line i) ++ title code_name m line i (run_length m line i) ++ codes "</title></rect>\n" ++ mark m line i
+    link m (worst_in m line i) ++ cells_rectangle m line i (run_length m line i) ++ title code_name m line i (run_length m line i)
+    ++ codes "</title></rect>\n" ++ end_of_link m (worst_in m line i) ++ mark m line i
 
 unfoldable pub cell_text : (ℕ → List ℕ) → Mapped → Line → ℕ → List ℕ
 cell_text code_name m line i = if is_joined m line i then [] else run_text code_name m line i

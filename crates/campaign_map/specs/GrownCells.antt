@@ -7,14 +7,16 @@ use Rattle.action_eval.specs.declared.rig.Rig.{Rig}
 use Rattle.action_eval.specs.declared.rig.Kind.{Kind}
 use Rattle.action_eval.specs.declared.rig.Kind.TheVariants.{OnceReturn, OnwardReturn, OncePanic}
 use Rattle.target_trait.specs.declared.judgement.Verdict.{Verdict}
-use Rattle.target_trait.specs.declared.judgement.Verdict.TheVariants.{Pass, Unresolved, Fail}
 use Rattle.plan_gen.specs.Counts.{total_of}
 use Rattle.report.specs.ReportText.{verdict_text}
 use Rattle.xml_text.specs.Xml.{escaped}
 use Rattle.campaign_map.specs.Mapped.{Mapped}
+use Rattle.campaign_map.specs.Links.{worst_by, verdict_of, link, end_of_link}
 use Rattle.campaign_map.specs.Cells.{shade, class, verdict_at, rectangle_at, rectangle_size, plan_title, frame, dot}
 use Rattle.campaign_map.specs.declared.fronts.Front.{Front}
 use Rattle.campaign_map.specs.declared.fronts.Place.{Place}
+use Rattle.campaign_map.specs.declared.links.Worst.{Worst}
+use Rattle.campaign_map.specs.declared.links.Worst.TheVariants.{Pass, Unresolved, Fail}
 use Rattle.campaign_map.specs.declared.fronts.Grid.{Grid}
 use Rattle.campaign_map.specs.declared.fronts.Grid.TheVariants.{Sites, Squares}
 
@@ -60,25 +62,25 @@ is_in cell f = is_from cell f && is_from f cell
 
 -- ---- the colour of a cell
 
--- the worst of two verdicts, of which the first is that of the lesser number
-abbrev pub worse : Verdict → Verdict → Verdict
+-- the worst verdict of two, of which the first is that of the lesser number, with the first plan that has it
+abbrev pub worse : Worst → Worst → Worst
 worse Pass w = w
-worse Unresolved Pass = Unresolved
-worse Unresolved Unresolved = Unresolved
-worse Unresolved (Fail code) = Fail code
-worse (Fail code) w = Fail code
+worse (Unresolved n) Pass = Unresolved n
+worse (Unresolved n) (Unresolved k) = Unresolved n
+worse (Unresolved n) (Fail code k) = Fail code k
+worse (Fail code n) w = Fail code n
 
-abbrev pub worst : List Verdict → Verdict
+abbrev pub worst : List Worst → Worst
 worst [] = Pass
 worst (v ∷ vs) = worse v (worst vs)
 
 -- the verdicts of the plans that grew from a cell's, its own among them, in the order of their numbers
-abbrev pub verdicts_from : Mapped → Front → ℕ → List Front → List Verdict
+abbrev pub verdicts_from : Mapped → Front → ℕ → List Front → List Worst
 verdicts_from m cell number [] = []
 verdicts_from m cell number (f ∷ fs) =
-    (if is_from cell f then verdict_at m number ∷ [] else []) ++ verdicts_from m cell (number + 1) fs
+    (if is_from cell f then worst_by (verdict_at m number) number ∷ [] else []) ++ verdicts_from m cell (number + 1) fs
 
-unfoldable pub worst_at : Mapped → List Front → Front → Verdict
+unfoldable pub worst_at : Mapped → List Front → Front → Worst
 worst_at m fs cell = worst (verdicts_from m cell 0 fs)
 
 -- ---- cell → place
@@ -156,10 +158,11 @@ shown_text code_name shown = codes "&#10;grown from it: " ++ escaped (verdict_te
 unfoldable pub worst_note : (ℕ → List ℕ) → Verdict → Verdict → List ℕ
 worst_note code_name own shown = if shade own == shade shown then [] else shown_text code_name shown
 
-unfoldable pub cell_rectangle : (ℕ → List ℕ) → Mapped → ℕ → Place → Verdict → List ℕ
-cell_rectangle code_name m number place shown =
-    rectangle_at (class shown) place.x place.y ++ rectangle_size 1 1 ++ plan_title code_name m number
-    ++ worst_note code_name (verdict_at m number) shown ++ codes "</title></rect>\n"
+-- the rectangle of a plan's cell, which leads to the first plan that has the verdict shown
+unfoldable pub cell_rectangle : (ℕ → List ℕ) → Mapped → ℕ → Place → Worst → List ℕ
+cell_rectangle code_name m number place worst =
+    link m worst ++ rectangle_at (class (verdict_of worst)) place.x place.y ++ rectangle_size 1 1 ++ plan_title code_name m number
+    ++ worst_note code_name (verdict_at m number) (verdict_of worst) ++ codes "</title></rect>\n" ++ end_of_link m worst
 
 unfoldable pub grown_cell : (ℕ → List ℕ) → Mapped → List Front → ℕ → Place → ℕ → List ℕ
 grown_cell code_name m fs number place edge =

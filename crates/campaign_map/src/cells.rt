@@ -5,10 +5,11 @@ ghost use Rattle.report.specs.ReportText.{verdict_text, scenario_text};
 ghost use Rattle.xml_text.specs.Xml.{escaped};
 ghost use Rattle.target_trait.specs.declared.judgement.Verdict.TheVariants as verdict;
 ghost use Rattle.campaign_map.specs.Cells.{shade, class, verdict_at, scenario_at, number_at, shade_at, is_joined, run_length, across, below};
-ghost use Rattle.campaign_map.specs.Cells.{rectangle_at, rectangle_size, cells_rectangle, plan_title, plans_title, title, frame, dot, mark, run_text, cell_text, line_text};
+ghost use Rattle.campaign_map.specs.Cells.{rectangle_at, rectangle_size, cells_rectangle, plan_title, plans_title, title, frame, dot, mark, worst_in, run_text, cell_text, line_text};
 ghost use Rattle.campaign_map.specs.inside.Lines.{IsShort};
 
 use crate::facts::MapFacts;
+use crate::links::{Worst, worst_by, write_end_of_link, write_link};
 use report::{Names, write_scenario, write_verdict};
 use std::alloc::{AllocError, Global};
 use std::fmt::Write;
@@ -327,6 +328,16 @@ fn write_mark(
     }
 }
 
+/// What the plan of a cell comes to.
+fn worst_in(facts: &MapFacts<'_>, line: &Line, i: usize) -> Worst
+    requires short { IsShort line.now }
+    requires within { i < line.now.count }
+    ensures { result ≡ worst_in facts.now line.now i }
+{
+    let number = line.number_at(i);
+    worst_by(verdict_at(facts, number), number)
+}
+
 /// Appends the rectangle that begins at a cell.
 #[tactic(auto, unfolding(crate::specs::Cells::run_text))]
 fn write_run<N: Names>(
@@ -342,10 +353,14 @@ fn write_run<N: Names>(
     ensures { OnOk result (string_bytes out.new ≡ string_bytes out.old ++ run_text (N.code_text names.now) facts.now line.now i) }
 {
     let cells = run_length(facts, line, i);
+    let worst = worst_in(facts, line, i);
+    write_link(out, facts, worst)?;
     write_cells(out, facts, line, i, cells)?;
     write_title(alloc, out, names, facts, line, i, cells)?;
     out.push_str("</title></rect>\n")?;
-    write_mark(out, facts, line, i)
+    write_end_of_link(out, facts, worst)?;
+    write_mark(out, facts, line, i)?;
+    Ok(())
 }
 
 /// Appends a cell, where it isn't part of the rectangle of the one before it.

@@ -24,6 +24,9 @@ pub struct MapFacts<'a> {
     pub verdicts: &'a [Verdict],
     /// For each code with which a plan fails, the least number of one that does, and the code.
     pub firsts: &'a [(u32, u32)],
+    /// In a page the plans that don't pass have elements `plan-N`, those of lesser numbers than this one, and cells lead to them. In a picture by
+    /// itself it is 0.
+    pub linked: usize,
 }
 
 impl<'a> Model for MapFacts<'a> {
@@ -42,5 +45,6 @@ impl<'a> Model for MapFacts<'a> {
       onward = f.onward;
       verdicts = f.verdicts.now;
       firsts = f.firsts.now;
+      linked = f.linked;
     } };
 }

@@ -1,16 +1,18 @@
 //! Cells of plans that grew.
-ghost use Rattle.std.specs.Prelude.{◌≡◌, ◌<◌, ◌++◌, length, string_bytes, OnOk, if◌then◌else◌};
+ghost use Rattle.std.specs.Prelude.{◌≡◌, ◌<◌, ◌++◌, length, string_bytes, OnOk, if◌then◌else◌, slice_index_or};
 ghost use Rattle.campaign_map.specs.Cells.{plan_title};
 ghost use Rattle.campaign_map.specs.GrownCells.{front_at, is_marked, cell_mark, shown_text, worst_note, cell_rectangle, grown_cell};
 ghost use Rattle.campaign_map.specs.GrownCells.{cell_or_none, cell_in, worst_at};
 ghost use Rattle.campaign_map.specs.inside.Drawn.{IsKnown};
+ghost use Rattle.campaign_map.specs.declared.links.Worst.TheVariants as first;
 
 use crate::cells::{
-    shade, verdict_at, verdict_in, write_corner, write_dot, write_frame, write_plan_title,
-    write_size, write_verdict_escaped,
+    shade, verdict_at, write_corner, write_dot, write_frame, write_plan_title, write_size,
+    write_verdict_escaped,
 };
 use crate::facts::MapFacts;
 use crate::fronts::{Front, Grid, Place, edge_of, front_at, is_in, place_in};
+use crate::links::{Worst, verdict_of, write_end_of_link, write_link};
 use report::Names;
 use std::alloc::{AllocError, Global};
 use target_trait::Verdict;
@@ -23,8 +25,8 @@ pub struct Grown<'a> {
     pub fronts: &'a [Front],
     /// How many columns each point has.
     pub counts: &'a [u32],
-    /// The worst verdict of the plans that grew from each, its own among them.
-    pub worst: &'a [Verdict],
+    /// What those that grew from each come to, its own among them.
+    pub worst: &'a [Worst],
 }
 
 /// Whether the first failure of a code belongs to a cell.
@@ -91,6 +93,17 @@ fn write_worst_note<N: Names>(
     }
 }
 
+/// What the cell at a place of a list comes to.
+fn worst_in(worst: &[Worst], place: usize) -> Worst
+    ensures { result ≡ slice_index_or worst.now place first.Pass }
+{
+    if place < worst.len() {
+        worst[place]
+    } else {
+        Worst::Pass
+    }
+}
+
 /// Appends the rectangle of a plan's cell.
 #[tactic(auto, unfolding(crate::specs::GrownCells::cell_rectangle))]
 fn write_cell_rectangle<N: Names>(
@@ -106,12 +119,15 @@ fn write_cell_rectangle<N: Names>(
     ensures { OnOk result (string_bytes out.new ≡ string_bytes out.old ++ cell_rectangle (N.code_text names.now) grown.now.facts.now number place
         (worst_at grown.now.facts.now grown.now.fronts.now (front_at grown.now.fronts.now number))) }
 {
-    let shown = verdict_in(grown.worst, number);
+    let worst = worst_in(grown.worst, number);
+    let shown = verdict_of(worst);
+    write_link(out, grown.facts, worst)?;
     write_corner(out, shown, place.x, place.y)?;
     write_size(out, 1, 1)?;
     write_plan_title(alloc, out, names, grown.facts, number)?;
     write_worst_note(alloc, out, names, verdict_at(grown.facts, number), shown)?;
     out.push_str("</title></rect>\n")?;
+    write_end_of_link(out, grown.facts, worst)?;
     Ok(())
 }
 

@@ -7,6 +7,7 @@ mod fronts;
 mod grown;
 mod laws;
 mod layout;
+mod links;
 mod map;
 mod names;
 mod worst;

@@ -7,10 +7,10 @@ ghost use Rattle.campaign_map.specs.declared.fronts.Front.{Front};
 use crate::cells::verdict_at;
 use crate::facts::MapFacts;
 use crate::fronts::{Front, way};
+use crate::links::{Worst, worst_by};
 use action_eval::Rig;
 use std::alloc::{AllocError, Global};
 use std::collections::HashMap;
-use target_trait::Verdict;
 
 /// What tells a cell: of each of its two faults the point, the hit, and 1 and the way in which it acts; zeros where there is none.
 type CellKey = ((u32, u32, usize), (u32, u32, usize));
@@ -30,59 +30,55 @@ fn key_of(first: Option<Rig>, second: Option<Rig>) -> CellKey
     (told(first), told(second))
 }
 
-/// The worst of two verdicts, of which the first is that of the lesser number.
-fn worse(one: Verdict, other: Verdict) -> Verdict
+/// The worst of two, of which the first is that of the lesser number.
+fn worse(one: Worst, other: Worst) -> Worst
     ensures { result ≡ worse one other }
 {
     match (one, other) {
-        (Verdict::Pass, _) | (Verdict::Unresolved, Verdict::Fail(_)) => other,
-        (Verdict::Unresolved, _) | (Verdict::Fail(_), _) => one,
+        (Worst::Pass, _) | (Worst::Unresolved(_), Worst::Fail(..)) => other,
+        (Worst::Unresolved(_), _) | (Worst::Fail(..), _) => one,
     }
 }
 
 /// What a cell has come to: it passes as long as no plan was told of it.
-fn found(table: &HashMap<CellKey, Verdict>, key: CellKey) -> Verdict
+fn found(table: &HashMap<CellKey, Worst>, key: CellKey) -> Worst
     ensures { result ≡ found table.now key }
 {
     match table.get(&key) {
-        Some(verdict) => *verdict,
-        None => Verdict::Pass,
+        Some(worst) => *worst,
+        None => Worst::Pass,
     }
 }
 
-/// Tells a cell the verdict of one plan more.
-fn tell(
-    table: &mut HashMap<CellKey, Verdict>,
-    key: CellKey,
-    verdict: Verdict,
-) -> Result<(), AllocError>
+/// Tells a cell of one plan more.
+fn tell(table: &mut HashMap<CellKey, Worst>, key: CellKey, plan: Worst) -> Result<(), AllocError>
     ensures { OnOk result ((q : (ℕ × ℕ × ℕ) × (ℕ × ℕ × ℕ)) → found table.new q
-        ≡ (if same_key key q then worse (found table.old key) verdict else found table.old q)) }
+        ≡ (if same_key key q then worse (found table.old key) plan else found table.old q)) }
 {
-    let worst = worse(found(table, key), verdict);
+    let worst = worse(found(table, key), plan);
     table.insert(key, worst)?;
     Ok(())
 }
 
-/// Tells the verdict of a plan to each cell that it grew from.
+/// Tells each cell that a plan grew from of it.
 fn tell_all(
-    table: &mut HashMap<CellKey, Verdict>,
+    table: &mut HashMap<CellKey, Worst>,
     front: &Front,
-    verdict: Verdict,
+    plan: Worst,
 ) -> Result<(), AllocError>
     ensures { OnOk result ((cell : Front) → IsFormed cell → found table.new (key_of cell.first cell.second)
-        ≡ (if is_from cell front.now then worse (found table.old (key_of cell.first cell.second)) verdict
+        ≡ (if is_from cell front.now then worse (found table.old (key_of cell.first cell.second)) plan
         else found table.old (key_of cell.first cell.second))) }
 {
-    tell(table, key_of(None, None), verdict)?;
+    tell(table, key_of(None, None), plan)?;
     if front.first.is_none() {
         return Ok(());
     }
-    tell(table, key_of(front.first, None), verdict)?;
+    tell(table, key_of(front.first, None), plan)?;
     if front.second.is_none() {
         return Ok(());
     }
-    tell(table, key_of(front.first, front.second), verdict)?;
+    tell(table, key_of(front.first, front.second), plan)?;
     Ok(())
 }
 
@@ -91,22 +87,26 @@ fn table_of(
     alloc: Global,
     facts: &MapFacts<'_>,
     fronts: &[Front],
-) -> Result<HashMap<CellKey, Verdict>, AllocError>
+) -> Result<HashMap<CellKey, Worst>, AllocError>
     ensures { IfOk result (λ table. (cell : Front) → IsFormed cell → found table (key_of cell.first cell.second) ≡ worst_at facts.now fronts.now cell) }
 {
     let mut table = HashMap::new(alloc);
     for (number, front) in fronts.iter().enumerate() {
-        tell_all(&mut table, front, verdict_at(facts, number))?;
+        tell_all(
+            &mut table,
+            front,
+            worst_by(verdict_at(facts, number), number),
+        )?;
     }
     Ok(table)
 }
 
-/// The worst verdict of the plans that grew from each plan that grew, its own among them. An error means that memory was refused.
+/// What the plans that grew from each plan that grew come to, its own among them. An error means that memory was refused.
 pub fn worst_of(
     alloc: Global,
     facts: &MapFacts<'_>,
     cells: &[Front],
-) -> Result<Vec<Verdict>, AllocError>
+) -> Result<Vec<Worst>, AllocError>
     requires { cells.now ≡ fronts facts.now }
     ensures { IfOk result (λ worst. worst.items ≡ map (worst_at facts.now cells.now) cells.now) }
 {

@@ -7,13 +7,14 @@ use Rattle.target_trait.specs.declared.judgement.Verdict.{Verdict}
 use Rattle.target_trait.specs.declared.judgement.Verdict.TheVariants as verdict
 use Rattle.report.specs.Reports.{FindingFacts, CauseFacts, GrowthFacts, ReportFacts}
 use Rattle.report.specs.ReportText.{scenario_text, verdict_text}
-use Rattle.report.specs.BriefText.{is_pass, is_fail, is_fail_with, is_unresolved}
+use Rattle.target_trait.specs.Verdicts.{is_pass, is_fail, is_unresolved}
+use Rattle.report.specs.BriefText.{is_fail_with}
 use Rattle.xml_text.specs.Xml.{escaped}
 use Rattle.run_explained.specs.Told.{HitFacts, RunFacts}
 use Rattle.report_page.specs.Pieces.{page_head, tried_by_census, tried_to_depth, whole, not_whole, all_pass, none_fails, some_fail, contents, map_part}
 use Rattle.report_page.specs.Pieces.{verdicts_begin, code_row, table_end, levels_begin, level_row, growth_rows, census_begin, census_row}
 use Rattle.report_page.specs.Pieces.{reached_begin, reached_row, finding_head, finding_facts, article_end, run_begin, run_end, marked, failures_begin}
-use Rattle.report_page.specs.Pieces.{no_failure, section_end, told_begin, told_row, left_out_plans, causes_begin, cause_head, left_out, no_depth, page_end}
+use Rattle.report_page.specs.Pieces.{no_failure, section_end, none_told, told_begin, told_row, left_out_plans, causes_begin, cause_head, left_out, no_depth, page_end}
 
 -- ---- what a page tells beside the report
 
@@ -147,14 +148,25 @@ not_passed n [] plans = []
 not_passed n (v ∷ vs) [] = []
 not_passed n (v ∷ vs) (plan ∷ plans) = not_passed_of n v plan ++ not_passed (n + 1) vs plans
 
+-- the plans that don't pass and have a lesser number than this have a row, where there is room for so many
+abbrev pub rows_to : ℕ → List Verdict → ℕ
+rows_to room [] = 0
+rows_to room (v ∷ vs) =
+    if is_pass v then 1 + rows_to room vs
+    else if room == 0 then 0
+    else 1 + rows_to (room - 1) vs
+
 abbrev pub plan_row : (ℕ → List ℕ) → PlanFacts → List ℕ
 plan_row code_name plan = told_row plan.number (verdict_text code_name plan.verdict) (scenario_text plan.scenario)
 
+-- where so many plans don't pass
+abbrev pub rows_text : (ℕ → List ℕ) → ReportFacts → List Entries → ℕ → List ℕ
+rows_text code_name report plans count =
+    if count == 0 then none_told
+    else told_begin ++ flat_map (plan_row code_name) (take most_told (not_passed 0 report.verdicts plans)) ++ left_out_plans (count - most_told)
+
 abbrev pub told_text : (ℕ → List ℕ) → ReportFacts → List Entries → List ℕ
-told_text code_name report plans =
-    told_begin
-    ++ flat_map (plan_row code_name) (take most_told (not_passed 0 report.verdicts plans))
-    ++ left_out_plans (count_by is_fail report.verdicts + count_by is_unresolved report.verdicts - most_told)
+told_text code_name report plans = rows_text code_name report plans (count_by is_fail report.verdicts + count_by is_unresolved report.verdicts)
 
 -- ---- causes
 

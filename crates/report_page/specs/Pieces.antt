@@ -72,7 +72,9 @@ unfoldable pub map_part : List ℕ → List ℕ
 map_part map =
     codes "<section id=\"map\">\n<h2>Map</h2>\n<figure>\n<div class=\"wide\">\n" ++ map
     ++ codes "</div>\n"
-    ++ codes "<figcaption>Each cell is a plan, coloured by its verdict. Under a pointer it tells its number and scenario.</figcaption>\n</figure>\n</section>\n"
+    ++ codes "<figcaption>Each cell is a plan, coloured by the worst verdict among its own and those of the plans that grew from it. "
+    ++ codes "Where that isn't pass, it leads to the first plan with it. Under a pointer it tells its number and scenario.</figcaption>\n"
+    ++ codes "</figure>\n</section>\n"
 
 -- ---- tables
 
@@ -196,6 +198,9 @@ unfoldable pub left_out : ℕ → List ℕ
 left_out count = more count ++ section_end
 
 -- ---- plans that don't pass
+
+unfoldable pub none_told : List ℕ
+none_told = codes "<section id=\"plans\">\n<h2>Plans that don't pass</h2>\n<p>there are none</p>\n</section>\n"
 
 unfoldable pub told_begin : List ℕ
 told_begin =

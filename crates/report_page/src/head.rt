@@ -1,6 +1,6 @@
 //! The head of a page: what was tried, and what came of it.
 ghost use Rattle.std.specs.Prelude.{◌≡◌, ◌++◌, length, string_bytes, count_by, OnOk};
-ghost use Rattle.report.specs.BriefText.{is_fail, is_unresolved};
+ghost use Rattle.target_trait.specs.Verdicts.{is_fail, is_unresolved};
 ghost use Rattle.report_page.specs.Page.{beyond_text, tried_text, outcome_text, head_text};
 ghost use Rattle.report_page.specs.Pieces.{style, page_head, tried_by_census, tried_to_depth, whole, not_whole, all_pass, none_fails, some_fail, contents, map_part};
 
@@ -224,7 +224,11 @@ pub fn write_map(out: &mut String, map: &str) -> Result<(), AllocError>
     out.push_str(map)?;
     out.push_str("</div>\n")?;
     out.push_str(
-        "<figcaption>Each cell is a plan, coloured by its verdict. Under a pointer it tells its number and scenario.</figcaption>\n</figure>\n</section>\n",
+        "<figcaption>Each cell is a plan, coloured by the worst verdict among its own and those of the plans that grew from it. ",
     )?;
+    out.push_str(
+        "Where that isn't pass, it leads to the first plan with it. Under a pointer it tells its number and scenario.</figcaption>\n",
+    )?;
+    out.push_str("</figure>\n</section>\n")?;
     Ok(())
 }

@@ -17,3 +17,4 @@ mod texts;
 pub use causes::first_causes;
 pub use facts::About;
 pub use page::page_text;
+pub use plans::linked_plans;

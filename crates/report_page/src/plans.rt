@@ -1,9 +1,9 @@
 //! The plans that don't pass.
 ghost use Rattle.std.specs.Prelude.{◌≡◌, ◌+◌, ◌-◌, ◌++◌, length, take, string_bytes, count_by, flat_map, IfOk, OnOk};
 ghost use Rattle.report.specs.ReportText.{scenario_text, verdict_text};
-ghost use Rattle.report.specs.BriefText.{is_fail, is_unresolved};
-ghost use Rattle.report_page.specs.Page.{most_told, not_passed, not_passed_of, plan_row, told_text};
-ghost use Rattle.report_page.specs.Pieces.{told_begin, told_row, left_out_plans};
+ghost use Rattle.target_trait.specs.Verdicts.{is_fail, is_unresolved};
+ghost use Rattle.report_page.specs.Page.{most_told, not_passed, not_passed_of, rows_to, plan_row, rows_text, told_text};
+ghost use Rattle.report_page.specs.Pieces.{none_told, told_begin, told_row, left_out_plans};
 
 use crate::causes::write_left_out;
 use crate::texts::{escaped_scenario, escaped_verdict};
@@ -76,6 +76,26 @@ fn write_next<N: Names>(
     }
 }
 
+/// The number of plans from the first on whose rows there is room for: those of them that don't pass have an element `plan-N` in the page, and no
+/// later plan has.
+pub fn linked_plans(verdicts: &[Verdict]) -> usize
+    ensures { result ≡ rows_to most_told verdicts.now }
+{
+    let mut room = MOST_TOLD;
+    for (number, verdict) in verdicts.iter().enumerate() {
+        match verdict {
+            Verdict::Pass => {}
+            Verdict::Fail(_) | Verdict::Unresolved => {
+                if room == 0 {
+                    return number;
+                }
+                room -= 1;
+            }
+        }
+    }
+    verdicts.len()
+}
+
 fn write_rows<N: Names>(
     alloc: Global,
     out: &mut String,
@@ -105,6 +125,36 @@ fn write_more(out: &mut String, count: usize) -> Result<(), AllocError>
     Ok(())
 }
 
+#[tactic(auto, unfolding(crate::specs::Pieces::none_told))]
+fn write_none(out: &mut String) -> Result<(), AllocError>
+    ensures { OnOk result (string_bytes out.new ≡ string_bytes out.old ++ none_told) }
+{
+    out.push_str(
+        "<section id=\"plans\">\n<h2>Plans that don't pass</h2>\n<p>there are none</p>\n</section>\n",
+    )?;
+    Ok(())
+}
+
+/// As many rows as are told, where so many plans don't pass.
+fn write_told<N: Names>(
+    alloc: Global,
+    out: &mut String,
+    names: &N,
+    report: &Report<'_>,
+    plans: &CampaignPlans<'_>,
+    count: usize,
+) -> Result<(), AllocError>
+    requires { length report.now.verdicts ≡ length plans.now }
+    ensures { OnOk result (string_bytes out.new ≡ string_bytes out.old ++ rows_text (N.code_text names.now) report.now plans.now count) }
+{
+    if count == 0 {
+        return write_none(out);
+    }
+    write_begin(out)?;
+    write_rows(alloc, out, names, report.verdicts, plans)?;
+    write_more(out, count.saturating_sub(MOST_TOLD))
+}
+
 /// The plans that don't pass, up to a number of them.
 pub fn write_plans<N: Names>(
     alloc: Global,
@@ -117,7 +167,5 @@ pub fn write_plans<N: Names>(
     ensures { OnOk result (string_bytes out.new ≡ string_bytes out.old ++ told_text (N.code_text names.now) report.now plans.now) }
 {
     let count = failures(report.verdicts).saturating_add(unresolved(report.verdicts));
-    write_begin(out)?;
-    write_rows(alloc, out, names, report.verdicts, plans)?;
-    write_more(out, count.saturating_sub(MOST_TOLD))
+    write_told(alloc, out, names, report, plans, count)
 }

@@ -1,6 +1,7 @@
 //! The tables of verdicts, levels and points.
 ghost use Rattle.std.specs.Prelude.{◌≡◌, ◌++◌, length, string_bytes, count_by, flat_map, IfSome, OnOk};
-ghost use Rattle.report.specs.BriefText.{is_pass, is_fail_with, is_unresolved};
+ghost use Rattle.target_trait.specs.Verdicts.{is_pass, is_unresolved};
+ghost use Rattle.report.specs.BriefText.{is_fail_with};
 ghost use Rattle.report_page.specs.Page.{code_row_of, verdicts_text, level_rows, levels_text, census_rows, reached_rows, points_text};
 ghost use Rattle.report_page.specs.Pieces.{verdicts_begin, code_row, table_end, levels_begin, level_row, growth_rows};
 ghost use Rattle.report_page.specs.Pieces.{census_begin, census_row, reached_begin, reached_row};

@@ -2,10 +2,10 @@
 use Rattle.std.specs.Prelude.{◌≡◌, ℕ, ◌+◌, ◌==◌, ◌&&◌, Bool, Option, None, Some, unwrap_or}
 use Rattle.std.specs.HashMap.{HashMap, get}
 use Rattle.action_eval.specs.declared.rig.Rig.{Rig}
-use Rattle.target_trait.specs.declared.judgement.Verdict.{Verdict}
-use Rattle.target_trait.specs.declared.judgement.Verdict.TheVariants.{Pass}
 use Rattle.campaign_map.specs.GrownCells.{way}
 use Rattle.campaign_map.specs.declared.fronts.Front.{Front}
+use Rattle.campaign_map.specs.declared.links.Worst.{Worst}
+use Rattle.campaign_map.specs.declared.links.Worst.TheVariants.{Pass}
 
 abbrev pub Told : Type 0
 Told = ℕ × ℕ × ℕ
@@ -27,7 +27,7 @@ same_told x y = (x.0 == y.0 && x.1 == y.1) && x.2 == y.2
 abbrev pub same_key : CellKey → CellKey → Bool
 same_key x y = same_told x.0 y.0 && same_told x.1 y.1
 
-abbrev pub found : {S : Type 0} → HashMap CellKey Verdict S → CellKey → Verdict
+abbrev pub found : {S : Type 0} → HashMap CellKey Worst S → CellKey → Worst
 found table key = unwrap_or (get same_key table key) Pass
 
 -- a cell with no first fault has no second one

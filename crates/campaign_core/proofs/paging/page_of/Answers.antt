@@ -1,7 +1,9 @@
-use Rattle.std.proofs.Common.{◌≡◌, ◌∙◌, IfSome, List, ap, length, map, subst, sym}
+use Rattle.std.proofs.Common.{◌≡◌, ◌∙◌, ℕ, IfSome, List, ap, length, map, subst, sym}
 use Rattle.std.proofs.lemmas.Result.{IfOk-weaker}
 use Rattle.report.specs.Reports.{GrowthFacts, ReportFacts}
-use Rattle.campaign_core.specs.Headline.{Campaign, campaign_in}
+use Rattle.report_page.specs.Page.{most_told, rows_to}
+use Rattle.campaign_map.specs.Map.{map_text}
+use Rattle.campaign_core.specs.Headline.{Campaign, campaign_in, mapped}
 use Rattle.campaign_core.specs.Pages.{NotesFacts, about, campaign_page_text, cause_runs, run_of_finding}
 use Rattle.campaign_core.proofs.EachVerdict.{verdicts_each}
 use Rattle.campaign_core.proofs.Grown.{reached_counts}
@@ -21,9 +23,10 @@ page_text-requires-clause-reached g c =
 pub returns-clause-text : goal.returns-clause-text
 returns-clause-text g c =
     let k : Campaign = campaign_in g.T.Target c.args.subject.now in
+    let linked = c.linked_plans-linked.ensures ∙ ap (λ (r : ReportFacts). rows_to most_told r.verdicts) c.in_ok-report.ensures.report in
     IfOk-weaker c.page_text.result _ (λ text. text.items ≡ campaign_page_text c.args.notes.now k)
     (λ text h. page_is k c.args.notes.now text.items _ _ _ h c.in_ok-report.ensures.report c.plans_of-plans.ensures
-    (c.about_of-about.ensures ∙ about_is k _ _ _ _ _ (c.as_str.ensures.value ∙ c.in_ok-map.ensures)
+    (c.about_of-about.ensures ∙ about_is k _ _ _ _ _ (c.as_str.ensures.value ∙ c.in_ok-map.ensures ∙ ap (λ (n : ℕ). map_text k.points k.codes (mapped n k)) linked)
     (c.as_slice.ensures.value ∙ c.in_ok-runs.ensures ∙ ap (λ (r : ReportFacts). map (run_of_finding k) r.findings) c.in_ok-report.ensures.report)
     (c.as_slice-2.ensures.value ∙ c.in_ok-cause_runs.ensures ∙ ap (λ (r : ReportFacts). cause_runs k r.growth) c.in_ok-report.ensures.report)
     (c.as_str-2.ensures.value ∙ c.in_ok-settings.ensures)

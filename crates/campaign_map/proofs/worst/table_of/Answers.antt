@@ -14,7 +14,7 @@ loop-number-preserved c = λ cell formed.
     let key = key_of cell.first cell.second in
     let here : drop n fs ≡ get_or fs n blank ∷ drop (n + 1) fs = next_of fs n blank c.loop-number-test.true in
     worst_next c.args.facts.now cell (get_or fs n blank) (found c.loop-number.table key) (found c.tell_all.new.table key) n (drop n fs) (drop (n + 1) fs) _ here
-    (search (rules, c.in_ok-tell_all.ensures cell formed, c.verdict_at.ensures)) (c.loop-number.invariant cell formed)
+    (search (rules, c.in_ok-tell_all.ensures cell formed, c.worst_by.ensures, c.verdict_at.ensures)) (c.loop-number.invariant cell formed)
 
 pub returns : goal.returns
 unfolding worst_at

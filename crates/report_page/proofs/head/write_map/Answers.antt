@@ -6,6 +6,8 @@ pub returns : goal.returns
 unfolding map_part
 returns c =
     rw (
+      c.in_ok-push_str-6.ensures.bytes,
+      c.in_ok-push_str-5.ensures.bytes,
       c.in_ok-push_str-4.ensures.bytes,
       c.in_ok-push_str-3.ensures.bytes,
       c.in_ok-push_str-2.ensures.bytes,
