@@ -10,7 +10,7 @@ use Rattle.report_json.specs.Document.{text_of as json_of}
 use Rattle.report_junit.specs.Junit.{document_text}
 use Rattle.campaign_map.specs.Mapped.{Mapped}
 use Rattle.campaign_map.specs.Map.{map_text}
-use Rattle.report_page.specs.Page.{AboutFacts, page_text}
+use Rattle.report_page.specs.Page.{AboutFacts, most_told, page_text, rows_to}
 use Rattle.campaign_core.specs.Pages.{NotesFacts}
 use Rattle.outside_campaign.specs.declared.forms.Form.{Form}
 use Rattle.outside_campaign.specs.declared.forms.Form.TheVariants.{Whole, Brief, Json, Junit, Map, Page}
@@ -28,9 +28,9 @@ pub record ShownFacts : Type 0 where
 abbrev pub firsts_of : List FindingFacts → List (ℕ × ℕ)
 firsts_of findings = map (λ finding. (finding.number, finding.code)) findings
 
--- what the map shows
-abbrev pub mapped : ReportFacts → ShownFacts → Mapped
-mapped report shown = record {
+-- what the map shows, whose cells lead to the plans before this number that don't pass
+abbrev pub mapped : ℕ → ReportFacts → ShownFacts → Mapped
+mapped linked report shown = record {
   label = report.label;
   census = report.census;
   pairs = shown.pairs;
@@ -39,6 +39,7 @@ mapped report shown = record {
   onward = shown.onward;
   verdicts = report.verdicts;
   firsts = firsts_of report.findings;
+  linked = linked;
 }
 
 -- what the page shows beside the report, by the text of the map. Answers give verdicts, so no run is told hit by hit.
@@ -58,6 +59,6 @@ text_in Whole points codes report shown = text_of (report_lines points codes rep
 text_in Brief points codes report shown = text_of (brief_lines points codes report shown.plans)
 text_in Json points codes report shown = json_of (document_of points codes report shown.plans)
 text_in Junit points codes report shown = document_text codes report shown.plans
-text_in Map points codes report shown = map_text points codes (mapped report shown)
+text_in Map points codes report shown = map_text points codes (mapped 0 report shown)
 text_in (Page notes) points codes report shown =
-    page_text points codes report shown.plans (about (map_text points codes (mapped report shown)) notes.now shown)
+    page_text points codes report shown.plans (about (map_text points codes (mapped (rows_to most_told report.verdicts) report shown)) notes.now shown)

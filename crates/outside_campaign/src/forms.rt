@@ -3,7 +3,7 @@ ghost use Rattle.std.specs.Prelude.{◌≡◌, ◌≤◌, length, string_bytes, 
 ghost use Rattle.plan_gen.specs.Census.{sites_of};
 ghost use Rattle.plan_gen.specs.PlanList.{most_plans};
 ghost use Rattle.campaign_map.specs.Map.{map_text};
-ghost use Rattle.report_page.specs.Page.{page_text};
+ghost use Rattle.report_page.specs.Page.{most_told, page_text, rows_to};
 ghost use Rattle.outside_campaign.specs.Forms.{about, firsts_of, mapped, text_in};
 
 use campaign_core::PageNotes;
@@ -13,7 +13,7 @@ use grown_plans::GrownPlans;
 use report::{Finding, Names, Report, brief_text, text};
 use report_json::json_text;
 use report_junit::junit_text;
-use report_page::{About, page_text};
+use report_page::{About, linked_plans, page_text};
 use std::alloc::{AllocError, Global};
 use std::marker::Model;
 
@@ -75,16 +75,18 @@ fn firsts_of(alloc: Global, findings: &[Finding]) -> Result<Vec<(u32, u32)>, All
     Ok(firsts)
 }
 
+/// The map, whose cells lead to the plans before this number that don't pass.
 fn map_of<N: Names>(
     alloc: Global,
     names: &N,
     report: &Report<'_>,
     shown: &Shown<'_>,
+    linked: usize,
 ) -> Result<String, AllocError>
     requires counts { length report.now.census ≡ length (N.points names.now) }
     requires points { length report.now.census ≤ 64 }
     requires few { length (sites_of report.now.census) ≤ most_plans }
-    ensures { IfOk result (λ text. string_bytes text ≡ map_text (N.points names.now) (N.code_text names.now) (mapped report.now shown.now)) }
+    ensures { IfOk result (λ text. string_bytes text ≡ map_text (N.points names.now) (N.code_text names.now) (mapped linked report.now shown.now)) }
 {
     let firsts = firsts_of(alloc, &report.findings)?;
     let facts = MapFacts {
@@ -96,6 +98,7 @@ fn map_of<N: Names>(
         onward: shown.onward,
         verdicts: report.verdicts,
         firsts: firsts.as_slice(),
+        linked,
     };
     map_text(alloc, names, &facts)
 }
@@ -127,9 +130,10 @@ fn page_of<N: Names>(
     requires reached { IfSome report.now.growth (λ growth. length growth.reached ≡ length (N.points names.now)) }
     requires verdicts { length report.now.verdicts ≡ length shown.now.plans }
     ensures { IfOk result (λ text. text.items ≡ page_text (N.points names.now) (N.code_text names.now) report.now shown.now.plans
-        (about (map_text (N.points names.now) (N.code_text names.now) (mapped report.now shown.now)) notes.now shown.now)) }
+        (about (map_text (N.points names.now) (N.code_text names.now) (mapped (rows_to most_told report.now.verdicts) report.now shown.now))
+        notes.now shown.now)) }
 {
-    let map = map_of(alloc, names, report, shown)?;
+    let map = map_of(alloc, names, report, shown, linked_plans(report.verdicts))?;
     let about = about_of(map.as_str(), notes, shown);
     page_text(alloc, names, report, shown.plans, &about)
 }
@@ -159,7 +163,7 @@ pub fn text_in<N: Names>(
         Form::Brief => brief_text(alloc, names, report, shown.plans),
         Form::Json => json_text(alloc, names, report, shown.plans),
         Form::Junit => junit_text(alloc, names, report, shown.plans),
-        Form::Map => Ok(map_of(alloc, names, report, shown)?.into_bytes()),
+        Form::Map => Ok(map_of(alloc, names, report, shown, 0)?.into_bytes()),
         Form::Page(notes) => page_of(alloc, notes, names, report, shown),
     }
 }
