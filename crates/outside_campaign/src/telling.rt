@@ -1,5 +1,7 @@
 //! What a report tells, by the words of the settings.
-ghost use Rattle.std.specs.Prelude.{◌≡◌, ◌<◌, [], None, length, IfOk, option_map, slice_get};
+ghost use Rattle.std.specs.Prelude.{◌≡◌, ◌<◌, ◌≤◌, [], None, length, IfOk, option_map, slice_get};
+ghost use Rattle.campaign_given.specs.Description.{IsDescription};
+ghost use Rattle.plan_gen.specs.PlanList.{most_plans};
 ghost use Rattle.outside_campaign.specs.Campaigns.{code_name, plans as listed, shown};
 ghost use Rattle.outside_campaign.specs.Forms.{text_in};
 ghost use Rattle.outside_campaign.specs.inside.Results.{facts_of};
@@ -87,7 +89,9 @@ pub fn told_text(
     report: &Report<'_>,
     plans: &CampaignPlans<'_>,
 ) -> Result<Vec<u8>, AllocError>
+    requires lawful { IsDescription outside.now }
     requires plans { plans.now ≡ listed outside.now settings.now }
+    requires few { length (listed outside.now settings.now) ≤ most_plans }
     requires census { report.now.census ≡ outside.now.hits }
     requires growth { report.now.growth ≡ None }
     requires each { length report.now.verdicts ≡ length plans.now }

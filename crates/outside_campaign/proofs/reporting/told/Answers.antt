@@ -1,10 +1,10 @@
-use Rattle.std.proofs.Common.{◌≡◌, List, ℕ, length, ap, ◌∙◌, ◌<◌, arith, option_map}
+use Rattle.std.proofs.Common.{◌≡◌, List, ℕ, length, ap, subst, ◌∙◌, ◌<◌, arith, option_map}
 use Rattle.std.specs.Prelude.{slice_get}
 use Rattle.target_trait.specs.declared.judgement.Verdict.{Verdict}
 use Rattle.scenario_values.specs.Scenario.{Entries}
 use Rattle.report.specs.Reports.{FindingFacts, ReportFacts}
 use Rattle.answer_text.specs.Known.{verdict_in, known_by}
-use Rattle.campaign_given.specs.Description.{Description}
+use Rattle.campaign_given.specs.Description.{Description, IsDescription}
 use Rattle.campaign_given.specs.Given.{Given}
 use Rattle.outside_campaign.specs.inside.Results.{facts_of}
 use Rattle.outside_campaign.proofs.ResultLemmas.{report_told, first_told, verdicts_each, some_component}
@@ -15,6 +15,18 @@ report_of-report-requires c =
     let h = rw c.in-Told.is at c.in_ok-scenario.ensures in
     let each = ap length c.as_slice-verdicts.ensures.value ∙ verdicts_each (verdict_in c.in_ok-known.known) c.by_census-plans.result c.in-Told.verdicts.items c.in-Told.findings.items h.1 in
     omega (arith, each, ap length c.by_census-plans.ensures, c.in_ok-list.ensures.some)
+
+pub told_text-requires-clause-lawful : goal.told_text-requires-clause-lawful
+told_text-requires-clause-lawful c = subst IsDescription c.outside.view_is c.outside.invariant
+
+pub told_text-requires-clause-plans : goal.told_text-requires-clause-plans
+told_text-requires-clause-plans c = c.by_census-plans.ensures ∙ c.in_ok-list.ensures.plans
+
+pub told_text-requires-clause-census : goal.told_text-requires-clause-census
+told_text-requires-clause-census c = ap (λ (r : ReportFacts). r.census) c.report_of-report.ensures
+
+pub told_text-requires-clause-growth : goal.told_text-requires-clause-growth
+told_text-requires-clause-growth c = ap (λ (r : ReportFacts). r.growth) c.report_of-report.ensures
 
 pub told_text-requires-clause-each : goal.told_text-requires-clause-each
 told_text-requires-clause-each c =
