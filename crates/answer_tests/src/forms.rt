@@ -94,7 +94,10 @@ fn outside_settings(alloc: Global, report: &str) -> Result<Settings, Fail> {
     }
     let mut text = String::new(alloc);
     text.push_str("target = \"outside\"\nseed = 7\npairs = true\nstorms = 4\nrate = 300\n")?;
-    write!(text, "[outside]\nlabel = \"{label}\"\ncodes = [\"torn\", \"stale\"]\n")?;
+    write!(
+        text,
+        "[outside]\nlabel = \"{label}\"\ncodes = [\"torn\", \"stale\"]\n"
+    )?;
     write!(text, "points = [{points}]\nhits = [{hits}]\n")?;
     Ok(Settings::read(alloc, text.as_str())?)
 }
@@ -202,15 +205,7 @@ fn each_form_is_that_of_the_campaign_run(rt: HostRuntime) -> Result<(), Fail> {
     };
     let settings = &settings.campaign;
     let answers = all_answers(alloc, &work, outside, settings)?;
-    for form in [
-        Form::Whole,
-        Form::Brief,
-        Form::Json,
-        Form::Junit,
-        Form::Map,
-    ]
-    .iter()
-    {
+    for form in [Form::Whole, Form::Brief, Form::Json, Form::Junit, Form::Map].iter() {
         let run = run_in(&rt, alloc, form, &work, settings)?;
         let told = told_in(alloc, form, outside, settings, answers.as_str())?;
         assert_eq!(&rt; told.as_str(), run.as_str());

@@ -596,7 +596,8 @@ fn form_of<'a>(alloc: Global, own: &ArgMatches<'a>) -> Result<Form, WordsFault>
 fn two_forms(alloc: Global, name: &str, one: &str, other: &str) -> WordsFault
     ensures { IsRefusedFor (ErrorKind.ArgumentConflict ∷ []) result }
 {
-    let Ok(message) = format!(in alloc; "the argument '--{one}' cannot be used with '--{other}'") else {
+    let Ok(message) = format!(in alloc; "the argument '--{one}' cannot be used with '--{other}'")
+    else {
         return WordsFault::Memory;
     };
     unfit(alloc, name, ErrorKind::ArgumentConflict, message.as_str())
