@@ -2,7 +2,6 @@
 
 use answer_text::{Runs, read_runs};
 use answered_runs::{AnsweredRuns, Gap, asks, broken_run, listed_plans};
-use known_runs::Break;
 use scenario_grammar::{Text, parse};
 use std::alloc::Global;
 use std::process::Abort;
@@ -106,12 +105,12 @@ fn runs_that_break_are_found(rt: HostRuntime) -> Result<(), Fail> {
     for (text, want) in [
         (SINGLES, None),
         (
-            "pass\tnone\ta;b\npass\tb=1*return\tb;c\n",
-            Some((3, Break::Differs(1))),
+            "pass\ta=1*panic\ta\npass\tnone\ta;b\npass\tb=1*return\tb;c\n",
+            Some("answers: line 3: hits differ from line 2 at hit 1"),
         ),
         (
             "pass\tnone\ta;b\npass\tb=1*panic\ta\n",
-            Some((4, Break::NotMet)),
+            Some("answers: line 2: fault not met"),
         ),
     ] {
         let told = read(alloc, text)?;
@@ -119,7 +118,10 @@ fn runs_that_break_are_found(rt: HostRuntime) -> Result<(), Fail> {
         let Ok(found) = broken_run(alloc, &runs, 1, 65536) else {
             return Err(Fail::from("there are few plans"));
         };
-        assert!(&rt; found == want, "{text}");
+        match (found, want) {
+            (Some(broken), Some(line)) => assert_eq!(&rt; format!(in alloc; "{broken}")?.as_str(), line),
+            (found, want) => assert!(&rt; found.is_none() && want.is_none(), "{text}"),
+        }
     }
     Ok(())
 }

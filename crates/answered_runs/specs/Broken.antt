@@ -1,11 +1,20 @@
 -- Where a run that is told breaks with that of the plan which its own grew from.
-use Rattle.std.specs.Prelude.{ℕ, ◌+◌, List, [], ◌∷◌, Option, None, Some, if◌then◌else◌}
+use Rattle.std.specs.Prelude.{◌≡◌, ℕ, ◌<◌, List, [], ◌∷◌, Option, None, Some, if◌then◌else◌, ◌++◌, length, slice_index_or, take, drop, codes}
+use Rattle.std.specs.Fmt.{decimal}
+use Rattle.std.specs.Option.{option_map_or}
+use Rattle.std.specs.List.{AllByRecursion}
 use Rattle.action_eval.specs.declared.rig.Rig.{Rig}
 use Rattle.action_eval.specs.declared.rig.Site.{Site}
 use Rattle.plan_gen.specs.RiggedAnswers.{is_onward}
 use Rattle.known_runs.specs.Breaks.{break_of}
 use Rattle.known_runs.specs.Known.{KnownRuns, hits_of}
 use Rattle.known_runs.specs.declared.breaks.Break.{Break}
+use Rattle.known_runs.specs.declared.breaks.Break.TheVariants.{Differs, NotMet}
+use Rattle.scenario_values.specs.Tidied.{tidied}
+use Rattle.campaign_plans.specs.GrownScenarios.{grown_scenario}
+use Rattle.answer_text.specs.Runs.{told_in}
+use Rattle.answered_runs.specs.Answered.{Answered, runs_in}
+use Rattle.answered_runs.specs.declared.broken.BrokenRun.{BrokenRun}
 
 -- the break of a run's hits with those of another run, where both are told
 abbrev pub break_told : Site → Option (List ℕ) → Option (List ℕ) → Option Break
@@ -18,7 +27,32 @@ abbrev pub break_at : KnownRuns → List Rig → Option Break
 break_at runs [] = None
 break_at runs (r ∷ parent) = if is_onward r.kind then None else break_told r.site (hits_of runs parent) (hits_of runs (r ∷ parent))
 
--- the first of these plans whose run breaks so, by its number, from one on
-abbrev pub first_break : KnownRuns → ℕ → List (List Rig) → Option (ℕ × Break)
-first_break runs n [] = None
-first_break runs n (plan ∷ plans) = elim (break_at runs plan) [ None ↦ first_break runs (n + 1) plans | Some how ↦ Some (n, how) ]
+-- a run that doesn't break so, as far as it is told
+abbrev pub IsUnbroken : KnownRuns → List Rig → Type 0
+IsUnbroken runs plan = break_at runs plan ≡ None
+
+-- the number of the line that tells a plan's run; 0 where none does
+abbrev pub line_told : Answered → List Rig → ℕ
+line_told a plan = option_map_or (λ run. run.line) (told_in a.book (tidied (grown_scenario a.points plan))) 0
+
+-- the first of these plans whose run breaks, by its number, how it does, and the lines that tell it and the other one
+pub record IsFirstBreak (a : Answered) (plans : List (List Rig)) (b : BrokenRun) : Type 0 where
+  pub within : b.number < length plans
+  pub breaks : break_at (runs_in a) (slice_index_or plans b.number []) ≡ Some b.how
+  pub first : AllByRecursion (IsUnbroken (runs_in a)) (take b.number plans)
+  pub line : b.line ≡ line_told a (slice_index_or plans b.number [])
+  pub earlier : b.earlier ≡ line_told a (drop 1 (slice_index_or plans b.number []))
+
+-- or each is unbroken
+abbrev pub AreBroken : Answered → List (List Rig) → Option BrokenRun → Type 0
+AreBroken a plans None = AllByRecursion (IsUnbroken (runs_in a)) plans
+AreBroken a plans (Some b) = IsFirstBreak a plans b
+
+-- the line that tells it
+abbrev pub text_by : ℕ → ℕ → Break → List ℕ
+text_by line earlier (Differs hit) =
+    codes "answers: line " ++ (decimal line ++ (codes ": hits differ from line " ++ (decimal earlier ++ (codes " at hit " ++ decimal hit))))
+text_by line earlier NotMet = codes "answers: line " ++ (decimal line ++ codes ": fault not met")
+
+abbrev pub broken_text : BrokenRun → List ℕ
+broken_text b = text_by b.line b.earlier b.how

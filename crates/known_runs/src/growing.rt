@@ -9,7 +9,7 @@ ghost use Rattle.known_runs.specs.Known.{Agrees};
 ghost use Rattle.known_runs.specs.KnownPlans.{AreKnown};
 ghost use Rattle.known_runs.specs.ToldPart.{part_known};
 ghost use Rattle.known_runs.specs.declared.growing.KnownFault.TheVariants.{Memory};
-ghost use Rattle.known_runs.specs.inside.Grown.{kept_known, kept_over, onward_known, onward_over};
+ghost use Rattle.known_runs.specs.inside.Grown.{again_known, kept_known, kept_over, onward_known, onward_over};
 ghost use Rattle.known_runs.specs.inside.GrownLevels.{AreLevels, HasOnward};
 
 use crate::table::{Look, RunTable};
@@ -52,26 +52,27 @@ impl Workspace {
     }
 }
 
-/// Adds the children of the plan of this number, where its hits are told.
+/// Adds the children of the plan of this number, where its hits are told. Tells whether these have the last fault's point once more after
+/// that fault.
 fn add_children_of<T: RunTable>(
     table: &T,
     plans: &GrownPlans,
     number: usize,
     workspace: &mut Workspace,
     children: &mut Vec<Child>,
-) -> Result<(), AllocError>
+) -> Result<bool, AllocError>
     requires within { number < length plans.now }
     requires few { length plans.now ≤ 65536 }
-    ensures { OnOk result (children.new.items ≡ children.old.items ++ kept_known (T.known table.now) plans.now number) }
+    ensures children { OnOk result (children.new.items ≡ children.old.items ++ kept_known (T.known table.now) plans.now number) }
+    ensures again { IfOk result (λ is_again. is_again ≡ again_known (T.known table.now) plans.now number) }
 {
     plans.faults_of(number, &mut workspace.faults)?;
     let faults = workspace.faults.as_slice();
     match table.look(faults, &mut workspace.hits)? {
-        Look::Unknown | Look::Unseen(_) => Ok(()),
+        Look::Unknown | Look::Unseen(_) => Ok(false),
         Look::Seen(_) => {
             let hits = workspace.hits.as_slice();
-            add_children(children, &mut workspace.counts, number, faults, hits)?;
-            Ok(())
+            add_children(children, &mut workspace.counts, number, faults, hits)
         }
     }
 }
@@ -142,17 +143,9 @@ fn add_onward_of<T: RunTable>(
         ≡ map (plan_of plans.now) onward.old.items ++ onward_known (T.known table.now) plans.now number) }
     ensures parents { OnOk result (GrewFrom (length plans.now) onward.old.items → GrewFrom (length plans.now) onward.new.items) }
 {
-    plans.faults_of(number, &mut workspace.faults)?;
-    let faults = workspace.faults.as_slice();
-    match table.look(faults, &mut workspace.hits)? {
-        Look::Unknown | Look::Unseen(_) => Ok(()),
-        Look::Seen(_) => {
-            let hits = workspace.hits.as_slice();
-            scratch.clear();
-            let is_again = add_children(scratch, &mut workspace.counts, number, faults, hits)?;
-            push_onward(plans, number, is_again, onward)
-        }
-    }
+    scratch.clear();
+    let is_again = add_children_of(table, plans, number, workspace, scratch)?;
+    push_onward(plans, number, is_again, onward)
 }
 
 /// Adds the plan of this number with its last fault from then on, where that is a return and its point is hit again.

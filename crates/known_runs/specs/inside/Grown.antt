@@ -1,7 +1,8 @@
 -- Plans as a list keeps them, grown from what is told of runs; the private contracts cite it.
-use Rattle.std.specs.Prelude.{ℕ, zero, suc, ◌+◌, List, [], ◌++◌, Option, None, Some, slice_index_or}
+use Rattle.std.specs.Prelude.{ℕ, zero, suc, ◌+◌, Bool, false, List, [], ◌++◌, Option, None, Some, slice_index_or}
 use Rattle.action_eval.specs.declared.rig.Rig.{Rig}
 use Rattle.grown_plans.specs.Kept.{Grew, kept_children}
+use Rattle.grown_plans.specs.AskedPoints.{is_asked_again}
 use Rattle.known_runs.specs.Known.{KnownRuns, hits_of}
 use Rattle.known_runs.specs.ToldPart.{onward_told}
 
@@ -11,6 +12,14 @@ kept_told n plan (Some hits) = kept_children n plan hits
 
 abbrev pub kept_known : KnownRuns → List (List Rig) → ℕ → List Grew
 kept_known known plans n = kept_told n (slice_index_or plans n []) (hits_of known (slice_index_or plans n []))
+
+-- whether a plan's hits, where they are told, have the last fault's point once more after that fault
+abbrev pub again_told : List Rig → Option (List ℕ) → Bool
+again_told plan None = false
+again_told plan (Some hits) = is_asked_again plan hits
+
+abbrev pub again_known : KnownRuns → List (List Rig) → ℕ → Bool
+again_known known plans n = again_told (slice_index_or plans n []) (hits_of known (slice_index_or plans n []))
 
 -- the children of so many plans, from a number on
 abbrev pub kept_over : KnownRuns → List (List Rig) → ℕ → ℕ → List Grew

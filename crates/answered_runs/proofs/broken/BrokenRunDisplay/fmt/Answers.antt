@@ -1,0 +1,7 @@
+use Rattle.answered_runs.proofs.broken.BrokenRunDisplay.fmt.Goals as goal
+
+pub returns-in-Differs-clause-writes : goal.returns-in-Differs-clause-writes
+returns-in-Differs-clause-writes g c = rw c.in-Differs.is c.write.ensures.writes
+
+pub returns-in-NotMet-clause-writes : goal.returns-in-NotMet-clause-writes
+returns-in-NotMet-clause-writes g c = rw c.in-NotMet.is c.write-in-NotMet.ensures.writes
