@@ -1,0 +1,4 @@
+pub mod Counts
+pub mod Clean
+pub mod Lines
+pub mod Whole

@@ -1,0 +1,7 @@
+use Rattle.std.proofs.Common.{◌≡◌, take}
+use Rattle.outside_grown.specs.Asked.{undecided}
+use Rattle.outside_grown.proofs.Lines.{put_all}
+use Rattle.outside_grown.proofs.asking.add_all_further.Given as goal
+
+abbrev pub invariant-loop-number : goal.invariant-loop-number
+invariant-loop-number l = l.lines.keys ≡ put_all l.fn.lines.keys (undecided l.runs l.depth (take l.number l.plans))

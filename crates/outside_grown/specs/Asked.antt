@@ -1,0 +1,40 @@
+-- What is still to be tried of a campaign with a depth, by what answers tell.
+use Rattle.std.specs.Prelude.{ℕ, List, [], ◌++◌, is_none, map, fold}
+use Rattle.std.specs.List.{filter}
+use Rattle.std.specs.Str.{bytes_eq}
+use Rattle.indexmap.specs.IndexSet.{insert_key}
+use Rattle.scenario_values.specs.Scenario.{Entries}
+use Rattle.scenario_values.specs.Tidied.{tidied}
+use Rattle.action_eval.specs.declared.rig.Rig.{Rig}
+use Rattle.plan_gen.specs.PlanList.{Asked}
+use Rattle.campaign_plans.specs.GrownScenarios.{grown_scenario}
+use Rattle.grown_plans.specs.GrownPlans.{Subject, scenario_of, usual_kinds}
+use Rattle.known_runs.specs.KnownPart.{to_run}
+use Rattle.known_runs.specs.ToldPart.{part_known}
+use Rattle.report.specs.ReportText.{scenario_text}
+use Rattle.answer_text.specs.Runs.{told_in}
+use Rattle.answered_runs.specs.Answered.{Answered, runs_in}
+use Rattle.answered_runs.specs.Verdicts.{verdict_by}
+use Rattle.outside_grown.specs.Further.{clean_hits, further_known, further_told}
+
+-- the scenarios of these plans of whose runs nothing is told
+abbrev pub unrun : Answered → List (List Rig) → List Entries
+unrun a plans = map (λ plan. tidied (grown_scenario a.points plan)) (filter (λ plan. is_none (runs_in a plan)) plans)
+
+-- of these scenarios those whose verdict is neither told nor follows from runs that are told
+abbrev pub undecided : Answered → ℕ → List Entries → List Entries
+undecided a depth scenarios = map tidied (filter (λ s. is_none (verdict_by a.points (told_in a.book) depth (tidied s))) scenarios)
+
+-- what is to be tried: of the plans that grow and are known by now those of whose runs nothing is told, and then the undecided storms and
+-- listed scenarios
+abbrev pub to_try : Answered → ℕ → Asked → List Entries
+to_try a depth asked = unrun a (part_known usual_kinds (runs_in a) depth) ++ undecided a depth (further_told a asked)
+
+-- the same of a component
+abbrev pub to_try_of : Subject → Answered → ℕ → Asked → List Entries
+to_try_of t a depth asked =
+    map (λ plan. tidied (scenario_of t plan)) (to_run t depth (runs_in a)) ++ undecided a depth (further_known t asked (clean_hits a))
+
+-- the lines that ask for scenarios, each where it first stands
+abbrev pub lines_of : List Entries → List (List ℕ)
+lines_of scenarios = fold (insert_key bytes_eq) [] (map scenario_text scenarios)
