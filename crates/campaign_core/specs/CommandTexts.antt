@@ -3,7 +3,7 @@ use Rattle.std.specs.Prelude.{◌≡◌, ◌≤◌, ◌<◌, ℕ, ◌+◌, Bool,
 use Rattle.std.specs.Fmt.{decimal}
 use Rattle.std.specs.Io.KnownBytes.{Appends}
 use Rattle.scenario_values.specs.Scenario.{Entries}
-use Rattle.action_eval.specs.Answers.{given_of}
+use Rattle.action_eval.specs.Answers.{Given, given_of}
 use Rattle.target_trait.specs.declared.judgement.Verdict.{Verdict}
 use Rattle.target_trait.specs.declared.judgement.Verdict.TheVariants as verdict
 use Rattle.target_trait.specs.Outcomes.{Told, outcome}
@@ -11,6 +11,7 @@ use Rattle.plan_gen.specs.PlanList.{most_plans}
 use Rattle.plan_gen.specs.declared.list.PlanFault.{PlanFault}
 use Rattle.plan_gen.specs.declared.list.PlanFault.TheVariants as plan_faults
 use Rattle.report.specs.ReportText.{scenario_text, verdict_text, text_of}
+use Rattle.run_explained.specs.Explained.{explain_text}
 use Rattle.campaign_core.specs.Findings.{reduced, reduction, IsMinimal}
 use Rattle.campaign_core.specs.Headline.{Campaign, grower, say, plans}
 use Rattle.grown_runs.specs.Grown.{begun}
@@ -70,9 +71,17 @@ try_lines code_name told =
 abbrev pub try_text : (ℕ → List ℕ) → Told → List ℕ
 try_text code_name told = text_of (try_lines code_name told)
 
--- the outcome of a scenario under a stream number, on what a campaign is given
+-- what a run of a scenario under a stream number is given, in a campaign
+abbrev pub case_in : Campaign → ℕ → Entries → Given
+case_in c stream scenario = given_of scenario c.points c.plans.seed stream c.max_hits
+
+-- its outcome
 abbrev pub tried : Campaign → ℕ → Entries → Told
-tried c stream scenario = outcome c.asks (given_of scenario c.points c.plans.seed stream c.max_hits)
+tried c stream scenario = outcome c.asks (case_in c stream scenario)
+
+-- its run, told hit by hit
+abbrev pub explained : Campaign → ℕ → Entries → List ℕ
+explained c stream scenario = explain_text c.codes c.asks (case_in c stream scenario)
 
 -- ---- one scenario reduced
 

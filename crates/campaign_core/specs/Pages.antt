@@ -2,11 +2,11 @@
 use Rattle.std.specs.Prelude.{ℕ, Bool, true, false, List, [], ◌∷◌, ◌++◌, map, take, codes, length, Option, None, Some}
 use Rattle.std.specs.Fmt.{decimal}
 use Rattle.scenario_values.specs.Scenario.{Entries}
-use Rattle.action_eval.specs.Answers.{given_of}
 use Rattle.report.specs.Reports.{FindingFacts, CauseFacts, GrowthFacts}
 use Rattle.run_explained.specs.Told.{RunFacts, run_facts}
 use Rattle.report_page.specs.Page.{AboutFacts, most_causes, most_told, page_text, rows_to}
 use Rattle.campaign_map.specs.Map.{map_text}
+use Rattle.campaign_core.specs.CommandTexts.{case_in}
 use Rattle.campaign_core.specs.Headline.{Campaign, mapped, plans, report}
 
 -- what a page tells that the campaign doesn't: the program's version, and the command that makes the page
@@ -20,7 +20,7 @@ most_hits = 1000
 
 -- the run of a scenario under a stream number
 abbrev pub run_under : Campaign → ℕ → Entries → RunFacts
-run_under c stream scenario = run_facts most_hits c.codes c.asks (given_of scenario c.points c.plans.seed stream c.max_hits)
+run_under c stream scenario = run_facts most_hits c.codes c.asks (case_in c stream scenario)
 
 -- of a first failure the run of what its scenario was reduced to, and of a cause its own
 abbrev pub run_of_finding : Campaign → FindingFacts → RunFacts

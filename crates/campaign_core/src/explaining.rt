@@ -1,11 +1,9 @@
 //! One run told hit by hit, written to a sink.
 ghost use Rattle.std.specs.Prelude.{◌≡◌, false, IfOk, IfErr, OnOk};
 ghost use Rattle.std.specs.Io.KnownBytes.{Appends};
-ghost use Rattle.action_eval.specs.Answers.{given_of};
-ghost use Rattle.target_trait.specs.Outcomes.{outcome};
-ghost use Rattle.run_explained.specs.Explained.{explain_text};
 ghost use Rattle.run_explained.specs.Tales.{telling_text};
-ghost use Rattle.campaign_core.specs.CommandTexts.{LeavesOnly};
+ghost use Rattle.campaign_core.specs.Headline.{campaign_on};
+ghost use Rattle.campaign_core.specs.CommandTexts.{case_in, explained, tried, LeavesOnly};
 
 use crate::ending::CampaignFault;
 use crate::written::write_judged;
@@ -33,12 +31,12 @@ pub fn explain_one<T: Target, W: Sink>(
 ) -> Result<Verdict, CampaignFault>
     requires { W.has_failed sink.old ≡ false }
     ensures verdict { IfOk result (λ verdict. verdict
-        ≡ (outcome (T.asks target.old workload.now) (given_of scenario.now T.names settings.now.plans.seed stream settings.now.max_hits)).verdict) }
+        ≡ (tried (campaign_on T.Target target.old workload.now settings.now) stream scenario.now).verdict) }
     ensures text { OnOk result (Appends (W.told sink.old) (W.told sink.new)
-        (explain_text T.code_text (T.asks target.old workload.now) (given_of scenario.now T.names settings.now.plans.seed stream settings.now.max_hits))) }
+        (explained (campaign_on T.Target target.old workload.now settings.now) stream scenario.now)) }
     ensures sound { OnOk result (W.has_failed sink.new ≡ false) }
     ensures fault { IfErr result (LeavesOnly (W.told sink.old) (W.told sink.new) (W.has_failed sink.new)
-        (explain_text T.code_text (T.asks target.old workload.now) (given_of scenario.now T.names settings.now.plans.seed stream settings.now.max_hits))) }
+        (explained (campaign_on T.Target target.old workload.now settings.now) stream scenario.now)) }
     ensures setup { target.new ≡ target.old }
 {
     let case = settings.case(scenario, stream);
@@ -59,14 +57,14 @@ pub fn explain_one_telling<T: TellingTarget, W: Sink>(
 ) -> Result<Verdict, CampaignFault>
     requires { W.has_failed sink.old ≡ false }
     ensures verdict { IfOk result (λ verdict. verdict
-        ≡ (outcome (T.asks target.old workload.now) (given_of scenario.now T.names settings.now.plans.seed stream settings.now.max_hits)).verdict) }
-    ensures text { OnOk result (let g = given_of scenario.now T.names settings.now.plans.seed stream settings.now.max_hits in
-        Appends (W.told sink.old) (W.told sink.new) (telling_text T.code_text (T.asks target.old workload.now) g
-        (T.state_of target.old workload.now g) (T.reason_of target.old workload.now g))) }
+        ≡ (tried (campaign_on T.Target target.old workload.now settings.now) stream scenario.now).verdict) }
+    ensures text { OnOk result (let c = campaign_on T.Target target.old workload.now settings.now in let g = case_in c stream scenario.now in
+        Appends (W.told sink.old) (W.told sink.new)
+        (telling_text T.code_text c.asks g (T.state_of target.old workload.now g) (T.reason_of target.old workload.now g))) }
     ensures sound { OnOk result (W.has_failed sink.new ≡ false) }
-    ensures fault { IfErr result (let g = given_of scenario.now T.names settings.now.plans.seed stream settings.now.max_hits in
-        LeavesOnly (W.told sink.old) (W.told sink.new) (W.has_failed sink.new) (telling_text T.code_text (T.asks target.old workload.now) g
-        (T.state_of target.old workload.now g) (T.reason_of target.old workload.now g))) }
+    ensures fault { IfErr result (let c = campaign_on T.Target target.old workload.now settings.now in let g = case_in c stream scenario.now in
+        LeavesOnly (W.told sink.old) (W.told sink.new) (W.has_failed sink.new)
+        (telling_text T.code_text c.asks g (T.state_of target.old workload.now g) (T.reason_of target.old workload.now g))) }
     ensures setup { target.new ≡ target.old }
 {
     let case = settings.case(scenario, stream);

@@ -16,7 +16,7 @@ use crate::ran::{Ran, run_campaign};
 use crate::reporting::report_of;
 use crate::subject::{Host, Subject};
 use campaign_given::CampaignSettings;
-use report::{Cause, Finding, Growth, Report, write_report};
+use report::{Cause, Finding, Growth, write_report};
 use report_page::{About, first_causes, linked_plans, page_text};
 use run_explained::{ToldRun, tell};
 use scenario_values::Scenario;
@@ -142,7 +142,8 @@ fn run_of<T: Target>(
     tell(alloc, twin, subject.workload, &case, MOST_HITS)
 }
 
-fn each_finding_run<T: Target>(
+/// The run of what each first failure was reduced to.
+fn finding_runs<T: Target>(
     alloc: Global,
     subject: &Subject<'_, T>,
     findings: &[Finding],
@@ -174,19 +175,8 @@ fn each_cause_run<T: Target>(
     Ok(runs)
 }
 
-/// The run of what each first failure was reduced to.
-fn finding_runs<T: Target>(
-    alloc: Global,
-    subject: &Subject<'_, T>,
-    report: &Report<'_>,
-) -> Result<Vec<ToldRun>, AllocError>
-    ensures { IfOk result (λ runs. runs.items ≡ map (run_of_finding (campaign_in T.Target subject.now)) report.now.findings) }
-{
-    each_finding_run(alloc, subject, &report.findings)
-}
-
 /// The runs of the causes of a campaign that grew, of as many as a page tells.
-fn grown_runs<T: Target>(
+fn cause_runs<T: Target>(
     alloc: Global,
     subject: &Subject<'_, T>,
     growth: &Option<Growth<'_>>,
@@ -197,16 +187,6 @@ fn grown_runs<T: Target>(
         None => Ok(Vec::new(alloc)),
         Some(growth) => each_cause_run(alloc, subject, first_causes(&growth.causes)),
     }
-}
-
-fn cause_runs<T: Target>(
-    alloc: Global,
-    subject: &Subject<'_, T>,
-    report: &Report<'_>,
-) -> Result<Vec<ToldRun>, AllocError>
-    ensures { IfOk result (λ runs. runs.items ≡ cause_runs (campaign_in T.Target subject.now) report.now.growth) }
-{
-    grown_runs(alloc, subject, &report.growth)
 }
 
 /// What a page tells beside the report, by the runs of the first failures and those of the causes.
@@ -255,8 +235,8 @@ where
     let plans = plans_of(subject, &ran.planned);
     let linked = linked_plans(report.verdicts);
     let map = map_of(alloc, subject, ran, linked)?;
-    let runs = finding_runs(alloc, subject, &report)?;
-    let cause_runs = cause_runs(alloc, subject, &report)?;
+    let runs = finding_runs(alloc, subject, &report.findings)?;
+    let cause_runs = cause_runs(alloc, subject, &report.growth)?;
     let settings = shown_settings(alloc, subject)?;
     let about = about_of(
         map.as_str(),

@@ -28,8 +28,9 @@ returns-clause-text g c =
     IfOk-weaker c.page_text.result _ (λ text. text.items ≡ campaign_page_text c.args.notes.now k)
     (λ text h. page_is k c.args.notes.now text.items _ _ _ h c.in_ok-report.ensures.report c.plans_of-plans.ensures
     (c.about_of-about.ensures ∙ about_is k _ _ _ _ _ (c.as_str.ensures.value ∙ c.in_ok-map.ensures ∙ ap (λ (n : ℕ). map_text k.points k.codes (mapped n k)) linked)
-    (c.as_slice.ensures.value ∙ c.in_ok-runs.ensures ∙ ap (λ (r : ReportFacts). map (run_of_finding k) r.findings) c.in_ok-report.ensures.report)
-    (c.as_slice-2.ensures.value ∙ c.in_ok-cause_runs.ensures ∙ ap (λ (r : ReportFacts). cause_runs k r.growth) c.in_ok-report.ensures.report)
+    (c.as_slice.ensures.value ∙ c.in_ok-runs.ensures ∙ ap (map (run_of_finding k)) c.deref.ensures.value
+    ∙ ap (λ (r : ReportFacts). map (run_of_finding k) r.findings) (c.report.view_is ∙ c.in_ok-report.ensures.report))
+    (c.as_slice-2.ensures.value ∙ c.in_ok-cause_runs.ensures ∙ ap (λ (r : ReportFacts). cause_runs k r.growth) (c.report.view_is ∙ c.in_ok-report.ensures.report))
     (c.as_str-2.ensures.value ∙ c.in_ok-settings.ensures)
     ∙ ap (λ (n : NotesFacts). about k n) c.notes.view_is))
     c.page_text.ensures

@@ -2,7 +2,7 @@ use Rattle.std.proofs.Common.{ap, ◌∙◌}
 use Rattle.campaign_core.specs.Headline.{campaign_in}
 use Rattle.campaign_core.specs.Pages.{run_of_finding}
 use Rattle.campaign_core.proofs.PageRuns.{one_more}
-use Rattle.campaign_core.proofs.paging.each_finding_run.Goals as goal
+use Rattle.campaign_core.proofs.paging.finding_runs.Goals as goal
 
 pub loop-finding-preserved : goal.loop-finding-preserved
 loop-finding-preserved g c =

@@ -1,7 +1,7 @@
 use Rattle.std.proofs.Common.{◌≡◌, map, take}
 use Rattle.campaign_core.specs.Headline.{campaign_in}
 use Rattle.campaign_core.specs.Pages.{run_of_finding}
-use Rattle.campaign_core.proofs.paging.each_finding_run.Given as goal
+use Rattle.campaign_core.proofs.paging.finding_runs.Given as goal
 
 abbrev pub invariant-loop-finding : goal.invariant-loop-finding
 invariant-loop-finding g l =
