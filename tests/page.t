@@ -25,9 +25,9 @@ It ends as the report does, and without a depth it tells that it isn't whole.
   <title>replace late_sync - Paklour</title>
   <p>faults at the hits of the run without faults, 19 runs; not whole: without a depth no fault is put where another one leads</p>
   <title>replace late_sync - Paklour</title>
-  <p>every behaviour with at most 2 faults, 19 runs; whole: there are none with more</p>
+  <p>every behaviour in which at most 2 returns and panics act, 19 runs; whole: there are none with more</p>
   <title>replace sound - Paklour</title>
-  <p>every behaviour with at most 1 fault, 13 runs; not whole: 8 with one fault more are left out</p>
+  <p>every behaviour in which at most 1 return or panic acts, 13 runs; not whole: 8 with one fault more are left out</p>
 
 In the map a cell that doesn't pass leads to its plan. Of the late sync all three ways of one site fail. To a depth its return and its panic do, and
 the cell of the plan without faults, from which both grew, leads to the first of them.

@@ -39,8 +39,8 @@ tried_by_census plans =
 -- of one with a depth, up to whether that is all
 unfoldable pub tried_to_depth : ℕ → ℕ → List ℕ
 tried_to_depth depth plans =
-    codes "<p>every behaviour with at most " ++ decimal depth ++ (if depth == 1 then codes " fault, " else codes " faults, ")
-    ++ decimal plans ++ codes " runs; "
+    codes "<p>every behaviour in which at most " ++ decimal depth
+    ++ (if depth == 1 then codes " return or panic acts, " else codes " returns and panics act, ") ++ decimal plans ++ codes " runs; "
 
 unfoldable pub whole : List ℕ
 whole = codes "whole: there are none with more</p>\n"
@@ -50,7 +50,7 @@ not_whole beyond = codes "not whole: " ++ decimal beyond ++ codes " with one fau
 
 -- what came of it
 unfoldable pub all_pass : ℕ → List ℕ
-all_pass plans = codes "<p class=\"verdict good\">no run fails: " ++ decimal plans ++ codes " of " ++ decimal plans ++ codes " pass</p>\n"
+all_pass plans = codes "<p class=\"verdict good\">no run fails: all " ++ decimal plans ++ codes " pass</p>\n"
 
 unfoldable pub none_fails : ℕ → ℕ → List ℕ
 none_fails plans unresolved =

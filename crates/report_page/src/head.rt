@@ -82,10 +82,14 @@ fn write_tried_by_census(out: &mut String, plans: usize) -> Result<(), AllocErro
 fn write_tried_to_depth(out: &mut String, depth: u32, plans: usize) -> Result<(), AllocError>
     ensures { OnOk result (string_bytes out.new ≡ string_bytes out.old ++ tried_to_depth depth plans) }
 {
-    let faults = counted(depth as usize, " fault, ", " faults, ");
+    let faults = counted(
+        depth as usize,
+        " return or panic acts, ",
+        " returns and panics act, ",
+    );
     write!(
         out,
-        "<p>every behaviour with at most {depth}{faults}{plans} runs; "
+        "<p>every behaviour in which at most {depth}{faults}{plans} runs; "
     )?;
     Ok(())
 }
@@ -139,7 +143,7 @@ fn write_all_pass(out: &mut String, plans: usize) -> Result<(), AllocError>
 {
     write!(
         out,
-        "<p class=\"verdict good\">no run fails: {plans} of {plans} pass</p>\n"
+        "<p class=\"verdict good\">no run fails: all {plans} pass</p>\n"
     )?;
     Ok(())
 }
