@@ -50,6 +50,27 @@ What a page shows of a report that stands in this repository, and what a table t
   page.md: outside/examples/leveldb/report has 130 plans, failing 3 lost: leveldb
   page.md: outside/examples/dovecot/report has 184 plans, failing none: dovecot
 
+How many plans a depth has: tests/sizes.t has 13, 21 and 21 of a small replacement, of which nothing is left from depth 2 on, and 13, 23 and 25 of
+`ignore_sync`, from depth 3 on.
+
+  $ printf '%s\n' '| Target, variant | Depth 1 | Depth 2 | Depth 3 | Whole |' '|---|---|---|---|---|' > head.md
+  $ { cat head.md; printf '| %s |\n' 'file replacement, small, `sound` | 13 | 21 | 21 | 21, at 2' 'the same, `ignore_sync` | 13 | 23 | 25 | 25, at 3'; } > page.md
+  $ rules
+  $ { cat head.md; printf '| %s |\n' 'file replacement, small, `sound` | 13 | 22 | 21 | 21, at 3' 'the same, `ignore_sync` | 13 | 23 | 25 | 23, at 2'; } > page.md
+  $ rules
+  pages:
+  page.md: tests/sizes.t has not so many plans to depth 2: file replacement, small, sound
+  page.md: tests/sizes.t is whole at another depth: file replacement, small, sound
+  page.md: tests/sizes.t is whole at another depth: the same, ignore_sync
+  $ printf '| %s |\n' 'delivery, large, `sound` | 44 | 423 | 2,250 | 28,799, at 8' 'commit, small, `sound` | 34 | 97 | 142 | 159, at 4' | cat head.md - > page.md
+  $ rules
+  pages:
+  page.md: tests/sizes.t has not so many plans to depth 1: commit, small, sound
+  page.md: tests/sizes.t has not so many plans to depth 2: commit, small, sound
+  page.md: tests/sizes.t has not so many plans to depth 3: commit, small, sound
+  page.md: tests/sizes.t has not so many plans to depth 4: commit, small, sound
+  page.md: tests/sizes.t is whole at another depth: commit, small, sound
+
 Sizes, in a repository of its own, with each page that is given a size and so many words in each. Parts that are made don't count.
 
   $ mkdir own && cd own && git init -q . && mkdir -p bench docs tools crates/command_words/src crates/campaign_settings/src
