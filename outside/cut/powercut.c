@@ -6,7 +6,20 @@
    STATE is `lasting` (where it is left out), `live`, `names` or `contents`: names as they last (in synced folders) or as they
    are, times contents as they last (of synced files) or as they are; or `keep SCENARIO`: what lasts and the pending changes
    for which power::keep of the scenario answers return. The first cut notes what is there, so that each state can be laid in
-   turn, whatever a look at one of them did to the files. */
+   turn, whatever a look at one of them did to the files.
+
+   A change is of names (create, mkdir, symlink, link, unlink, rmdir, rename, exchange) or of contents (a write, a store of a page
+   through a mapping, a new length, cleared bytes). A rename or exchange moves both names or neither; over two folders it lasts in
+   each with that folder's sync. A write of more than FAULTS_BLOCK bytes is a change for each aligned block, since a disk may tear
+   it. One with O_DSYNC or O_SYNC makes itself last, the file's length, and older writes inside of it; what else is in its block
+   may or may not. What is laid is what was there at the beginning, and over it the changes that last or are kept, in their order;
+   bytes before a kept write that nothing wrote are zeros. Modes are as they are.
+
+   The hits of power::keep stand in the trace behind the others, hit k for change k of `pending`; a pause there ends the command
+   with 97, and nothing is laid. After `recover` what was laid is what is there, all of it lasts, and hits are numbered on.
+
+   A run in which no process loaded the library, or that was seen to call nothing while it started what can't load it, is refused,
+   with 2 as all that is refused. */
 #define _GNU_SOURCE
 #include "lay.h"
 
@@ -298,6 +311,11 @@ int main(int count, char **words) {
     else if (!strcmp(what, "pending") && count == 3) tell_pending(words[2]);
     else if (cuts && count == 6 && !strcmp(words[4], "keep")) cut(words[2], words[3], "lasting", words[5], what[0] == 'r');
     else if (cuts && (count == 4 || count == 5)) cut(words[2], words[3], count == 5 ? words[4] : "lasting", NULL, what[0] == 'r');
-    else refuse("usage", "powercut begin RUN [ROOT] | pending RUN | cut|recover RUN ROOT [lasting|live|names|contents|keep SCENARIO]");
+    else refuse("usage", "powercut begin RUN [ROOT] | pending RUN | cut|recover RUN ROOT [lasting|live|names|contents|keep SCENARIO]\n"
+        "  begin     makes RUN, the folder of a run; what is under ROOT now lasts\n"
+        "  pending   which changes don't last by now: number, kind, names, bytes\n"
+        "  cut       empties ROOT and lays there what a power cut leaves: names and contents as they last, or as they are, or what lasts\n"
+        "            and the pending changes for which power::keep of the scenario answers return\n"
+        "  recover   the same; what was laid lasts, and the run goes on");
     return 0;
 }

@@ -13,6 +13,27 @@
 #   HITS           where it is set, the line ends with a tab and the run's hits in order, as `census --hits` tells them
 # corrupt: the integrity check finds something. half: a transaction has one of its rows. lost: a transaction that was
 # acknowledged isn't there.
+# Found in SQLite 3.40.1, one transaction, in the four states (docs/FOUND.md). Plans of one fault:
+#     full.toml with STATES=live    all pass: a crash of the program alone does no harm
+#     full.toml                     the run without faults is lost already: the folder isn't synced after the journal is deleted, as SQLite documents
+#     extra.toml with SYNC=EXTRA    `libc::open=3*off->1*return` is lost: the folder that is to be synced can't be opened, and nobody is told. The commit is
+#                                   acknowledged, and after a power cut the journal may be there again and roll it back
+#     wal.toml with JOURNAL=WAL     all pass
+# By strace alone, in an empty folder:
+#     sqlite3 db 'CREATE TABLE t(n)'
+#     strace -o calls -P "$PWD" -e trace=openat,fdatasync -e inject=openat:error=EIO:when=2 \
+#         sqlite3 db "PRAGMA synchronous=EXTRA; INSERT INTO t VALUES(1); SELECT 'done'"
+#     cat calls                     # one sync of the folder, one open that failed; `done` all the same
+# With pairs EXTRA has 784 plans: 777 pass, 4 are lost and 3 corrupt. The first that is corrupt is `libc::open=2*off->1*return;libc::write=9*off->1*panic`: the
+# folder can't be opened for its sync after the journal is made. SQLite goes on, and dies while it writes pages: the pages last, the journal's name doesn't.
+# With `libc::fsync=1*off->1*return` in place of the open it is the same.
+# STATES=each fails 12 of them. `libc::open=2*off->return` passes in the four states: pending at its end are `1 create db-journal` and `2 unlink db-journal`,
+# and if the name lasts and its removal doesn't (`;power::keep=1*return`, STATES=keep), the journal is hot when the database is opened again, and the
+# transaction that was acknowledged is rolled back.
+# With RECOVER=yes STATES=keep a scenario's faults go on in recovery: of 150 plans of one fault 3 are lost, all by a folder that can't be opened for its sync,
+# in the second transaction also: `libc::open=7*off->1*return`. Two faults deep it is 5,877 plans and 49 causes, all lost, and each with an open that fails.
+# In `libc::write=9*off->1*panic->1*off->1*return` SQLite dies at its tenth write, and the second write of the roll-back fails; it passes, as the next one
+# rolls back again.
 outside=$(cd "$(dirname "$0")/../.." && pwd) || exit 2
 scenario=${1-${FAILPOINTS-none}}
 JOURNAL=${JOURNAL:-DELETE}

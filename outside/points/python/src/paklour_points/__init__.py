@@ -5,8 +5,8 @@
     if hit("store::flush") is not None:
         raise OSError(errno.EIO, "store::flush")
 
-The scenario is read as the module is imported; one that can't be read ends the program with 98. docs/OUTSIDE.md ("Points of
-one's own, by a client") has the tasks, the variables and what is refused.
+The scenario is read as the module is imported; one that can't be read ends the program with 98. outside/points/points.h has the
+tasks, the variables and what is refused.
 """
 import fcntl
 import os
