@@ -50,7 +50,14 @@ fn told(
     answers: &str,
 ) -> Result<String, Fail> {
     let mut out = Out::new(Vec::new(alloc));
-    match write_report_in(alloc, &Form::Whole, outside, settings, answers.as_bytes(), &mut out) {
+    match write_report_in(
+        alloc,
+        &Form::Whole,
+        outside,
+        settings,
+        answers.as_bytes(),
+        &mut out,
+    ) {
         Ok(_) => text_in(out),
         Err(OutsideFault::NotAnswered(scenario)) => {
             let text = tidied_text(alloc, &scenario)?;
