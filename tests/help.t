@@ -67,9 +67,12 @@ Each option has an example.
   Example:
     paklour page my.toml > page.html
   tells what was tried and found, with the map and the run of each first failure, hit by hit.
-  $ paklour help report | grep -e --brief
+  $ paklour help report | grep -e --brief -e --map -e --page
         --brief   Count the verdicts that pass, and write the scenario beside each other verdict
+        --map     Write the map, an SVG picture
+        --page    Write a page to look at, as HTML; it tells no run hit by hit
     paklour report --brief my.toml < answers
+    paklour report --page my.toml < answers > page.html
 
 The help of the program names the keys of settings, their ranges and defaults, as settings.t and settings_tables.t show them, and the exit
 statuses.

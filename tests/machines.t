@@ -190,7 +190,7 @@ Exit statuses, and what is told beside, are those of the text.
   settings: out of range seed
   [2]
 
-A report is written in one form. `report` writes a text alone.
+A report is written in one form.
 
   $ paklour run --json --junit small.toml
   error: the argument '--json' cannot be used with '--junit'
@@ -205,7 +205,5 @@ A report is written in one form. `report` writes a text alone.
   error: the argument '--brief' cannot be used with '--json'
   $ paklour run --brief --json --junit small.toml 2>&1 | head -n 1
   error: the argument '--brief' cannot be used with '--json'
-  $ paklour report --json small.toml 2>&1 | head -n 1
-  error: unexpected argument '--json' found
   $ paklour map --junit small.toml 2>&1 | head -n 1
   error: unexpected argument '--junit' found

@@ -164,8 +164,16 @@ What is wrong is told on standard error, and nothing is on standard output.
   error: the argument '--json' cannot be used multiple times
   $ refused run --junit=true f
   error: unexpected value 'true' for '--junit' found; no more were expected
-  $ refused report --json f
-  error: unexpected argument '--json' found
+  $ refused report --json --page f
+  error: the argument '--json' cannot be used with '--page'
+  $ refused report --page --brief f
+  error: the argument '--brief' cannot be used with '--page'
+  $ refused report --map --map f
+  error: the argument '--map' cannot be used multiple times
+  $ refused report --recheck f
+  error: unexpected argument '--recheck' found
+  $ refused run --map f
+  error: unexpected argument '--map' found
   $ refused --junit
   error: unexpected argument '--junit' found
   $ refused plans --brief

@@ -3,7 +3,7 @@
 use crate::plain::{number_of, plain_report, tidied_text, verdict_of};
 use campaign_given::{CampaignSettings, Outside};
 use campaign_settings::{Choice, Settings};
-use outside_campaign::{OutsideFault, list_plans, write_asks, write_told};
+use outside_campaign::{Form, OutsideFault, list_plans, write_asks, write_report_in};
 use std::alloc::Global;
 use std::fmt::Write;
 use std::process::Abort;
@@ -50,7 +50,14 @@ fn told(
     answers: &str,
 ) -> Result<String, Fail> {
     let mut out = Out::new(Vec::new(alloc));
-    match write_told(alloc, outside, settings, answers.as_bytes(), &mut out) {
+    match write_report_in(
+        alloc,
+        &Form::Whole,
+        outside,
+        settings,
+        answers.as_bytes(),
+        &mut out,
+    ) {
         Ok(_) => text_in(out),
         Err(OutsideFault::NotAnswered(scenario)) => {
             let text = tidied_text(alloc, &scenario)?;

@@ -16,6 +16,7 @@ use Rattle.campaign_settings.specs.declared.settings.Settings.{Settings}
 use Rattle.campaign_core.specs.declared.ending.CampaignFault.TheVariants as campaign
 use Rattle.command_words.specs.declared.words.Question.{Question}
 use Rattle.command_words.specs.declared.words.Question.TheVariants.{Asks, Report}
+use Rattle.command_words.specs.declared.words.ToldForm.{ToldForm}
 use Rattle.outside_campaign.specs.Campaigns.{AsksFault, TextFault}
 use Rattle.outside_campaign.specs.declared.refusal.OutsideFault.{OutsideFault}
 use Rattle.outside_campaign.specs.declared.refusal.OutsideFault.TheVariants as outside
@@ -43,12 +44,12 @@ module _ (s : Given) (d : Description) (answers : List ℕ) (old new : Option (L
   asks-short (outside.Campaign campaign.Memory) h = h
   asks-short (outside.Campaign (campaign.Write n)) h = (h.0, h.1)
 
-  report-short : (brief : Bool) (f : OutsideFault) → TextFault (told_text brief (s, d)) d s answers old new failed f → FallsShortOf (Report brief false) (s, d) answers old new failed f
-  report-short brief (outside.Answers f) h = ((h.0, h.1), h.2)
-  report-short brief (outside.NotAnswered t) h = ((h.0, h.1), h.2)
-  report-short brief (outside.Campaign campaign.TooManyPlans) h = ((h.0, h.1), h.2)
-  report-short brief (outside.Campaign campaign.Memory) h = h
-  report-short brief (outside.Campaign (campaign.Write n)) h = (h.0, h.1)
+  report-short : (form : ToldForm) (f : OutsideFault) → TextFault (told_text form (s, d)) d s answers old new failed f → FallsShortOf (Report form false) (s, d) answers old new failed f
+  report-short form (outside.Answers f) h = ((h.0, h.1), h.2)
+  report-short form (outside.NotAnswered t) h = ((h.0, h.1), h.2)
+  report-short form (outside.Campaign campaign.TooManyPlans) h = ((h.0, h.1), h.2)
+  report-short form (outside.Campaign campaign.Memory) h = h
+  report-short form (outside.Campaign (campaign.Write n)) h = (h.0, h.1)
 
   -- a fault that is passed up
   short-of-up : (question : Question) (result : Result Bool OutsideFault) (f : OutsideFault) → IsErrAnd result (λ e. e ≡ f)
@@ -59,8 +60,8 @@ module _ (s : Given) (d : Description) (answers : List ℕ) (old new : Option (L
   pub asks-up : (result : Result Bool OutsideFault) (f : OutsideFault) → IsErrAnd result (λ e. e ≡ f) → AsksFault d s answers old new failed f → ComesToText Asks (s, d) answers old new failed result
   asks-up result f is h = short-of-up Asks result f is (asks-short f h)
 
-  pub report-up : (brief : Bool) (result : Result Bool OutsideFault) (f : OutsideFault) → IsErrAnd result (λ e. e ≡ f) → TextFault (told_text brief (s, d)) d s answers old new failed f → ComesToText (Report brief false) (s, d) answers old new failed result
-  report-up brief result f is h = short-of-up (Report brief false) result f is (report-short brief f h)
+  pub report-up : (form : ToldForm) (result : Result Bool OutsideFault) (f : OutsideFault) → IsErrAnd result (λ e. e ≡ f) → TextFault (told_text form (s, d)) d s answers old new failed f → ComesToText (Report form false) (s, d) answers old new failed result
+  report-up form result f is h = short-of-up (Report form false) result f is (report-short form f h)
 
 -- ---- by what is noted
 
@@ -105,11 +106,11 @@ module _ (question : Question) (s : Subject) (answers : List ℕ) where
 
     answered-sound : (q : Question) (found : Bool) → IsAnswered q s answers old new failed found → failed ≡ false
     answered-sound Asks found h = h.sound
-    answered-sound (Report brief strict) found h = h.sound
+    answered-sound (Report form strict) found h = h.sound
 
     part-broken : (q : Question) (n : ℕ) → IsPart q s answers old new failed n → failed ≡ true
     part-broken Asks n h = h.1
-    part-broken (Report brief strict) n h = h.1
+    part-broken (Report form strict) n h = h.1
 
     pub answered-leaves : (end : Exit) → EndsAnswered question s answers end old new failed → Leaves end old new failed
     answered-leaves exit.Kept h = answered-sound question h.0 h.1

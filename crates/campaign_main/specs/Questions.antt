@@ -1,13 +1,15 @@
 -- What is answered to a question on a component that somebody else runs, by the bytes of the settings and of the answers. A sink held `old`
 -- and holds `new`, where it tells its bytes, and says whether it failed.
-use Rattle.std.specs.Prelude.{◌≡◌, ◌≤◌, ◌<◌, ◌⊎◌, ℕ, Bool, true, false, List, [], ◌∷◌, length, Option, None, is_some, option_map, slice_get, Result, Ok, Err}
+use Rattle.std.specs.Prelude.{◌≡◌, ◌≤◌, ◌<◌, ◌⊎◌, ℕ, Bool, true, false, List, [], ◌∷◌, codes, length, Option, is_some, option_map, slice_get, Result, Ok, Err}
 use Rattle.std.specs.Io.KnownBytes.{Appends}
 use Rattle.scenario_values.specs.Scenario.{Entries}
 use Rattle.plan_gen.specs.PlanList.{most_plans}
 use Rattle.result_book.specs.Verdicts.{verdicts_from, numbered}
 use Rattle.result_book.specs.FirstFailures.{first_failures}
-use Rattle.report.specs.BriefText.{brief_lines}
-use Rattle.report.specs.ReportText.{report_lines, text_of}
+use Rattle.report.specs.ReportText.{text_of}
+use Rattle.campaign_core.specs.Pages.{NotesFacts}
+use Rattle.command_words.specs.declared.words.ToldForm.{ToldForm}
+use Rattle.command_words.specs.declared.words.ToldForm.TheVariants as told
 use Rattle.answer_text.specs.Answers.{Answer as Told, Says}
 use Rattle.answer_text.specs.FirstFault.{reading_of}
 use Rattle.answer_text.specs.Known.{AgreesWithText, known_by}
@@ -17,13 +19,14 @@ use Rattle.campaign_settings.specs.Settings.{Read, settings_of}
 use Rattle.campaign_settings.specs.declared.choice.Choice.{Choice}
 use Rattle.campaign_settings.specs.declared.choice.Choice.TheVariants as choice
 use Rattle.campaign_settings.specs.declared.settings.Settings.{Settings}
-use Rattle.campaign_core.specs.Findings.{report_of}
 use Rattle.campaign_core.specs.declared.ending.CampaignFault.TheVariants as campaign
 use Rattle.command_words.specs.declared.words.Question.{Question}
 use Rattle.command_words.specs.declared.words.Question.TheVariants.{Asks, Report}
 use Rattle.outside_campaign.specs.Outside.{Component, say}
 use Rattle.outside_campaign.specs.Asked.{lines_for}
-use Rattle.outside_campaign.specs.Campaigns.{IsCut, code_name, untried}
+use Rattle.outside_campaign.specs.Campaigns.{IsCut, report_in, untried}
+use Rattle.outside_campaign.specs.declared.forms.Form.{Form}
+use Rattle.outside_campaign.specs.declared.forms.Form.TheVariants as forms
 use Rattle.outside_campaign.specs.declared.refusal.OutsideFault.{OutsideFault}
 use Rattle.outside_campaign.specs.declared.refusal.OutsideFault.TheVariants as outside
 use Rattle.campaign_main.specs.declared.exit.Conclusion.{Conclusion}
@@ -31,7 +34,7 @@ use Rattle.campaign_main.specs.declared.exit.Conclusion.TheVariants.{Clean, Fail
 use Rattle.campaign_main.specs.declared.exit.Exit.{Exit}
 use Rattle.campaign_main.specs.declared.exit.Exit.TheVariants.{Kept, Found, Refused, Memory, Write, Doubted}
 use Rattle.campaign_main.specs.declared.fault.CommandFault.TheVariants as command
-use Rattle.campaign_main.specs.Commands.{Refusal, bad_answers, bad_settings, bundled_target, not_answered, of_text, outside_plans, too_many_plans}
+use Rattle.campaign_main.specs.Commands.{Refusal, bad_answers, bad_settings, bundled_target, not_answered, of_text, outside_plans, page_notes, too_many_plans}
 use Rattle.campaign_main.specs.Ends.{IsEndOf, IsNoted, IsTold, IsUntouched, RefusesWith, TellsOf}
 use Rattle.campaign_main.specs.Exit.{concluded}
 use Rattle.campaign_main.specs.QuestionNotes.{is_question_doubted, question_notes}
@@ -71,12 +74,22 @@ untried_of s answers = untried (known_by s.1.codes answers) (outside_plans s.0 s
 abbrev pub asks_text : Subject → List ℕ → List ℕ
 asks_text s answers = text_of (lines_for (untried_of s answers))
 
--- the text of a component's report, which may be brief
-abbrev pub told_text : Bool → Subject → Component → List ℕ
-told_text false s component = text_of (report_lines s.1.points (code_name s.1.codes)
-    (report_of (say component) s.1.label s.0.plans.seed s.1.hits (outside_plans s.0 s.1) None))
-told_text true s component = text_of (brief_lines s.1.points (code_name s.1.codes)
-    (report_of (say component) s.1.label s.0.plans.seed s.1.hits (outside_plans s.0 s.1) None) (outside_plans s.0 s.1))
+-- what a page by answers tells beside the campaign
+abbrev pub told_notes : NotesFacts
+told_notes = record { version = page_notes.version; command = codes "paklour report --page FILE < ANSWERS" }
+
+-- the form in which a report by answers is written
+abbrev pub written : ToldForm → Form
+written told.Whole = forms.Whole
+written told.Brief = forms.Brief
+written told.Json = forms.Json
+written told.Junit = forms.Junit
+written told.Map = forms.Map
+written told.Page = forms.Page told_notes
+
+-- the text of a component's report in a form
+abbrev pub told_text : ToldForm → Subject → Component → List ℕ
+told_text form s component = report_in (written form) s.1 s.0 component
 
 -- whether a plan fails
 abbrev pub is_found : Subject → Component → Bool
@@ -94,8 +107,8 @@ pub record IsAsked (s : Subject) (answers : List ℕ) (old new : Option (List �
   pub said : (all : List Told) × Says s.1.codes answers all
 
 -- the report was written that each component has which agrees with the answers, and some component does; nothing is still to be tried
-pub record IsReported (brief : Bool) (s : Subject) (answers : List ℕ) (old new : Option (List ℕ)) (failed found : Bool) : Type 0 where
-  pub text : (component : Component) → AgreesWithText s.1.codes answers component → Appends old new (told_text brief s component)
+pub record IsReported (form : ToldForm) (s : Subject) (answers : List ℕ) (old new : Option (List ℕ)) (failed found : Bool) : Type 0 where
+  pub text : (component : Component) → AgreesWithText s.1.codes answers component → Appends old new (told_text form s component)
   pub first : (component : Component) → AgreesWithText s.1.codes answers component → found ≡ is_found s component
   pub some : (component : Component) × AgreesWithText s.1.codes answers component
   pub all : untried_of s answers ≡ []
@@ -104,13 +117,13 @@ pub record IsReported (brief : Bool) (s : Subject) (answers : List ℕ) (old new
 
 abbrev pub IsAnswered : Question → Subject → List ℕ → Option (List ℕ) → Option (List ℕ) → Bool → Bool → Type 0
 IsAnswered Asks s answers old new failed found = IsAsked s answers old new failed found
-IsAnswered (Report brief strict) s answers old new failed found = IsReported brief s answers old new failed found
+IsAnswered (Report form strict) s answers old new failed found = IsReported form s answers old new failed found
 
 -- so many bytes of that text, and not all, were written before the sink failed
 abbrev pub IsPart : Question → Subject → List ℕ → Option (List ℕ) → Option (List ℕ) → Bool → ℕ → Type 0
 IsPart Asks s answers old new failed n = IsCut old new (asks_text s answers) n × (failed ≡ true)
-IsPart (Report brief strict) s answers old new failed n =
-    ((component : Component) → AgreesWithText s.1.codes answers component → IsCut old new (told_text brief s component) n) × (failed ≡ true)
+IsPart (Report form strict) s answers old new failed n =
+    ((component : Component) → AgreesWithText s.1.codes answers component → IsCut old new (told_text form s component) n) × (failed ≡ true)
 
 -- the text was written whole, and this is what it comes to
 abbrev pub IsConcluded : Question → Subject → List ℕ → Option (List ℕ) → Option (List ℕ) → Bool → Conclusion → Type 0
@@ -158,7 +171,7 @@ IsUnnoted s answers (outside.Campaign (campaign.Write n)) = ⊥
 -- a report waits for the first of what is still to be tried
 abbrev pub IsWaitedFor : Question → Subject → List ℕ → Entries → Type 0
 IsWaitedFor Asks s answers t = ⊥
-IsWaitedFor (Report brief strict) s answers t = (more : List Entries) × (untried_of s answers ≡ t ∷ more)
+IsWaitedFor (Report form strict) s answers t = (more : List Entries) × (untried_of s answers ≡ t ∷ more)
 
 -- why a question is refused, by the answers
 abbrev pub RefusesAnswers : Question → Subject → List ℕ → Refusal → Type 0

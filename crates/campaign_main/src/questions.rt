@@ -2,17 +2,18 @@
 ghost use Rattle.std.specs.Prelude.{◌≡◌, true, false, IfSome, Ok, Some};
 ghost use Rattle.campaign_main.specs.Ends.{IsNoted, Leaves, OnWhole, TellsOf};
 ghost use Rattle.campaign_main.specs.QuestionNotes.{question_notes};
-ghost use Rattle.campaign_main.specs.Questions.{ComesToText, ConcludesText, EndsAnswered, EndsQuestion, IsNotAnswered, NotesQuestion, NotesText, TellsOfQuestion, TellsWhy, chosen_subject, subject_of, text_subject};
+ghost use Rattle.campaign_main.specs.Questions.{ComesToText, ConcludesText, EndsAnswered, EndsQuestion, IsNotAnswered, NotesQuestion, NotesText, TellsOfQuestion, TellsWhy, chosen_subject, subject_of, text_subject, written};
 
 use crate::answer_notes::{is_question_doubted, question_notes_on};
 use crate::exit::{Conclusion, Exit, concluded, exit_of};
 use crate::input::{read_all, read_bytes};
 use crate::lines::{bundled, note, unread, unread_answers, unset, untold};
 use answer_text::LIMIT;
+use campaign_core::PageNotes;
 use campaign_given::{CampaignSettings, Outside};
 use campaign_settings::{Choice, Settings};
-use command_words::Question;
-use outside_campaign::{OutsideFault, write_asks, write_brief, write_told};
+use command_words::{Question, ToldForm, VERSION};
+use outside_campaign::{Form, OutsideFault, write_asks, write_report_in};
 use std::alloc::Global;
 use std::io::Read;
 use target_trait::Sink;
@@ -33,36 +34,39 @@ fn write_asked<W: Sink>(
     Ok(false)
 }
 
-/// Writes the report, and answers whether a plan fails.
-fn write_reported<W: Sink>(
-    alloc: Global,
-    outside: &Outside,
-    settings: &CampaignSettings,
-    answers: &[u8],
-    output: &mut W,
-) -> Result<bool, OutsideFault>
-    requires { W.has_failed output.old ≡ false }
-    ensures { ComesToText (Question.Report false false) (settings.now, outside.now) answers.now (W.told output.old) (W.told output.new)
-        (W.has_failed output.new) result }
+/// The form in which a report by answers is written.
+fn written(form: ToldForm) -> Form<'static>
+    ensures { result ≡ written form }
 {
-    let ending = write_told(alloc, outside, settings, answers, output)?;
-    Ok(ending.first.is_some())
+    match form {
+        ToldForm::Whole => Form::Whole,
+        ToldForm::Brief => Form::Brief,
+        ToldForm::Json => Form::Json,
+        ToldForm::Junit => Form::Junit,
+        ToldForm::Map => Form::Map,
+        ToldForm::Page => Form::Page(PageNotes {
+            version: VERSION,
+            command: "paklour report --page FILE < ANSWERS",
+        }),
+    }
 }
 
-/// Writes the brief report, and answers whether a plan fails.
-fn write_brief_reported<W: Sink>(
+/// Writes the report in this form, and answers whether a plan fails.
+fn write_reported<W: Sink>(
     alloc: Global,
+    form: ToldForm,
     outside: &Outside,
     settings: &CampaignSettings,
     answers: &[u8],
     output: &mut W,
 ) -> Result<bool, OutsideFault>
     requires { W.has_failed output.old ≡ false }
-    ensures { ComesToText (Question.Report true false) (settings.now, outside.now) answers.now (W.told output.old) (W.told output.new)
+    ensures { ComesToText (Question.Report form false) (settings.now, outside.now) answers.now (W.told output.old) (W.told output.new)
         (W.has_failed output.new) result }
 {
-    let told = write_brief(alloc, outside, settings, answers, output)?;
-    Ok(told.first.is_some())
+    let form = written(form);
+    let ending = write_report_in(alloc, &form, outside, settings, answers, output)?;
+    Ok(ending.first.is_some())
 }
 
 /// Writes the text that answers a question, and answers whether a verdict in it is fail.
@@ -80,11 +84,8 @@ fn write_answer<W: Sink>(
 {
     match question {
         Question::Asks => write_asked(alloc, outside, settings, answers, output),
-        Question::Report { brief: false, .. } => {
-            write_reported(alloc, outside, settings, answers, output)
-        }
-        Question::Report { brief: true, .. } => {
-            write_brief_reported(alloc, outside, settings, answers, output)
+        Question::Report { form, .. } => {
+            write_reported(alloc, *form, outside, settings, answers, output)
         }
     }
 }

@@ -23,6 +23,8 @@ use Rattle.command_words.specs.declared.words.ProgressForm.{ProgressForm}
 use Rattle.command_words.specs.declared.words.ProgressForm.TheVariants as shows
 use Rattle.command_words.specs.declared.words.Question.{Question}
 use Rattle.command_words.specs.declared.words.Question.TheVariants.{Asks, Report}
+use Rattle.command_words.specs.declared.words.ToldForm.{ToldForm}
+use Rattle.command_words.specs.declared.words.ToldForm.TheVariants as told
 use Rattle.command_words.specs.declared.words.Which.{Which}
 use Rattle.command_words.specs.declared.words.Which.TheVariants.{Scenario, Plan}
 use Rattle.command_words.specs.declared.words.WordsFault.{WordsFault}
@@ -65,6 +67,14 @@ json_rule = flag_rule (codes "json")
 -- --junit, a flag
 abbrev pub junit_rule : Rule
 junit_rule = flag_rule (codes "junit")
+
+-- --map, a flag
+abbrev pub map_rule : Rule
+map_rule = flag_rule (codes "map")
+
+-- --page, a flag
+abbrev pub page_rule : Rule
+page_rule = flag_rule (codes "page")
 
 -- --progress, a flag
 abbrev pub progress_rule : Rule
@@ -112,9 +122,13 @@ rechecked_app app = with_rule app recheck_rule
 abbrev pub question_app : Text → App
 question_app name = with_rule (new_app name) needed_file_rule
 
--- the one of these that writes a report, whole or in brief, on which it may be strict
+-- a command that writes a report by answers, in one of these forms, or as the map or a page
+abbrev pub told_app : App → App
+told_app app = with_rule (with_rule (formed_app app) map_rule) page_rule
+
+-- the one of these that writes a report, on which it may be strict
 abbrev pub question_report_app : Text → App
-question_report_app name = with_rule (with_rule (with_rule (new_app name) brief_rule) strict_rule) needed_file_rule
+question_report_app name = with_rule (with_rule (told_app (new_app name)) strict_rule) needed_file_rule
 
 abbrev pub with_commands : App → List Shape → App
 with_commands app [] = app
@@ -163,6 +177,8 @@ pub record Values : Type 0 where
   pub brief : Option Text
   pub json : Option Text
   pub junit : Option Text
+  pub map : Option Text
+  pub page : Option Text
   pub strict : Option Text
   pub recheck : Option Text
   pub progress : Option Text
@@ -176,6 +192,8 @@ values_in rows = record {
   brief = first_of (codes "brief") rows;
   json = first_of (codes "json") rows;
   junit = first_of (codes "junit") rows;
+  map = first_of (codes "map") rows;
+  page = first_of (codes "page") rows;
   strict = first_of (codes "strict") rows;
   recheck = first_of (codes "recheck") rows;
   progress = first_of (codes "progress") rows;
@@ -191,6 +209,8 @@ values_of f = record {
   brief = first_value f (codes "brief");
   json = first_value f (codes "json");
   junit = first_value f (codes "junit");
+  map = first_value f (codes "map");
+  page = first_value f (codes "page");
   strict = first_value f (codes "strict");
   recheck = first_value f (codes "recheck");
   progress = first_value f (codes "progress");
@@ -224,6 +244,23 @@ form_by false true true = None
 abbrev pub form_of : Values → Option Form
 form_of v = form_by (is_set v.brief) (is_set v.json) (is_set v.junit)
 
+-- the forms of a report by answers whose flags were given
+abbrev pub named_if : Option Text → ToldForm → List ToldForm
+named_if value form = if is_set value then form ∷ [] else []
+
+abbrev pub told_forms : Values → List ToldForm
+told_forms v =
+    named_if v.brief told.Brief ++ named_if v.json told.Json ++ named_if v.junit told.Junit ++ named_if v.map told.Map ++ named_if v.page told.Page
+
+-- one of them at most, and whole where none was
+abbrev pub only_form : List ToldForm → Option ToldForm
+only_form [] = Some told.Whole
+only_form (form ∷ []) = Some form
+only_form (form ∷ (other ∷ more)) = None
+
+abbrev pub told_form_of : Values → Option ToldForm
+told_form_of v = only_form (told_forms v)
+
 -- in which form it is shown how far a command is, and whether it is: plain lines where both flags were given
 abbrev pub progress_form_of : Values → ProgressForm
 progress_form_of v = if is_set v.progress_plain then shows.Plain else (if is_set v.progress then shows.Line else shows.Off)
@@ -246,7 +283,7 @@ IsOrder name v (order.Explain which) = (name ≡ codes "explain") × IsWhich v w
 -- the question that a command's name and its values give
 abbrev pub IsQuestion : Text → Values → Question → Type 0
 IsQuestion name v Asks = name ≡ codes "asks"
-IsQuestion name v (Report brief strict) = (name ≡ codes "report") × (brief ≡ is_set v.brief) × (strict ≡ is_set v.strict)
+IsQuestion name v (Report form strict) = (name ≡ codes "report") × (told_form_of v ≡ Some form) × (strict ≡ is_set v.strict)
 
 -- the order of no command is Run, with the whole report, on the settings that come from standard input, and nothing more is shown
 abbrev pub IsRun : Line → Type 0
@@ -306,10 +343,17 @@ abbrev pub form_kinds : Option Form → Kinds
 form_kinds (Some form) = []
 form_kinds None = ArgumentConflict ∷ []
 
+abbrev pub told_form_kinds : Option ToldForm → Kinds
+told_form_kinds (Some form) = []
+told_form_kinds None = ArgumentConflict ∷ []
+
 -- the same of a command's name and its values
 abbrev pub choice_kinds : Text → Values → Kinds
 choice_kinds name v =
-    if takes_scenario name then which_kinds v.scenario v.plan else (if bytes_eq name (codes "run") then form_kinds (form_of v) else [])
+    if takes_scenario name then which_kinds v.scenario v.plan
+    else if bytes_eq name (codes "run") then form_kinds (form_of v)
+    else if bytes_eq name (codes "report") then told_form_kinds (told_form_of v)
+    else []
 
 -- the same of the matches
 abbrev pub choice_fault : Option (Text × List Row) → Kinds

@@ -69,6 +69,10 @@ pub const JSON: &str = "Write a JSON document with all that the report tells";
 
 pub const JUNIT: &str = "Write JUnit's XML, with a case for each plan";
 
+pub const MAP_FORM: &str = "Write the map, an SVG picture";
+
+pub const PAGE_FORM: &str = "Write a page to look at, as HTML; it tells no run hit by hit";
+
 pub const STRICT: &str = "Tell on standard error what the report doesn't show, and end with 5 then";
 
 pub const RECHECK: &str =
@@ -122,6 +126,7 @@ Example:
   paklour asks my.toml < answers | xargs -r -d '\\n' -n 1 ./try.sh >> answers
   paklour report my.toml < answers
   paklour report --brief my.toml < answers
+  paklour report --page my.toml < answers > page.html
 with settings as
   target = \"outside\"
   seed = 7

@@ -5,5 +5,5 @@ mod help;
 mod words;
 
 pub use words::{
-    Form, Line, Order, ProgressForm, Question, VERSION, Which, WordsFault, read_words,
+    Form, Line, Order, ProgressForm, Question, ToldForm, VERSION, Which, WordsFault, read_words,
 };

@@ -1,7 +1,7 @@
-ghost use Rattle.std.specs.Prelude.{◌≡◌, ◌↔◌, ◌∷◌, [], IsTrue, Some, None, option_map, is_some, true, false, IfOk, IfErr, IfSome, map, codes, string_bytes};
-ghost use Rattle.clap.specs.Words.{app_of, fault_of, first_value, found_of, rule_of, subcommand_of, takes};
+ghost use Rattle.std.specs.Prelude.{◌≡◌, ◌↔◌, ◌∷◌, [], IsTrue, Some, None, option_map, is_some, true, false, ◌++◌, IfOk, IfErr, IfSome, OnOk, map, codes, string_bytes};
+ghost use Rattle.clap.specs.Words.{app_of, fault_of, first_value, found_of, new_app, rule_of, subcommand_of, takes};
 ghost use Rattle.clap.specs.declared.builder.command.Command.TheViews.{out-Command as fields_of};
-ghost use Rattle.command_words.specs.Words.{AsksToSee, HasAlso, HasNeeded, IsFaultOf, IsLine, IsLineOf, IsName, IsOrder, IsOrderName, IsQuestion, IsQuestionName, IsRefusedFor, IsScenarioName, IsWhich, Spells, bare_app, campaign_commands, choice_fault, choice_kinds, file_app, file_rule, flag_rule, form_kinds, form_of, formed_app, needed_file_rule, paklour, is_set, progress_form_of, spelled, spelled_word, question_app, question_commands, question_report_app, rechecked_app, report_app, scenario_app, scenario_commands, shown_app, value_rule, values_of, which_kinds, with_commands, words_fault};
+ghost use Rattle.command_words.specs.Words.{AsksToSee, HasAlso, HasNeeded, IsFaultOf, IsLine, IsLineOf, IsName, IsOrder, IsOrderName, IsQuestion, IsQuestionName, IsRefusedFor, IsScenarioName, IsWhich, Spells, bare_app, campaign_commands, choice_fault, choice_kinds, file_app, file_rule, flag_rule, form_kinds, form_of, formed_app, told_app, told_form_kinds, told_form_of, told_forms, named_if, needed_file_rule, paklour, is_set, progress_form_of, spelled, spelled_word, question_app, question_commands, question_report_app, rechecked_app, report_app, scenario_app, scenario_commands, shown_app, value_rule, values_of, which_kinds, with_commands, words_fault};
 ghost use Rattle.command_words.specs.declared.words.WordsFault.TheVariants.{Memory};
 ghost use Rattle.clap.specs.Kinds.{value_kinds};
 ghost use Rattle.clap.specs.declared.builder.value_parser.ValueParser.TheVariants.{Unsigned};
@@ -38,6 +38,37 @@ pub enum Form {
     Junit,
     /// A page, as HTML.
     Page,
+}
+
+/// In which form a report by answers is written.
+#[derive(Clone, Copy, Debug)]
+pub enum ToldForm {
+    /// A text with the verdict of each plan.
+    Whole,
+    /// The text with one line of counts for all verdicts that pass, and the scenario beside each other verdict.
+    Brief,
+    /// A JSON document.
+    Json,
+    /// JUnit's XML.
+    Junit,
+    /// The map, an SVG picture.
+    Map,
+    /// A page, as HTML.
+    Page,
+}
+
+impl ToldForm {
+    // The flag that names the form. The whole report has none.
+    fn flag(self) -> &'static str {
+        match self {
+            ToldForm::Whole => "",
+            ToldForm::Brief => "brief",
+            ToldForm::Json => "json",
+            ToldForm::Junit => "junit",
+            ToldForm::Map => "map",
+            ToldForm::Page => "page",
+        }
+    }
 }
 
 /// In which form the program shows how far plans or a reduction are, while they run.
@@ -78,9 +109,8 @@ pub enum Order {
 pub enum Question {
     /// Which scenarios are still to be tried.
     Asks,
-    /// The text of the campaign's report, in brief where `brief` is set. Where `strict` is set, what makes it say less than it seems to is
-    /// told beside it.
-    Report { brief: bool, strict: bool },
+    /// The campaign's report, in a form. Where `strict` is set, what makes it say less than it seems to is told beside it.
+    Report { form: ToldForm, strict: bool },
 }
 
 /// What the words ask for.
@@ -184,6 +214,14 @@ fn flag_arg<'a>(alloc: Global, name: &'a str, help: &'a str) -> Arg<'a>
         .help(help)
 }
 
+// A command of this name that takes nothing yet.
+fn named<'a>(alloc: Global, name: &'a str, about: &'a str, examples: &'a str) -> Command<'a>
+    ensures app { app_of result ≡ new_app name.entry.now }
+    ensures local { (fields_of result).has_globals ≡ false }
+{
+    Command::new(alloc, name).about(about).after_help(examples)
+}
+
 fn file_command<'a>(
     alloc: Global,
     name: &'a str,
@@ -193,10 +231,7 @@ fn file_command<'a>(
     ensures app { IfOk result (λ command. app_of command ≡ file_app name.entry.now) }
     ensures local { IfOk result (λ command. (fields_of command).has_globals ≡ false) }
 {
-    Command::new(alloc, name)
-        .about(about)
-        .after_help(examples)
-        .arg(file_arg(alloc))
+    named(alloc, name, about, examples).arg(file_arg(alloc))
 }
 
 // The command with the flags that name the form of a report, of which one at most may be given.
@@ -231,8 +266,7 @@ fn report_command<'a>(
     ensures app { IfOk result (λ command. app_of command ≡ report_app name.entry.now) }
     ensures local { IfOk result (λ command. (fields_of command).has_globals ≡ false) }
 {
-    let command = Command::new(alloc, name).about(about).after_help(examples);
-    with_forms(alloc, command)?
+    with_forms(alloc, named(alloc, name, about, examples))?
         .arg(flag_arg(alloc, "strict", help::STRICT))?
         .arg(file_arg(alloc))
 }
@@ -245,10 +279,8 @@ fn scenario_command<'a>(
     ensures app { IfOk result (λ command. app_of command ≡ scenario_app name.entry.now) }
     ensures local { IfOk result (λ command. (fields_of command).has_globals ≡ false) }
 {
-    Command::new(alloc, name)
-        .about(about)
+    named(alloc, name, about, help::SCENARIO_TEXT)
         .override_usage(usage(name))
-        .after_help(help::SCENARIO_TEXT)
         .arg(value_arg(alloc, "scenario", "TEXT", help::SCENARIO))?
         .arg(value_arg(alloc, "plan", "N", help::PLAN))?
         .arg(file_arg(alloc))
@@ -298,10 +330,7 @@ fn question_command<'a>(
     ensures app { IfOk result (λ command. app_of command ≡ question_app name.entry.now) }
     ensures local { IfOk result (λ command. (fields_of command).has_globals ≡ false) }
 {
-    Command::new(alloc, name)
-        .about(about)
-        .after_help(help::ANSWERS)
-        .arg(needed_file_arg(alloc))
+    named(alloc, name, about, help::ANSWERS).arg(needed_file_arg(alloc))
 }
 
 fn question_report_command<'a>(
@@ -312,12 +341,20 @@ fn question_report_command<'a>(
     ensures app { IfOk result (λ command. app_of command ≡ question_report_app name.entry.now) }
     ensures local { IfOk result (λ command. (fields_of command).has_globals ≡ false) }
 {
-    Command::new(alloc, name)
-        .about(about)
-        .after_help(help::ANSWERS)
-        .arg(flag_arg(alloc, "brief", help::BRIEF))?
+    with_told_forms(alloc, named(alloc, name, about, help::ANSWERS))?
         .arg(flag_arg(alloc, "strict", help::STRICT))?
         .arg(needed_file_arg(alloc))
+}
+
+// The command with the flags that name the form of a report by answers, of which one at most may be given.
+fn with_told_forms<'a>(alloc: Global, command: Command<'a>) -> Result<Command<'a>, AllocError>
+    requires { (fields_of command).has_globals ≡ false }
+    ensures app { IfOk result (λ more. app_of more ≡ told_app (app_of command.entry)) }
+    ensures local { IfOk result (λ more. (fields_of more).has_globals ≡ false) }
+{
+    with_forms(alloc, command)?
+        .arg(flag_arg(alloc, "map", help::MAP_FORM))?
+        .arg(flag_arg(alloc, "page", help::PAGE_FORM))
 }
 
 // The command with one more subcommand.
@@ -467,7 +504,7 @@ fn line_of<'a>(alloc: Global, name: &str, own: &ArgMatches<'a>) -> Result<Line, 
     ensures taken { IfOk result (λ _. choice_kinds name.now (values_of (found_of own.now)) ≡ []) }
     ensures refused { IfErr result (IsRefusedFor (choice_kinds name.now (values_of (found_of own.now)))) }
 {
-    match question_of(name, own) {
+    match question_of(alloc, name, own)? {
         Some(question) => Ok(Line::Outside {
             question,
             file: given(alloc, own, "file")?,
@@ -493,17 +530,65 @@ fn progress_form<'a>(own: &ArgMatches<'a>) -> ProgressForm
     }
 }
 
-fn question_of<'a>(name: &str, own: &ArgMatches<'a>) -> Option<Question>
-    ensures some { IfSome result (IsQuestion name.now (values_of (found_of own.now))) }
-    ensures none { result ≡ None → ¬ IsQuestionName name.now }
+fn question_of<'a>(
+    alloc: Global,
+    name: &str,
+    own: &ArgMatches<'a>,
+) -> Result<Option<Question>, WordsFault>
+    ensures some { IfOk result (λ question. IfSome question (IsQuestion name.now (values_of (found_of own.now)))) }
+    ensures none { IfOk result (λ question. question ≡ None → ¬ IsQuestionName name.now) }
+    ensures taken { IfOk result (λ question. is_some question ≡ true → choice_kinds name.now (values_of (found_of own.now)) ≡ []) }
+    ensures refused { IfErr result (IsRefusedFor (choice_kinds name.now (values_of (found_of own.now)))) }
 {
     match name {
-        "asks" => Some(Question::Asks),
-        "report" => Some(Question::Report {
-            brief: is_set(own, "brief"),
+        "asks" => Ok(Some(Question::Asks)),
+        "report" => Ok(Some(Question::Report {
+            form: told_form_of(alloc, own)?,
             strict: is_strict(own),
-        }),
-        _ => None,
+        })),
+        _ => Ok(None),
+    }
+}
+
+// Adds the form where its flag was given.
+fn add_named<'a>(
+    forms: &mut Vec<ToldForm>,
+    own: &ArgMatches<'a>,
+    flag: &str,
+    form: ToldForm,
+) -> Result<(), AllocError>
+    ensures { OnOk result (forms.new.items ≡ forms.old.items ++ named_if (first_value (found_of own.now) flag.now) form) }
+{
+    if is_set(own, flag) {
+        forms.push(form)?;
+    }
+    Ok(())
+}
+
+// The forms of a report by answers whose flags were given.
+fn told_forms<'a>(alloc: Global, own: &ArgMatches<'a>) -> Result<Vec<ToldForm>, AllocError>
+    ensures { IfOk result (λ forms. forms.items ≡ told_forms (values_of (found_of own.now))) }
+{
+    let mut forms = Vec::new(alloc);
+    add_named(&mut forms, own, "brief", ToldForm::Brief)?;
+    add_named(&mut forms, own, "json", ToldForm::Json)?;
+    add_named(&mut forms, own, "junit", ToldForm::Junit)?;
+    add_named(&mut forms, own, "map", ToldForm::Map)?;
+    add_named(&mut forms, own, "page", ToldForm::Page)?;
+    Ok(forms)
+}
+
+// The form of the report by answers, which one flag at most names.
+fn told_form_of<'a>(alloc: Global, own: &ArgMatches<'a>) -> Result<ToldForm, WordsFault>
+    ensures ok { IfOk result (λ form. told_form_of (values_of (found_of own.now)) ≡ Some form) }
+    ensures taken { IfOk result (λ _. told_form_kinds (told_form_of (values_of (found_of own.now))) ≡ []) }
+    ensures refused { IfErr result (IsRefusedFor (told_form_kinds (told_form_of (values_of (found_of own.now))))) }
+{
+    let forms = told_forms(alloc, own)?;
+    match forms.as_slice() {
+        [] => Ok(ToldForm::Whole),
+        [form] => Ok(*form),
+        [one, other, ..] => Err(two_forms(alloc, "report", one.flag(), other.flag())),
     }
 }
 
@@ -523,20 +608,21 @@ fn form_of<'a>(alloc: Global, own: &ArgMatches<'a>) -> Result<Form, WordsFault>
         (true, false, false) => Ok(Form::Brief),
         (false, true, false) => Ok(Form::Json),
         (false, false, true) => Ok(Form::Junit),
-        (true, true, _) => Err(two_forms(alloc, "--brief", "--json")),
-        (true, false, true) => Err(two_forms(alloc, "--brief", "--junit")),
-        (false, true, true) => Err(two_forms(alloc, "--json", "--junit")),
+        (true, true, _) => Err(two_forms(alloc, "run", "brief", "json")),
+        (true, false, true) => Err(two_forms(alloc, "run", "brief", "junit")),
+        (false, true, true) => Err(two_forms(alloc, "run", "json", "junit")),
     }
 }
 
-// The refusal of two flags that each name a form.
-fn two_forms(alloc: Global, one: &str, other: &str) -> WordsFault
+// The refusal of two flags of a command that each name a form.
+fn two_forms(alloc: Global, name: &str, one: &str, other: &str) -> WordsFault
     ensures { IsRefusedFor (ErrorKind.ArgumentConflict ∷ []) result }
 {
-    let Ok(message) = format!(in alloc; "the argument '{one}' cannot be used with '{other}'") else {
+    let Ok(message) = format!(in alloc; "the argument '--{one}' cannot be used with '--{other}'")
+    else {
         return WordsFault::Memory;
     };
-    unfit(alloc, "run", ErrorKind::ArgumentConflict, message.as_str())
+    unfit(alloc, name, ErrorKind::ArgumentConflict, message.as_str())
 }
 
 // Whether the report is to be strict.
@@ -646,6 +732,7 @@ fn unfit(alloc: Global, name: &str, kind: ErrorKind, message: &str) -> WordsFaul
 fn usage(name: &str) -> &'static str {
     match name {
         "run" => "paklour run [OPTIONS] [FILE]",
+        "report" => "paklour report [OPTIONS] <FILE>",
         "try" => "paklour try <--scenario <TEXT>|--plan <N>> [FILE]",
         "explain" => "paklour explain <--scenario <TEXT>|--plan <N>> [FILE]",
         _ => "paklour reduce [OPTIONS] <--scenario <TEXT>|--plan <N>> [FILE]",

@@ -1,5 +1,5 @@
 -- What answers come to.
-use Rattle.std.proofs.Common.{◌≡◌, ℕ, zero, suc, ◌<◌, List, [], ◌∷◌, ◌++◌, Bool, true, false, Option, Some, None, Result, Ok, Err, length, take, get_or, map, All, refl, ap, sym, ◌∙◌, arith, subst, option_map}
+use Rattle.std.proofs.Common.{◌≡◌, ℕ, zero, suc, ◌<◌, List, [], ◌∷◌, ◌++◌, Bool, true, Option, Some, None, Result, Ok, Err, length, take, get_or, map, All, refl, ap, sym, ◌∙◌, arith, subst, option_map}
 use Rattle.std.specs.Prelude.{◌≤◌, slice_get, IfErr, IsErrAnd}
 use Rattle.std.proofs.lemmas.List.{length-map}
 use Rattle.std.specs.Io.KnownBytes.{Appends}
@@ -13,7 +13,7 @@ use Rattle.result_book.specs.Slots.{in_book}
 use Rattle.result_book.proofs.EachCodeLemmas.{firsts_in, firsts_full}
 use Rattle.result_book.proofs.SlotLemmas.{length_verdicts}
 use Rattle.plan_gen.specs.PlanList.{most_plans}
-use Rattle.report.specs.Reports.{FindingFacts}
+use Rattle.report.specs.Reports.{FindingFacts, ReportFacts}
 use Rattle.report.specs.ReportText.{text_of}
 use Rattle.answer_text.specs.Known.{KnownVerdicts, known_by, Agrees, AgreesWithText}
 use Rattle.answer_text.specs.Answers.{Answer, Says}
@@ -23,10 +23,11 @@ use Rattle.campaign_given.specs.Given.{Given}
 use Rattle.campaign_core.specs.Findings.{finding}
 use Rattle.outside_campaign.specs.Outside.{Component, say}
 use Rattle.outside_campaign.specs.Asked.{open_plans, open_cards, plan_verdicts, known_failures, lines_for}
-use Rattle.outside_campaign.specs.Campaigns.{plans as plans_of, asks_text, first_failure, untried, untried_by, AsksFault}
-use Rattle.outside_campaign.specs.inside.Results.{AreOf, IsFirst, AreWithVerdicts, AreResults, text_in, report_in}
-use Rattle.outside_campaign.specs.declared.telling.Form.{Form}
-use Rattle.outside_campaign.specs.declared.telling.Form.TheVariants.{Whole, Brief}
+use Rattle.outside_campaign.specs.Campaigns.{plans as plans_of, code_name, report as report_by, report_in, shown, asks_text, first_failure, untried, untried_by, AsksFault}
+use Rattle.outside_campaign.specs.Forms.{text_in}
+use Rattle.outside_campaign.specs.ToldPlans.{AreOf, AreResults}
+use Rattle.outside_campaign.specs.inside.Results.{IsFirst, AreWithVerdicts, facts_of}
+use Rattle.outside_campaign.specs.declared.forms.Form.{Form}
 use Rattle.campaign_core.specs.declared.ending.CampaignFault.TheVariants as campaign
 use Rattle.outside_campaign.specs.declared.refusal.OutsideFault.{OutsideFault}
 use Rattle.outside_campaign.specs.declared.refusal.OutsideFault.TheVariants as refusal
@@ -81,20 +82,15 @@ told_all known plans failures findings (NotAnswered t) fe h w = (w.0, none_open 
 pub agrees_with_known : (names : List (List ℕ)) (text : List ℕ) (known : KnownVerdicts) (component : Component) → known ≡ known_by names text → AgreesWithText names text component → Agrees component known
 agrees_with_known names text known component is agrees = subst (Agrees component) (sym is) (agrees_by names text component agrees)
 
-report_in_is : (form : Form) (outside : Description) (settings : Given) (component : Component)
-    → text_in form outside settings.plans.seed (verdicts_from (say component) 0 (plans_of outside settings)) (map (finding (say component) (plans_of outside settings)) (first_failures (numbered (verdicts_from (say component) 0 (plans_of outside settings))))) (plans_of outside settings)
-    ≡ report_in form outside settings component
-report_in_is Whole outside settings component = refl
-report_in_is Brief outside settings component = refl
-
-pub report_is : (form : Form) (outside : Description) (settings : Given) (component : Component) (plans : List Entries) (verdicts : List Verdict) (findings : List FindingFacts) → plans ≡ plans_of outside settings → AreOf component plans verdicts findings
-    → text_in form outside settings.plans.seed verdicts findings plans ≡ report_in form outside settings component
-report_is form outside settings component plans verdicts findings is of =
-    let text : List Verdict → List FindingFacts → List Entries → List ℕ = text_in form outside settings.plans.seed in
-    let whole : List Entries → List ℕ = λ ps. text (verdicts_from (say component) 0 ps) (map (finding (say component) ps) (first_failures (numbered (verdicts_from (say component) 0 ps)))) ps in
-    ap (λ (vs : List Verdict). text vs findings plans) of.verdicts_are
-    ∙ ap (λ (fs : List FindingFacts). text (verdicts_from (say component) 0 plans) fs plans) of.findings_are
-    ∙ ap whole is ∙ report_in_is form outside settings component
+-- by the verdicts and findings of a component the report is its own
+pub report_is : (outside : Description) (settings : Given) (component : Component) (plans : List Entries) (verdicts : List Verdict) (findings : List FindingFacts) → plans ≡ plans_of outside settings → AreOf component plans verdicts findings
+    → facts_of outside settings.plans.seed verdicts findings ≡ report_by outside settings component
+report_is outside settings component plans verdicts findings is of =
+    let facts : List Verdict → List FindingFacts → ReportFacts = facts_of outside settings.plans.seed in
+    let whole : List Entries → ReportFacts = λ ps. facts (verdicts_from (say component) 0 ps) (map (finding (say component) ps) (first_failures (numbered (verdicts_from (say component) 0 ps)))) in
+    ap (λ (vs : List Verdict). facts vs findings) of.verdicts_are
+    ∙ ap (λ (fs : List FindingFacts). facts (verdicts_from (say component) 0 plans) fs) of.findings_are
+    ∙ ap whole is
 
 first_of : (f : ℕ × ℕ → FindingFacts) (fs : List (ℕ × ℕ)) → ((x : ℕ × ℕ) → (f x).number ≡ x.0) → option_map (λ x. x.number) (slice_get (map f fs) 0) ≡ option_map (λ x. x.0) (slice_get fs 0)
 first_of f [] own = refl
@@ -124,12 +120,13 @@ asks_cut outside settings answers old new failed known plans bytes n (Err f) is 
     subst P (sym is) (subst Q whole (wrote, less), bad, few)
 
 -- what is told is the report of each component that agrees
-pub report_told : (form : Form) (outside : Description) (settings : Given) (answers : List ℕ) (known : KnownVerdicts) (plans : List Entries) (verdicts : List Verdict) (findings : List FindingFacts) (bytes : List ℕ)
+pub report_told : (form : Form) (outside : Description) (settings : Given) (answers : List ℕ) (known : KnownVerdicts) (plans : List Entries) (verdicts : List Verdict) (findings : List FindingFacts) (report : ReportFacts) (bytes : List ℕ)
     → known ≡ known_by outside.codes answers → plans ≡ plans_of outside settings → ((component : Component) → Agrees component known → AreOf component plans verdicts findings)
-    → bytes ≡ text_in form outside settings.plans.seed verdicts findings plans
+    → report ≡ facts_of outside settings.plans.seed verdicts findings → bytes ≡ text_in form outside.points (code_name outside.codes) report (shown outside settings)
     → (component : Component) → AgreesWithText outside.codes answers component → bytes ≡ report_in form outside settings component
-report_told form outside settings answers known plans verdicts findings bytes k p own b component agrees =
-    b ∙ report_is form outside settings component plans verdicts findings p (own component (agrees_with_known outside.codes answers known component k agrees))
+report_told form outside settings answers known plans verdicts findings report bytes k p own r b component agrees =
+    b ∙ ap (λ (facts : ReportFacts). text_in form outside.points (code_name outside.codes) facts (shown outside settings))
+    (r ∙ report_is outside settings component plans verdicts findings p (own component (agrees_with_known outside.codes answers known component k agrees)))
 
 pub first_told : (outside : Description) (settings : Given) (answers : List ℕ) (known : KnownVerdicts) (plans : List Entries) (verdicts : List Verdict) (findings : List FindingFacts) (first : Option ℕ)
     → known ≡ known_by outside.codes answers → plans ≡ plans_of outside settings → ((component : Component) → Agrees component known → AreOf component plans verdicts findings)

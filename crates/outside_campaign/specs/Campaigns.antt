@@ -6,8 +6,8 @@ use Rattle.scenario_values.specs.Scenario.{Entries}
 use Rattle.plan_gen.specs.PlanList.{most_plans, plan_list}
 use Rattle.result_book.specs.Verdicts.{verdicts_from, numbered}
 use Rattle.result_book.specs.FirstFailures.{first_failures}
-use Rattle.report.specs.BriefText.{brief_lines}
-use Rattle.report.specs.ReportText.{report_lines, text_of}
+use Rattle.report.specs.Reports.{ReportFacts}
+use Rattle.report.specs.ReportText.{text_of}
 use Rattle.answer_text.specs.FirstFault.{reading_of}
 use Rattle.answer_text.specs.Known.{KnownVerdicts, known_by, AgreesWithText}
 use Rattle.campaign_given.specs.Description.{Description}
@@ -18,6 +18,8 @@ use Rattle.campaign_core.specs.declared.ending.CampaignFault.{CampaignFault}
 use Rattle.campaign_core.specs.declared.ending.CampaignFault.TheVariants as campaign
 use Rattle.outside_campaign.specs.Outside.{Component, say}
 use Rattle.outside_campaign.specs.Asked.{to_try, lines_for, known_failures}
+use Rattle.outside_campaign.specs.Forms.{ShownFacts, text_in}
+use Rattle.outside_campaign.specs.declared.forms.Form.{Form}
 use Rattle.outside_campaign.specs.declared.refusal.OutsideFault.{OutsideFault}
 use Rattle.outside_campaign.specs.declared.refusal.OutsideFault.TheVariants as refusal
 
@@ -32,15 +34,24 @@ plans_text outside given = text_of (plan_lines 0 (plans outside given))
 abbrev pub code_name : List (List ℕ) → ℕ → List ℕ
 code_name codes number = slice_index_or codes number []
 
--- the report's text, for a component
-abbrev pub report_text : Description → Given → Component → List ℕ
-report_text outside given component = text_of (report_lines outside.points (code_name outside.codes)
-    (report_of (say component) outside.label given.plans.seed outside.hits (plans outside given) None))
+-- what the report tells, for a component
+abbrev pub report : Description → Given → Component → ReportFacts
+report outside given component = report_of (say component) outside.label given.plans.seed outside.hits (plans outside given) None
 
--- the same of the brief report
-abbrev pub brief_report_text : Description → Given → Component → List ℕ
-brief_report_text outside given component = text_of (brief_lines outside.points (code_name outside.codes)
-    (report_of (say component) outside.label given.plans.seed outside.hits (plans outside given) None) (plans outside given))
+-- what is shown beside it: none of the plans grew
+abbrev pub shown : Description → Given → ShownFacts
+shown outside given = record {
+  plans = plans outside given;
+  pairs = given.plans.pairs;
+  grown = [];
+  onward = 0;
+  settings = given.source;
+}
+
+-- the text of the report in a form
+abbrev pub report_in : Form → Description → Given → Component → List ℕ
+report_in form outside given component =
+    text_in form outside.points (code_name outside.codes) (report outside given component) (shown outside given)
 
 -- the least number of a plan that fails
 abbrev pub first_failure : Description → Given → Component → Option ℕ
@@ -92,9 +103,6 @@ TextFault text outside given answers old new failed (refusal.Campaign fault) =
     (λ n. (component : Component) → AgreesWithText outside.codes answers component → IsCut old new (text component) n)
     old new failed fault
 
--- of the report, and of the brief one
-abbrev pub ReportFault : Description → Given → List ℕ → Option (List ℕ) → Option (List ℕ) → Bool → OutsideFault → Type 0
-ReportFault outside given = TextFault (report_text outside given) outside given
-
-abbrev pub BriefFault : Description → Given → List ℕ → Option (List ℕ) → Option (List ℕ) → Bool → OutsideFault → Type 0
-BriefFault outside given = TextFault (brief_report_text outside given) outside given
+-- of the report in a form
+abbrev pub ReportFault : Form → Description → Given → List ℕ → Option (List ℕ) → Option (List ℕ) → Bool → OutsideFault → Type 0
+ReportFault form outside given = TextFault (report_in form outside given) outside given

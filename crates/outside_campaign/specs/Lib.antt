@@ -1,6 +1,8 @@
 pub mod Outside
 pub mod Reached
 pub mod Asked
+pub mod Forms
 pub mod Campaigns
 pub mod Results
+pub mod ToldPlans
 pub mod inside

@@ -1,17 +1,16 @@
 //! What is still to be tried.
-ghost use Rattle.std.specs.Prelude.{◌≡◌, ◌<◌, ◌≤◌, ◌∷◌, ◌++◌, [], All, length, map, IfOk, OnOk, fold, string_bytes};
+ghost use Rattle.std.specs.Prelude.{◌≡◌, ◌<◌, ◌∷◌, ◌++◌, [], All, length, map, IfOk, OnOk, fold, string_bytes};
 ghost use Rattle.std.specs.Str.{bytes_eq};
 ghost use Rattle.indexmap.specs.IndexSet.{insert_key};
 ghost use Rattle.report.specs.ReportText.{scenario_text, text_of};
-ghost use Rattle.answer_text.specs.Known.{verdict_in};
 ghost use Rattle.outside_campaign.specs.Asked.{asked, lines_for, open_plans};
 ghost use Rattle.outside_campaign.specs.Campaigns.{untried};
 
 use crate::findings::{Findings, findings_known};
+use crate::table::VerdictTable;
 use crate::verdicts::plan_verdicts;
-use answer_text::Known;
+use campaign_plans::{CampaignPlan, CampaignPlans};
 use indexmap::IndexSet;
-use plan_gen::{Plan, PlanList};
 use report::write_scenario;
 use result_book::first_failures_of;
 use scenario_values::{Scenario, Text, tidy};
@@ -41,16 +40,16 @@ fn add_cards(
 }
 
 /// Adds a plan that isn't answered, tidied.
-fn add_plan(
+fn add_plan<K: VerdictTable>(
     alloc: Global,
     lines: &mut IndexSet<Text>,
-    known: &Known,
-    plan: &Plan<'_>,
+    known: &K,
+    plan: &CampaignPlan<'_>,
 ) -> Result<(), AllocError>
-    ensures { OnOk result (lines.new.keys ≡ fold (insert_key bytes_eq) lines.old.keys (map scenario_text (open_plans (verdict_in known.now) (plan.now ∷ [])))) }
+    ensures { OnOk result (lines.new.keys ≡ fold (insert_key bytes_eq) lines.old.keys (map scenario_text (open_plans (K.verdicts known.now) (plan.now ∷ [])))) }
 {
     let scenario = plan.scenario(alloc)?;
-    match known.verdict_of(alloc, &scenario)? {
+    match known.look_up(alloc, &scenario)? {
         Some(_) => Ok(()),
         None => {
             let tidied = tidy(alloc, &scenario)?;
@@ -59,13 +58,13 @@ fn add_plan(
     }
 }
 
-fn add_plans(
+fn add_plans<K: VerdictTable>(
     alloc: Global,
     lines: &mut IndexSet<Text>,
-    known: &Known,
-    plans: &PlanList<'_>,
+    known: &K,
+    plans: &CampaignPlans<'_>,
 ) -> Result<(), AllocError>
-    ensures { OnOk result (lines.new.keys ≡ fold (insert_key bytes_eq) lines.old.keys (map scenario_text (open_plans (verdict_in known.now) plans.now))) }
+    ensures { OnOk result (lines.new.keys ≡ fold (insert_key bytes_eq) lines.old.keys (map scenario_text (open_plans (K.verdicts known.now) plans.now))) }
 {
     for number in 0..plans.len() {
         add_plan(alloc, lines, known, &plans.plan(number))?;
@@ -74,13 +73,13 @@ fn add_plans(
 }
 
 /// The texts of these cards, and of each plan that isn't answered.
-fn asked(
+fn asked<K: VerdictTable>(
     alloc: Global,
-    known: &Known,
+    known: &K,
     cards: &[Scenario],
-    plans: &PlanList<'_>,
+    plans: &CampaignPlans<'_>,
 ) -> Result<IndexSet<Text>, AllocError>
-    ensures { IfOk result (λ lines. lines.keys ≡ lines_for (cards.now ++ open_plans (verdict_in known.now) plans.now)) }
+    ensures { IfOk result (λ lines. lines.keys ≡ lines_for (cards.now ++ open_plans (K.verdicts known.now) plans.now)) }
 {
     let mut lines = IndexSet::new(alloc);
     add_cards(alloc, &mut lines, cards)?;
@@ -92,14 +91,14 @@ fn asked(
 /// the reductions of these failures, each the number of a plan and its code, and then each plan that isn't answered, in the plans' order.
 ///
 /// Any of them may be tried in any order. An error means that memory was refused.
-pub fn asks(
+pub fn asks<K: VerdictTable>(
     alloc: Global,
-    known: &Known,
-    plans: &PlanList<'_>,
+    known: &K,
+    plans: &CampaignPlans<'_>,
     failures: &[(u32, u32)],
 ) -> Result<IndexSet<Text>, AllocError>
     requires { All (λ f. f.0 < length plans.now) failures.now }
-    ensures { IfOk result (λ lines. lines.keys ≡ asked (verdict_in known.now) plans.now failures.now) }
+    ensures { IfOk result (λ lines. lines.keys ≡ asked (K.verdicts known.now) plans.now failures.now) }
 {
     match findings_known(alloc, known, plans, failures)? {
         Findings::Told(_) => asked(alloc, known, &[], plans),
@@ -108,7 +107,7 @@ pub fn asks(
 }
 
 /// The lines, each with its line feed. An error means that memory was refused.
-fn joined(alloc: Global, lines: &IndexSet<Text>) -> Result<String, AllocError>
+pub fn joined(alloc: Global, lines: &IndexSet<Text>) -> Result<String, AllocError>
     ensures { IfOk result (λ text. string_bytes text ≡ text_of lines.now.keys) }
 {
     let mut text = String::new(alloc);
@@ -121,9 +120,12 @@ fn joined(alloc: Global, lines: &IndexSet<Text>) -> Result<String, AllocError>
 
 /// The lines that ask for what is still to be tried of these plans, where the reductions are those of the first failures known. An error
 /// means that memory was refused.
-pub fn asks_text(alloc: Global, known: &Known, plans: &PlanList<'_>) -> Result<String, AllocError>
-    requires { length plans.now ≤ 65536 }
-    ensures { IfOk result (λ text. string_bytes text ≡ text_of (lines_for (untried (verdict_in known.now) plans.now))) }
+pub fn asks_text<K: VerdictTable>(
+    alloc: Global,
+    known: &K,
+    plans: &CampaignPlans<'_>,
+) -> Result<String, AllocError>
+    ensures { IfOk result (λ text. string_bytes text ≡ text_of (lines_for (untried (K.verdicts known.now) plans.now))) }
 {
     let verdicts = plan_verdicts(alloc, known, plans)?;
     let failures = first_failures_of(alloc, verdicts.as_slice())?;

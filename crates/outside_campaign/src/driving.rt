@@ -10,6 +10,7 @@ use crate::planned::{borrowed, planned};
 use crate::refusal::OutsideFault;
 use answer_text::read;
 use campaign_given::{CampaignSettings, Outside};
+use campaign_plans::CampaignPlans;
 use report::write_report;
 use std::alloc::Global;
 use target_trait::Sink;
@@ -40,7 +41,7 @@ pub fn write_asks<W: Sink>(
     let known = read(alloc, outside.codes.as_slice(), answers)?;
     let points = borrowed(alloc, outside.points.as_slice())?;
     let plans = planned(alloc, points.as_slice(), outside, settings)?;
-    let text = asks_text(alloc, &known, &plans)?;
+    let text = asks_text(alloc, &known, &CampaignPlans::by_census(&plans))?;
     write_report(text.as_bytes(), sink)?;
     Ok(())
 }

@@ -1,11 +1,11 @@
 //! What is told of failures, by what is known.
 ghost use Rattle.std.specs.Prelude.{◌≡◌, ◌<◌, All, length, IfOk, OnOk};
-ghost use Rattle.answer_text.specs.Known.{verdict_in};
-ghost use Rattle.outside_campaign.specs.inside.Told.{IsLook, IsGathered, AreFindings};
+ghost use Rattle.outside_campaign.specs.ToldPlans.{AreFindings};
+ghost use Rattle.outside_campaign.specs.inside.Told.{IsLook, IsGathered};
 
 use crate::reduction::{Reached, reduce_known};
-use answer_text::Known;
-use plan_gen::PlanList;
+use crate::table::VerdictTable;
+use campaign_plans::CampaignPlans;
 use report::Finding;
 use scenario_values::{Scenario, keep, tidy};
 use std::alloc::{AllocError, Global};
@@ -28,14 +28,14 @@ pub enum Findings {
 }
 
 /// What is told of a plan that fails with this code.
-fn look_at(
+fn look_at<K: VerdictTable>(
     alloc: Global,
-    known: &Known,
+    known: &K,
     scenario: Scenario,
     number: u32,
     code: u32,
 ) -> Result<Look, AllocError>
-    ensures { IfOk result (IsLook (verdict_in known.now) number code scenario) }
+    ensures { IfOk result (IsLook (K.verdicts known.now) number code scenario) }
 {
     let _ = scenario.entries();
     match reduce_known(alloc, known, &scenario, code)? {
@@ -79,14 +79,14 @@ fn gather(
 /// that agrees with what is known; or the open candidates of their reductions.
 ///
 /// An error means that memory was refused.
-pub fn findings_known(
+pub fn findings_known<K: VerdictTable>(
     alloc: Global,
-    known: &Known,
-    plans: &PlanList<'_>,
+    known: &K,
+    plans: &CampaignPlans<'_>,
     failures: &[(u32, u32)],
 ) -> Result<Findings, AllocError>
     requires { All (λ f. f.0 < length plans.now) failures.now }
-    ensures { IfOk result (AreFindings (verdict_in known.now) plans.now failures.now) }
+    ensures { IfOk result (AreFindings (K.verdicts known.now) plans.now failures.now) }
 {
     let mut findings = Vec::new(alloc);
     let mut cards = Vec::new(alloc);

@@ -1,11 +1,10 @@
 //! Reductions by what is known.
 ghost use Rattle.std.specs.Prelude.{◌≡◌, IfOk, OnOk};
 ghost use Rattle.scenario_values.specs.Scenario.{all_faults};
-ghost use Rattle.answer_text.specs.Known.{verdict_in};
 ghost use Rattle.outside_campaign.specs.Reached.{IsReached};
 ghost use Rattle.outside_campaign.specs.inside.Tests.{IsTested, IsSettled, IsEnded};
 
-use answer_text::Known;
+use crate::table::VerdictTable;
 use campaign_core::{fails_with, fault_count};
 use ddmin_parallel::{Card, Core, Reduction};
 use scenario_values::{Scenario, are_faults, keep, tidy};
@@ -31,23 +30,23 @@ enum Test {
 }
 
 /// What is known of the scenario with the faults of the set alone. A list that isn't faults of the scenario in ascending order fails not.
-fn look_up(
+fn look_up<K: VerdictTable>(
     alloc: Global,
-    known: &Known,
+    known: &K,
     scenario: &Scenario,
     faults: u32,
     code: u32,
     set: &[u32],
 ) -> Result<Test, AllocError>
     requires { faults ≡ all_faults scenario.now }
-    ensures { IfOk result (IsTested (verdict_in known.now) code scenario.now set.now) }
+    ensures { IfOk result (IsTested (K.verdicts known.now) code scenario.now set.now) }
 {
     let _ = scenario.entries();
     if !are_faults(faults, set) {
         return Ok(Test::Told(false));
     }
     let kept = keep(alloc, scenario, set)?;
-    match known.verdict_of(alloc, &kept)? {
+    match known.look_up(alloc, &kept)? {
         Some(verdict) => Ok(Test::Told(fails_with(code, verdict))),
         None => Ok(Test::Untold(tidy(alloc, &kept)?)),
     }
@@ -90,13 +89,13 @@ fn ended(alloc: Global, core: &Core, untried: Vec<Scenario>) -> Result<Reached, 
 ///
 /// Each answer is looked up, and none is asked of a component; a verdict that isn't a failure with the code is no failure here. An error
 /// means that memory was refused.
-pub fn reduce_known(
+pub fn reduce_known<K: VerdictTable>(
     alloc: Global,
-    known: &Known,
+    known: &K,
     scenario: &Scenario,
     code: u32,
 ) -> Result<Reached, AllocError>
-    ensures { IfOk result (IsReached (verdict_in known.now) code scenario.now) }
+    ensures { IfOk result (IsReached (K.verdicts known.now) code scenario.now) }
 {
     let faults = fault_count(alloc, scenario)?;
     let mut core = Core::start(alloc, faults);

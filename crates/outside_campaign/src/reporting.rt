@@ -4,16 +4,18 @@ ghost use Rattle.std.specs.Io.KnownBytes.{Appends};
 ghost use Rattle.plan_gen.specs.PlanList.{most_plans};
 ghost use Rattle.answer_text.specs.Known.{AgreesWithText};
 ghost use Rattle.outside_campaign.specs.Outside.{Component};
-ghost use Rattle.outside_campaign.specs.Campaigns.{plans, report_text, brief_report_text, first_failure, untried_by, ReportFault, BriefFault, TextFault};
-ghost use Rattle.outside_campaign.specs.inside.Results.{report_in, IsUntold};
+ghost use Rattle.outside_campaign.specs.Campaigns.{plans, report_in, first_failure, untried_by, ReportFault};
+ghost use Rattle.outside_campaign.specs.inside.Results.{IsUntold};
 
+use crate::forms::Form;
 use crate::planned::{borrowed, planned};
 use crate::refusal::OutsideFault;
 use crate::results::{Results, results_known};
-use crate::telling::{Form, first_number, told_text};
+use crate::telling::{first_number, report_of, told_text};
 use answer_text::read;
 use campaign_core::Ending;
 use campaign_given::{CampaignSettings, Outside};
+use campaign_plans::CampaignPlans;
 use report::write_report;
 use std::alloc::Global;
 use target_trait::Sink;
@@ -21,13 +23,13 @@ use target_trait::Sink;
 /// The text of the report in this form, and the number of the first plan that fails, by the answers.
 fn told(
     alloc: Global,
-    form: Form,
+    form: &Form<'_>,
     outside: &Outside,
     settings: &CampaignSettings,
     answers: &[u8],
 ) -> Result<(Vec<u8>, Option<u32>), OutsideFault>
     ensures text { IfOk result (λ r. (component : Component) → AgreesWithText outside.now.codes answers.now component
-        → r.0.items ≡ report_in form outside.now settings.now component) }
+        → r.0.items ≡ report_in form.now outside.now settings.now component) }
     ensures first { IfOk result (λ r. (component : Component) → AgreesWithText outside.now.codes answers.now component
         → r.1 ≡ first_failure outside.now settings.now component) }
     ensures some { OnOk result ((component : Component) × AgreesWithText outside.now.codes answers.now component) }
@@ -37,62 +39,30 @@ fn told(
 {
     let known = read(alloc, outside.codes.as_slice(), answers)?;
     let points = borrowed(alloc, outside.points.as_slice())?;
-    let plans = planned(alloc, points.as_slice(), outside, settings)?;
+    let list = planned(alloc, points.as_slice(), outside, settings)?;
+    let plans = CampaignPlans::by_census(&list);
     match results_known(alloc, &known, &plans)? {
         Results::NotAnswered(scenario) => Err(OutsideFault::NotAnswered(scenario)),
         Results::Told(verdicts, findings) => {
             let first = first_number(&findings);
-            let verdicts = verdicts.as_slice();
-            let text = told_text(
-                alloc,
-                form,
-                outside,
-                settings.seed,
-                verdicts,
-                findings,
-                &plans,
-            )?;
+            let report = report_of(outside, settings.seed, verdicts.as_slice(), findings);
+            let text = told_text(alloc, form, outside, settings, &report, &plans)?;
             Ok((text, first))
         }
     }
 }
 
-/// Writes the report in this form.
-fn write_in<W: Sink>(
-    alloc: Global,
-    form: Form,
-    outside: &Outside,
-    settings: &CampaignSettings,
-    answers: &[u8],
-    sink: &mut W,
-) -> Result<Ending, OutsideFault>
-    requires { W.has_failed sink.old ≡ false }
-    ensures text { OnOk result ((component : Component) → AgreesWithText outside.now.codes answers.now component
-        → Appends (W.told sink.old) (W.told sink.new) (report_in form outside.now settings.now component)) }
-    ensures first { IfOk result (λ ending. (component : Component) → AgreesWithText outside.now.codes answers.now component
-        → ending.first ≡ first_failure outside.now settings.now component) }
-    ensures some { OnOk result ((component : Component) × AgreesWithText outside.now.codes answers.now component) }
-    ensures all { OnOk result (untried_by outside.now settings.now answers.now ≡ []) }
-    ensures few { OnOk result (length (plans outside.now settings.now) ≤ most_plans) }
-    ensures sound { OnOk result (W.has_failed sink.new ≡ false) }
-    ensures fault { IfErr result (TextFault (report_in form outside.now settings.now) outside.now settings.now answers.now
-        (W.told sink.old) (W.told sink.new) (W.has_failed sink.new)) }
-{
-    let (text, first) = told(alloc, form, outside, settings, answers)?;
-    write_report(text.as_slice(), sink)?;
-    Ok(Ending { first })
-}
-
-/// Writes the report of a campaign on a component that somebody else runs, by the answers: for every component that agrees with them, a
-/// function from tidied scenarios to verdicts, it is the report over all plans, with the first failure of each code reduced by what that
-/// component says.
+/// Writes the report of a campaign on a component that somebody else runs, in a form, by the answers: for every component that agrees with
+/// them, a function from tidied scenarios to verdicts, it is the report over all plans, with the first failure of each code reduced by what
+/// that component says.
 ///
 /// Nothing is written before the whole text stands. `Answers` is the answers' first fault; `NotAnswered` is the first scenario that is
 /// still to be tried, where one is; and of a fault as of a campaign, `TooManyPlans` comes only where the list has more than 65536 plans.
 /// After each of these, and where memory was refused, the sink is as it was and hasn't failed; `Write` tells how many bytes of the text,
 /// fewer than all, went out before the sink failed.
-pub fn write_told<W: Sink>(
+pub fn write_report_in<W: Sink>(
     alloc: Global,
+    form: &Form<'_>,
     outside: &Outside,
     settings: &CampaignSettings,
     answers: &[u8],
@@ -101,7 +71,7 @@ pub fn write_told<W: Sink>(
     requires { W.has_failed sink.old ≡ false }
     // The promise: for every component that agrees with the answers.
     ensures text { OnOk result ((component : Component) → AgreesWithText outside.now.codes answers.now component
-        → Appends (W.told sink.old) (W.told sink.new) (report_text outside.now settings.now component)) }
+        → Appends (W.told sink.old) (W.told sink.new) (report_in form.now outside.now settings.now component)) }
     ensures first { IfOk result (λ ending. (component : Component) → AgreesWithText outside.now.codes answers.now component
         → ending.first ≡ first_failure outside.now settings.now component) }
     // Some component agrees with the answers, and nothing is still to be tried.
@@ -109,32 +79,10 @@ pub fn write_told<W: Sink>(
     ensures all { OnOk result (untried_by outside.now settings.now answers.now ≡ []) }
     ensures few { OnOk result (length (plans outside.now settings.now) ≤ most_plans) }
     ensures sound { OnOk result (W.has_failed sink.new ≡ false) }
-    ensures fault { IfErr result (ReportFault outside.now settings.now answers.now (W.told sink.old) (W.told sink.new) (W.has_failed sink.new)) }
+    ensures fault { IfErr result (ReportFault form.now outside.now settings.now answers.now
+        (W.told sink.old) (W.told sink.new) (W.has_failed sink.new)) }
 {
-    write_in(alloc, Form::Whole, outside, settings, answers, sink)
-}
-
-/// Writes the brief report of a campaign on a component that somebody else runs, by the answers: as [`write_told`], with one line of counts
-/// in place of the verdicts that pass, and its scenario beside each other verdict. Its faults are those of [`write_told`].
-pub fn write_brief<W: Sink>(
-    alloc: Global,
-    outside: &Outside,
-    settings: &CampaignSettings,
-    answers: &[u8],
-    sink: &mut W,
-) -> Result<Ending, OutsideFault>
-    requires { W.has_failed sink.old ≡ false }
-    // The promise: for every component that agrees with the answers.
-    ensures text { OnOk result ((component : Component) → AgreesWithText outside.now.codes answers.now component
-        → Appends (W.told sink.old) (W.told sink.new) (brief_report_text outside.now settings.now component)) }
-    ensures first { IfOk result (λ ending. (component : Component) → AgreesWithText outside.now.codes answers.now component
-        → ending.first ≡ first_failure outside.now settings.now component) }
-    // Some component agrees with the answers, and nothing is still to be tried.
-    ensures some { OnOk result ((component : Component) × AgreesWithText outside.now.codes answers.now component) }
-    ensures all { OnOk result (untried_by outside.now settings.now answers.now ≡ []) }
-    ensures few { OnOk result (length (plans outside.now settings.now) ≤ most_plans) }
-    ensures sound { OnOk result (W.has_failed sink.new ≡ false) }
-    ensures fault { IfErr result (BriefFault outside.now settings.now answers.now (W.told sink.old) (W.told sink.new) (W.has_failed sink.new)) }
-{
-    write_in(alloc, Form::Brief, outside, settings, answers, sink)
+    let (text, first) = told(alloc, form, outside, settings, answers)?;
+    write_report(text.as_slice(), sink)?;
+    Ok(Ending { first })
 }

@@ -1,15 +1,16 @@
 //! What answers come to.
-ghost use Rattle.std.specs.Prelude.{◌≡◌, ◌<◌, ◌≤◌, length, IfOk};
+ghost use Rattle.std.specs.Prelude.{◌≡◌, ◌<◌, length, IfOk};
 ghost use Rattle.std.specs.List.{AllByRecursion};
 ghost use Rattle.scenario_values.specs.Scenario.{IsScenario};
-ghost use Rattle.answer_text.specs.Known.{KnownVerdicts, verdict_in};
+ghost use Rattle.answer_text.specs.Known.{KnownVerdicts};
 ghost use Rattle.outside_campaign.specs.Asked.{plan_verdicts};
-ghost use Rattle.outside_campaign.specs.inside.Results.{IsFirst, AreWithVerdicts, AreResults};
+ghost use Rattle.outside_campaign.specs.ToldPlans.{AreResults};
+ghost use Rattle.outside_campaign.specs.inside.Results.{IsFirst, AreWithVerdicts};
 
 use crate::findings::{Findings, findings_known};
+use crate::table::VerdictTable;
 use crate::verdicts::{Verdicts, plan_verdicts, verdicts_known};
-use answer_text::Known;
-use plan_gen::PlanList;
+use campaign_plans::CampaignPlans;
 use report::Finding;
 use result_book::first_failures_of;
 use scenario_values::Scenario;
@@ -39,7 +40,7 @@ fn first_card(cards: Vec<Scenario>) -> Result<Results, AllocError>
 /// What is told where no candidate is open.
 fn with_verdicts(
     alloc: Global,
-    plans: &PlanList<'_>,
+    plans: &CampaignPlans<'_>,
     verdicts: &[Option<Verdict>],
     findings: Vec<Finding>,
 ) -> Result<Results, AllocError>
@@ -55,13 +56,12 @@ fn with_verdicts(
 
 /// What is told of these plans by what is known: the results of each component that agrees with it, or the first scenario that is to be
 /// tried. An error means that memory was refused.
-pub fn results_known(
+pub fn results_known<K: VerdictTable>(
     alloc: Global,
-    known: &Known,
-    plans: &PlanList<'_>,
+    known: &K,
+    plans: &CampaignPlans<'_>,
 ) -> Result<Results, AllocError>
-    requires { length plans.now ≤ 65536 }
-    ensures { IfOk result (AreResults (verdict_in known.now) plans.now) }
+    ensures { IfOk result (AreResults (K.verdicts known.now) plans.now) }
 {
     let verdicts = plan_verdicts(alloc, known, plans)?;
     let failures = first_failures_of(alloc, verdicts.as_slice())?;

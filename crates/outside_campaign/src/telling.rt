@@ -1,27 +1,22 @@
-//! The text of a report, by the words of the settings.
-ghost use Rattle.std.specs.Prelude.{◌≡◌, ◌<◌, length, IfOk, option_map, slice_get};
-ghost use Rattle.outside_campaign.specs.inside.Results.{text_in};
+//! What a report tells, by the words of the settings.
+ghost use Rattle.std.specs.Prelude.{◌≡◌, ◌<◌, ◌≤◌, [], None, length, IfOk, option_map, slice_get};
+ghost use Rattle.campaign_given.specs.Description.{IsDescription};
+ghost use Rattle.plan_gen.specs.PlanList.{most_plans};
+ghost use Rattle.outside_campaign.specs.Campaigns.{code_name, plans as listed, shown};
+ghost use Rattle.outside_campaign.specs.Forms.{text_in};
+ghost use Rattle.outside_campaign.specs.inside.Results.{facts_of};
 
-use campaign_given::Outside;
+use crate::forms::{Form, Shown, text_in};
+use campaign_given::{CampaignSettings, Outside};
 use campaign_plans::CampaignPlans;
-use plan_gen::PlanList;
-use report::{Finding, Names, Report, brief_text, text};
+use report::{Finding, Names, Report};
 use std::alloc::{AllocError, Global};
 use target_trait::Verdict;
 
-/// How much a report tells of the verdicts.
-#[derive(Clone, Copy, Debug, PartialEq, Eq)]
-pub enum Form {
-    /// A line for each.
-    Whole,
-    /// One line of counts, and its scenario beside each that isn't pass.
-    Brief,
-}
-
-/// The names of the points and codes of a component that somebody else runs.
+/// The names of the points and codes of a component that somebody else runs. A code that there isn't has the empty name.
 #[derive(Drop)]
-struct Words<'a> {
-    outside: &'a Outside,
+pub struct Words<'a> {
+    pub outside: &'a Outside,
 }
 
 impl<'a> Names for Words<'a> {
@@ -36,7 +31,6 @@ impl<'a> Names for Words<'a> {
         outside.points[number].as_str()
     }
 
-    /// It is empty where there is no such code.
     fn code(&self, code: u32) -> &str {
         let outside = self.outside;
         match outside.codes.get(code as usize) {
@@ -46,21 +40,17 @@ impl<'a> Names for Words<'a> {
     }
 }
 
-/// The text of the report with these verdicts and findings on these plans. An error means that memory was refused.
-pub fn told_text<'a>(
-    alloc: Global,
-    form: Form,
+/// What is told by these verdicts and findings.
+pub fn report_of<'a>(
     outside: &'a Outside,
     seed: u64,
     verdicts: &'a [Verdict],
     findings: Vec<Finding>,
-    plans: &PlanList<'_>,
-) -> Result<Vec<u8>, AllocError>
-    requires some { 0 < length verdicts.now }
-    requires each { length verdicts.now ≡ length plans.now }
-    ensures { IfOk result (λ text. text.items ≡ text_in form outside.now seed verdicts.now findings.items plans.now) }
+) -> Report<'a>
+    requires { 0 < length verdicts.now }
+    ensures { result ≡ facts_of outside.now seed verdicts.now findings.items }
 {
-    let report = Report {
+    Report {
         label: outside.label.as_str(),
         seed,
         clean: verdicts[0],
@@ -68,12 +58,48 @@ pub fn told_text<'a>(
         verdicts,
         findings,
         growth: None,
-    };
-    let words = Words { outside };
-    match form {
-        Form::Whole => text(alloc, &words, &report),
-        Form::Brief => brief_text(alloc, &words, &report, &CampaignPlans::by_census(plans)),
     }
+}
+
+/// What is shown of plans of which none grew.
+fn shown_of<'a>(plans: &'a CampaignPlans<'a>, pairs: bool, settings: &'a str) -> Shown<'a>
+    ensures { result ≡ record {
+      plans = plans.entry.now;
+      pairs = pairs;
+      grown = [];
+      onward = 0;
+      settings = settings.entry.now;
+    } }
+{
+    Shown {
+        plans,
+        pairs,
+        grown: None,
+        onward: 0,
+        settings,
+    }
+}
+
+/// The text of a report on the plans of these settings. An error means that memory was refused.
+pub fn told_text(
+    alloc: Global,
+    form: &Form<'_>,
+    outside: &Outside,
+    settings: &CampaignSettings,
+    report: &Report<'_>,
+    plans: &CampaignPlans<'_>,
+) -> Result<Vec<u8>, AllocError>
+    requires lawful { IsDescription outside.now }
+    requires plans { plans.now ≡ listed outside.now settings.now }
+    requires few { length (listed outside.now settings.now) ≤ most_plans }
+    requires census { report.now.census ≡ outside.now.hits }
+    requires growth { report.now.growth ≡ None }
+    requires each { length report.now.verdicts ≡ length plans.now }
+    ensures { IfOk result (λ text. text.items ≡ text_in form.now outside.now.points (code_name outside.now.codes) report.now (shown outside.now settings.now)) }
+{
+    let words = Words { outside: &*outside };
+    let shown = shown_of(&*plans, settings.pairs, settings.source.as_str());
+    text_in(alloc, form, &words, report, &shown)
 }
 
 /// The number of the first of these findings.

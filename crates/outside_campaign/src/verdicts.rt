@@ -1,13 +1,14 @@
 //! The verdicts of plans, by what is known.
-ghost use Rattle.std.specs.Prelude.{◌≡◌, length, IfOk, OnOk};
+ghost use Rattle.std.specs.Prelude.{◌≡◌, ◌≤◌, length, IfOk, OnOk};
 ghost use Rattle.std.specs.List.{AllByRecursion};
 ghost use Rattle.scenario_values.specs.Scenario.{IsScenario};
-ghost use Rattle.answer_text.specs.Known.{KnownVerdicts, verdict_in};
+ghost use Rattle.plan_gen.specs.PlanList.{most_plans};
+ghost use Rattle.answer_text.specs.Known.{KnownVerdicts};
 ghost use Rattle.outside_campaign.specs.Asked.{plan_verdicts};
 ghost use Rattle.outside_campaign.specs.inside.Verdicts.{AreVerdicts};
 
-use answer_text::Known;
-use plan_gen::PlanList;
+use crate::table::VerdictTable;
+use campaign_plans::CampaignPlans;
 use scenario_values::{Scenario, tidy};
 use std::alloc::{AllocError, Global};
 use target_trait::Verdict;
@@ -22,19 +23,20 @@ pub enum Verdicts {
 }
 
 /// The verdict of each plan, where it is known. An error means that memory was refused.
-pub fn plan_verdicts(
+pub fn plan_verdicts<K: VerdictTable>(
     alloc: Global,
-    known: &Known,
-    plans: &PlanList<'_>,
+    known: &K,
+    plans: &CampaignPlans<'_>,
 ) -> Result<Vec<Option<Verdict>>, AllocError>
-    ensures verdicts { IfOk result (λ verdicts. verdicts.items ≡ plan_verdicts (verdict_in known.now) plans.now) }
+    ensures verdicts { IfOk result (λ verdicts. verdicts.items ≡ plan_verdicts (K.verdicts known.now) plans.now) }
     ensures lawful { OnOk result (AllByRecursion (λ s. IsScenario s) plans.now) }
+    ensures few { OnOk result (length plans.now ≤ most_plans) }
 {
     let mut verdicts = Vec::with_capacity(alloc, plans.len())?;
     for number in 0..plans.len() {
         let scenario = plans.plan(number).scenario(alloc)?;
         let _ = scenario.entries();
-        let verdict = known.verdict_of(alloc, &scenario)?;
+        let verdict = known.look_up(alloc, &scenario)?;
         verdicts.push(verdict)?;
     }
     Ok(verdicts)
@@ -44,7 +46,7 @@ pub fn plan_verdicts(
 /// isn't answered. An error means that memory was refused.
 pub fn verdicts_known(
     alloc: Global,
-    plans: &PlanList<'_>,
+    plans: &CampaignPlans<'_>,
     verdicts: &[Option<Verdict>],
 ) -> Result<Verdicts, AllocError>
     requires many { length verdicts.now ≡ length plans.now }

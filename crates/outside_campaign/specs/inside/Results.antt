@@ -1,35 +1,22 @@
 -- What answers come to; the contracts cite it.
-use Rattle.std.specs.Prelude.{◌≡◌, ◌<◌, ℕ, List, [], ◌∷◌, Err, length, map, slice_index_or, None}
+use Rattle.std.specs.Prelude.{◌≡◌, ◌<◌, ℕ, List, ◌∷◌, Err, length, slice_index_or, None}
 use Rattle.scenario_values.specs.Scenario.{Entries}
 use Rattle.target_trait.specs.declared.judgement.Verdict.{Verdict}
 use Rattle.target_trait.specs.declared.judgement.Verdict.TheVariants as verdict
-use Rattle.result_book.specs.Verdicts.{verdicts_from, numbered}
-use Rattle.result_book.specs.FirstFailures.{first_failures}
 use Rattle.report.specs.Reports.{FindingFacts, ReportFacts}
-use Rattle.answer_text.specs.Known.{KnownVerdicts, Agrees}
-use Rattle.campaign_core.specs.Findings.{finding}
+use Rattle.answer_text.specs.Known.{KnownVerdicts}
 use Rattle.campaign_given.specs.Description.{Description}
-use Rattle.outside_campaign.specs.Outside.{Component, say}
 use Rattle.outside_campaign.specs.inside.Verdicts.{AreVerdicts}
 use Rattle.plan_gen.specs.PlanList.{most_plans}
-use Rattle.report.specs.BriefText.{brief_lines}
-use Rattle.report.specs.ReportText.{report_lines, text_of}
 use Rattle.answer_text.specs.FirstFault.{reading_of}
 use Rattle.campaign_given.specs.Given.{Given}
 use Rattle.campaign_core.specs.declared.ending.CampaignFault.TheVariants as campaign
-use Rattle.outside_campaign.specs.Campaigns.{plans, code_name, report_text, brief_report_text, untried, untried_by}
+use Rattle.outside_campaign.specs.Campaigns.{plans, untried_by}
 use Rattle.outside_campaign.specs.declared.refusal.OutsideFault.{OutsideFault}
 use Rattle.outside_campaign.specs.declared.refusal.OutsideFault.TheVariants as refusal
-use Rattle.outside_campaign.specs.declared.telling.Form.{Form}
-use Rattle.outside_campaign.specs.declared.telling.Form.TheVariants.{Whole, Brief}
 use Rattle.outside_campaign.specs.declared.verdicts.Verdicts.TheVariants as verdicts
 use Rattle.outside_campaign.specs.declared.results.Results.{Results}
 use Rattle.outside_campaign.specs.declared.results.Results.TheVariants.{Told, NotAnswered}
-
--- these verdicts and findings are those of a component
-pub record AreOf (component : Component) (plans : List Entries) (verdicts : List Verdict) (findings : List FindingFacts) : Type 0 where
-  pub verdicts_are : verdicts ≡ verdicts_from (say component) 0 plans
-  pub findings_are : findings ≡ map (finding (say component) plans) (first_failures (numbered (verdicts_from (say component) 0 plans)))
 
 -- the first of these
 abbrev pub IsFirst : List Entries → Results → Type 0
@@ -42,12 +29,6 @@ AreWithVerdicts known plans findings (Told all told) =
     (told.items ≡ findings) × AreVerdicts known plans (verdicts.All all)
 AreWithVerdicts known plans findings (NotAnswered t) = AreVerdicts known plans (verdicts.NotAnswered t)
 
--- nothing is to be tried, and the results are those of each component that agrees with what is known; or this is the first to be tried
-abbrev pub AreResults : KnownVerdicts → List Entries → Results → Type 0
-AreResults known plans (Told verdicts findings) =
-    (untried known plans ≡ []) × ((component : Component) → Agrees component known → AreOf component plans verdicts.items findings.items)
-AreResults known plans (NotAnswered t) = (more : List Entries) × (untried known plans ≡ t ∷ more)
-
 -- what a report tells, by the settings' words and numbers and by the results
 abbrev pub facts_of : Description → ℕ → List Verdict → List FindingFacts → ReportFacts
 facts_of outside seed verdicts findings = record {
@@ -59,18 +40,6 @@ facts_of outside seed verdicts findings = record {
   findings = findings;
   growth = None;
 }
-
--- the text of a report in this form, by the results of these plans
-abbrev pub text_in : Form → Description → ℕ → List Verdict → List FindingFacts → List Entries → List ℕ
-text_in Whole outside seed verdicts findings plans =
-    text_of (report_lines outside.points (code_name outside.codes) (facts_of outside seed verdicts findings))
-text_in Brief outside seed verdicts findings plans =
-    text_of (brief_lines outside.points (code_name outside.codes) (facts_of outside seed verdicts findings) plans)
-
--- the same of a component
-abbrev pub report_in : Form → Description → Given → Component → List ℕ
-report_in Whole = report_text
-report_in Brief = brief_report_text
 
 -- why there is no such text: the answers' first fault, the first scenario that is still to be tried, too many plans, or want of memory
 abbrev pub IsUntold : Description → Given → List ℕ → OutsideFault → Type 0

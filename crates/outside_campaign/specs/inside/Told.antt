@@ -1,16 +1,13 @@
 -- What is told of the failures of a list of plans, by what is known; the contracts cite it.
-use Rattle.std.specs.Prelude.{◌≡◌, ℕ, ◌<◌, List, [], ◌∷◌, ◌++◌, length, map}
+use Rattle.std.specs.Prelude.{◌≡◌, ℕ, ◌<◌, List, [], ◌∷◌, ◌++◌, length}
 use Rattle.scenario_values.specs.Scenario.{Entries}
 use Rattle.report.specs.Reports.{FindingFacts}
 use Rattle.answer_text.specs.Known.{KnownVerdicts, Agrees}
-use Rattle.campaign_core.specs.Findings.{reduction, reduced, finding}
+use Rattle.campaign_core.specs.Findings.{reduction, reduced}
 use Rattle.outside_campaign.specs.Outside.{Component, say}
 use Rattle.outside_campaign.specs.Reached.{open_candidates}
-use Rattle.outside_campaign.specs.Asked.{open_cards}
 use Rattle.outside_campaign.specs.declared.findings.Look.{Look}
 use Rattle.outside_campaign.specs.declared.findings.Look.TheVariants as look
-use Rattle.outside_campaign.specs.declared.findings.Findings.{Findings}
-use Rattle.outside_campaign.specs.declared.findings.Findings.TheVariants as findings
 
 -- what is told of a scenario that is plan `number` and fails with this code
 abbrev pub told_of : Component → ℕ → ℕ → Entries → FindingFacts
@@ -27,14 +24,6 @@ abbrev pub IsLook : KnownVerdicts → ℕ → ℕ → Entries → Look → Type 
 IsLook known number code s (look.Told f) =
     (open_candidates known code s ≡ []) × ((component : Component) → Agrees component known → f ≡ told_of component number code s)
 IsLook known number code s (look.Open cards) = (0 < length cards.items) × (cards.items ≡ open_candidates known code s)
-
--- what is told of these failures for each component that agrees with what is known, which leaves nothing open; or the open candidates of
--- their reductions
-abbrev pub AreFindings : KnownVerdicts → List Entries → List (ℕ × ℕ) → Findings → Type 0
-AreFindings known plans failures (findings.Told all) =
-    (open_cards known plans failures ≡ [])
-    × ((component : Component) → Agrees component known → all.items ≡ map (finding (say component) plans) failures)
-AreFindings known plans failures (findings.Open cards) = (0 < length cards.items) × (cards.items ≡ open_cards known plans failures)
 
 -- what a look adds to what was gathered
 abbrev pub IsGathered : List FindingFacts → List FindingFacts → List Entries → List Entries → Look → Type 0

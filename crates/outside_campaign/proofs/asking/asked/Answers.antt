@@ -1,9 +1,8 @@
-use Rattle.answer_text.specs.Known.{verdict_in}
 use Rattle.outside_campaign.specs.Asked.{open_plans}
 use Rattle.outside_campaign.proofs.Lines.{both_added, from_nothing}
 use Rattle.outside_campaign.proofs.asking.asked.Goals as goal
 
 pub returns : goal.returns
-returns c =
-    both_added c.args.cards.now (open_plans (verdict_in c.args.known.now) c.args.plans.now) c.add_cards.new.lines.keys c.add_plans.new.lines.keys
+returns g c =
+    both_added c.args.cards.now (open_plans (g.K.VerdictTable.verdicts c.args.known.now) c.args.plans.now) c.add_cards.new.lines.keys c.add_plans.new.lines.keys
     (from_nothing c.args.cards.now c.new-lines.result.keys c.add_cards.new.lines.keys c.new-lines.ensures.empty c.in_ok-add_cards.ensures) c.in_ok-add_plans.ensures

@@ -2,11 +2,10 @@ use Rattle.std.proofs.Common.{List, Option, ap, ◌∙◌}
 use Rattle.target_trait.specs.declared.judgement.Verdict.{Verdict}
 use Rattle.result_book.specs.FirstFailures.{first_failures}
 use Rattle.result_book.specs.Slots.{in_book}
-use Rattle.answer_text.specs.Known.{verdict_in}
 use Rattle.outside_campaign.proofs.ResultLemmas.{all_below}
 use Rattle.outside_campaign.proofs.asking.asks_text.Goals as goal
 
 pub asks-requires : goal.asks-requires
-asks-requires c =
-    all_below (verdict_in c.args.known.now) c.args.plans.now c.in_ok-verdicts.verdicts.items c.as_slice-2.result.now c.in_ok-verdicts.ensures.verdicts
+asks-requires g c =
+    all_below (g.K.VerdictTable.verdicts c.args.known.now) c.args.plans.now c.in_ok-verdicts.verdicts.items c.as_slice-2.result.now c.in_ok-verdicts.ensures.verdicts
     (c.as_slice-2.ensures.value ∙ c.in_ok-failures.ensures ∙ ap (λ (slots : List (Option Verdict)). first_failures (in_book slots)) c.as_slice.ensures.value)

@@ -1,44 +1,56 @@
-use Rattle.std.proofs.Common.{◌≡◌, List, ℕ, length, ap, ◌∙◌, ◌<◌, arith, option_map}
+use Rattle.std.proofs.Common.{◌≡◌, List, ℕ, length, ap, subst, ◌∙◌, arith, option_map}
 use Rattle.std.specs.Prelude.{slice_get}
 use Rattle.target_trait.specs.declared.judgement.Verdict.{Verdict}
-use Rattle.scenario_values.specs.Scenario.{Entries}
-use Rattle.report.specs.Reports.{FindingFacts}
+use Rattle.report.specs.Reports.{FindingFacts, ReportFacts}
 use Rattle.answer_text.specs.Known.{verdict_in, known_by}
-use Rattle.campaign_given.specs.Description.{Description}
+use Rattle.campaign_given.specs.Description.{Description, IsDescription}
 use Rattle.campaign_given.specs.Given.{Given}
-use Rattle.outside_campaign.specs.inside.Results.{text_in}
+use Rattle.outside_campaign.specs.inside.Results.{facts_of}
 use Rattle.outside_campaign.proofs.ResultLemmas.{report_told, first_told, verdicts_each, some_component}
 use Rattle.outside_campaign.proofs.reporting.told.Goals as goal
+
+pub report_of-report-requires : goal.report_of-report-requires
+report_of-report-requires c =
+    let h = rw c.in-Told.is at c.in_ok-scenario.ensures in
+    let each = ap length c.as_slice-in-Told.ensures.value ∙ verdicts_each (verdict_in c.in_ok-known.known) c.by_census-plans.result c.in-Told.verdicts.items c.in-Told.findings.items h.1 in
+    omega (arith, each, ap length c.by_census-plans.ensures, c.in_ok-list.ensures.some)
+
+pub told_text-requires-clause-lawful : goal.told_text-requires-clause-lawful
+told_text-requires-clause-lawful c = subst IsDescription c.outside.view_is c.outside.invariant
+
+pub told_text-requires-clause-plans : goal.told_text-requires-clause-plans
+told_text-requires-clause-plans c = c.by_census-plans.ensures ∙ c.in_ok-list.ensures.plans
+
+pub told_text-requires-clause-census : goal.told_text-requires-clause-census
+told_text-requires-clause-census c = ap (λ (r : ReportFacts). r.census) c.report_of-report.ensures
+
+pub told_text-requires-clause-growth : goal.told_text-requires-clause-growth
+told_text-requires-clause-growth c = ap (λ (r : ReportFacts). r.growth) c.report_of-report.ensures
 
 pub told_text-requires-clause-each : goal.told_text-requires-clause-each
 told_text-requires-clause-each c =
     let h = rw c.in-Told.is at c.in_ok-scenario.ensures in
-    ap length c.as_slice-verdicts.ensures.value
-    ∙ verdicts_each (verdict_in c.in_ok-known.known) c.in_ok-plans.plans c.in-Told.verdicts.items c.in-Told.findings.items h.1
-
-pub told_text-requires-clause-some : goal.told_text-requires-clause-some
-told_text-requires-clause-some c =
-    let h = rw c.in-Told.is at c.in_ok-scenario.ensures in
-    let each = ap length c.as_slice-verdicts.ensures.value ∙ verdicts_each (verdict_in c.in_ok-known.known) c.in_ok-plans.plans c.in-Told.verdicts.items c.in-Told.findings.items h.1 in
-    omega (arith, each, c.in_ok-plans.ensures.some)
+    ap (λ (r : ReportFacts). length r.verdicts) c.report_of-report.ensures ∙ ap length c.as_slice-in-Told.ensures.value
+    ∙ verdicts_each (verdict_in c.in_ok-known.known) c.by_census-plans.result c.in-Told.verdicts.items c.in-Told.findings.items h.1
 
 pub returns-clause-text : goal.returns-clause-text
 returns-clause-text c =
     let h = rw c.in-Told.is at c.in_ok-scenario.ensures in
     let codes : c.as_slice.result.now ≡ c.args.outside.now.codes = c.as_slice.ensures.value ∙ ap (λ (d : Description). d.codes) c.outside.view_is in
     let known : verdict_in c.in_ok-known.known ≡ known_by c.args.outside.now.codes c.args.answers.now = c.in_ok-known.ensures.known ∙ ap (λ (names : List (List ℕ)). known_by names c.args.answers.now) codes in
-    let text : ℕ → List Verdict → List ℕ = λ seed vs. text_in c.args.form c.args.outside.now seed vs c.in-Told.findings.items c.in_ok-plans.plans in
-    report_told c.args.form c.args.outside.now c.args.settings.now c.args.answers.now (verdict_in c.in_ok-known.known) c.in_ok-plans.plans c.in-Told.verdicts.items c.in-Told.findings.items c.in_ok-text-in-Told.text.items
-    known c.in_ok-plans.ensures.plans h.1 (c.in_ok-text-in-Told.ensures ∙ ap (text c.settings.inside.seed) c.as_slice-verdicts.ensures.value
-    ∙ ap (λ (s : Given). text s.plans.seed c.in-Told.verdicts.items) c.settings.view_is)
+    let facts : ℕ → List Verdict → ReportFacts = λ seed vs. facts_of c.args.outside.now seed vs c.in-Told.findings.items in
+    report_told c.args.form.now c.args.outside.now c.args.settings.now c.args.answers.now (verdict_in c.in_ok-known.known) c.by_census-plans.result c.in-Told.verdicts.items c.in-Told.findings.items c.report_of-report.result c.in_ok-text-in-Told.text.items
+    known (c.by_census-plans.ensures ∙ c.in_ok-list.ensures.plans) h.1
+    (c.report_of-report.ensures ∙ ap (facts c.settings.inside.seed) c.as_slice-in-Told.ensures.value ∙ ap (λ (s : Given). facts s.plans.seed c.in-Told.verdicts.items) c.settings.view_is)
+    c.in_ok-text-in-Told.ensures
 
 pub returns-clause-first : goal.returns-clause-first
 returns-clause-first c =
     let h = rw c.in-Told.is at c.in_ok-scenario.ensures in
     let codes : c.as_slice.result.now ≡ c.args.outside.now.codes = c.as_slice.ensures.value ∙ ap (λ (d : Description). d.codes) c.outside.view_is in
     let known : verdict_in c.in_ok-known.known ≡ known_by c.args.outside.now.codes c.args.answers.now = c.in_ok-known.ensures.known ∙ ap (λ (names : List (List ℕ)). known_by names c.args.answers.now) codes in
-    first_told c.args.outside.now c.args.settings.now c.args.answers.now (verdict_in c.in_ok-known.known) c.in_ok-plans.plans c.in-Told.verdicts.items c.in-Told.findings.items c.first_number-first.result known
-    c.in_ok-plans.ensures.plans h.1
+    first_told c.args.outside.now c.args.settings.now c.args.answers.now (verdict_in c.in_ok-known.known) c.by_census-plans.result c.in-Told.verdicts.items c.in-Told.findings.items c.first_number-first.result known
+    (c.by_census-plans.ensures ∙ c.in_ok-list.ensures.plans) h.1
     (c.first_number-first.ensures ∙ ap (λ (fs : List FindingFacts). option_map (λ f. f.number) (slice_get fs 0)) c.deref.ensures.value)
 
 pub returns-clause-some : goal.returns-clause-some

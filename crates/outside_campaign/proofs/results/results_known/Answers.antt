@@ -3,20 +3,20 @@ use Rattle.std.proofs.lemmas.Result.{IfOk-weaker}
 use Rattle.target_trait.specs.declared.judgement.Verdict.{Verdict}
 use Rattle.result_book.specs.FirstFailures.{first_failures}
 use Rattle.result_book.specs.Slots.{in_book}
-use Rattle.answer_text.specs.Known.{verdict_in}
 use Rattle.outside_campaign.specs.Asked.{plan_verdicts, known_failures}
-use Rattle.outside_campaign.specs.inside.Results.{IsFirst, AreResults}
+use Rattle.outside_campaign.specs.ToldPlans.{AreResults}
+use Rattle.outside_campaign.specs.inside.Results.{IsFirst}
 use Rattle.outside_campaign.proofs.ResultLemmas.{all_below, failures_are, open_first, told_all}
 use Rattle.outside_campaign.proofs.results.results_known.Goals as goal
 
 pub findings_known-requires : goal.findings_known-requires
-findings_known-requires c =
-    all_below (verdict_in c.args.known.now) c.args.plans.now c.in_ok-verdicts.verdicts.items c.as_slice-2.result.now c.in_ok-verdicts.ensures.verdicts
+findings_known-requires g c =
+    all_below (g.K.VerdictTable.verdicts c.args.known.now) c.args.plans.now c.in_ok-verdicts.verdicts.items c.as_slice-2.result.now c.in_ok-verdicts.ensures.verdicts
     (c.as_slice-2.ensures.value ∙ c.in_ok-failures.ensures ∙ ap (λ (slots : List (Option Verdict)). first_failures (in_book slots)) c.as_slice.ensures.value)
 
 pub returns-in-Open : goal.returns-in-Open
-returns-in-Open c =
-    let known = verdict_in c.args.known.now in
+returns-in-Open g c =
+    let known = g.K.VerdictTable.verdicts c.args.known.now in
     let firsts : c.as_slice-2.result.now ≡ known_failures known c.args.plans.now =
     failures_are known c.args.plans.now c.in_ok-verdicts.verdicts.items c.as_slice-2.result.now c.in_ok-verdicts.ensures.verdicts
     (c.as_slice-2.ensures.value ∙ c.in_ok-failures.ensures ∙ ap (λ (slots : List (Option Verdict)). first_failures (in_book slots)) c.as_slice.ensures.value) in
@@ -25,8 +25,8 @@ returns-in-Open c =
     (λ r is. open_first known c.args.plans.now c.as_slice-2.result.now c.in-Open.cards.items r firsts h.1 is) c.first_card.ensures
 
 pub returns : goal.returns
-returns c =
-    let known = verdict_in c.args.known.now in
+returns g c =
+    let known = g.K.VerdictTable.verdicts c.args.known.now in
     let firsts : c.as_slice-2.result.now ≡ known_failures known c.args.plans.now =
     failures_are known c.args.plans.now c.in_ok-verdicts.verdicts.items c.as_slice-2.result.now c.in_ok-verdicts.ensures.verdicts
     (c.as_slice-2.ensures.value ∙ c.in_ok-failures.ensures ∙ ap (λ (slots : List (Option Verdict)). first_failures (in_book slots)) c.as_slice.ensures.value) in
