@@ -3,7 +3,6 @@ use Rattle.std.specs.Prelude.{ℕ, Bool, false, List, codes, length, Option, Som
 use Rattle.std.specs.Str.{is_utf8}
 use Rattle.scenario_values.specs.Scenario.{Entries}
 use Rattle.scenario_grammar.specs.FirstFault.{Fault, reading}
-use Rattle.action_eval.specs.Answers.{given_of}
 use Rattle.target_trait.specs.declared.judgement.Verdict.{Verdict}
 use Rattle.file_replace.specs.Steps.{asks_of as replacing}
 use Rattle.file_replace.specs.Words.{point_names as replace_points, code_text as replace_codes, label as replace_label}
@@ -21,7 +20,7 @@ use Rattle.campaign_settings.specs.declared.choice.Choice.{Choice}
 use Rattle.campaign_settings.specs.declared.choice.Choice.TheVariants as choice
 use Rattle.campaign_settings.specs.declared.settings.Settings.{Settings}
 use Rattle.campaign_core.specs.Headline.{Campaign, campaign_of, say, plans, report_text, brief_report_text, campaign_map_text, first_failure}
-use Rattle.campaign_core.specs.CommandTexts.{counted, plan_lines, plans_text, try_text, tried, reduce_text}
+use Rattle.campaign_core.specs.CommandTexts.{counted, explained, plan_lines, plans_text, try_text, tried, reduce_text}
 use Rattle.campaign_core.specs.Machines.{machine_text}
 use Rattle.campaign_core.specs.Pages.{NotesFacts, campaign_page_text}
 use Rattle.campaign_core.specs.declared.machines.MachineForm.TheVariants as machine
@@ -31,7 +30,6 @@ use Rattle.command_words.specs.declared.words.Order.{Order}
 use Rattle.command_words.specs.declared.words.Order.TheVariants as order
 use Rattle.command_words.specs.declared.words.Which.{Which}
 use Rattle.command_words.specs.declared.words.Which.TheVariants.{Scenario, Plan}
-use Rattle.run_explained.specs.Explained.{explain_text}
 use Rattle.campaign_main.specs.declared.exit.Conclusion.{Conclusion}
 use Rattle.campaign_main.specs.declared.exit.Conclusion.TheVariants.{Clean}
 use Rattle.target_trait.specs.Verdicts.{is_fail}
@@ -105,11 +103,7 @@ reduce_answer c stream scenario = Ok (reduce_text c stream scenario, of_verdict 
 
 -- a scenario's run under a stream number, told hit by hit, whether it fails, and which of its names no point has
 unfoldable pub explain_answer : Campaign → ℕ → Entries → Answer
-explain_answer c stream scenario = Ok (
-  explain_text c.codes c.asks (given_of scenario c.points c.plans.seed stream c.max_hits),
-  of_verdict (tried c stream scenario).verdict,
-  notes_of c.points scenario,
-)
+explain_answer c stream scenario = Ok (explained c stream scenario, of_verdict (tried c stream scenario).verdict, notes_of c.points scenario)
 
 -- the stream number and the scenario that a command takes: of a text the one that it spells, under 0
 abbrev pub spelled : Result Entries Fault → Result (ℕ × Entries) Refusal

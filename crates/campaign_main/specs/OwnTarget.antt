@@ -1,13 +1,12 @@
 -- What a command answers to the bytes of its settings, over a target that the program brings itself.
 use Rattle.std.specs.Prelude.{ℕ, List, IfOk, Ok, Err, ◌++◌, codes}
 use Rattle.scenario_values.specs.Scenario.{Entries}
-use Rattle.action_eval.specs.Answers.{given_of}
 use Rattle.action_eval.specs.Answers.{Given as Run}
 use Rattle.campaign_given.specs.Given.{Given}
 use Rattle.campaign_settings.specs.Own.{own_settings_of, worded_settings_of}
 use Rattle.campaign_settings.specs.declared.own.OwnSettings.{OwnSettings}
 use Rattle.campaign_settings.specs.Settings.{Read}
-use Rattle.campaign_core.specs.CommandTexts.{tried}
+use Rattle.campaign_core.specs.CommandTexts.{case_in, tried}
 use Rattle.campaign_core.specs.Headline.{Campaign}
 use Rattle.command_words.specs.declared.words.Order.{Order}
 use Rattle.command_words.specs.declared.words.Order.TheVariants as order
@@ -57,7 +56,7 @@ own_words_line reason = ended (codes "settings: own: " ++ reason)
 -- a scenario's run under a stream number, told hit by hit and by its end
 unfoldable pub telling_explain_answer : (Run → List ℕ) → (Run → List ℕ) → Campaign → ℕ → Entries → Answer
 telling_explain_answer state_of reason_of c stream scenario =
-    let g = given_of scenario c.points c.plans.seed stream c.max_hits in
+    let g = case_in c stream scenario in
     Ok (telling_text c.codes c.asks g (state_of g) (reason_of g), of_verdict (tried c stream scenario).verdict, notes_of c.points scenario)
 
 -- the answer to an order: that of a target that doesn't tell, but for explained runs
