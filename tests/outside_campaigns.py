@@ -1,6 +1,6 @@
 #!/usr/bin/env python3
 """Runs whole campaigns of bundled targets as if somebody else ran them: one call of `try` is the component. However the answers come, the
-report is that of `run`; before that each scenario that is asked has no answer and is asked once, and `report` waits for the first.
+report is that of `run`, in each form; before that each scenario that is asked has no answer and is asked once, and `report` waits for the first.
 
     tests/outside_campaigns.py
 
@@ -15,6 +15,8 @@ import tempfile
 
 EXAMPLES = os.path.join(os.path.dirname(os.path.abspath(__file__)), "..", "examples")
 CODES = {"replace": ["torn", "stale"], "maildir": ["torn", "lost"], "commit": ["split", "lost", "phantom"]}
+# the forms of a report by answers, each beside the command that writes the same of a bundled target
+FORMS = {"--brief": ["run", "--brief"], "--json": ["run", "--json"], "--junit": ["run", "--junit"], "--map": ["map"]}
 
 
 class Campaigns:
@@ -111,6 +113,9 @@ def bundled(campaigns, name, more=""):
         rounds += 1
     given = b"".join(answers)
     campaigns.expect(f"{name}: report", (status, wanted, told(given)), campaigns.run(["report", settings], given))
+    for form, words in FORMS.items():
+        status, wanted, _ = campaigns.run([*words, own])
+        campaigns.expect(f"{name}: {form}", (status, wanted, told(given)), campaigns.run(["report", form, settings], given))
 
 
 def size(campaigns):

@@ -1,0 +1,136 @@
+The forms of a report by answers: `report` takes `--json`, `--junit`, `--map` and `--page` beside `--brief`. The component is a bundled target, and one
+call of `try` gives each answer; so what each form has to say is what `run`, `map` and `page` write of that target.
+
+  $ cat > late.toml <<'END'
+  > target = "replace"
+  > variant = "late_sync"
+  > seed = 7
+  > [replace]
+  > old = "old"
+  > replacements = [["ne", "w"]]
+  > END
+  $ "$TESTDIR/as_outside.sh" late.toml '"torn", "stale"'
+  $ told() { form=$1; paklour report "--$form" outside.toml < answers > "told.$form" || echo "status $?"; }
+  $ told brief && paklour run --brief late.toml | cmp - told.brief
+  status 1
+  $ told json && paklour run --json late.toml | cmp - told.json
+  status 1
+  $ told junit && paklour run --junit late.toml | cmp - told.junit
+  status 1
+  $ told map && paklour map late.toml | cmp - told.map
+  status 1
+
+Parsers of JSON and of XML read in them what the text says. Of six sites the fourth is the sync, one is hit twice, and each hit has three plans: 19.
+
+  $ paklour plans outside.toml > plans
+  $ python3 "$TESTDIR/machines.py" outside.report plans told.json told.junit
+  19 plans
+
+A parser of XML reads the page. Answers are verdicts, and don't tell what a run hits: no run is told in it, and it tells its own settings and command.
+In all else it is the page of the target. In the map the cells of the three plans that fail lead to them.
+
+  $ told page
+  status 1
+  $ paklour page late.toml > page.html
+  [1]
+  $ python3 "$TESTDIR/told_page.py" told.page page.html outside.toml
+  3 links in the map, 0 differences
+  paklour report --page FILE < ANSWERS
+  $ grep -c '<details' told.page
+  0
+  [1]
+
+Pairs, plans that are drawn, listed scenarios with many faults, and two codes.
+
+  $ sed '/^seed/a pairs = true\nstorms = 20\nrate = 300\nscenarios = ["replace::write=return(<&>);replace::sync=return"]' late.toml | sed 's/late/ignore/' > more.toml
+  $ "$TESTDIR/as_outside.sh" more.toml '"torn", "stale"'
+  $ for form in brief json junit; do told $form; paklour run "--$form" more.toml | cmp - told.$form; done
+  status 1
+  status 1
+  status 1
+  $ told map; paklour map more.toml | cmp - told.map
+  status 1
+  $ told page; paklour page more.toml > page.html
+  status 1
+  [1]
+  $ python3 "$TESTDIR/told_page.py" told.page page.html outside.toml | sed 's/^[0-9]* links/some links/'
+  some links in the map, 0 differences
+  paklour report --page FILE < ANSWERS
+
+Nothing is written where something is still to be tried, in no form; and each of two points has a name that XML has to spell out.
+
+  $ cat > odd.toml <<'END'
+  > target = "outside"
+  > seed = 3
+  > scenarios = ["<&>=return"]
+  > [outside]
+  > label = "\"odd\" & <b>"
+  > codes = ["l>st"]
+  > points = ["<&>", "'"]
+  > hits = [1, 0]
+  > END
+  $ for form in brief json junit map page; do paklour report --$form odd.toml < /dev/null; echo $?; done
+  not answered none
+  2
+  not answered none
+  2
+  not answered none
+  2
+  not answered none
+  2
+  not answered none
+  2
+  $ printf 'pass\tnone\nfail l>st\t<&>=1*return\nunresolved\t<&>=return\npass\t<&>=1*panic\n' > answers
+  $ paklour report --json odd.toml < answers > odd.json
+  [1]
+  $ python3 - <<'END'
+  > import json
+  > document = json.load(open("odd.json"))
+  > print(document["label"], document["seed"], document["census"], document["counts"])
+  > print(*document["not_passed"], *document["findings"], sep="\n")
+  > END
+  "odd" & <b> 3 [{'point': '<&>', 'hits': 1}, {'point': "'", 'hits': 0}] {'plans': 5, 'pass': 2, 'fail': 1, 'unresolved': 2}
+  {'number': 1, 'verdict': 'fail', 'code': 'l>st', 'scenario': '<&>=1*return'}
+  {'number': 2, 'verdict': 'unresolved', 'code': None, 'scenario': '<&>=return'}
+  {'number': 4, 'verdict': 'unresolved', 'code': None, 'scenario': '<&>=return'}
+  {'number': 1, 'code': 'l>st', 'scenario': '<&>=1*return', 'reduced': '<&>=1*return', 'tests': 1}
+  $ for form in junit map page; do paklour report --$form odd.toml < answers > odd.$form; done
+  [1]
+  $ python3 - <<'END'
+  > import xml.etree.ElementTree as xml
+  > suite = xml.parse("odd.junit").getroot()[0]
+  > print(suite.attrib)
+  > print(*(case.get("name") for case in suite if len(case)), sep="\n")
+  > page = xml.parse("odd.page").getroot()
+  > print(page.find("head/title").text, "|", *(cell.text for cell in page.find(".//*[@id='points']").iter("th") if cell.get("scope") == "row"))
+  > print(*("".join(row.itertext()).split() for row in page.iter("tr") if row.get("id", "").startswith("plan-")), sep="\n")
+  > print(xml.parse("odd.map").getroot().tag)
+  > END
+  {'name': '"odd" & <b>', 'tests': '5', 'failures': '1', 'errors': '0', 'skipped': '2'}
+  plan 1 <&>=1*return
+  plan 2 <&>=return
+  plan 4 <&>=return
+  "odd" & <b> - Paklour | <&> '
+  ['1fail', 'l>st<&>=1*return']
+  ['2unresolved<&>=return']
+  ['4unresolved<&>=return']
+  {http://www.w3.org/2000/svg}svg
+
+What a report doesn't show is told beside each form, on standard error.
+
+  $ paklour report --page --strict odd.toml < answers > page
+  strict: 2 of 5 plans unresolved
+  strict: no plan names '
+  [1]
+
+One form at most is written.
+
+  $ paklour report --json --page odd.toml < answers
+  error: the argument '--json' cannot be used with '--page'
+  
+  Usage: paklour report [OPTIONS] <FILE>
+  
+  For more information, try '--help'.
+  [2]
+  $ paklour report --map --junit --brief odd.toml < answers 2>&1 | head -n 1
+  error: the argument '--brief' cannot be used with '--junit'
