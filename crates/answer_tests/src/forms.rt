@@ -77,12 +77,12 @@ fn told_in(
 
 /// Settings for the target as a component from outside, by the first lines of a report.
 fn outside_settings(alloc: Global, report: &str) -> Result<Settings, Fail> {
-    let mut label = "";
+    let mut label = String::new(alloc);
     let mut points = String::new(alloc);
     let mut hits = String::new(alloc);
     for line in report.lines() {
         if let Some(name) = line.strip_prefix("target ") {
-            label = name;
+            label.push_str(name)?;
         }
         if let Some((point, count)) = line
             .strip_prefix("census ")
