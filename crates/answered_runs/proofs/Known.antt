@@ -1,6 +1,6 @@
 -- What answers tell of scenarios that they don't name, of each component that agrees with them.
 use Rattle.std.proofs.Common.{◌≡◌, ℕ, ◌≤◌, ◌<◌, ◌^◌, Bool, true, false, cond, List, [], ◌∷◌, length, map, refl, ap, sym, ◌∙◌, subst, arith, inl, inr}
-use Rattle.std.specs.Prelude.{Contains, Option, Some, None, IfSome, option_and_then, nat_le, nat_lt, ◌&&◌, ◌||◌, ◌==◌, not}
+use Rattle.std.specs.Prelude.{Contains, Option, Some, None, IfSome, option_and_then, nat_le, nat_lt, ◌&&◌, ◌||◌, ◌==◌}
 use Rattle.std.specs.List.{AllByRecursion, list_all}
 use Rattle.std.specs.Str.{bytes_eq}
 use Rattle.std.proofs.lemmas.Bool.{eqb-true, leb-true, ltb-true}
@@ -18,17 +18,18 @@ use Rattle.action_eval.proofs.Rigged.{rigging_keeps}
 use Rattle.target_trait.specs.Outcomes.{outcome, verdict_with}
 use Rattle.target_trait.specs.declared.judgement.Verdict.{Verdict}
 use Rattle.target_trait.proofs.Verdicts.{verdict_is}
-use Rattle.plan_gen.specs.RiggedAnswers.{AreInOrder, IsBefore, is_onward}
+use Rattle.plan_gen.specs.RiggedAnswers.{AreInOrder, IsBefore}
 use Rattle.answer_text.specs.Runs.{KnownRuns}
 use Rattle.answer_text.specs.declared.runs.ToldRun.{ToldRun}
 use Rattle.answer_text.proofs.Members.{same_printed}
 use Rattle.grown_plans.specs.GrownPlans.{Subject, is_before, usual_kinds}
 use Rattle.grown_plans.specs.Promises.{verdict_of_rigs}
-use Rattle.grown_plans.proofs.Members.{all_map, all_weaker, contains_head, contains_tail}
+use Rattle.grown_plans.proofs.Members.{all_map, all_of, all_weaker, contains_head, contains_tail}
+use Rattle.known_runs.specs.Walks.{once}
 use Rattle.known_runs.proofs.Steps.{same_verdict}
 use Rattle.answered_runs.specs.Answered.{plan_runs}
 use Rattle.answered_runs.specs.Components.{AgreesWithRuns, IsComponent, IsTrueRun}
-use Rattle.answered_runs.specs.Rigged.{are_in_order, are_lawful, are_once, are_small, if_made, make, most_hit, points_into, rigs_of_scenario}
+use Rattle.answered_runs.specs.Rigged.{are_in_order, are_lawful, are_small, if_made, make, most_hit, points_into, rigs_of_scenario}
 use Rattle.answered_runs.specs.Verdicts.{AreVerdictsOf, told_or, verdict_by, walked_by}
 use Rattle.answered_runs.proofs.Runs.{agree}
 
@@ -69,13 +70,13 @@ in_order (r ∷ rs) e =
       in_order rs more,
     )
 
-of_kinds : (kinds : ℕ → List Kind) → kinds ≡ usual_kinds → (r : Rig) → not (is_onward r.kind) ≡ true → Contains (kinds r.site.point) r.kind
-of_kinds kinds usual r e = subst (λ (ks : ℕ → List Kind). Contains (ks r.site.point) r.kind) (sym usual) (at r.kind e)
+of_kinds : (kinds : ℕ → List Kind) → kinds ≡ usual_kinds → (r : Rig) → Contains (kinds r.site.point) (once r.kind)
+of_kinds kinds usual r = subst (λ (ks : ℕ → List Kind). Contains (ks r.site.point) (once r.kind)) (sym usual) (at r.kind)
   where
-    at : (kind : Kind) → not (is_onward kind) ≡ true → Contains (OnceReturn ∷ OncePanic ∷ []) kind
-    at OnceReturn f = contains_head OnceReturn (OncePanic ∷ [])
-    at OnwardReturn f = absurd cc
-    at OncePanic f = contains_tail OnceReturn OncePanic (OncePanic ∷ []) (contains_head OncePanic [])
+    at : (kind : Kind) → Contains (OnceReturn ∷ OncePanic ∷ []) (once kind)
+    at OnceReturn = contains_head OnceReturn (OncePanic ∷ [])
+    at OnwardReturn = contains_head OnceReturn (OncePanic ∷ [])
+    at OncePanic = contains_tail OnceReturn OncePanic (OncePanic ∷ []) (contains_head OncePanic [])
 
 -- ---- the rigged hits of a scenario
 
@@ -96,20 +97,17 @@ made points s rigs e = by_found (points_into s 0 points []) e
 record Lawful (rigs : List Rig) : Type 0 where
   few : length rigs ≤ 64
   small : AllByRecursion (λ r. r.site.hit < 2 ^ 32) rigs
-  once : AllByRecursion (λ r. not (is_onward r.kind) ≡ true) rigs
   ordered : AreInOrder (map (λ (r : Rig). r.site) rigs)
 
 lawful : (rigs : List Rig) → are_lawful rigs ≡ true → Lawful rigs
 lawful rigs e =
-    let f = left (nat_le (length rigs) 64 && are_small rigs && are_once rigs) (are_in_order rigs) e in
-    let g = left (nat_le (length rigs) 64 && are_small rigs) (are_once rigs) f in
-    let a = left (nat_le (length rigs) 64) (are_small rigs) g in
-    let b = right (nat_le (length rigs) 64) (are_small rigs) g in
+    let f = left (nat_le (length rigs) 64 && are_small rigs) (are_in_order rigs) e in
+    let a = left (nat_le (length rigs) 64) (are_small rigs) f in
+    let b = right (nat_le (length rigs) 64) (are_small rigs) f in
     record {
       few = leb-true (length rigs) 64 a;
       small = all_weaker (λ (r : Rig). nat_le r.site.hit most_hit ≡ true) (λ (r : Rig). r.site.hit < 2 ^ 32) (λ r h. let le = leb-true r.site.hit most_hit h in omega (arith, le)) rigs (passes (λ (r : Rig). nat_le r.site.hit most_hit) rigs b);
-      once = passes (λ (r : Rig). not (is_onward r.kind)) rigs (right (nat_le (length rigs) 64 && are_small rigs) (are_once rigs) f);
-      ordered = in_order rigs (right (nat_le (length rigs) 64 && are_small rigs && are_once rigs) (are_in_order rigs) e);
+      ordered = in_order rigs (right (nat_le (length rigs) 64 && are_small rigs) (are_in_order rigs) e);
     }
 
 verdict_some : (v w : Verdict) → Some v ≡ Some w → v ≡ w
@@ -130,7 +128,7 @@ true_of t points told depth is low agrees s v ok known seed stream = by_told (to
         let l = lawful rigs (left (are_lawful rigs) (bytes_eq (printed (rigging points rigs)) (printed s)) m) in
         let prints : printed (rigging points rigs) ≡ printed s = (bytes_eq-Decides (printed (rigging points rigs)) (printed s)).0 (right (are_lawful rigs) (bytes_eq (printed (rigging points rigs)) (printed s)) m) in
         let same : rigging points rigs ≡ s = same_printed (rigging points rigs) s (rigging_keeps points rigs catalogue l.few l.small) ok prints in
-        let kinds = all_weaker (λ (r : Rig). not (is_onward r.kind) ≡ true) (λ (r : Rig). Contains (t.kinds r.site.point) r.kind) (of_kinds t.kinds is.usual) rigs l.once in
+        let kinds = all_of (λ (r : Rig). Contains (t.kinds r.site.point) (once r.kind)) (of_kinds t.kinds is.usual) rigs in
         let w : (seed stream : ℕ) → verdict_of_rigs t seed stream rigs ≡ v = same_verdict (plan_runs points told) rigs depth (Some v) (sym k) t is.lawful (agree t points told depth is low agrees) l.ordered kinds in
         sym (verdict_is t.asks t.names seed t.limit stream s) ∙ ap (verdict_with t.asks t.names seed t.limit stream) (sym same ∙ ap (λ (names : List (List ℕ)). rigging names rigs) (sym is.names)) ∙ w seed stream
 

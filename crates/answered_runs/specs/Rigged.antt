@@ -1,7 +1,7 @@
--- The rigged hits that a scenario is made of, where it is one of hits that fail or panic once each.
+-- The rigged hits that a scenario is made of, where it is one of hits that fail or panic once each, or fail from one on.
 use Rattle.std.specs.Prelude.{ℕ, ◌+◌, ◌==◌, ◌&&◌, Bool, true, not, List, [], ◌∷◌, ◌++◌, Option, None, Some, option_and_then, option_map, nat_le, nat_lt, length, if◌then◌else◌}
 use Rattle.std.specs.List.{list_all}
-use Rattle.std.specs.Option.{option_map_or}
+use Rattle.std.specs.Option.{option_map_or, unwrap_or}
 use Rattle.std.specs.Str.{bytes_eq}
 use Rattle.scenario_values.specs.Printed.{printed}
 use Rattle.scenario_values.specs.Scenario.{Entries, chain_at, entry_of}
@@ -9,10 +9,9 @@ use Rattle.scenario_values.specs.declared.term.Task.{Task}
 use Rattle.scenario_values.specs.declared.term.Task.TheVariants as task
 use Rattle.scenario_values.specs.declared.term.Term.{Term}
 use Rattle.action_eval.specs.declared.rig.Kind.{Kind}
-use Rattle.action_eval.specs.declared.rig.Kind.TheVariants.{OnceReturn, OncePanic}
+use Rattle.action_eval.specs.declared.rig.Kind.TheVariants.{OnceReturn, OnwardReturn, OncePanic}
 use Rattle.action_eval.specs.declared.rig.Rig.{Rig}
 use Rattle.action_eval.specs.Rigging.{rig, rigging}
-use Rattle.plan_gen.specs.RiggedAnswers.{is_onward}
 use Rattle.grown_plans.specs.GrownPlans.{is_before}
 
 abbrev pub most_hit : ℕ
@@ -22,24 +21,22 @@ most_hit = 4294967295
 abbrev pub with_kind : ℕ → ℕ → Kind → List Rig → List Rig
 with_kind point hit kind rigs = rigs ++ rig (record { point = point; hit = hit }) kind ∷ []
 
--- what a task does that acts so often: nothing, or it is that of a rigged hit, which acts once
-abbrev pub with_task : ℕ → ℕ → ℕ → Task → List Rig → Option (List Rig)
-with_task point hit count task.Off rigs = Some rigs
-with_task point hit count (task.Return None) rigs = if count == 1 then Some (with_kind point hit OnceReturn rigs) else None
-with_task point hit count (task.Panic None) rigs = if count == 1 then Some (with_kind point hit OncePanic rigs) else None
+-- what a task does that acts so often, or without end: nothing, or it is that of a rigged hit, which acts once, or returns from then on
+abbrev pub with_task : ℕ → ℕ → Option ℕ → Task → List Rig → Option (List Rig)
+with_task point hit (Some count) task.Off rigs = Some rigs
+with_task point hit (Some count) (task.Return None) rigs = if count == 1 then Some (with_kind point hit OnceReturn rigs) else None
+with_task point hit (Some count) (task.Panic None) rigs = if count == 1 then Some (with_kind point hit OncePanic rigs) else None
+with_task point hit None (task.Return None) rigs = Some (with_kind point hit OnwardReturn rigs)
 with_task point hit count _ rigs = None
 
--- the rigged hits with those of a term that acts at the hits of a point after one and up to another; none where it is no such term
-abbrev pub with_term : ℕ → ℕ → ℕ → Term → List Rig → Option (List Rig)
-with_term point hit count t rigs = if (t.share == 1000000) && nat_le hit most_hit then with_task point hit count t.task rigs else None
+-- the rigged hits with those of a term that acts at the hits of a point up to this one, or from it on; none where it is no such term
+abbrev pub with_term : ℕ → ℕ → Term → List Rig → Option (List Rig)
+with_term point hit t rigs = if (t.share == 1000000) && nat_le hit most_hit then with_task point hit t.count t.task rigs else None
 
--- the same after so many hits of the point, with how many there are then; none of a term without a count
-abbrev pub counted_into : ℕ → ℕ → Term → List Rig → Option ℕ → Option (ℕ × List Rig)
-counted_into point done t rigs None = None
-counted_into point done t rigs (Some count) = option_map (λ more. (done + count, more)) (with_term point (done + count) count t rigs)
-
+-- the same after so many hits of the point, with how many there are then: a term without a count takes one
 abbrev pub term_into : ℕ → ℕ → Term → List Rig → Option (ℕ × List Rig)
-term_into point done t rigs = counted_into point done t rigs t.count
+term_into point done t rigs =
+    option_map (λ more. (done + unwrap_or t.count 1, more)) (with_term point (done + unwrap_or t.count 1) t rigs)
 
 -- and with those of a chain
 unfoldable pub chain_into : ℕ → ℕ → List Term → List Rig → Option (List Rig)
@@ -55,19 +52,16 @@ unfoldable pub points_into : Entries → ℕ → List (List ℕ) → List Rig �
 points_into s point [] rigs = Some rigs
 points_into s point (name ∷ names) rigs = option_and_then (points_into s (point + 1) names) (chain_into point 0 (chain_named s name) rigs)
 
--- whether rigged hits are in order, each of a once-fault, and make just this scenario
+-- whether rigged hits are in order, and make just this scenario
 abbrev pub are_in_order : List Rig → Bool
 are_in_order [] = true
 are_in_order (r ∷ rs) = nat_lt 0 r.site.hit && list_all (λ s. is_before r.site s.site) rs && are_in_order rs
-
-abbrev pub are_once : List Rig → Bool
-are_once rigs = list_all (λ r. not (is_onward r.kind)) rigs
 
 abbrev pub are_small : List Rig → Bool
 are_small rigs = list_all (λ r. nat_le r.site.hit most_hit) rigs
 
 abbrev pub are_lawful : List Rig → Bool
-are_lawful rigs = nat_le (length rigs) 64 && are_small rigs && are_once rigs && are_in_order rigs
+are_lawful rigs = nat_le (length rigs) 64 && are_small rigs && are_in_order rigs
 
 abbrev pub make : List (List ℕ) → List Rig → Entries → Bool
 make points rigs s = are_lawful rigs && bytes_eq (printed (rigging points rigs)) (printed s)

@@ -1,11 +1,10 @@
 //! The rigged hits that a scenario is made of.
-ghost use Rattle.std.specs.Prelude.{◌≡◌, ◌≤◌, not, nat_le, length, option_map, IfOk, OnOk};
+ghost use Rattle.std.specs.Prelude.{◌≡◌, ◌≤◌, nat_le, length, option_map, IfOk, OnOk};
 ghost use Rattle.std.specs.List.{list_all};
 ghost use Rattle.action_eval.specs.Answers.{texts};
 ghost use Rattle.action_eval.specs.Catalogue.{IsCatalogue};
-ghost use Rattle.plan_gen.specs.RiggedAnswers.{is_onward};
 ghost use Rattle.grown_plans.specs.GrownPlans.{is_before};
-ghost use Rattle.answered_runs.specs.Rigged.{are_in_order, are_lawful, are_once, are_small, chain_into, chain_named, make, most_hit, points_into, rigs_of_scenario, term_into, with_kind, with_task};
+ghost use Rattle.answered_runs.specs.Rigged.{are_in_order, are_lawful, are_small, chain_into, chain_named, make, most_hit, points_into, rigs_of_scenario, term_into, with_kind, with_task};
 ghost use Rattle.answered_runs.specs.inside.Steps.{Took, TookTo};
 
 use crate::scenarios::rigged_scenario;
@@ -28,25 +27,27 @@ fn push(rigs: &mut Vec<Rig>, site: Site, kind: Kind) -> Result<(), AllocError>
     Ok(())
 }
 
-/// Adds what a task does that acts so often up to a hit, where that is nothing or a rigged hit's. Tells whether it is.
-fn push_task(rigs: &mut Vec<Rig>, site: Site, count: u32, task: &Task) -> Result<bool, AllocError>
+/// Adds what a task does that acts so often up to a hit, or from it on, where that is nothing or a rigged hit's. Tells whether it is.
+fn push_task(
+    rigs: &mut Vec<Rig>,
+    site: Site,
+    count: Option<u32>,
+    task: &Task,
+) -> Result<bool, AllocError>
     ensures { IfOk result (Took (with_task site.point site.hit count task.now rigs.old.items) rigs.new.items) }
 {
-    match task {
-        Task::Off => Ok(true),
-        Task::Return(None) if count == 1 => {
-            push(rigs, site, Kind::OnceReturn)?;
-            Ok(true)
-        }
-        Task::Panic(None) if count == 1 => {
-            push(rigs, site, Kind::OncePanic)?;
-            Ok(true)
-        }
-        _ => Ok(false),
-    }
+    let kind = match (task, count) {
+        (Task::Off, Some(_)) => return Ok(true),
+        (Task::Return(None), Some(1)) => Kind::OnceReturn,
+        (Task::Panic(None), Some(1)) => Kind::OncePanic,
+        (Task::Return(None), None) => Kind::OnwardReturn,
+        _ => return Ok(false),
+    };
+    push(rigs, site, kind)?;
+    Ok(true)
 }
 
-/// Adds what a term does after so many hits of a point, where it acts up to a hit of a rigged one's kind. Answers that hit.
+/// Adds what a term does after so many hits of a point, where it acts up to a hit, or from it on, as a rigged one does. Answers that hit.
 fn push_term(
     rigs: &mut Vec<Rig>,
     point: u32,
@@ -55,20 +56,17 @@ fn push_term(
 ) -> Result<Option<u32>, AllocError>
     ensures { IfOk result (TookTo (term_into point done term.now rigs.old.items) rigs.new.items) }
 {
-    let Some(count) = term.count else {
+    let Some(hit) = done.checked_add(term.count.unwrap_or(1)) else {
         return Ok(None);
     };
-    let Some(hit) = done.checked_add(count) else {
-        return Ok(None);
-    };
-    if term.share == FULL && push_task(rigs, Site { point, hit }, count, &term.task)? {
+    if term.share == FULL && push_task(rigs, Site { point, hit }, term.count, &term.task)? {
         Ok(Some(hit))
     } else {
         Ok(None)
     }
 }
 
-/// Adds what the terms of a point do. Tells whether they are those of rigged hits that act once each.
+/// Adds what the terms of a point do. Tells whether they are those of rigged hits.
 fn push_chain(rigs: &mut Vec<Rig>, point: u32, terms: &[Term]) -> Result<bool, AllocError>
     ensures { IfOk result (Took (chain_into point 0 terms.now rigs.old.items) rigs.new.items) }
 {
@@ -82,7 +80,7 @@ fn push_chain(rigs: &mut Vec<Rig>, point: u32, terms: &[Term]) -> Result<bool, A
     Ok(true)
 }
 
-/// Adds what a scenario does at a point of this name. Tells whether that is made of rigged hits that act once each.
+/// Adds what a scenario does at a point of this name. Tells whether that is made of rigged hits.
 fn push_point(
     rigs: &mut Vec<Rig>,
     scenario: &Scenario,
@@ -97,7 +95,7 @@ fn push_point(
     }
 }
 
-/// Adds what a scenario does at each of the points. Tells whether that is made of rigged hits that act once each.
+/// Adds what a scenario does at each of the points. Tells whether that is made of rigged hits.
 fn push_points(
     rigs: &mut Vec<Rig>,
     scenario: &Scenario,
@@ -144,19 +142,6 @@ fn are_in_order(rigs: &[Rig]) -> bool
     true
 }
 
-/// Whether a rigged hit acts once.
-fn is_once(rig: &Rig) -> bool
-    ensures { result ≡ not (is_onward rig.now.kind) }
-{
-    !matches!(rig.kind, Kind::OnwardReturn)
-}
-
-fn are_once(rigs: &[Rig]) -> bool
-    ensures { result ≡ are_once rigs.now }
-{
-    rigs.iter().all(|rig| is_once(rig))
-}
-
 /// Whether the number of a rigged hit fits 32 bits.
 fn is_small(rig: &Rig) -> bool
     ensures { result ≡ nat_le rig.now.site.hit most_hit }
@@ -170,11 +155,11 @@ fn are_small(rigs: &[Rig]) -> bool
     rigs.iter().all(|rig| is_small(rig))
 }
 
-/// Whether a scenario can be made of rigged hits, in order, that act once each.
+/// Whether a scenario can be made of rigged hits, in order.
 fn are_lawful(rigs: &[Rig]) -> bool
     ensures { result ≡ are_lawful rigs.now }
 {
-    rigs.len() <= MOST_RIGS && are_small(rigs) && are_once(rigs) && are_in_order(rigs)
+    rigs.len() <= MOST_RIGS && are_small(rigs) && are_in_order(rigs)
 }
 
 /// Whether rigged hits are the faults of just this scenario.
@@ -196,7 +181,7 @@ fn make(
     Ok(text.as_str() == given.as_str())
 }
 
-/// The rigged hits of a scenario, in order, where it is made of at most 64 that act once each. An error means that memory was refused.
+/// The rigged hits of a scenario, in order, where it is made of at most 64 that act once each, or fail from then on. An error means that memory was refused.
 pub fn rigs_of_scenario(
     alloc: Global,
     points: &[&str],

@@ -30,8 +30,8 @@ fn walked(
 
 impl<'a> AnsweredRuns<'a> {
     /// The verdict of a scenario once it is tidied, where runs that are known tell it: the one that was told of it; or, where it is made of
-    /// hits that fail or panic once each, the verdict of the plan of at most so many faults that these come to. An error means that memory
-    /// was refused.
+    /// hits that fail or panic once each, or fail from one on, the verdict of the plan of at most so many faults that these come to, the last
+    /// one perhaps from then on. An error means that memory was refused.
     pub fn verdict_of(
         &self,
         alloc: Global,

@@ -1,20 +1,21 @@
 -- A walk, step by step.
-use Rattle.std.proofs.Common.{◌≡◌, ℕ, zero, suc, List, [], ◌∷◌, map, Option, Some, None, refl, ap, sym, ◌∙◌, subst}
+use Rattle.std.proofs.Common.{◌≡◌, ℕ, zero, suc, ◌&&◌, Bool, true, false, cond, List, [], ◌∷◌, map, Option, Some, None, refl, ap, sym, ◌∙◌, subst}
 use Rattle.std.specs.Prelude.{Contains, IfSome, flat_map, find}
 use Rattle.std.specs.List.{AllByRecursion}
 use Rattle.action_eval.specs.declared.rig.Site.{Site}
 use Rattle.action_eval.specs.declared.rig.Rig.{Rig}
 use Rattle.target_trait.specs.declared.judgement.Verdict.{Verdict}
 use Rattle.plan_gen.specs.RiggedAnswers.{AreInOrder, acts_at}
-use Rattle.grown_plans.specs.GrownPlans.{Subject, levels, onward, grown}
-use Rattle.grown_plans.specs.AskedPoints.{sites_from, sites_past}
+use Rattle.grown_plans.specs.GrownPlans.{Subject, grown}
+use Rattle.grown_plans.specs.AskedPoints.{from_then_on, is_last_return, onward_if, sites_from, sites_past}
 use Rattle.grown_plans.specs.Kept.{Grew, kept_at, kept_children}
 use Rattle.grown_plans.specs.Promises.{IsLawful, verdict_of_rigs}
 use Rattle.grown_plans.proofs.Members.{all_contains}
-use Rattle.std.proofs.lemmas.List.Elements.{Contains-append_left}
 use Rattle.known_runs.specs.Known.{Agrees, KnownRuns, Told, IsTrueOf, hits_of, hits_told}
-use Rattle.known_runs.specs.Walks.{Unknown, Nothing, Acts, acting_by, first_acting, next_of, next_told, walk_on, walk_from, walk, verdict_told, verdict_at, verdict_walked}
-use Rattle.known_runs.specs.inside.WalkSteps.{IsStep, grew_at, verdict_in}
+use Rattle.known_runs.specs.Walks.{Unknown, Nothing, Acts, acting_by, alike_of, do_alike, doing, first_acting, if_alike, is_alike, once, onward_walked, next_of, next_told, walk_on, walk_from, walk, verdict_told, verdict_at, verdict_walked}
+use Rattle.known_runs.specs.inside.WalkSteps.{IsStep, grew_at, verdict_ended}
+use Rattle.known_runs.specs.inside.Grown.{again_told}
+use Rattle.known_runs.specs.ToldPart.{onward_told}
 use Rattle.known_runs.specs.declared.walking.Step.{Step}
 use Rattle.known_runs.specs.declared.walking.Step.TheVariants as step
 use Rattle.known_runs.specs.Looks.{IsLook, told}
@@ -44,21 +45,21 @@ Leads known rigs d left plan = walk_from known rigs left plan ≡ walk known rig
 
 last_step : (known : KnownRuns) (rigs : List Rig) (left : ℕ) (plan : List Rig) → next_told rigs plan (hits_of known plan) ≡ Nothing → walk_from known rigs left plan ≡ Some plan
 unfolding walk_from
-last_step known rigs zero plan e = ap (walk_on (λ longer. None) plan) e
+last_step known rigs zero plan e = ap (walk_on (λ longer. onward_walked known rigs plan) plan) e
 last_step known rigs (suc n) plan e = ap (walk_on (walk_from known rigs n) plan) e
 
 no_step : (known : KnownRuns) (rigs : List Rig) (left : ℕ) (plan : List Rig) → next_told rigs plan (hits_of known plan) ≡ Unknown → walk_from known rigs left plan ≡ None
 unfolding walk_from
-no_step known rigs zero plan e = ap (walk_on (λ longer. None) plan) e
+no_step known rigs zero plan e = ap (walk_on (λ longer. onward_walked known rigs plan) plan) e
 no_step known rigs (suc n) plan e = ap (walk_on (walk_from known rigs n) plan) e
 
 one_step : (known : KnownRuns) (rigs : List Rig) (left : ℕ) (plan : List Rig) (r : Rig) → next_told rigs plan (hits_of known plan) ≡ Acts r → walk_from known rigs (suc left) plan ≡ walk_from known rigs left (r ∷ plan)
 unfolding walk_from
 one_step known rigs n plan r e = ap (walk_on (walk_from known rigs n) plan) e
 
-too_far : (known : KnownRuns) (rigs plan : List Rig) (r : Rig) → next_told rigs plan (hits_of known plan) ≡ Acts r → walk_from known rigs 0 plan ≡ None
+too_far : (known : KnownRuns) (rigs plan : List Rig) (r : Rig) → next_told rigs plan (hits_of known plan) ≡ Acts r → walk_from known rigs 0 plan ≡ onward_walked known rigs plan
 unfolding walk_from
-too_far known rigs plan r e = ap (walk_on (λ longer. None) plan) e
+too_far known rigs plan r e = ap (walk_on (λ longer. onward_walked known rigs plan) plan) e
 
 pub ends_here : (known : KnownRuns) (rigs : List Rig) (d left : ℕ) (plan : List Rig) (v : Verdict) → Leads known rigs d left plan → (next_told rigs plan (hits_of known plan) ≡ Nothing) × (verdict_told (known plan) ≡ Some v)
     → Some v ≡ verdict_walked known rigs d
@@ -66,9 +67,6 @@ ends_here known rigs d left plan v l h = sym h.1 ∙ ap (verdict_at known) (sym 
 
 pub stops_here : (known : KnownRuns) (rigs : List Rig) (d left : ℕ) (plan : List Rig) → Leads known rigs d left plan → next_told rigs plan (hits_of known plan) ≡ Unknown → None ≡ verdict_walked known rigs d
 stops_here known rigs d left plan l e = ap (verdict_at known) (sym (no_step known rigs left plan e) ∙ l)
-
-pub goes_too_far : (known : KnownRuns) (rigs : List Rig) (d left : ℕ) (plan : List Rig) (r : Rig) → left ≡ 0 → Leads known rigs d left plan → next_told rigs plan (hits_of known plan) ≡ Acts r → None ≡ verdict_walked known rigs d
-goes_too_far known rigs d left plan r zeroth l e = ap (verdict_at known) (sym (too_far known rigs plan r e) ∙ ap (λ (n : ℕ). walk_from known rigs n plan) (sym zeroth) ∙ l)
 
 pub goes_on : (known : KnownRuns) (rigs : List Rig) (d left less : ℕ) (plan longer : List Rig) (r : Rig) → left ≡ suc less → longer ≡ r ∷ plan → Leads known rigs d left plan → next_told rigs plan (hits_of known plan) ≡ Acts r
     → Leads known rigs d less longer
@@ -89,10 +87,42 @@ pub step_acts : (known : KnownRuns) (rigs : List Rig) (d left less : ℕ) (plan 
     → Leads known rigs d left plan → Leads known rigs d less longer
 step_acts known rigs d left less plan plan' longer s r e is h one more l = goes_on known rigs d left less plan longer r one more l (told_step known rigs plan plan' s (step.Acts r) e is h)
 
-pub step_last : (known : KnownRuns) (rigs : List Rig) (d left : ℕ) (plan plan' : List Rig) (s : Step) → plan' ≡ plan → left ≡ 0 → IsStep known rigs plan' s → Leads known rigs d left plan → verdict_in s ≡ verdict_walked known rigs d
-step_last known rigs d left plan plan' step.Unknown e zeroth h l = step_stops known rigs d left plan plan' step.Unknown e refl h l
-step_last known rigs d left plan plan' (step.Ends v) e zeroth h l = step_ends known rigs d left plan plan' (step.Ends v) v e refl h l
-step_last known rigs d left plan plan' (step.Acts r) e zeroth h l = goes_too_far known rigs d left plan r zeroth l (told_step known rigs plan plan' (step.Acts r) (step.Acts r) e refl h)
+-- ---- the last step
+
+pub end_stops : (known : KnownRuns) (rigs plan : List Rig) (s : Step) → s ≡ step.Unknown → IsStep known rigs plan s → None ≡ verdict_ended known rigs plan
+end_stops known rigs plan s is h = ap (verdict_at known) (sym (no_step known rigs 0 plan (told_step known rigs plan plan s step.Unknown refl is h)))
+
+pub end_ends : (known : KnownRuns) (rigs plan : List Rig) (s : Step) (v : Verdict) → s ≡ step.Ends v → IsStep known rigs plan s → Some v ≡ verdict_ended known rigs plan
+end_ends known rigs plan s v is h =
+    let k = told_step known rigs plan plan s (step.Ends v) refl is h in
+    sym k.1 ∙ ap (verdict_at known) (sym (last_step known rigs 0 plan k.0))
+
+pub end_acts : (known : KnownRuns) (rigs plan : List Rig) (s : Step) (r : Rig) (o : Option Verdict) → s ≡ step.Acts r → IsStep known rigs plan s → o ≡ verdict_at known (onward_walked known rigs plan) → o ≡ verdict_ended known rigs plan
+end_acts known rigs plan s r o is h e = e ∙ ap (verdict_at known) (sym (too_far known rigs plan r (told_step known rigs plan plan s (step.Acts r) refl is h)))
+
+pub walk_ends : (known : KnownRuns) (rigs : List Rig) (d left : ℕ) (plan plan' : List Rig) (o : Option Verdict) → plan' ≡ plan → left ≡ 0 → o ≡ verdict_ended known rigs plan' → Leads known rigs d left plan → o ≡ verdict_walked known rigs d
+walk_ends known rigs d left plan plan' o e zeroth is l =
+    is ∙ ap (λ (p : List Rig). verdict_at known (walk_from known rigs 0 p)) e ∙ ap (λ (n : ℕ). verdict_at known (walk_from known rigs n plan)) (sym zeroth) ∙ ap (verdict_at known) l
+
+-- ---- the plan from then on
+
+none_onward : (plan : List Rig) (b : Bool) → onward_if (b && false) plan ≡ []
+none_onward plan true = refl
+none_onward plan false = refl
+
+told_onward : (plan : List Rig) (o : Option (List ℕ)) → onward_told plan o ≡ onward_if (is_last_return plan && again_told plan o) plan
+told_onward plan None = sym (none_onward plan (is_last_return plan))
+told_onward plan (Some hits) = refl
+
+pub not_return : (plan : List Rig) (o : Option (List ℕ)) → is_last_return plan ≡ false → onward_told plan o ≡ []
+not_return plan o e = told_onward plan o ∙ ap (λ (b : Bool). onward_if (b && again_told plan o) plan) e
+
+pub not_again : (plan : List Rig) (o : Option (List ℕ)) → false ≡ again_told plan o → onward_told plan o ≡ []
+not_again plan o e = told_onward plan o ∙ ap (λ (b : Bool). onward_if (is_last_return plan && b) plan) (sym e) ∙ none_onward plan (is_last_return plan)
+
+pub turned : (plan onward : List Rig) (o : Option (List ℕ)) → is_last_return plan ≡ true → true ≡ again_told plan o → onward ≡ from_then_on plan → onward_told plan o ≡ onward ∷ []
+turned plan onward o e again is =
+    told_onward plan o ∙ ap (λ (b : Bool). onward_if (b && again_told plan o) plan) e ∙ ap (λ (b : Bool). onward_if b plan) (sym again) ∙ ap (λ (p : List Rig). p ∷ []) (sym is)
 
 -- ---- a look
 
@@ -113,22 +143,53 @@ pub sees_end : (known : KnownRuns) (rigs plan : List Rig) (hits : List ℕ) (s :
 sees_end known rigs plan hits s v children is h kept none =
     let k = seen_hits known plan hits s v is h in (next_seen known rigs plan hits v children k kept ∙ ap next_of (sym none), ap verdict_told k)
 
+-- ---- hits at which rigged ones do the same as others
+
+once_more : (b x : Bool) → (b && (b && x)) ≡ (b && x)
+once_more true x = refl
+once_more false x = refl
+
+alike_sites : (rigs others : List Rig) (n : ℕ) (ss : List Site) → do_alike rigs others (grew_at (flat_map (kept_at n) ss)) ≡ do_alike rigs others ss
+alike_sites rigs others n [] = refl
+alike_sites rigs others n (s ∷ ss) =
+    once_more (is_alike (doing rigs s) (doing others s)) (do_alike rigs others (grew_at (flat_map (kept_at n) ss))) ∙ ap (λ (b : Bool). is_alike (doing rigs s) (doing others s) && b) (alike_sites rigs others n ss)
+
+pub sees_alike : (known : KnownRuns) (rigs plan : List Rig) (hits : List ℕ) (s : Look) (v : Verdict) (children : List Grew) (b : Bool) → s ≡ look.Seen v → IsLook (known plan) hits s → children ≡ kept_children 0 [] hits
+    → do_alike rigs plan (grew_at children) ≡ b → cond b (Some v) None ≡ verdict_at known (if_alike rigs plan (hits_of known plan))
+sees_alike known rigs plan hits s v children b is h kept alike =
+    let k = seen_hits known plan hits s v is h in
+    let same : do_alike rigs plan (sites_from [] hits) ≡ b = sym (alike_sites rigs plan 0 (sites_from [] hits)) ∙ ap (λ (gs : List Grew). do_alike rigs plan (grew_at gs)) (sym kept) ∙ alike in
+    by_test b k
+    ∙ ap (λ (c : Bool). verdict_at known (cond c (Some plan) None)) (sym same) ∙ ap (λ (o : Option Told). verdict_at known (if_alike rigs plan (hits_told o))) (sym k)
+  where
+    by_test : (c : Bool) → known plan ≡ Some (told v (Some hits)) → cond c (Some v) None ≡ verdict_at known (cond c (Some plan) None)
+    by_test true k = sym (ap verdict_told k)
+    by_test false k = refl
+
+-- the one plan from then on, or none
+pub no_onward : (known : KnownRuns) (rigs plan : List Rig) → onward_told plan (hits_of known plan) ≡ [] → None ≡ verdict_at known (onward_walked known rigs plan)
+no_onward known rigs plan e = sym (ap (λ (ps : List (List Rig)). verdict_at known (alike_of known rigs ps)) e)
+
+pub one_onward : (known : KnownRuns) (rigs plan onward slice : List Rig) (o : Option Verdict) → onward_told plan (hits_of known plan) ≡ onward ∷ [] → slice ≡ onward → o ≡ verdict_at known (if_alike rigs slice (hits_of known slice))
+    → o ≡ verdict_at known (onward_walked known rigs plan)
+one_onward known rigs plan onward slice o e same is =
+    is ∙ ap (λ (p : List Rig). verdict_at known (if_alike rigs p (hits_of known p))) same ∙ sym (ap (λ (ps : List (List Rig)). verdict_at known (alike_of known rigs ps)) e)
+
 -- ---- the verdict of each subject that agrees
 
 told_verdict : (t : Subject) (plan : List Rig) (o : Option Told) (v : Verdict) → IfSome o (IsTrueOf t plan) → verdict_told o ≡ Some v → (x : Told) × (o ≡ Some x) × (x.verdict ≡ v) × IsTrueOf t plan x
 told_verdict t plan None v h e = absurd cc
 told_verdict t plan (Some x) v h e = (x, refl, (let same : x.verdict ≡ v = cc in same), h)
 
-by_walk : (t : Subject) → IsLawful t → (d : ℕ) (known : KnownRuns) → Agrees t d known → (rigs : List Rig) → AreInOrder (map (λ (r : Rig). r.site) rigs) → AllByRecursion (λ r. Contains (t.kinds r.site.point) r.kind) rigs
+by_walk : (t : Subject) → IsLawful t → (d : ℕ) (known : KnownRuns) → Agrees t d known → (rigs : List Rig) → AreInOrder (map (λ (r : Rig). r.site) rigs) → AllByRecursion (λ r. Contains (t.kinds r.site.point) (once r.kind)) rigs
     → (o : Option (List Rig)) → walk known rigs d ≡ o → (v : Verdict) → verdict_at known o ≡ Some v → (seed stream : ℕ) → verdict_of_rigs t seed stream rigs ≡ v
 by_walk t l d known a rigs order k None w v e seed stream = absurd cc
 by_walk t l d known a rigs order k (Some plan) w v e seed stream =
     let came = walks_right t l d known a rigs plan order k w in
-    let there : Contains (grown t d) plan = Contains-append_left (levels t d) (onward t d) plan came.0 in
-    let truth = told_verdict t plan (known plan) v (all_contains (λ p. IfSome (known p) (IsTrueOf t p)) (grown t d) plan a there) e in
+    let truth = told_verdict t plan (known plan) v (all_contains (λ p. IfSome (known p) (IsTrueOf t p)) (grown t d) plan a came.0) e in
     came.1.verdicts seed stream ∙ truth.3.verdict seed stream ∙ truth.2
 
 pub same_verdict : (known : KnownRuns) (rigs : List Rig) (d : ℕ) (o : Option Verdict) → o ≡ verdict_walked known rigs d → (t : Subject) → IsLawful t → Agrees t d known → AreInOrder (map (λ (r : Rig). r.site) rigs)
-    → AllByRecursion (λ r. Contains (t.kinds r.site.point) r.kind) rigs → IfSome o (λ v. (seed stream : ℕ) → verdict_of_rigs t seed stream rigs ≡ v)
+    → AllByRecursion (λ r. Contains (t.kinds r.site.point) (once r.kind)) rigs → IfSome o (λ v. (seed stream : ℕ) → verdict_of_rigs t seed stream rigs ≡ v)
 same_verdict known rigs d None e t l a order k = tt
 same_verdict known rigs d (Some v) e t l a order k = λ seed stream. by_walk t l d known a rigs order k (walk known rigs d) refl v (sym e) seed stream

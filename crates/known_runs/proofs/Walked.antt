@@ -1,32 +1,36 @@
 -- A walk over known runs comes to the plan whose run rigged hits have.
 use Rattle.std.proofs.Common.{◌≡◌, ℕ, zero, suc, ◌+◌, ◌≤◌, ◌==◌, ◌&&◌, Bool, true, false, cond, List, [], ◌∷◌, ◌++◌, map, refl, ap, sym, ◌∙◌, subst, arith, append_assoc}
-use Rattle.std.specs.Prelude.{Contains, Option, Some, None, find}
+use Rattle.std.specs.Prelude.{Contains, Option, Some, None, find, not, option_map}
 use Rattle.std.specs.Option.{option_map_or}
 use Rattle.std.specs.List.{AllByRecursion}
-use Rattle.std.proofs.lemmas.List.Elements.{Contains-append_left}
+use Rattle.std.proofs.lemmas.List.Elements.{Contains-append_left, Contains-append_right}
 use Rattle.std.proofs.lemmas.Bool.Decides.{nat_tests}
 use Rattle.action_eval.specs.declared.rig.Site.{Site}
 use Rattle.action_eval.specs.declared.rig.Rig.{Rig}
 use Rattle.action_eval.specs.declared.rig.Kind.{Kind}
+use Rattle.action_eval.specs.declared.rig.Kind.TheVariants.{OnceReturn, OnwardReturn, OncePanic}
 use Rattle.action_eval.specs.Answers.{Reply, Go, given_of}
 use Rattle.action_eval.specs.Rigging.{rig, rigging}
 use Rattle.target_trait.specs.Outcomes.{judged}
 use Rattle.plan_gen.specs.RiggedAnswers.{AreInOrder, acts_at, reply_by, rigged_reply}
 use Rattle.grown_plans.specs.Runs.{Met, met, run}
-use Rattle.grown_plans.specs.GrownPlans.{Subject, run_of_plan, hits_after, hits_past, grown_at, children, level, levels, onward}
-use Rattle.grown_plans.specs.AskedPoints.{sites_from, sites_past}
+use Rattle.grown_plans.specs.GrownPlans.{Subject, run_of_plan, hits_after, hits_past, grown_at, children, grown, level, levels, onward, onward_of}
+use Rattle.grown_plans.specs.AskedPoints.{GoesOnwardByAsked, onward_by, sites_from, sites_past}
 use Rattle.grown_plans.specs.Promises.{IsLawful, KeepsPrefix}
 use Rattle.grown_plans.proofs.Members.{all_weaker, all_append, all_both, all_contains, contains_head, contains_tail, contains_map, contains_flat}
 use Rattle.grown_plans.proofs.Paths.{IsPath, Fresh, AnsweredBy, replies_of, hit_fresh, same_path}
 use Rattle.grown_plans.proofs.PlayedRuns.{run_path}
-use Rattle.grown_plans.proofs.PlanRuns.{plan_path, plan_judged, rigs_answered, rigs_judged}
+use Rattle.grown_plans.proofs.PlanRuns.{plan_answered, plan_path, plan_judged, rigs_answered, rigs_judged}
+use Rattle.grown_plans.proofs.Riggings.{CanAct}
+use Rattle.grown_plans.proofs.Onward.{grown_can}
 use Rattle.grown_plans.proofs.Levels.{IsGrown, hits_after_split, level_grown}
 use Rattle.grown_plans.proofs.Apart.{level_in_levels}
-use Rattle.grown_plans.proofs.AskedSites.{sites_of}
+use Rattle.grown_plans.proofs.AskedSites.{goes_onward_by_asked, sites_of}
 use Rattle.known_runs.specs.Known.{Agrees, KnownRuns, hits_of}
-use Rattle.known_runs.specs.Walks.{acting_by, first_acting, next_of, next_told, walk_on, walk_from}
+use Rattle.known_runs.specs.ToldPart.{onward_told}
+use Rattle.known_runs.specs.Walks.{acting_by, alike_of, do_alike, doing, first_acting, if_alike, is_alike, is_return, next_of, next_told, once, onward_walked, walk_on, walk_from}
 use Rattle.known_runs.specs.Promises.{IsRunOf, WalksRight}
-use Rattle.known_runs.proofs.Sites.{past_told, hits_true}
+use Rattle.known_runs.proofs.Sites.{asked_told, hits_true, past_told, sites_told}
 
 abbrev AllGo : List Met → Type 0
 AllGo ms = AllByRecursion (λ m. m.reply ≡ Go) ms
@@ -49,6 +53,11 @@ found (x ∷ rigs) s r e = by_test (found rigs s r) (acts_at s.point s.hit x) re
     by_test later true h k = let same : x ≡ r = cc in subst (λ (y : Rig). Found (x ∷ rigs) s y) same (record { in' = contains_head x rigs; acts = h })
     by_test later false h k = let f = later k in record { in' = contains_tail x r rigs f.in'; acts = f.acts }
 
+once_reply : (k : Kind) → reply_by k ≡ reply_by (once k)
+once_reply OnceReturn = refl
+once_reply OnwardReturn = refl
+once_reply OncePanic = refl
+
 record FirstAt (rigs : List Rig) (ms : List Met) (r : Rig) : Type 0 where
   before : List Met
   here : Met
@@ -59,7 +68,7 @@ record FirstAt (rigs : List Rig) (ms : List Met) (r : Rig) : Type 0 where
   acts : answers rigs here.site ≡ reply_by r.kind
   rigged : Rig
   found : Found rigs here.site rigged
-  kind : rigged.kind ≡ r.kind
+  kind : once rigged.kind ≡ r.kind
 
 first_at : (rigs : List Rig) (ms : List Met) (r : Rig) → first_acting rigs (sites_of ms) ≡ Some r → FirstAt rigs ms r
 first_at rigs [] r e = absurd cc
@@ -81,7 +90,7 @@ first_at rigs (m ∷ ms) r e = by_found (first_at rigs ms r) (find (acts_at m.si
           kind = later.kind;
         }
     by_found further (Some x) f k =
-        let same : rig m.site x.kind ≡ r = cc in
+        let same : rig m.site (once x.kind) ≡ r = cc in
         record {
           before = [];
           here = m;
@@ -89,7 +98,7 @@ first_at rigs (m ∷ ms) r e = by_found (first_at rigs ms r) (find (acts_at m.si
           split = refl;
           site = ap (λ (y : Rig). y.site) same;
           quiet = tt;
-          acts = ap (λ (o : Option Rig). option_map_or (λ y. reply_by y.kind) o Go) f ∙ ap (λ (y : Rig). reply_by y.kind) same;
+          acts = ap (λ (o : Option Rig). option_map_or (λ y. reply_by y.kind) o Go) f ∙ once_reply x.kind ∙ ap (λ (y : Rig). reply_by y.kind) same;
           rigged = x;
           found = found rigs m.site x f;
           kind = ap (λ (y : Rig). y.kind) same;
@@ -162,7 +171,7 @@ goes_on t rigs plan r f h k =
 -- ---- the plan that it comes to
 
 abbrev AreTried : Subject → List Rig → Type 0
-AreTried t rigs = AllByRecursion (λ r. Contains (t.kinds r.site.point) r.kind) rigs
+AreTried t rigs = AllByRecursion (λ r. Contains (t.kinds r.site.point) (once r.kind)) rigs
 
 acts_there : (p : ℕ) (r : Rig) (b : Bool) → ((r.site.point == p) && b) ≡ true → r.site.point ≡ p
 acts_there p r b e = by_test (r.site.point == p) refl e
@@ -173,9 +182,9 @@ acts_there p r b e = by_test (r.site.point == p) refl e
 
 is_tried : (t : Subject) (rigs : List Rig) (ms : List Met) (r : Rig) → AreTried t rigs → (h : FirstAt rigs ms r) → Contains (t.kinds h.here.site.point) r.kind
 is_tried t rigs ms r a h =
-    let k : Contains (t.kinds h.rigged.site.point) h.rigged.kind = all_contains (λ (x : Rig). Contains (t.kinds x.site.point) x.kind) rigs h.rigged a h.found.in' in
+    let k : Contains (t.kinds h.rigged.site.point) (once h.rigged.kind) = all_contains (λ (x : Rig). Contains (t.kinds x.site.point) (once x.kind)) rigs h.rigged a h.found.in' in
     let at : h.rigged.site.point ≡ h.here.site.point = acts_there h.here.site.point h.rigged _ h.found.acts in
-    let k' : Contains (t.kinds h.here.site.point) h.rigged.kind = subst (λ (p : ℕ). Contains (t.kinds p) h.rigged.kind) at k in
+    let k' : Contains (t.kinds h.here.site.point) (once h.rigged.kind) = subst (λ (p : ℕ). Contains (t.kinds p) (once h.rigged.kind)) at k in
     subst (λ (x : Kind). Contains (t.kinds h.here.site.point) x) h.kind k'
 
 at_place : {A : Type 0} (b : List A) (x : A) (a : List A) → Contains (b ++ x ∷ a) x
@@ -193,26 +202,106 @@ in_next : (t : Subject) (n : ℕ) (plan child : List Rig) → Contains (level t 
 unfolding level
 in_next t n plan child c k = contains_flat (children t) (level t n) plan child c k
 
+-- a run that rigged hits answer is theirs
+run_from : (t : Subject) → IsLawful t → (rigs plan : List Rig) → AreInOrder (map (λ (r : Rig). r.site) rigs) → CanAct plan → AnsweredBy (answers rigs) (run_of_plan t plan) → IsRunOf t rigs plan
+run_from t l rigs plan o can all =
+    let runs : (seed stream : ℕ) → run t.asks (given_of (rigging t.names rigs) t.names seed stream t.limit) ≡ run_of_plan t plan =
+    λ seed stream. same_path t.asks (answers rigs) t.limit [] (run t.asks (given_of (rigging t.names rigs) t.names seed stream t.limit)) (run_of_plan t plan)
+    (run_path t.asks (given_of (rigging t.names rigs) t.names seed stream t.limit)) (plan_path t plan) (rigs_answered t l rigs o seed stream) all in
+    record {
+      runs = runs;
+      verdicts = λ seed stream. rigs_judged t rigs seed stream ∙ ap (λ (ms : List Met). judged (t.asks (replies_of ms))) (runs seed stream) ∙ sym (plan_judged t l plan can seed stream);
+    }
+
 -- the run of a plan that follows rigged hits to its end is theirs
 is_run : (t : Subject) → IsLawful t → (n : ℕ) (rigs plan : List Rig) → AreInOrder (map (λ (r : Rig). r.site) rigs) → Contains (level t n) plan → (f : Follows t rigs plan) → first_acting rigs (sites_of f.late) ≡ None → IsRunOf t rigs plan
 is_run t l n rigs plan o c f none =
     let late : AnsweredBy (answers rigs) f.late = so_far rigs f.late f.still (none_acts rigs f.late none) in
     let all : AnsweredBy (answers rigs) (run_of_plan t plan) = subst (AnsweredBy (answers rigs)) (sym f.runs) (all_append (λ (m : Met). m.reply ≡ answers rigs m.site) f.early f.late f.so late) in
     let grown : IsGrown t n plan = all_contains (IsGrown t n) (level t n) plan (level_grown t l n) c in
-    let runs : (seed stream : ℕ) → run t.asks (given_of (rigging t.names rigs) t.names seed stream t.limit) ≡ run_of_plan t plan =
-    λ seed stream. same_path t.asks (answers rigs) t.limit [] (run t.asks (given_of (rigging t.names rigs) t.names seed stream t.limit)) (run_of_plan t plan)
-    (run_path t.asks (given_of (rigging t.names rigs) t.names seed stream t.limit)) (plan_path t plan) (rigs_answered t l rigs o seed stream) all in
-    record {
-      runs = runs;
-      verdicts = λ seed stream. rigs_judged t rigs seed stream ∙ ap (λ (ms : List Met). judged (t.asks (replies_of ms))) (runs seed stream) ∙ sym (plan_judged t l plan grown.can seed stream);
-    }
+    run_from t l rigs plan o grown.can all
 
 record Came (t : Subject) (d : ℕ) (rigs plan : List Rig) : Type 0 where
-  in' : Contains (levels t d) plan
+  in' : Contains (grown t d) plan
   is : IsRunOf t rigs plan
 
-abbrev nothing : Option (List Rig)
-nothing = None
+-- ---- the plan from then on
+
+kinds_reply : (a b : Kind) → cond (is_return a) (is_return b) (not (is_return b)) ≡ true → reply_by a ≡ reply_by b
+kinds_reply OnceReturn OnceReturn e = refl
+kinds_reply OnceReturn OnwardReturn e = refl
+kinds_reply OnceReturn OncePanic e = absurd cc
+kinds_reply OnwardReturn OnceReturn e = refl
+kinds_reply OnwardReturn OnwardReturn e = refl
+kinds_reply OnwardReturn OncePanic e = absurd cc
+kinds_reply OncePanic OnceReturn e = absurd cc
+kinds_reply OncePanic OnwardReturn e = absurd cc
+kinds_reply OncePanic OncePanic e = refl
+
+abbrev reply_found : Option Rig → Reply
+reply_found o = option_map_or (λ x. reply_by x.kind) o Go
+
+found_reply : (o q : Option Rig) → is_alike (option_map (λ r. r.kind) o) (option_map (λ r. r.kind) q) ≡ true → reply_found o ≡ reply_found q
+found_reply None None e = refl
+found_reply None (Some q) e = absurd cc
+found_reply (Some r) None e = absurd cc
+found_reply (Some r) (Some q) e = kinds_reply r.kind q.kind e
+
+both_so : (a b : Bool) → (a && b) ≡ true → (a ≡ true) × (b ≡ true)
+both_so true b e = (refl, e)
+both_so false b e = absurd cc
+
+alike_at : (rigs others : List Rig) (ms : List Met) → do_alike rigs others (sites_of ms) ≡ true → AllByRecursion (λ m. answers rigs m.site ≡ answers others m.site) ms
+alike_at rigs others [] e = tt
+alike_at rigs others (m ∷ ms) e =
+    let parts = both_so (is_alike (doing rigs m.site) (doing others m.site)) (do_alike rigs others (sites_of ms)) e in
+    (found_reply (find (acts_at m.site.point m.site.hit) rigs) (find (acts_at m.site.point m.site.hit) others) parts.0, alike_at rigs others ms parts.1)
+
+alike_run : (t : Subject) → IsLawful t → (d : ℕ) (known : KnownRuns) → Agrees t d known → (rigs plan : List Rig) → AreInOrder (map (λ (r : Rig). r.site) rigs) → Contains (grown t d) plan → (hits : List ℕ) → hits_of known plan ≡ Some hits
+    → do_alike rigs plan (sites_from [] hits) ≡ true → IsRunOf t rigs plan
+alike_run t l d known a rigs plan o c hits e alike =
+    let can : CanAct plan = all_contains CanAct (grown t d) plan (grown_can t l d) c in
+    let sites : sites_of (run_of_plan t plan) ≡ sites_from [] hits = sites_told t plan hits (hits_true t d known plan hits a c e) in
+    let same = alike_at rigs plan (run_of_plan t plan) (ap (do_alike rigs plan) sites ∙ alike) in
+    run_from t l rigs plan o can
+    (all_weaker (λ (m : Met). (m.reply ≡ answers plan m.site) × (answers rigs m.site ≡ answers plan m.site)) (λ (m : Met). m.reply ≡ answers rigs m.site) (λ m h. h.0 ∙ sym h.1) (run_of_plan t plan)
+    (all_both _ _ (run_of_plan t plan) (plan_answered t l plan can) same))
+
+in_onward : (t : Subject) (d : ℕ) (leaf plan : List Rig) → Contains (level t d) leaf → Contains (onward_of t leaf) plan → Contains (onward t d) plan
+unfolding onward
+in_onward t d leaf plan c k = contains_flat (onward_of t) (level t d) leaf plan c k
+
+onward_came : (t : Subject) → IsLawful t → (d : ℕ) (known : KnownRuns) → Agrees t d known → (rigs : List Rig) → AreInOrder (map (λ (r : Rig). r.site) rigs) → (leaf last : List Rig) → Contains (level t d) leaf
+    → onward_walked known rigs leaf ≡ Some last → Came t d rigs last
+onward_came t l d known a rigs o leaf last c w = by_hits (hits_of known leaf) refl w
+  where
+    by_test : (plan : List Rig) → Contains (grown t d) plan → (hits : List ℕ) → hits_of known plan ≡ Some hits → (b : Bool) → do_alike rigs plan (sites_from [] hits) ≡ b → cond b (Some plan) None ≡ Some last → Came t d rigs last
+    by_test plan k hits e true alike v =
+        let one : plan ≡ last = cc in
+        subst (Came t d rigs) one (record { in' = k; is = alike_run t l d known a rigs plan o k hits e alike })
+    by_test plan k hits e false alike v = absurd cc
+
+    by_plan : (plan : List Rig) → Contains (grown t d) plan → (x : Option (List ℕ)) → hits_of known plan ≡ x → if_alike rigs plan x ≡ Some last → Came t d rigs last
+    by_plan plan k None e v = absurd cc
+    by_plan plan k (Some hits) e v = by_test plan k hits e (do_alike rigs plan (sites_from [] hits)) refl v
+
+    by_plans : (plans : List (List Rig)) → onward_of t leaf ≡ plans → alike_of known rigs plans ≡ Some last → Came t d rigs last
+    by_plans [] e v = absurd cc
+    by_plans (plan ∷ plans) e v =
+        let there : Contains (onward_of t leaf) plan = subst (λ (ps : List (List Rig)). Contains ps plan) (sym e) (contains_head plan plans) in
+        by_plan plan (Contains-append_right (levels t d) (onward t d) plan (in_onward t d leaf plan c there)) (hits_of known plan) refl v
+
+    grows : (hits : List ℕ) → hits_of known leaf ≡ Some hits → onward_of t leaf ≡ onward_by leaf hits
+    grows hits e =
+        let in_grown : Contains (grown t d) leaf = Contains-append_left (levels t d) (onward t d) leaf (level_in_levels t d d leaf (omega arith) c) in
+        let goes : GoesOnwardByAsked t leaf = all_contains (GoesOnwardByAsked t) (level t d) leaf (goes_onward_by_asked t l d) c in
+        goes 0 0 ∙ ap (onward_by leaf) (asked_told t leaf hits (hits_true t d known leaf hits a in_grown e))
+
+    by_hits : (x : Option (List ℕ)) → hits_of known leaf ≡ x → alike_of known rigs (onward_told leaf x) ≡ Some last → Came t d rigs last
+    by_hits None e v = absurd cc
+    by_hits (Some hits) e v = by_plans (onward_of t leaf) refl (ap (alike_of known rigs) (grows hits e) ∙ v)
+
+-- ---- step by step
 
 -- one step of a walk, from a plan that follows the rigged hits
 step : (t : Subject) → IsLawful t → (d : ℕ) (known : KnownRuns) → Agrees t d known → (rigs : List Rig) → AreInOrder (map (λ (r : Rig). r.site) rigs) → AreTried t rigs
@@ -221,13 +310,13 @@ step : (t : Subject) → IsLawful t → (d : ℕ) (known : KnownRuns) → Agrees
     → walk_on longer plan (next_told rigs plan (hits_of known plan)) ≡ Some last → Came t d rigs last
 step t l d known a rigs o k n plan last le c f longer further w = by_hits (hits_of known plan) refl w
   where
-    there : Contains (levels t d) plan
-    there = level_in_levels t d n plan le c
+    in_grown : Contains (grown t d) plan
+    in_grown = Contains-append_left (levels t d) (onward t d) plan (level_in_levels t d n plan le c)
 
     by_first : (x : Option Rig) → first_acting rigs (sites_of f.late) ≡ x → walk_on longer plan (next_of x) ≡ Some last → Came t d rigs last
     by_first None h w =
         let one : plan ≡ last = cc in
-        subst (Came t d rigs) one (record { in' = there; is = is_run t l n rigs plan o c f h })
+        subst (Came t d rigs) one (record { in' = in_grown; is = is_run t l n rigs plan o c f h })
     by_first (Some r) h w =
         let first = first_at rigs f.late r h in
         let c' : Contains (level t (suc n)) (r ∷ plan) = in_next t n plan (r ∷ plan) c (is_child t rigs plan r k f first) in
@@ -235,7 +324,7 @@ step t l d known a rigs o k n plan last le c f longer further w = by_hits (hits_
         further r c' (goes_on t rigs plan r f first grown.prefix) w
 
     late_is : (hits : List ℕ) → hits_of known plan ≡ Some hits → sites_past plan (sites_from [] hits) ≡ sites_of f.late
-    late_is hits h = past_told t plan hits (hits_true t d known plan hits a (Contains-append_left (levels t d) (onward t d) plan there) h) ∙ ap sites_of f.past
+    late_is hits h = past_told t plan hits (hits_true t d known plan hits a in_grown h) ∙ ap sites_of f.past
 
     by_hits : (x : Option (List ℕ)) → hits_of known plan ≡ x → walk_on longer plan (next_told rigs plan x) ≡ Some last → Came t d rigs last
     by_hits None h w = absurd cc
@@ -246,10 +335,9 @@ walked : (t : Subject) → IsLawful t → (d : ℕ) (known : KnownRuns) → Agre
     → (m n : ℕ) (plan last : List Rig) → m + n ≡ d → Contains (level t n) plan → Follows t rigs plan → walk_from known rigs m plan ≡ Some last → Came t d rigs last
 unfolding walk_from
 walked t l d known a rigs o k zero n plan last e c f w =
-    step t l d known a rigs o k n plan last (omega (arith, e)) c f (λ longer. None) (λ r c' f' w'. absurd (let none : nothing ≡ Some last = w' in never none)) w
-  where
-    never : nothing ≡ Some last → ⊥
-    never h = cc
+    let whole : n ≡ d = omega (arith, e) in
+    let leaf : Contains (level t d) plan = subst (λ (m : ℕ). Contains (level t m) plan) whole c in
+    step t l d known a rigs o k n plan last (omega (arith, e)) c f (λ longer. onward_walked known rigs plan) (λ r c' f' w'. onward_came t l d known a rigs o plan last leaf w') w
 walked t l d known a rigs o k (suc m) n plan last e c f w =
     step t l d known a rigs o k n plan last (omega (arith, e)) c f (walk_from known rigs m)
     (λ r c' f' w'. walked t l d known a rigs o k m (suc n) (r ∷ plan) last (omega (arith, e)) c' f' w') w

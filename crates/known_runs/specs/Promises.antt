@@ -6,23 +6,24 @@ use Rattle.action_eval.specs.Answers.{given_of}
 use Rattle.action_eval.specs.Rigging.{rigging}
 use Rattle.plan_gen.specs.RiggedAnswers.{AreInOrder}
 use Rattle.grown_plans.specs.Runs.{run}
-use Rattle.grown_plans.specs.GrownPlans.{Subject, run_of_plan, grown, level, levels, onward}
+use Rattle.grown_plans.specs.GrownPlans.{Subject, run_of_plan, grown, level, onward}
 use Rattle.grown_plans.specs.Promises.{EachTwo, verdict_of_rigs, verdict_of_plan}
 use Rattle.known_runs.specs.Known.{KnownRuns, hits_of}
 use Rattle.known_runs.specs.KnownPart.{are_told, is_reached_onward, known_part, to_run}
 use Rattle.known_runs.specs.KnownPlans.{level_size}
-use Rattle.known_runs.specs.Walks.{walk}
+use Rattle.known_runs.specs.Walks.{once, walk}
 
 -- rigged hits have the run and the verdict of a plan, under every seed and stream number
 pub record IsRunOf (t : Subject) (rigs plan : List Rig) : Type 0 where
   pub runs : (seed stream : ℕ) → run t.asks (given_of (rigging t.names rigs) t.names seed stream t.limit) ≡ run_of_plan t plan
   pub verdicts : (seed stream : ℕ) → verdict_of_rigs t seed stream rigs ≡ verdict_of_plan t seed stream plan
 
--- of rigged hits in order, each of a kind that is tried at its point, the plan that a walk comes to is one of the levels and has their run
+-- of rigged hits in order, each of a kind that is tried at its point, once or from then on, the plan that a walk comes to is one of the list
+-- and has their run
 abbrev pub WalksRight : Subject → ℕ → KnownRuns → Type 0
 WalksRight t d known =
-    (rigs plan : List Rig) → AreInOrder (map (λ r. r.site) rigs) → AllByRecursion (λ r. Contains (t.kinds r.site.point) r.kind) rigs
-    → walk known rigs d ≡ Some plan → Contains (levels t d) plan × IsRunOf t rigs plan
+    (rigs plan : List Rig) → AreInOrder (map (λ r. r.site) rigs) → AllByRecursion (λ r. Contains (t.kinds r.site.point) (once r.kind)) rigs
+    → walk known rigs d ≡ Some plan → Contains (grown t d) plan × IsRunOf t rigs plan
 
 -- where nothing of the part that is known is left to be run, and the hits of each run that is told are, this part is the whole list
 abbrev pub EndsWhole : Subject → ℕ → KnownRuns → Type 0

@@ -1,18 +1,28 @@
 -- What rigged hits come to, by runs that are known: from the plan without faults a walk follows which rigged hit acts next in the run of the
--- plan that it has come to.
-use Rattle.std.specs.Prelude.{ℕ, zero, suc, List, [], ◌∷◌, Option, None, Some, find}
+-- plan that it has come to. Where more act than plans have faults, it may end at the plan with its last fault from then on.
+use Rattle.std.specs.Prelude.{ℕ, zero, suc, Bool, true, false, not, if◌then◌else◌, List, [], ◌∷◌, Option, None, Some, find, option_map}
+use Rattle.std.specs.List.{list_all}
 use Rattle.action_eval.specs.declared.rig.Site.{Site}
 use Rattle.action_eval.specs.declared.rig.Rig.{Rig}
+use Rattle.action_eval.specs.declared.rig.Kind.{Kind}
+use Rattle.action_eval.specs.declared.rig.Kind.TheVariants.{OnceReturn, OnwardReturn, OncePanic}
 use Rattle.action_eval.specs.Rigging.{rig}
 use Rattle.plan_gen.specs.RiggedAnswers.{acts_at}
 use Rattle.grown_plans.specs.AskedPoints.{sites_from, sites_past}
 use Rattle.target_trait.specs.declared.judgement.Verdict.{Verdict}
 use Rattle.known_runs.specs.Known.{KnownRuns, Told, hits_of}
+use Rattle.known_runs.specs.ToldPart.{onward_told}
+
+-- what a fault does at one hit at which it acts: one from then on returns
+abbrev pub once : Kind → Kind
+once OnceReturn = OnceReturn
+once OnwardReturn = OnceReturn
+once OncePanic = OncePanic
 
 -- at the first of these hits at which a rigged one acts, what it does there
 abbrev pub acting_by : Site → Option Rig → Option Rig → Option Rig
 acting_by s None later = later
-acting_by s (Some r) later = Some (rig s r.kind)
+acting_by s (Some r) later = Some (rig s (once r.kind))
 
 abbrev pub first_acting : List Rig → List Site → Option Rig
 first_acting rigs [] = None
@@ -38,8 +48,44 @@ walk_on further plan Unknown = None
 walk_on further plan Nothing = Some plan
 walk_on further plan (Acts r) = further (r ∷ plan)
 
+-- ---- from then on
+
+-- what rigged hits do at a hit
+abbrev pub doing : List Rig → Site → Option Kind
+doing rigs s = option_map (λ r. r.kind) (find (acts_at s.point s.hit) rigs)
+
+abbrev pub is_return : Kind → Bool
+is_return OnceReturn = true
+is_return OnwardReturn = true
+is_return OncePanic = false
+
+abbrev pub is_alike : Option Kind → Option Kind → Bool
+is_alike None None = true
+is_alike None (Some b) = false
+is_alike (Some a) None = false
+is_alike (Some a) (Some b) = if is_return a then is_return b else not (is_return b)
+
+-- rigged hits do the same at each of these hits as others
+abbrev pub do_alike : List Rig → List Rig → List Site → Bool
+do_alike rigs others ss = list_all (λ s. is_alike (doing rigs s) (doing others s)) ss
+
+-- a plan whose run is told, where rigged hits do the same at each of its hits
+abbrev pub if_alike : List Rig → List Rig → Option (List ℕ) → Option (List Rig)
+if_alike rigs plan None = None
+if_alike rigs plan (Some hits) = if do_alike rigs plan (sites_from [] hits) then Some plan else None
+
+abbrev pub alike_of : KnownRuns → List Rig → List (List Rig) → Option (List Rig)
+alike_of known rigs [] = None
+alike_of known rigs (plan ∷ plans) = if_alike rigs plan (hits_of known plan)
+
+-- of a plan the one with its last fault from then on, where that is such a plan
+abbrev pub onward_walked : KnownRuns → List Rig → List Rig → Option (List Rig)
+onward_walked known rigs plan = alike_of known rigs (onward_told plan (hits_of known plan))
+
+-- ---- the walk
+
 unfoldable pub walk_from : KnownRuns → List Rig → ℕ → List Rig → Option (List Rig)
-walk_from known rigs zero plan = walk_on (λ longer. None) plan (next_told rigs plan (hits_of known plan))
+walk_from known rigs zero plan = walk_on (λ longer. onward_walked known rigs plan) plan (next_told rigs plan (hits_of known plan))
 walk_from known rigs (suc n) plan = walk_on (walk_from known rigs n) plan (next_told rigs plan (hits_of known plan))
 
 abbrev pub walk : KnownRuns → List Rig → ℕ → Option (List Rig)

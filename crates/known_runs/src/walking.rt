@@ -4,9 +4,11 @@ ghost use Rattle.std.specs.List.{AllByRecursion};
 ghost use Rattle.plan_gen.specs.RiggedAnswers.{AreInOrder, acts_at};
 ghost use Rattle.grown_plans.specs.GrownPlans.{Subject};
 ghost use Rattle.grown_plans.specs.Promises.{IsLawful, verdict_of_rigs};
-ghost use Rattle.known_runs.specs.Known.{Agrees};
-ghost use Rattle.known_runs.specs.Walks.{first_acting, verdict_walked};
-ghost use Rattle.known_runs.specs.inside.WalkSteps.{IsStep, grew_at, verdict_in};
+ghost use Rattle.known_runs.specs.Known.{Agrees, hits_of};
+ghost use Rattle.known_runs.specs.ToldPart.{onward_told};
+ghost use Rattle.known_runs.specs.Walks.{do_alike, first_acting, if_alike, is_alike, is_return, once, onward_walked, verdict_at, verdict_walked};
+ghost use Rattle.known_runs.specs.inside.Grown.{again_told};
+ghost use Rattle.known_runs.specs.inside.WalkSteps.{IsOnward, IsStep, grew_at, verdict_ended};
 
 use crate::growing::Workspace;
 use crate::table::{Look, RunTable};
@@ -49,6 +51,16 @@ fn kind_at(rigs: &[Rig], site: Site) -> Option<Kind>
     None
 }
 
+/// What a fault does at one hit at which it acts.
+fn once(kind: Kind) -> Kind
+    ensures { result ≡ once kind }
+{
+    match kind {
+        Kind::OnceReturn | Kind::OnwardReturn => Kind::OnceReturn,
+        Kind::OncePanic => Kind::OncePanic,
+    }
+}
+
 /// The first of the hits at which these children grew at which a rigged hit acts, with what it does there.
 fn first_acting(rigs: &[Rig], children: &[Child]) -> Option<Rig>
     ensures { result ≡ first_acting rigs.now (grew_at children.now) }
@@ -56,6 +68,7 @@ fn first_acting(rigs: &[Rig], children: &[Child]) -> Option<Rig>
     for child in children {
         let site = child.fault().site;
         if let Some(kind) = kind_at(rigs, site) {
+            let kind = once(kind);
             return Some(Rig { site, kind });
         }
     }
@@ -94,18 +107,147 @@ fn put_first(plan: &mut Vec<Rig>, fault: Rig) -> Result<(), AllocError>
     Ok(())
 }
 
-/// The verdict where a walk ends.
-fn verdict_in(step: Step) -> Option<Verdict>
-    ensures { result ≡ verdict_in step }
+/// Whether two faults do the same at a hit, where they act there.
+fn is_alike(one: Option<Kind>, other: Option<Kind>) -> bool
+    ensures { result ≡ is_alike one other }
 {
-    match step {
-        Step::Ends(verdict) => Some(verdict),
-        Step::Unknown | Step::Acts(_) => None,
+    match (one, other) {
+        (Some(one), Some(other)) => is_return(one) == is_return(other),
+        (None, None) => true,
+        _ => false,
+    }
+}
+
+fn is_return(kind: Kind) -> bool
+    ensures { result ≡ is_return kind }
+{
+    match kind {
+        Kind::OnceReturn | Kind::OnwardReturn => true,
+        Kind::OncePanic => false,
+    }
+}
+
+/// Whether rigged hits do the same as others at each of the hits at which these children grew.
+fn do_alike(rigs: &[Rig], others: &[Rig], children: &[Child]) -> bool
+    ensures { result ≡ do_alike rigs.now others.now (grew_at children.now) }
+{
+    for child in children {
+        let site = child.fault().site;
+        if !is_alike(kind_at(rigs, site), kind_at(others, site)) {
+            return false;
+        }
+    }
+    true
+}
+
+/// The verdict of a plan whose run is told, where rigged hits do the same at each of its hits.
+fn verdict_alike<T: RunTable>(
+    table: &T,
+    rigs: &[Rig],
+    plan: &[Rig],
+    workspace: &mut Workspace,
+    children: &mut Vec<Child>,
+) -> Result<Option<Verdict>, AllocError>
+    ensures { IfOk result (λ verdict. verdict ≡ verdict_at (T.known table.now) (if_alike rigs.now plan.now (hits_of (T.known table.now) plan.now))) }
+{
+    let Look::Seen(verdict) = table.look(plan, &mut workspace.hits)? else {
+        return Ok(None);
+    };
+    // each hit, as none of them is past a fault of the plan without faults
+    children.clear();
+    let hits = workspace.hits.as_slice();
+    add_children(children, &mut workspace.counts, 0, &[], hits)?;
+    if do_alike(rigs, plan, children.as_slice()) {
+        Ok(Some(verdict))
+    } else {
+        Ok(None)
+    }
+}
+
+/// Whether a plan's run, where it is told, hits its last fault's point once more after that fault.
+fn is_asked_again<T: RunTable>(
+    table: &T,
+    plan: &[Rig],
+    workspace: &mut Workspace,
+    children: &mut Vec<Child>,
+) -> Result<bool, AllocError>
+    ensures { IfOk result (λ is_again. is_again ≡ again_told plan.now (hits_of (T.known table.now) plan.now)) }
+{
+    let Look::Seen(_) = table.look(plan, &mut workspace.hits)? else {
+        return Ok(false);
+    };
+    children.clear();
+    let hits = workspace.hits.as_slice();
+    add_children(children, &mut workspace.counts, 0, plan, hits)
+}
+
+/// Puts a plan with its last fault from then on in place of what stood in the list, where that fault is a return and its point is hit once
+/// more. Tells whether there is such a plan.
+fn put_onward<T: RunTable>(
+    table: &T,
+    plan: &[Rig],
+    onward: &mut Vec<Rig>,
+    workspace: &mut Workspace,
+    children: &mut Vec<Child>,
+) -> Result<bool, AllocError>
+    ensures { IfOk result (IsOnward (onward_told plan.now (hits_of (T.known table.now) plan.now)) onward.new.items) }
+{
+    let Some((last, earlier)) = plan.split_first() else {
+        return Ok(false);
+    };
+    if !matches!(last.kind, Kind::OnceReturn) {
+        return Ok(false);
+    }
+    if !is_asked_again(table, plan, workspace, children)? {
+        return Ok(false);
+    }
+    onward.clear();
+    onward.push(Rig {
+        site: last.site,
+        kind: Kind::OnwardReturn,
+    })?;
+    onward.extend_from_slice(earlier)?;
+    Ok(true)
+}
+
+/// The verdict of rigged hits by the plan that a walk has come to, whose last fault is from then on.
+fn verdict_onward<T: RunTable>(
+    alloc: Global,
+    table: &T,
+    rigs: &[Rig],
+    plan: &[Rig],
+    workspace: &mut Workspace,
+    children: &mut Vec<Child>,
+) -> Result<Option<Verdict>, AllocError>
+    ensures { IfOk result (λ verdict. verdict ≡ verdict_at (T.known table.now) (onward_walked (T.known table.now) rigs.now plan.now)) }
+{
+    let mut onward = Vec::new(alloc);
+    if !put_onward(table, plan, &mut onward, workspace, children)? {
+        return Ok(None);
+    }
+    verdict_alike(table, rigs, onward.as_slice(), workspace, children)
+}
+
+/// The verdict where a walk of so many faults ends.
+fn verdict_after<T: RunTable>(
+    alloc: Global,
+    table: &T,
+    rigs: &[Rig],
+    plan: &[Rig],
+    workspace: &mut Workspace,
+    children: &mut Vec<Child>,
+) -> Result<Option<Verdict>, AllocError>
+    ensures { IfOk result (λ verdict. verdict ≡ verdict_ended (T.known table.now) rigs.now plan.now) }
+{
+    match next_step(table, rigs, plan, workspace, children)? {
+        Step::Unknown => Ok(None),
+        Step::Ends(verdict) => Ok(Some(verdict)),
+        Step::Acts(_) => verdict_onward(alloc, table, rigs, plan, workspace, children),
     }
 }
 
 /// The verdict of rigged hits, in order, where runs that are known lead to it with at most so many faults: from the plan without faults on,
-/// the next rigged hit to act is the next fault. None where they don't.
+/// the next rigged hit to act is the next fault; where more act, with the last one from then on. None where they don't.
 ///
 /// It is that of each lawful subject that agrees with the table and tries each rigged hit's kind at its point. An error means that memory was
 /// refused.
@@ -117,7 +259,7 @@ pub fn verdict_of<T: RunTable>(
 ) -> Result<Option<Verdict>, AllocError>
     ensures walked { IfOk result (λ verdict. verdict ≡ verdict_walked (T.known table.now) rigs.now depth) }
     ensures same { IfOk result (λ verdict. (t : Subject) → IsLawful t → Agrees t depth (T.known table.now) → AreInOrder (map (λ r. r.site) rigs.now)
-        → AllByRecursion (λ r. Contains (t.kinds r.site.point) r.kind) rigs.now
+        → AllByRecursion (λ r. Contains (t.kinds r.site.point) (once r.kind)) rigs.now
         → IfSome verdict (λ v. (seed stream : ℕ) → verdict_of_rigs t seed stream rigs.now ≡ v)) }
 {
     let mut plan = Vec::new(alloc);
@@ -130,6 +272,7 @@ pub fn verdict_of<T: RunTable>(
             Step::Acts(fault) => put_first(&mut plan, fault)?,
         }
     }
-    let last = next_step(table, rigs, plan.as_slice(), &mut workspace, &mut children)?;
-    Ok(verdict_in(last))
+    let plan = plan.as_slice();
+    let verdict = verdict_after(alloc, table, rigs, plan, &mut workspace, &mut children)?;
+    Ok(verdict)
 }

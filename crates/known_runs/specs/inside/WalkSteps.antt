@@ -1,11 +1,11 @@
 -- One step of a walk; the private contracts cite it.
-use Rattle.std.specs.Prelude.{◌≡◌, List, Option, None, Some, map}
+use Rattle.std.specs.Prelude.{◌≡◌, Bool, true, false, List, [], ◌∷◌, Option, Some, map}
 use Rattle.action_eval.specs.declared.rig.Rig.{Rig}
 use Rattle.action_eval.specs.declared.rig.Site.{Site}
 use Rattle.target_trait.specs.declared.judgement.Verdict.{Verdict}
 use Rattle.grown_plans.specs.Kept.{Grew}
 use Rattle.known_runs.specs.Known.{KnownRuns, hits_of}
-use Rattle.known_runs.specs.Walks.{Unknown, Nothing, Acts, next_told, verdict_told}
+use Rattle.known_runs.specs.Walks.{Unknown, Nothing, Acts, next_told, verdict_at, verdict_told, walk_from}
 use Rattle.known_runs.specs.declared.walking.Step.{Step}
 use Rattle.known_runs.specs.declared.walking.Step.TheVariants as step
 
@@ -19,8 +19,11 @@ IsStep known rigs plan step.Unknown = next_told rigs plan (hits_of known plan) �
 IsStep known rigs plan (step.Ends verdict) = (next_told rigs plan (hits_of known plan) ≡ Nothing) × (verdict_told (known plan) ≡ Some verdict)
 IsStep known rigs plan (step.Acts fault) = next_told rigs plan (hits_of known plan) ≡ Acts fault
 
--- the verdict where it ends
-abbrev pub verdict_in : Step → Option Verdict
-verdict_in step.Unknown = None
-verdict_in (step.Ends verdict) = Some verdict
-verdict_in (step.Acts fault) = None
+-- the verdict where a walk ends that can go on with no more faults
+abbrev pub verdict_ended : KnownRuns → List Rig → List Rig → Option Verdict
+verdict_ended known rigs plan = verdict_at known (walk_from known rigs 0 plan)
+
+-- whether there is a plan from then on, and then its faults are these
+abbrev pub IsOnward : List (List Rig) → List Rig → Bool → Type 0
+IsOnward plans faults true = plans ≡ faults ∷ []
+IsOnward plans faults false = plans ≡ []

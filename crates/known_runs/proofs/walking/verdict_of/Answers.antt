@@ -1,5 +1,5 @@
 use Rattle.std.proofs.Common.{◌≡◌, ◌-◌, ◌+◌, ◌∙◌, Some, suc, arith}
-use Rattle.known_runs.proofs.Steps.{step_ends, step_stops, step_acts, step_last, same_verdict}
+use Rattle.known_runs.proofs.Steps.{step_ends, step_stops, step_acts, same_verdict, walk_ends}
 use Rattle.known_runs.proofs.walking.verdict_of.Goals as goal
 
 pub returns-in-Unknown-clause-walked : goal.returns-in-Unknown-clause-walked
@@ -27,14 +27,12 @@ loop-preserved g c =
 pub returns-clause-walked : goal.returns-clause-walked
 returns-clause-walked g c =
     let none : c.args.depth - c.loop.counter ≡ 0 = omega (arith, c.loop-test.false) in
-    c.verdict_in.ensures
-    ∙ step_last (g.T.RunTable.known c.args.table.now) c.args.rigs.now c.args.depth (c.args.depth - c.loop.counter) c.loop.plan.items c.as_slice-2.result.now c.in_ok-last.last c.as_slice-2.ensures.value none c.in_ok-last.ensures
+    walk_ends (g.T.RunTable.known c.args.table.now) c.args.rigs.now c.args.depth (c.args.depth - c.loop.counter) c.loop.plan.items c.as_slice-plan.result.now c.in_ok-verdict.verdict c.as_slice-plan.ensures.value none c.in_ok-verdict.ensures
     c.loop.invariant
 
 pub returns-clause-same : goal.returns-clause-same
 returns-clause-same g c = λ t l a o k.
     let none : c.args.depth - c.loop.counter ≡ 0 = omega (arith, c.loop-test.false) in
-    same_verdict (g.T.RunTable.known c.args.table.now) c.args.rigs.now c.args.depth c.verdict_in.result
-    (c.verdict_in.ensures
-    ∙ step_last (g.T.RunTable.known c.args.table.now) c.args.rigs.now c.args.depth (c.args.depth - c.loop.counter) c.loop.plan.items c.as_slice-2.result.now c.in_ok-last.last c.as_slice-2.ensures.value none c.in_ok-last.ensures
+    same_verdict (g.T.RunTable.known c.args.table.now) c.args.rigs.now c.args.depth c.in_ok-verdict.verdict
+    (walk_ends (g.T.RunTable.known c.args.table.now) c.args.rigs.now c.args.depth (c.args.depth - c.loop.counter) c.loop.plan.items c.as_slice-plan.result.now c.in_ok-verdict.verdict c.as_slice-plan.ensures.value none c.in_ok-verdict.ensures
     c.loop.invariant) t l a o k

@@ -1,0 +1,6 @@
+pub mod Counts
+pub mod Clean
+pub mod Lines
+pub mod Whole
+pub mod SameRuns
+pub mod Most

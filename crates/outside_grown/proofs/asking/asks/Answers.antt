@@ -1,0 +1,36 @@
+use Rattle.std.proofs.Common.{◌≤◌, List, length, ap, ◌∙◌, arith}
+use Rattle.scenario_values.specs.Scenario.{Entries}
+use Rattle.action_eval.specs.declared.rig.Rig.{Rig}
+use Rattle.answer_text.specs.Runs.{told_in}
+use Rattle.grown_plans.specs.GrownPlans.{usual_kinds}
+use Rattle.grown_plans.proofs.Members.{all_weaker}
+use Rattle.known_runs.specs.ToldPart.{part_known}
+use Rattle.answered_runs.specs.Answered.{runs_in}
+use Rattle.answered_runs.proofs.Runs.{agree}
+use Rattle.outside_grown.specs.Asked.{lines_behind, undecided, unrun}
+use Rattle.outside_grown.specs.Further.{further_told}
+use Rattle.outside_grown.proofs.Lines.{asked_of, asked_once, both_added}
+use Rattle.outside_grown.proofs.asking.asks.Goals as goal
+
+pub add_all_grown-requires : goal.add_all_grown-requires
+add_all_grown-requires c =
+    all_weaker (λ (plan : List Rig). length plan ≤ c.args.depth) (λ (plan : List Rig). length plan ≤ 64) (λ plan le. omega (arith, le, c.requires)) c.in_ok-known.known.plans c.in_ok-known.ensures.short
+
+pub returns-clause-lines : goal.returns-clause-lines
+returns-clause-lines c =
+    let a = c.args.runs.now in
+    both_added (unrun a (part_known usual_kinds (runs_in a) c.args.depth)) (undecided a c.args.depth (further_told a c.args.settings.now)) _ _ _ c.new-lines.ensures.empty
+    (c.in_ok-add_all_grown.ensures ∙ ap (λ (plans : List (List Rig)). lines_behind c.new-lines.result.keys (unrun a plans)) c.in_ok-known.ensures.grown)
+    (c.in_ok-add_all_further.ensures ∙ ap (λ (plans : List Entries). lines_behind c.add_all_grown.new.lines.keys (undecided a c.args.depth plans)) c.in_ok-further.ensures.told)
+
+pub returns-clause-once : goal.returns-clause-once
+returns-clause-once c =
+    let a = c.args.runs.now in
+    asked_once _ _ _ (unrun a c.in_ok-known.known.plans) (undecided a c.args.depth (further_told a c.args.settings.now)) c.new-lines.ensures.empty c.in_ok-add_all_grown.ensures
+    (c.in_ok-add_all_further.ensures ∙ ap (λ (plans : List Entries). lines_behind c.add_all_grown.new.lines.keys (undecided a c.args.depth plans)) c.in_ok-further.ensures.told)
+
+pub returns-clause-asked : goal.returns-clause-asked
+returns-clause-asked c = λ t is agrees.
+    let a = c.args.runs.now in
+    let known = c.in_ok-known.ensures.known t is.lawful is.usual (agree t a.points (told_in a.book) c.args.depth is c.requires agrees) in
+    asked_of t a c.args.depth c.args.settings.now c.in_ok-known.known.plans _ _ _ _ is c.requires known.plans (c.in_ok-further.ensures.known t is agrees) c.new-lines.ensures.empty c.in_ok-add_all_grown.ensures c.in_ok-add_all_further.ensures

@@ -1,0 +1,22 @@
+use Rattle.std.proofs.Common.{◌≡◌, ◌∙◌, sym}
+use Rattle.std.specs.Prelude.{Some}
+use Rattle.std.proofs.lemmas.Result.{IfOk-weaker}
+use Rattle.outside_grown.specs.Further.{clean_hits}
+use Rattle.outside_grown.proofs.Clean.{further_same, told_by_hits}
+use Rattle.outside_grown.proofs.further.further_plans.Goals as goal
+
+pub returns-in-Some-clause-told : goal.returns-in-Some-clause-told
+returns-in-Some-clause-told c =
+    let a = c.args.runs.now in
+    let clean : clean_hits a ≡ Some c.in-Some.hits.items = sym (rw c.in-Some.is at c.in_ok-hits.ensures.hits) in
+    IfOk-weaker c.plans_over.result _ _ (λ plans is. told_by_hits a c.args.settings.now c.points.result.now c.in-Some.hits.items c.as_slice.result.now _ c.points.ensures.names clean c.as_slice.ensures.value is) c.plans_over.ensures.over
+
+pub returns-in-Some-clause-known : goal.returns-in-Some-clause-known
+returns-in-Some-clause-known c =
+    let a = c.args.runs.now in
+    let clean : clean_hits a ≡ Some c.in-Some.hits.items = sym (rw c.in-Some.is at c.in_ok-hits.ensures.hits) in
+    IfOk-weaker c.plans_over.result _ _
+    (λ plans is t component agrees.
+    told_by_hits a c.args.settings.now c.points.result.now c.in-Some.hits.items c.as_slice.result.now _ c.points.ensures.names clean c.as_slice.ensures.value is
+    ∙ further_same t a c.args.settings.now component agrees)
+    c.plans_over.ensures.over

@@ -1,0 +1,7 @@
+use Rattle.std.proofs.Common.{length, take}
+use Rattle.answered_runs.specs.Answered.{runs_in}
+use Rattle.outside_grown.proofs.Most.{AreMostOf}
+use Rattle.outside_grown.proofs.reaching.reached.Given as goal
+
+abbrev pub invariant-loop-number : goal.invariant-loop-number
+invariant-loop-number l = AreMostOf (runs_in l.runs) (take l.number l.plans) (length l.runs.points) l.most.items

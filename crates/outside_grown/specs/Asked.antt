@@ -1,0 +1,54 @@
+-- What is still to be tried of a campaign with a depth, by what answers tell.
+use Rattle.std.specs.Prelude.{◌≡◌, ◌≢◌, ℕ, List, [], ◌++◌, is_none, map, fold}
+use Rattle.std.specs.List.{filter}
+use Rattle.std.specs.Str.{bytes_eq}
+use Rattle.indexmap.specs.IndexSet.{insert_key}
+use Rattle.scenario_values.specs.Scenario.{Entries}
+use Rattle.scenario_values.specs.Tidied.{tidied}
+use Rattle.action_eval.specs.declared.rig.Rig.{Rig}
+use Rattle.plan_gen.specs.PlanList.{Asked}
+use Rattle.campaign_plans.specs.GrownScenarios.{grown_scenario}
+use Rattle.grown_plans.specs.GrownPlans.{Subject, usual_kinds}
+use Rattle.grown_plans.specs.Promises.{EachTwo}
+use Rattle.known_runs.specs.Known.{KnownRuns}
+use Rattle.known_runs.specs.KnownPart.{to_run}
+use Rattle.known_runs.specs.ToldPart.{part_known}
+use Rattle.report.specs.ReportText.{scenario_text}
+use Rattle.answer_text.specs.Runs.{told_in}
+use Rattle.answered_runs.specs.Answered.{Answered, runs_in}
+use Rattle.answered_runs.specs.Asked.{plan_line}
+use Rattle.answered_runs.specs.Verdicts.{verdict_by}
+use Rattle.outside_grown.specs.Further.{clean_hits, further_known, further_told}
+
+-- the scenarios of these plans of whose runs nothing is told
+abbrev pub unrun : Answered → List (List Rig) → List Entries
+unrun a plans = map (λ plan. tidied (grown_scenario a.points plan)) (filter (λ plan. is_none (runs_in a plan)) plans)
+
+-- of these scenarios those whose verdict is neither told nor follows from runs that are told
+abbrev pub undecided : Answered → ℕ → List Entries → List Entries
+undecided a depth scenarios = map tidied (filter (λ s. is_none (verdict_by a.points (told_in a.book) depth (tidied s))) scenarios)
+
+-- what is to be tried: of the plans that grow and are known by now those of whose runs nothing is told, and then the undecided storms and
+-- listed scenarios
+abbrev pub to_try : Answered → ℕ → Asked → List Entries
+to_try a depth asked = unrun a (part_known usual_kinds (runs_in a) depth) ++ undecided a depth (further_told a asked)
+
+-- the lines that ask for scenarios, behind others, each where it first stands
+abbrev pub lines_behind : List (List ℕ) → List Entries → List (List ℕ)
+lines_behind lines scenarios = fold (insert_key bytes_eq) lines (map scenario_text scenarios)
+
+abbrev pub lines_of : List Entries → List (List ℕ)
+lines_of scenarios = lines_behind [] scenarios
+
+-- a line for each plan of a component's list to a depth that is known by now and is still to be run, in the order of the list
+abbrev pub lines_to_run : Subject → ℕ → KnownRuns → List (List ℕ)
+lines_to_run t depth runs = map (plan_line t.names) (to_run t depth runs)
+
+-- no line stands twice
+abbrev pub AreApart : List (List ℕ) → Type 0
+AreApart lines = EachTwo (λ line other. line ≢ other) lines
+
+-- what is asked of a component: these lines, each once, and behind them those of its undecided storms and listed scenarios
+pub record IsAskedOf (t : Subject) (a : Answered) (depth : ℕ) (asked : Asked) (lines : List (List ℕ)) : Type 0 where
+  pub plans : AreApart (lines_to_run t depth (runs_in a))
+  pub whole : lines ≡ lines_behind (lines_to_run t depth (runs_in a)) (undecided a depth (further_known t asked (clean_hits a)))

@@ -1,0 +1,29 @@
+-- The storms and listed scenarios that stand behind plans that grow, by what answers tell.
+use Rattle.std.specs.Prelude.{ℕ, List, [], Option, None, Some, length}
+use Rattle.scenario_values.specs.Scenario.{Entries}
+use Rattle.plan_gen.specs.Census.{census_of, counts_of}
+use Rattle.plan_gen.specs.PlanList.{Asked, further_list}
+use Rattle.grown_plans.specs.GrownPlans.{Subject}
+use Rattle.known_runs.specs.Known.{hits_of}
+use Rattle.answered_runs.specs.Answered.{Answered, runs_in}
+
+-- over the census of these hits; before the run without faults is told nobody knows any
+abbrev pub further_by : List (List ℕ) → Asked → Option (List ℕ) → List Entries
+further_by points asked None = []
+further_by points asked (Some hits) = further_list points (counts_of (length points) hits) asked
+
+-- by the hits of the run without faults, as answers tell them
+abbrev pub clean_hits : Answered → Option (List ℕ)
+clean_hits a = hits_of (runs_in a) []
+
+abbrev pub further_told : Answered → Asked → List Entries
+further_told a asked = further_by a.points asked (clean_hits a)
+
+-- those of a component, over its own census
+abbrev pub further_of : Subject → Asked → List Entries
+further_of t asked = further_list t.names (census_of t.asks t.names asked.seed t.limit) asked
+
+-- as far as they are known
+abbrev pub further_known : Subject → Asked → Option (List ℕ) → List Entries
+further_known t asked None = []
+further_known t asked (Some hits) = further_of t asked

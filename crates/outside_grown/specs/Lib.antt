@@ -1,0 +1,4 @@
+pub mod Further
+pub mod Asked
+pub mod Lists
+pub mod Reached

@@ -1,0 +1,19 @@
+-- The most hits of each point that a run has, by what answers tell.
+use Rattle.std.specs.Prelude.{◌≡◌, ℕ, ◌<◌, List, Option, None, Some, length, map, slice_index_or}
+use Rattle.action_eval.specs.declared.rig.Rig.{Rig}
+use Rattle.plan_gen.specs.LoopRuns.{times}
+use Rattle.grown_plans.specs.GrownPlans.{most}
+use Rattle.known_runs.specs.Known.{KnownRuns, hits_of}
+
+-- how often a run hits a point, where its hits are told
+abbrev pub times_told : ℕ → Option (List ℕ) → ℕ
+times_told point None = 0
+times_told point (Some hits) = times point hits
+
+-- the most hits of a point that one of these plans' runs has
+abbrev pub reached_told : KnownRuns → List (List Rig) → ℕ → ℕ
+reached_told runs plans point = most (map (λ plan. times_told point (hits_of runs plan)) plans)
+
+-- each of these counts is that of the point whose number is its place
+abbrev pub AreMostTold : KnownRuns → List (List Rig) → List ℕ → Type 0
+AreMostTold runs plans counts = (point : ℕ) → point < length counts → slice_index_or counts point 0 ≡ reached_told runs plans point

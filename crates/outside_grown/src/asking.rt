@@ -1,0 +1,135 @@
+//! What is still to be tried.
+ghost use Rattle.std.specs.Prelude.{◌≡◌, ◌≤◌, ◌∷◌, ◌++◌, [], length, map, fold, string_bytes, IfOk, OnOk};
+ghost use Rattle.std.specs.List.{AllByRecursion};
+ghost use Rattle.std.specs.Str.{bytes_eq};
+ghost use Rattle.scenario_values.specs.Tidied.{tidied};
+ghost use Rattle.indexmap.specs.IndexSet.{insert_key};
+ghost use Rattle.report.specs.ReportText.{scenario_text, text_of};
+ghost use Rattle.answer_text.specs.Runs.{told_in};
+ghost use Rattle.grown_plans.specs.GrownPlans.{Subject};
+ghost use Rattle.answered_runs.specs.Components.{AgreesWithRuns, IsComponent};
+ghost use Rattle.outside_grown.specs.Asked.{AreApart, IsAskedOf, lines_of, to_try, undecided, unrun};
+
+use crate::further::further_plans;
+use action_eval::Rig;
+use answered_runs::{AnsweredRuns, plan_scenario};
+use grown_plans::GrownPlans;
+use indexmap::IndexSet;
+use known_runs::{KnownFault, Look, RunTable, Workspace, known_plans};
+use plan_gen::{Plan, PlanList, PlanSettings};
+use report::write_scenario;
+use scenario_values::{Scenario, Text, tidy};
+use std::alloc::{AllocError, Global};
+
+/// A list has at most so many plans.
+const MOST_PLANS: usize = 65536;
+
+/// Adds the text of a scenario once it is tidied, unless it is there.
+fn add(alloc: Global, lines: &mut IndexSet<Text>, scenario: &Scenario) -> Result<(), AllocError>
+    ensures { OnOk result (lines.new.keys ≡ insert_key bytes_eq lines.old.keys (scenario_text (tidied scenario.now))) }
+{
+    let tidied = tidy(alloc, scenario)?;
+    let mut text = String::new(alloc);
+    write_scenario(alloc, &mut text, &tidied)?;
+    lines.insert(Text::from_string(text))?;
+    Ok(())
+}
+
+/// Adds a plan that grew, where nothing is told of its run.
+fn add_grown(
+    alloc: Global,
+    runs: &AnsweredRuns<'_>,
+    faults: &[Rig],
+    hits: &mut Vec<u32>,
+    lines: &mut IndexSet<Text>,
+) -> Result<(), AllocError>
+    requires { length faults.now ≤ 64 }
+    ensures { OnOk result (lines.new.keys ≡ fold (insert_key bytes_eq) lines.old.keys (map scenario_text (unrun runs.now (faults.now ∷ [])))) }
+{
+    match runs.look(faults, hits)? {
+        Look::Unknown => {
+            let scenario = plan_scenario(alloc, runs.points(), faults)?;
+            add(alloc, lines, &scenario)
+        }
+        Look::Unseen(_) | Look::Seen(_) => Ok(()),
+    }
+}
+
+/// Adds the plans that grew of whose runs nothing is told.
+fn add_all_grown(
+    alloc: Global,
+    runs: &AnsweredRuns<'_>,
+    plans: &GrownPlans,
+    lines: &mut IndexSet<Text>,
+) -> Result<(), AllocError>
+    requires { AllByRecursion (λ plan. length plan ≤ 64) plans.now }
+    ensures { OnOk result (lines.new.keys ≡ fold (insert_key bytes_eq) lines.old.keys (map scenario_text (unrun runs.now plans.now))) }
+{
+    let mut workspace = Workspace::new(alloc);
+    for number in 0..plans.len() {
+        plans.faults_of(number, &mut workspace.faults)?;
+        let faults = workspace.faults.as_slice();
+        add_grown(alloc, runs, faults, &mut workspace.hits, lines)?;
+    }
+    Ok(())
+}
+
+/// Adds a storm or a listed scenario whose verdict isn't known.
+fn add_further(
+    alloc: Global,
+    runs: &AnsweredRuns<'_>,
+    depth: u32,
+    plan: &Plan<'_>,
+    lines: &mut IndexSet<Text>,
+) -> Result<(), AllocError>
+    ensures { OnOk result (lines.new.keys ≡ fold (insert_key bytes_eq) lines.old.keys (map scenario_text (undecided runs.now depth (plan.now ∷ [])))) }
+{
+    let scenario = plan.scenario(alloc)?;
+    match runs.verdict_of(alloc, depth, &scenario)? {
+        Some(_) => Ok(()),
+        None => add(alloc, lines, &scenario),
+    }
+}
+
+/// Adds the storms and listed scenarios whose verdicts aren't known.
+fn add_all_further(
+    alloc: Global,
+    runs: &AnsweredRuns<'_>,
+    depth: u32,
+    plans: &PlanList<'_>,
+    lines: &mut IndexSet<Text>,
+) -> Result<(), AllocError>
+    ensures { OnOk result (lines.new.keys ≡ fold (insert_key bytes_eq) lines.old.keys (map scenario_text (undecided runs.now depth plans.now))) }
+{
+    for number in 0..plans.len() {
+        add_further(alloc, runs, depth, &plans.plan(number), lines)?;
+    }
+    Ok(())
+}
+
+/// The texts of the scenarios that are still to be tried of a campaign with a depth, up to 64, tidied, `none` for the one without entries, and
+/// each once: of the plans that grow and are known by now, in the order of the list, those of whose runs nothing is told; and then, once the
+/// run without faults is told, the storms and listed scenarios whose verdicts neither are told nor follow from runs that are. A plan is known
+/// once the hits of each plan that it grew from are told, so levels wait for nothing. What follows from runs that are told is never asked.
+///
+/// Any of them may be tried in any order. More than 65536 known plans are refused.
+pub fn asks(
+    alloc: Global,
+    runs: &AnsweredRuns<'_>,
+    depth: u32,
+    settings: &PlanSettings<'_>,
+) -> Result<IndexSet<Text>, KnownFault>
+    requires { depth ≤ 64 }
+    ensures lines { IfOk result (λ lines. lines.keys ≡ lines_of (to_try runs.now depth settings.now)) }
+    ensures once { IfOk result (λ lines. AreApart lines.keys) }
+    // For every component that agrees with the answers.
+    ensures asked { IfOk result (λ lines. (t : Subject) → IsComponent runs.now.points t → AgreesWithRuns t (told_in runs.now.book)
+        → IsAskedOf t runs.now depth settings.now lines.keys) }
+{
+    let known = known_plans(alloc, runs, depth, MOST_PLANS)?;
+    let further = further_plans(alloc, runs, settings, known.plans.len())?;
+    let mut lines = IndexSet::new(alloc);
+    add_all_grown(alloc, runs, &known.plans, &mut lines)?;
+    add_all_further(alloc, runs, depth, &further, &mut lines)?;
+    Ok(lines)
+}

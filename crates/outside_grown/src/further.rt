@@ -1,0 +1,117 @@
+//! The storms and listed scenarios that stand behind plans that grow.
+ghost use Rattle.std.specs.Prelude.{◌≡◌, ◌<◌, ◌≤◌, ◌+◌, ◌==◌, ◌^◌, [], length, option_map, count_by, IfOk, IfSome, OnOk};
+ghost use Rattle.action_eval.specs.Answers.{texts};
+ghost use Rattle.action_eval.specs.Catalogue.{IsCatalogue};
+ghost use Rattle.plan_gen.specs.Census.{counts_of};
+ghost use Rattle.plan_gen.specs.PlanList.{further_list, most_plans};
+ghost use Rattle.grown_plans.specs.GrownPlans.{Subject};
+ghost use Rattle.answer_text.specs.Runs.{told_in};
+ghost use Rattle.answered_runs.specs.Components.{AgreesWithRuns, IsComponent};
+ghost use Rattle.outside_grown.specs.Further.{clean_hits, further_known, further_told};
+
+use answered_runs::AnsweredRuns;
+use known_runs::{KnownFault, Look, RunTable};
+use plan_gen::{Census, PlanFault, PlanList, PlanSettings};
+use std::alloc::{AllocError, Global};
+
+/// A list has at most so many plans.
+const MOST_PLANS: usize = 65536;
+
+/// How often a point is asked.
+fn count_of(asked: &[u32], point: u32) -> u32
+    requires { length asked.now < 2 ^ 32 }
+    ensures { result ≡ count_by (λ q. q == point) asked.now }
+{
+    asked.iter().filter(|q| **q == point).count() as u32
+}
+
+/// How often each of so many points is asked.
+pub(crate) fn counts_of(alloc: Global, points: u32, asked: &[u32]) -> Result<Vec<u32>, AllocError>
+    requires { length asked.now < 2 ^ 32 }
+    ensures { IfOk result (λ counts. counts.items ≡ counts_of points asked.now) }
+{
+    let mut counts = Vec::with_capacity(alloc, points as usize)?;
+    for point in 0..points {
+        counts.push(count_of(asked, point))?;
+    }
+    Ok(counts)
+}
+
+/// The points of the hits of the run without faults, where they are told.
+fn clean_hits(alloc: Global, runs: &AnsweredRuns<'_>) -> Result<Option<Vec<u32>>, AllocError>
+    ensures hits { IfOk result (λ hits. option_map (λ h. h.items) hits ≡ clean_hits runs.now) }
+    ensures few { IfOk result (λ hits. IfSome hits (λ h. length h.items < 2 ^ 32)) }
+{
+    let mut hits = Vec::new(alloc);
+    match runs.look(&[], &mut hits)? {
+        Look::Unknown | Look::Unseen(_) => Ok(None),
+        Look::Seen(_) => Ok(Some(hits)),
+    }
+}
+
+/// The storms and listed scenarios over the census of these hits, behind so many plans.
+fn plans_over<'a>(
+    alloc: Global,
+    points: &'a [&'a str],
+    hits: &[u32],
+    settings: &PlanSettings<'a>,
+    before: usize,
+) -> Result<PlanList<'a>, KnownFault>
+    requires lawful { IsCatalogue (texts points.now) }
+    ensures over { IfOk result (λ plans. plans ≡ further_list (texts points.now) (counts_of (length points.now) hits.now) settings.now) }
+    ensures few { OnOk result (before + length (further_list (texts points.now) (counts_of (length points.now) hits.now) settings.now) ≤ most_plans) }
+{
+    // each of the hits would make plans that grow
+    if hits.len() >= MOST_PLANS {
+        return Err(KnownFault::TooManyPlans);
+    }
+    let counts = counts_of(alloc, points.len() as u32, hits)?;
+    let census = Census { counts };
+    match plan_gen::further_plans(alloc, &census, points, settings, before) {
+        Ok(plans) => Ok(plans),
+        Err(PlanFault::TooManyPlans) => Err(KnownFault::TooManyPlans),
+        Err(PlanFault::Memory) => Err(KnownFault::Memory),
+    }
+}
+
+/// No plans, behind so many.
+fn no_plans<'a>(
+    alloc: Global,
+    points: &'a [&'a str],
+    before: usize,
+) -> Result<PlanList<'a>, KnownFault>
+    requires lawful { IsCatalogue (texts points.now) }
+    ensures none { IfOk result (λ plans. plans ≡ []) }
+    ensures few { OnOk result (before ≤ most_plans) }
+{
+    let settings = PlanSettings {
+        pairs: false,
+        storms: 0,
+        rate: 0,
+        listed: &[],
+        seed: 0,
+    };
+    plans_over(alloc, points, &[], &settings, before)
+}
+
+/// The storms and listed scenarios that stand behind so many plans, as far as they are known by the answers: none before the run without
+/// faults is told. Storms are drawn over its census. They are those of every component that agrees with the answers.
+///
+/// More than 65536 plans together are refused.
+pub fn further_plans<'a>(
+    alloc: Global,
+    runs: &AnsweredRuns<'a>,
+    settings: &PlanSettings<'a>,
+    before: usize,
+) -> Result<PlanList<'a>, KnownFault>
+    ensures told { IfOk result (λ plans. plans ≡ further_told runs.now settings.now) }
+    ensures few { OnOk result (before + length (further_told runs.now settings.now) ≤ most_plans) }
+    // For every component that agrees with the answers.
+    ensures known { IfOk result (λ plans. (t : Subject) → IsComponent runs.now.points t → AgreesWithRuns t (told_in runs.now.book)
+        → plans ≡ further_known t settings.now (clean_hits runs.now)) }
+{
+    match clean_hits(alloc, runs)? {
+        Some(hits) => plans_over(alloc, runs.points(), hits.as_slice(), settings, before),
+        None => no_plans(alloc, runs.points(), before),
+    }
+}
