@@ -77,6 +77,11 @@ def answer(campaigns, own, scenario, known):
 NOBODY = b"nobody::asked=return"
 
 
+def uncoloured(picture):
+    """A map without the colours of its codes, which go by the codes' order in the settings: here another one than the target's."""
+    return re.sub(rb"class='fail[0-9]'", b"class='fail'", picture)
+
+
 def told(given):
     """What the commands note of these answers: the lines whose scenario names a point that nobody has."""
     lines = enumerate(given.splitlines(), 1)
@@ -115,7 +120,8 @@ def bundled(campaigns, name, more=""):
     campaigns.expect(f"{name}: report", (status, wanted, told(given)), campaigns.run(["report", settings], given))
     for form, words in FORMS.items():
         status, wanted, _ = campaigns.run([*words, own])
-        campaigns.expect(f"{name}: {form}", (status, wanted, told(given)), campaigns.run(["report", form, settings], given))
+        found = campaigns.run(["report", form, settings], given)
+        campaigns.expect(f"{name}: {form}", (status, uncoloured(wanted), told(given)), (found[0], uncoloured(found[1]), found[2]))
 
 
 def size(campaigns):
