@@ -9,7 +9,7 @@ use std::fmt::Write;
 use std::test::Fail;
 
 /// The scenario of a text as it is asked.
-pub fn asked_scenario(alloc: Global, text: &str) -> Result<Scenario, Fail> {
+fn asked_scenario(alloc: Global, text: &str) -> Result<Scenario, Fail> {
     Ok(parse(alloc, if text == "none" { "" } else { text })?)
 }
 
