@@ -18,8 +18,7 @@ use Rattle.grown_plans.specs.AskedPoints.{sites_from, sites_past}
 use Rattle.grown_plans.specs.Promises.{IsLawful, KeepsPrefix}
 use Rattle.grown_plans.proofs.Members.{all_weaker, all_append, all_both, all_contains, contains_head, contains_tail, contains_map, contains_flat}
 use Rattle.grown_plans.proofs.Paths.{IsPath, Fresh, AnsweredBy, replies_of, hit_fresh, same_path}
-use Rattle.grown_plans.proofs.PlayedRuns.{run_path}
-use Rattle.grown_plans.proofs.PlanRuns.{plan_path, plan_judged, rigs_answered, rigs_judged}
+use Rattle.grown_plans.proofs.PlanRuns.{plan_path, plan_judged, rigs_answered, rigs_judged, rigs_path}
 use Rattle.grown_plans.proofs.Levels.{IsGrown, hits_after_split, level_grown}
 use Rattle.grown_plans.proofs.Apart.{level_in_levels}
 use Rattle.grown_plans.proofs.AskedSites.{sites_of}
@@ -201,7 +200,7 @@ is_run t l n rigs plan o c f none =
     let grown : IsGrown t n plan = all_contains (IsGrown t n) (level t n) plan (level_grown t l n) c in
     let runs : (seed stream : ℕ) → run t.asks (given_of (rigging t.names rigs) t.names seed stream t.limit) ≡ run_of_plan t plan =
     λ seed stream. same_path t.asks (answers rigs) t.limit [] (run t.asks (given_of (rigging t.names rigs) t.names seed stream t.limit)) (run_of_plan t plan)
-    (run_path t.asks (given_of (rigging t.names rigs) t.names seed stream t.limit)) (plan_path t plan) (rigs_answered t l rigs o seed stream) all in
+    (rigs_path t rigs seed stream) (plan_path t plan) (rigs_answered t l rigs o seed stream) all in
     record {
       runs = runs;
       verdicts = λ seed stream. rigs_judged t rigs seed stream ∙ ap (λ (ms : List Met). judged (t.asks (replies_of ms))) (runs seed stream) ∙ sym (plan_judged t l plan grown.can seed stream);
