@@ -4,3 +4,4 @@ pub mod Playing
 pub mod Never
 pub mod Readying
 pub mod Flawed
+mod Kept

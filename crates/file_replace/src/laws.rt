@@ -2,7 +2,9 @@
 ghost use Rattle.std.specs.Prelude.{◌≡◌, ℕ, [], Some, codes};
 ghost use Rattle.action_eval.specs.Answers.{given_of};
 ghost use Rattle.target_trait.specs.Outcomes.{outcome};
-ghost use Rattle.target_trait.specs.declared.judgement.Verdict.TheVariants.{Fail};
+ghost use Rattle.target_trait.specs.declared.judgement.Verdict.TheVariants.{Fail, Pass};
+ghost use Rattle.target_trait.specs.Cuts.{with_keep, asks_with};
+ghost use Rattle.file_replace.specs.Crash.{cut_of, renamed_alone, renamed_without_the_first_chunk, renamed_unnamed};
 ghost use Rattle.file_replace.specs.declared.variant.Variant.TheVariants.{Sound, LateSync, IgnoreSync, RetryWrite};
 ghost use Rattle.file_replace.specs.Words.{point_names, torn, stale};
 ghost use Rattle.file_replace.specs.Steps.{asks_of};
@@ -42,4 +44,16 @@ pub fn retry_write_is_torn()
 pub fn ignore_sync_is_stale()
     ensures verdict { (seed stream : ℕ) → (outcome (asks_of IgnoreSync empty_to_new) (given_of sync_fails point_names seed stream 1000)).verdict ≡ Fail stale }
     ensures contents { (seed stream : ℕ) → left_by IgnoreSync empty_to_new (given_of sync_fails point_names seed stream 1000) ≡ Some [] }
+{}
+
+/// A power cut that keeps some of what is pending shows what none does that loses all. Where the directory's sync fails, or the run panics there,
+/// late_sync has renamed a file that was never synced: the cut keeps the rename alone, or it and the second chunk, and `target` holds nothing, or
+/// that chunk behind zeros. The sound variant has synced the file by then.
+pub fn a_kept_rename_shows_late_sync()
+    ensures renamed { (seed stream : ℕ) → (outcome (asks_with (asks_of LateSync old_to_new) (cut_of LateSync old_to_new) 7)
+        (given_of renamed_alone (with_keep point_names) seed stream 1000)).verdict ≡ Fail torn }
+    ensures chunk { (seed stream : ℕ) → (outcome (asks_with (asks_of LateSync old_to_new) (cut_of LateSync old_to_new) 7)
+        (given_of renamed_without_the_first_chunk (with_keep point_names) seed stream 1000)).verdict ≡ Fail torn }
+    ensures sound { (seed stream : ℕ) → (outcome (asks_with (asks_of Sound old_to_new) (cut_of Sound old_to_new) 7)
+        (given_of renamed_unnamed (with_keep point_names) seed stream 1000)).verdict ≡ Pass }
 {}

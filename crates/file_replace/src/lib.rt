@@ -16,7 +16,10 @@ mod work;
 
 pub use chunked_text::Chunks;
 pub use judge::{STALE, TORN};
-pub use laws::{ignore_sync_is_stale, late_sync_is_torn, retry_write_is_torn, sound_never_fails};
+pub use laws::{
+    a_kept_rename_shows_late_sync, ignore_sync_is_stale, late_sync_is_torn, retry_write_is_torn,
+    sound_never_fails,
+};
 pub use play::play as play_on;
 pub use replace::Replace;
 pub use variant::Variant;
