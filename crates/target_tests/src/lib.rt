@@ -11,8 +11,12 @@ mod devices;
 #[cfg(test)]
 mod journals;
 #[cfg(test)]
+mod shelf;
+#[cfg(test)]
 mod sinks;
 #[cfg(test)]
 mod stores;
 #[cfg(test)]
 mod transfers;
+#[cfg(test)]
+mod with_cuts;

@@ -22,10 +22,11 @@ within_from : (asks : List Reply → Move) (cut : Cut) (n : ℕ) → ((answers :
     → IsWithin (suc n) (asks_from asks cut n own rest)
 within_from asks cut n each own [] = within_own (asks own) (asks own) (cut_asks cut n own []) (suc n) (one_more n (asks own) (each own)) (within_cut _ n _)
 within_from asks cut n each own (a ∷ rest) =
-    within_own (asks own) (asks_from asks cut n (own ++ a ∷ []) rest) (cut_asks cut n own (a ∷ rest)) (suc n) (within_from asks cut n each (own ++ a ∷ []) rest) (within_cut _ n _)
+    within_own (asks own) (asks_from asks cut n (own ++ a ∷ []) rest) (cut_asks cut n own (a ∷ rest)) (suc n)
+    (within_from asks cut n each (own ++ a ∷ []) rest) (within_cut _ n _)
 
-pub within_with : (names : List (List ℕ)) (asks : List Reply → Move) (cut : Cut) → ((answers : List Reply) → IsWithin (length names) (asks answers)) → (answers : List Reply)
-    → IsWithin (length (with_keep names)) (asks_with asks cut (length names) answers)
+pub within_with : (names : List (List ℕ)) (asks : List Reply → Move) (cut : Cut) → ((answers : List Reply) → IsWithin (length names) (asks answers))
+    → (answers : List Reply) → IsWithin (length (with_keep names)) (asks_with asks cut (length names) answers)
 within_with names asks cut each answers =
     let longer : length (with_keep names) ≡ suc (length names) = length-append names (codes "power::keep" ∷ []) ∙ add_one (length names) in
     subst (λ (n : ℕ). IsWithin n (asks_with asks cut (length names) answers)) (sym longer) (within_from asks cut (length names) each [] answers)
