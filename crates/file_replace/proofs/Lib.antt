@@ -5,3 +5,5 @@ pub mod Never
 pub mod Readying
 pub mod Flawed
 mod Kept
+mod Keeping
+mod Cutting

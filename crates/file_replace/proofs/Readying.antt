@@ -1,7 +1,9 @@
 -- Each step's step finds what it needs.
 use Rattle.std.proofs.Common.{◌≡◌, ℕ, false, List, [], ◌∷◌, Option, None, Some, is_some, is_none, refl, ap, sym, ◌∙◌, subst}
 use Rattle.sim_device.specs.FileEffects.{Effect, Append, Create, Sync, Unlink, SyncDir, Live, leads}
-use Rattle.sim_device.specs.Disk.{Disk, StandsFor, AddsEffect, entry_at}
+use Rattle.sim_device.specs.Disk.{entry_at}
+use Rattle.sim_device.specs.declared.names.Entry.{Entry}
+use Rattle.file_replace.specs.inside.Devices.{Adds}
 use Rattle.action_eval.specs.Answers.{Run, Reply, Go, Return, Halt, replies}
 use Rattle.target_trait.specs.Machine.{led, after}
 use Rattle.file_replace.specs.inside.Seen.{Played}
@@ -84,15 +86,19 @@ led_ready v w s (a ∷ answers) r = led_ready v w (stepped v s a) answers (step_
 pub steps_ready : (v : Variant) (w : Work) (answers : List Reply) → Ready (after (machine v w) answers)
 steps_ready v w answers = led_ready v w (start_of w) answers (begun_ready (before_all w) w.replacements (prepared w.old))
 
-pub ready_on : (step : Step) (d : Disk) (es : List Effect) → StandsFor d es → IsReadyAfter step es → IsReadyOn step d.names
-ready_on step d es k r =
+pub ready_on : (step : Step) (names : List Entry) (es : List Effect) → ((n : ℕ) → (entry_at names n).live ≡ leads es Live n) → IsReadyAfter step es → IsReadyOn step names
+ready_on step names es led r =
     let P : Option ℕ → Type 0 = λ o. IsReady step o (leads es Live 1) in
-    let Q : Option ℕ → Type 0 = λ o. IsReady step (entry_at d.names 0).live o in
-    subst Q (sym (k.live 1)) (subst P (sym (k.live 0)) r)
+    let Q : Option ℕ → Type 0 = λ o. IsReady step (entry_at names 0).live o in
+    subst Q (sym (led 1)) (subst P (sym (led 0)) r)
 
-pub ready_now : (v : Variant) (w : Work) (r : Run) (t : Tally) (d : Disk) → Played v w r t d → IsReadyOn t.step d.names
-ready_now v w r t d k = ready_on t.step d k.effects k.device (subst Ready k.reached.here (steps_ready v w (replies r)))
+pub ready_now : {D : Type 0} {stands : D → List Effect → Type 0} (names : D → List Entry) → ((d : D) (es : List Effect) (n : ℕ) → stands d es → (entry_at (names d) n).live ≡ leads es Live n)
+    → (v : Variant) (w : Work) (r : Run) (t : Tally) (d : D) → Played stands v w r t d → IsReadyOn t.step (names d)
+ready_now names led v w r t d k = ready_on t.step (names d) k.effects (λ n. led d k.effects n k.device) (subst Ready k.reached.here (steps_ready v w (replies r)))
 
 -- `tmp` is there after an append too
-pub tmp_stays : (v : Variant) (w : Work) (r : Run) (t : Tally) (d d' : Disk) (bytes : List ℕ) → Played v w r t d → AddsEffect d d' (Append 1 bytes) → is_none (entry_at d.names 1).live ≡ false → is_none (entry_at d'.names 1).live ≡ false
-tmp_stays v w r t d d' bytes k adds there = ap is_none ((adds k.effects k.device).live 1 ∙ sym (k.device.live 1)) ∙ there
+pub tmp_stays : {D : Type 0} {stands : D → List Effect → Type 0} (names : D → List Entry) → ((d : D) (es : List Effect) (n : ℕ) → stands d es → (entry_at (names d) n).live ≡ leads es Live n)
+    → (v : Variant) (w : Work) (r : Run) (t : Tally) (d d' : D) (bytes : List ℕ) → Played stands v w r t d → Adds stands d d' (Append 1 bytes)
+    → is_none (entry_at (names d) 1).live ≡ false → is_none (entry_at (names d') 1).live ≡ false
+tmp_stays names led v w r t d d' bytes k adds there =
+    ap is_none (led d' (Append 1 bytes ∷ k.effects) 1 (adds k.effects k.device) ∙ sym (led d k.effects 1 k.device)) ∙ there

@@ -1,20 +1,20 @@
 ghost use Rattle.std.specs.Prelude.{◌≡◌, ◌∷◌, ℕ, List, OnOk, is_none, false};
 ghost use Rattle.sim_device.specs.FileEffects.{Effect, Append, Sync, SyncDir, Unlink};
-ghost use Rattle.sim_device.specs.Disk.{AddsEffect, StandsFor, entry_at};
+ghost use Rattle.sim_device.specs.Disk.{entry_at};
 ghost use Rattle.chunked_text.specs.Chunks.{half};
 ghost use Rattle.file_replace.specs.inside.Left.{left};
 ghost use Rattle.file_replace.specs.Words.{target, tmp};
 ghost use Rattle.file_replace.specs.Steps.{on_go, on_return, prepared, failed, done, after_sync_dir, write_step, after_half, after_no_sync};
 ghost use Rattle.file_replace.specs.inside.Ready.{IsReadyOn};
 ghost use Rattle.file_replace.specs.inside.Seen.{step_of, Shows};
+ghost use Rattle.file_replace.specs.inside.Devices.{Adds};
 
-use crate::disk::{Name, append, create, exists, rename, sync, unlink};
+use crate::disk::{Device, Name};
 use crate::progress::Progress;
 use crate::rest::Rest;
 use crate::stage::Stage;
 use crate::variant::Variant;
 use scenario_values::Text;
-use sim_device::FileDevice;
 use std::alloc::AllocError;
 
 /// The stage after a write.
@@ -51,41 +51,42 @@ fn no_sync_stage(variant: Variant) -> Stage<'static>
 }
 
 /// Begins the next replacement.
-fn next(progress: &mut Progress<'_>, device: &FileDevice)
-    ensures { (es : List Effect) → StandsFor device.now es → Shows (failed progress.old es) progress.new device.now }
+fn next<D: Device>(progress: &mut Progress<'_>, device: &D)
+    ensures { (es : List Effect) → D.stands device.now es → Shows D.stands (failed progress.old es) progress.new device.now }
 {
-    progress.begin(exists(device, Name::Tmp));
+    progress.begin(device.exists(Name::Tmp));
 }
 
 /// Acknowledges the replacement under way, and begins the next.
-fn finish(progress: &mut Progress<'_>, device: &FileDevice)
-    ensures { (es : List Effect) → StandsFor device.now es → Shows (done progress.old es) progress.new device.now }
+fn finish<D: Device>(progress: &mut Progress<'_>, device: &D)
+    ensures { (es : List Effect) → D.stands device.now es → Shows D.stands (done progress.old es) progress.new device.now }
 {
     progress.acknowledge();
-    progress.begin(exists(device, Name::Tmp));
+    progress.begin(device.exists(Name::Tmp));
 }
 
 /// Takes `tmp` away, and begins the next replacement.
-fn clean(progress: &mut Progress<'_>, device: &mut FileDevice)
-    requires { is_none (entry_at device.old.names tmp).live ≡ false }
-    ensures { (es : List Effect) → StandsFor device.old es → Shows (failed progress.old (Unlink tmp ∷ es)) progress.new device.new }
+fn clean<D: Device>(progress: &mut Progress<'_>, device: &mut D) -> Result<(), AllocError>
+    requires { is_none (entry_at (D.names device.old) tmp).live ≡ false }
+    ensures { OnOk result ((es : List Effect) → D.stands device.old es → Shows D.stands (failed progress.old (Unlink tmp ∷ es)) progress.new device.new) }
 {
-    unlink(device, Name::Tmp);
+    device.unlink(Name::Tmp)?;
     next(progress, device);
+    Ok(())
 }
 
 /// What `target` holds lasts, and the replacement is acknowledged.
-fn finish_late(progress: &mut Progress<'_>, device: &mut FileDevice)
-    requires { is_none (entry_at device.old.names target).live ≡ false }
-    ensures { (es : List Effect) → StandsFor device.old es → Shows (done progress.old (Sync target ∷ es)) progress.new device.new }
+fn finish_late<D: Device>(progress: &mut Progress<'_>, device: &mut D)
+    requires { is_none (entry_at (D.names device.old) target).live ≡ false }
+    ensures { (es : List Effect) → D.stands device.old es → Shows D.stands (done progress.old (Sync target ∷ es)) progress.new device.new }
 {
-    sync(device, Name::Target);
+    device.sync(Name::Target);
     finish(progress, device);
 }
 
 /// The names last.
-fn sync_dir(variant: Variant, progress: &mut Progress<'_>, device: &mut FileDevice)
-    ensures { (es : List Effect) → StandsFor device.old es → Shows (after_sync_dir variant progress.old (SyncDir ∷ es)) progress.new device.new }
+fn sync_dir<D: Device>(variant: Variant, progress: &mut Progress<'_>, device: &mut D)
+    ensures { (es : List Effect) → D.stands device.old es → Shows D.stands (after_sync_dir variant progress.old (SyncDir ∷ es)) progress.new device.new }
 {
     device.sync_dir();
     match variant {
@@ -97,59 +98,59 @@ fn sync_dir(variant: Variant, progress: &mut Progress<'_>, device: &mut FileDevi
 }
 
 /// Appends the first half of a chunk to `tmp`.
-pub fn write_half(device: &mut FileDevice, chunk: &[u8]) -> Result<(), AllocError>
-    requires { is_none (entry_at device.old.names tmp).live ≡ false }
-    ensures { OnOk result (AddsEffect device.old device.new (Append tmp (half chunk.now))) }
+pub fn write_half<D: Device>(device: &mut D, chunk: &[u8]) -> Result<(), AllocError>
+    requires { is_none (entry_at (D.names device.old) tmp).live ≡ false }
+    ensures { OnOk result (Adds D.stands device.old device.new (Append tmp (half chunk.now))) }
 {
-    append(device, Name::Tmp, &chunk[..chunk.len() / 2])
+    device.append(Name::Tmp, &chunk[..chunk.len() / 2])
 }
 
 /// Does the step that was asked for.
-pub fn go(
+pub fn go<D: Device>(
     variant: Variant,
     progress: &mut Progress<'_>,
-    device: &mut FileDevice,
+    device: &mut D,
 ) -> Result<(), AllocError>
-    requires { IsReadyOn progress.old.step device.old.names }
-    ensures { OnOk result ((es : List Effect) → StandsFor device.old es → Shows (on_go variant progress.old es progress.old.step) progress.new device.new) }
+    requires { IsReadyOn progress.old.step (D.names device.old) }
+    ensures { OnOk result ((es : List Effect) → D.stands device.old es → Shows D.stands (on_go variant progress.old es progress.old.step) progress.new device.new) }
 {
     match progress.stage() {
         Stage::Clearing(rest) => {
-            unlink(device, Name::Tmp);
+            device.unlink(Name::Tmp)?;
             progress.go_to(Stage::Creating(rest));
         }
         Stage::Creating(rest) => {
-            create(device, Name::Tmp)?;
+            device.create(Name::Tmp)?;
             progress.go_to(write_stage(variant, rest));
         }
         Stage::Writing(chunk, rest) | Stage::WritingAgain(chunk, rest) => {
-            append(device, Name::Tmp, chunk)?;
+            device.append(Name::Tmp, chunk)?;
             progress.go_to(write_stage(variant, rest));
         }
         Stage::Syncing => {
-            sync(device, Name::Tmp);
+            device.sync(Name::Tmp);
             progress.go_to(Stage::Renaming);
         }
         Stage::Renaming => {
-            rename(device)?;
+            device.rename()?;
             progress.go_to(Stage::SyncingDir);
         }
         Stage::SyncingDir => sync_dir(variant, progress, device),
         Stage::SyncingLate => finish_late(progress, device),
-        Stage::Cleaning => clean(progress, device),
+        Stage::Cleaning => clean(progress, device)?,
         Stage::Over => progress.go_to(Stage::Over),
     }
     Ok(())
 }
 
 /// Does what follows where the step that was asked for fails.
-pub fn fail(
+pub fn fail<D: Device>(
     variant: Variant,
     progress: &mut Progress<'_>,
-    device: &mut FileDevice,
+    device: &mut D,
 ) -> Result<(), AllocError>
-    requires { IsReadyOn progress.old.step device.old.names }
-    ensures { OnOk result ((es : List Effect) → StandsFor device.old es → Shows (on_return variant progress.old es progress.old.step) progress.new device.new) }
+    requires { IsReadyOn progress.old.step (D.names device.old) }
+    ensures { OnOk result ((es : List Effect) → D.stands device.old es → Shows D.stands (on_return variant progress.old es progress.old.step) progress.new device.new) }
 {
     match progress.stage() {
         Stage::Writing(chunk, rest) => {
@@ -173,13 +174,13 @@ pub fn fail(
 }
 
 /// Makes `target` hold the old contents, and both last.
-pub fn prepare(device: &mut FileDevice, old: &Text) -> Result<(), AllocError>
-    ensures { OnOk result (StandsFor device.new (prepared old.now)) }
+pub fn prepare<D: Device>(device: &mut D, old: &Text) -> Result<(), AllocError>
+    ensures { OnOk result (D.stands device.new (prepared old.now)) }
 {
     device.clear();
-    create(device, Name::Target)?;
-    append(device, Name::Target, old.as_str().as_bytes())?;
-    sync(device, Name::Target);
+    device.create(Name::Target)?;
+    device.append(Name::Target, old.as_str().as_bytes())?;
+    device.sync(Name::Target);
     device.sync_dir();
     Ok(())
 }

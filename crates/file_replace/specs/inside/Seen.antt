@@ -1,6 +1,5 @@
 -- What the values of a run say.
 use Rattle.std.specs.Prelude.{◌≡◌, ℕ, ◌+◌, List, ◌∷◌, map, take, drop}
-use Rattle.sim_device.specs.Disk.{Disk, StandsFor}
 use Rattle.sim_device.specs.FileEffects.{Effect}
 use Rattle.action_eval.specs.Answers.{Run}
 use Rattle.target_trait.specs.Play.{IsRunning}
@@ -40,13 +39,13 @@ abbrev pub past_of : List (List ℕ) → ℕ → ℕ → Past
 past_of contents acknowledged begun = record { allowed = contents_between acknowledged begun contents; known = contents_between 0 begun contents }
 
 -- the code has come this far
-pub record Shows (s : State) (t : Tally) (d : Disk) : Type 0 where
+pub record Shows {D : Type 0} (stands : D → List Effect → Type 0) (s : State) (t : Tally) (d : D) : Type 0 where
   pub tally : t ≡ s.tally
-  pub device : StandsFor d s.effects
+  pub device : stands d s.effects
 
 -- a run has come this far, with a device that holds what the protocol says
-pub record Played (v : Variant) (w : Work) (r : Run) (t : Tally) (d : Disk) : Type 0 where
+pub record Played {D : Type 0} (stands : D → List Effect → Type 0) (v : Variant) (w : Work) (r : Run) (t : Tally) (d : D) : Type 0 where
   pub effects : List Effect
   pub reached : Reached (machine v w) r (state t effects)
-  pub device : StandsFor d effects
+  pub device : stands d effects
   pub running : IsRunning (point_at t.step) r
