@@ -17,7 +17,7 @@ use Rattle.file_replace.specs.declared.variant.Variant.{Variant}
 use Rattle.file_replace.specs.Words.{tmp, write_point}
 use Rattle.file_replace.specs.Work.{Work}
 use Rattle.file_replace.specs.Judgement.{judged}
-use Rattle.file_replace.specs.Steps.{Step, Clearing, Creating, Writing, WritingAgain, Syncing, Renaming, SyncingDir, SyncingLate, Cleaning, Over, Tally, State, state, on_go, on_return, stepped, at_step, write_step, begun, before_all, prepared, start_of, machine, move_of, point_at, asks_of}
+use Rattle.file_replace.specs.Steps.{Step, Clearing, Creating, Writing, WritingAgain, Syncing, Renaming, SyncingRenamed, SyncingDir, SyncingLate, Cleaning, Over, Tally, State, state, on_go, on_return, stepped, at_step, write_step, begun, before_all, prepared, start_of, machine, move_of, point_at, asks_of}
 use Rattle.file_replace.specs.inside.Seen.{Shows, Played}
 
 asks_point : (t : Tally) (es : List Effect) (p : ℕ) → point_at t.step ≡ Some p → move_of (state t es) ≡ Ask p
@@ -37,6 +37,7 @@ known_point (Writing c cs) p n e h = known_of 2 p n e (omega arith) h
 known_point (WritingAgain c cs) p n e h = known_of 2 p n e (omega arith) h
 known_point Syncing p n e h = known_of 3 p n e (omega arith) h
 known_point Renaming p n e h = known_of 4 p n e (omega arith) h
+known_point SyncingRenamed p n e h = known_of 3 p n e (omega arith) h
 known_point SyncingDir p n e h = known_of 5 p n e (omega arith) h
 known_point SyncingLate p n e h = known_of 3 p n e (omega arith) h
 known_point Cleaning p n e h = known_of 6 p n e (omega arith) h

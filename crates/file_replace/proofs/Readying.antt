@@ -1,6 +1,6 @@
 -- Each step's step finds what it needs.
 use Rattle.std.proofs.Common.{◌≡◌, ℕ, false, List, [], ◌∷◌, Option, None, Some, is_some, is_none, refl, ap, sym, ◌∙◌, subst}
-use Rattle.sim_device.specs.FileEffects.{Effect, Append, Create, Sync, Unlink, SyncDir, Live, leads}
+use Rattle.sim_device.specs.FileEffects.{Effect, Append, Create, Sync, Rename, Unlink, SyncDir, Live, leads}
 use Rattle.sim_device.specs.Disk.{entry_at}
 use Rattle.sim_device.specs.declared.names.Entry.{Entry}
 use Rattle.file_replace.specs.inside.Devices.{Adds}
@@ -8,9 +8,9 @@ use Rattle.action_eval.specs.Answers.{Run, Reply, Go, Return, Halt, replies}
 use Rattle.target_trait.specs.Machine.{led, after}
 use Rattle.file_replace.specs.inside.Seen.{Played}
 use Rattle.file_replace.specs.declared.variant.Variant.{Variant}
-use Rattle.file_replace.specs.declared.variant.Variant.TheVariants.{Sound, LateSync, IgnoreSync, RetryWrite}
+use Rattle.file_replace.specs.declared.variant.Variant.TheVariants.{Sound, LateSync, IgnoreSync, RetryWrite, RenameFirst}
 use Rattle.file_replace.specs.Work.{Work}
-use Rattle.file_replace.specs.Steps.{Step, Clearing, Creating, Writing, WritingAgain, Syncing, Renaming, SyncingDir, SyncingLate, Cleaning, Over, Tally, State, state, first_step, begun_of, acknowledged, is_there, write_step, after_half, after_no_sync, after_sync_dir, on_go, on_return, stepped, start_of, machine, prepared, before_all}
+use Rattle.file_replace.specs.Steps.{Step, Clearing, Creating, Writing, WritingAgain, Syncing, Renaming, SyncingRenamed, SyncingDir, SyncingLate, Cleaning, Over, Tally, State, state, first_step, begun_of, acknowledged, is_there, write_step, after_half, after_no_sync, after_rename, after_sync_dir, on_go, on_return, stepped, start_of, machine, prepared, before_all}
 use Rattle.file_replace.specs.inside.Ready.{IsReady, IsReadyAfter, IsReadyOn}
 
 abbrev Ready : State → Type 0
@@ -29,6 +29,7 @@ write_ready Sound [] target tmp r = r
 write_ready LateSync [] target tmp r = r
 write_ready IgnoreSync [] target tmp r = r
 write_ready RetryWrite [] target tmp r = r
+write_ready RenameFirst [] target tmp r = r
 write_ready v (c ∷ cs) target tmp r = r
 
 half_ready : (v : Variant) (c : List ℕ) (cs : List (List ℕ)) (target tmp : Option ℕ) → is_none tmp ≡ false → IsReady (after_half v c cs) target tmp
@@ -36,18 +37,28 @@ half_ready Sound c cs target tmp r = r
 half_ready LateSync c cs target tmp r = r
 half_ready IgnoreSync c cs target tmp r = r
 half_ready RetryWrite c cs target tmp r = r
+half_ready RenameFirst c cs target tmp r = r
 
 no_sync_ready : (v : Variant) (target tmp : Option ℕ) → is_none tmp ≡ false → IsReady (after_no_sync v) target tmp
 no_sync_ready Sound target tmp r = r
 no_sync_ready LateSync target tmp r = r
 no_sync_ready IgnoreSync target tmp r = r
 no_sync_ready RetryWrite target tmp r = r
+no_sync_ready RenameFirst target tmp r = r
+
+rename_ready : (v : Variant) (target tmp : Option ℕ) → is_none target ≡ false → IsReady (after_rename v) target tmp
+rename_ready Sound target tmp r = r
+rename_ready LateSync target tmp r = r
+rename_ready IgnoreSync target tmp r = r
+rename_ready RetryWrite target tmp r = r
+rename_ready RenameFirst target tmp r = r
 
 sync_dir_ready : (v : Variant) (t : Tally) (es : List Effect) → is_none (leads es Live 0) ≡ false → Ready (after_sync_dir v t es)
 sync_dir_ready Sound t es r = begun_ready (acknowledged t) t.rest es
 sync_dir_ready LateSync t es r = r
 sync_dir_ready IgnoreSync t es r = begun_ready (acknowledged t) t.rest es
 sync_dir_ready RetryWrite t es r = begun_ready (acknowledged t) t.rest es
+sync_dir_ready RenameFirst t es r = begun_ready (acknowledged t) t.rest es
 
 go_ready : (v : Variant) (t : Tally) (es : List Effect) (step : Step) → IsReadyAfter step es → Ready (on_go v t es step)
 go_ready v t es (Clearing chunks) r = refl
@@ -55,7 +66,8 @@ go_ready v t es (Creating chunks) r = write_ready v chunks (leads (Create 1 ∷ 
 go_ready v t es (Writing c cs) r = write_ready v cs (leads es Live 0) (leads es Live 1) r
 go_ready v t es (WritingAgain c cs) r = write_ready v cs (leads es Live 0) (leads es Live 1) r
 go_ready v t es Syncing r = r
-go_ready v t es Renaming r = r
+go_ready v t es Renaming r = rename_ready v (leads (Rename 1 0 ∷ es) Live 0) (leads (Rename 1 0 ∷ es) Live 1) r
+go_ready v t es SyncingRenamed r = r
 go_ready v t es SyncingDir r = sync_dir_ready v t (SyncDir ∷ es) r
 go_ready v t es SyncingLate r = begun_ready (acknowledged t) t.rest (Sync 0 ∷ es)
 go_ready v t es Cleaning r = begun_ready t t.rest (Unlink 1 ∷ es)
@@ -68,6 +80,7 @@ return_ready v t es (Writing c cs) r = half_ready v c cs (leads es Live 0) (lead
 return_ready v t es (WritingAgain c cs) r = r
 return_ready v t es Syncing r = no_sync_ready v (leads es Live 0) (leads es Live 1) r
 return_ready v t es Renaming r = r
+return_ready v t es SyncingRenamed r = begun_ready t t.rest es
 return_ready v t es SyncingDir r = begun_ready t t.rest es
 return_ready v t es SyncingLate r = begun_ready t t.rest es
 return_ready v t es Cleaning r = begun_ready t t.rest es

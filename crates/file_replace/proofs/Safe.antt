@@ -17,7 +17,7 @@ use Rattle.chunked_text.specs.Chunks.{joined, half}
 use Rattle.file_replace.specs.Work.{Work}
 use Rattle.file_replace.specs.Words.{torn, stale}
 use Rattle.file_replace.specs.Judgement.{Past, judged_by, judged}
-use Rattle.file_replace.specs.Steps.{Step, Clearing, Creating, Writing, WritingAgain, Syncing, Renaming, SyncingDir, SyncingLate, Cleaning, Over, Tally, State, state, first_step, begun_of, is_there, acknowledged, write_step, on_go, on_return, stepped, prepared, before_all, start_of, machine, point_at, asks_of}
+use Rattle.file_replace.specs.Steps.{Step, Clearing, Creating, Writing, WritingAgain, Syncing, Renaming, SyncingRenamed, SyncingDir, SyncingLate, Cleaning, Over, Tally, State, state, first_step, begun_of, is_there, acknowledged, write_step, on_go, on_return, stepped, prepared, before_all, start_of, machine, point_at, asks_of}
 
 abbrev among : List ℕ → List (List ℕ) → Bool
 among x xs = list_any (bytes_eq x) xs
@@ -75,6 +75,7 @@ StepSafe (Writing c cs) whole es = (f : ℕ) × (leads es Live 1 ≡ Some f) × 
 StepSafe (WritingAgain c cs) whole es = ⊥
 StepSafe Syncing whole es = (f : ℕ) × (leads es Live 1 ≡ Some f) × (contents es Live f ≡ whole)
 StepSafe Renaming whole es = (f : ℕ) × (leads es Live 1 ≡ Some f) × (contents es Lasting f ≡ whole)
+StepSafe SyncingRenamed whole es = ⊥
 StepSafe SyncingDir whole es = (f : ℕ) × (leads es Live 0 ≡ Some f) × (contents es Lasting f ≡ whole)
 StepSafe SyncingLate whole es = ⊥
 StepSafe Cleaning whole es = Unit {0}
@@ -239,6 +240,7 @@ go_safe t es Syncing k m r = record { solid = sync_solid es t.past.allowed k; mi
 go_safe t es Renaming k m r = record { solid = rename_solid es t.past.allowed t.whole r.0 k m r.1 r.2; mine = m; step = (r.0, r.1, r.2) }
 go_safe t es SyncingDir k m r =
     begun_safe (is_there (SyncDir ∷ es)) (acknowledged t) t.rest (SyncDir ∷ es) (sync_dir_solid es t.past.allowed t.whole r.0 k r.1 r.2) (first_among t.whole [])
+go_safe t es SyncingRenamed k m r = absurd r
 go_safe t es SyncingLate k m r = absurd r
 go_safe t es Cleaning k m r = begun_safe (is_there (Unlink 1 ∷ es)) t t.rest (Unlink 1 ∷ es) (unlink_solid es t.past.allowed k) m
 go_safe t es Over k m r = record { solid = k; mine = m; step = tt }
@@ -251,6 +253,7 @@ return_safe t es (WritingAgain c cs) k m r = absurd r
 return_safe t es Syncing k m r = record { solid = k; mine = m; step = tt }
 return_safe t es Renaming k m r = record { solid = k; mine = m; step = tt }
 return_safe t es SyncingDir k m r = begun_safe (is_there es) t t.rest es k m
+return_safe t es SyncingRenamed k m r = absurd r
 return_safe t es SyncingLate k m r = absurd r
 return_safe t es Cleaning k m r = begun_safe (is_there es) t t.rest es k m
 return_safe t es Over k m r = record { solid = k; mine = m; step = tt }

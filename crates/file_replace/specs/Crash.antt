@@ -54,6 +54,10 @@ renamed_alone = fails_once (codes "replace::sync_dir") ∷ keeps_after 3 (Some 1
 abbrev pub renamed_without_the_first_chunk : Entries
 renamed_without_the_first_chunk = panics_once (codes "replace::sync_dir") ∷ keeps_after 2 None ∷ []
 
+-- the file's sync fails, and of the new file's name, its two chunks and the rename the cut keeps the rename
+abbrev pub renamed_unsynced : Entries
+renamed_unsynced = fails_once (codes "replace::sync") ∷ keeps_after 3 (Some 1) ∷ []
+
 -- the directory's sync fails, and the cut keeps the rename, and not the name that is renamed
 abbrev pub renamed_unnamed : Entries
 renamed_unnamed = fails_once (codes "replace::sync_dir") ∷ keeps_after 1 None ∷ []

@@ -6,7 +6,7 @@ use Rattle.target_trait.specs.Play.{Move, move_by}
 use Rattle.target_trait.specs.Machine.{Machine, after, asks_by}
 use Rattle.chunked_text.specs.Chunks.{joined, half}
 use Rattle.file_replace.specs.declared.variant.Variant.{Variant}
-use Rattle.file_replace.specs.declared.variant.Variant.TheVariants.{Sound, LateSync, IgnoreSync, RetryWrite}
+use Rattle.file_replace.specs.declared.variant.Variant.TheVariants.{Sound, LateSync, IgnoreSync, RetryWrite, RenameFirst}
 use Rattle.file_replace.specs.Words.{target, tmp, clear_point, create_point, write_point, sync_point, rename_point, sync_dir_point, unlink_point}
 use Rattle.file_replace.specs.Work.{Work}
 use Rattle.file_replace.specs.Judgement.{Past, nothing_begun, with_begun, with_acknowledged, judged}
@@ -20,6 +20,8 @@ pub data Step : Type 0 where
   WritingAgain : List ℕ → List (List ℕ) → Step
   Syncing : Step
   Renaming : Step
+  -- what was renamed is synced, before the directory is
+  SyncingRenamed : Step
   SyncingDir : Step
   -- `target` is synced once it stands under its name
   SyncingLate : Step
@@ -77,22 +79,32 @@ done t es = state (begun (is_there es) (acknowledged t)) es
 
 -- ---- where the variants differ
 
--- late_sync syncs after the rename
+-- late_sync and rename_first sync after the rename
 abbrev pub after_writes : Variant → Step
 after_writes Sound = Syncing
 after_writes LateSync = Renaming
 after_writes IgnoreSync = Syncing
 after_writes RetryWrite = Syncing
+after_writes RenameFirst = Renaming
 
 abbrev pub write_step : Variant → List (List ℕ) → Step
 write_step v [] = after_writes v
 write_step v (c ∷ cs) = Writing c cs
+
+-- rename_first syncs then
+abbrev pub after_rename : Variant → Step
+after_rename Sound = SyncingDir
+after_rename LateSync = SyncingDir
+after_rename IgnoreSync = SyncingDir
+after_rename RetryWrite = SyncingDir
+after_rename RenameFirst = SyncingRenamed
 
 abbrev pub after_sync_dir : Variant → Tally → List Effect → State
 after_sync_dir Sound t es = done t es
 after_sync_dir LateSync t es = state (at_step t SyncingLate) es
 after_sync_dir IgnoreSync t es = done t es
 after_sync_dir RetryWrite t es = done t es
+after_sync_dir RenameFirst t es = done t es
 
 -- retry_write writes the whole chunk again after its half
 abbrev pub after_half : Variant → List ℕ → List (List ℕ) → Step
@@ -100,6 +112,7 @@ after_half Sound c cs = Cleaning
 after_half LateSync c cs = Cleaning
 after_half IgnoreSync c cs = Cleaning
 after_half RetryWrite c cs = WritingAgain c cs
+after_half RenameFirst c cs = Cleaning
 
 -- ignore_sync goes on as after a sync
 abbrev pub after_no_sync : Variant → Step
@@ -107,6 +120,7 @@ after_no_sync Sound = Cleaning
 after_no_sync LateSync = Cleaning
 after_no_sync IgnoreSync = Renaming
 after_no_sync RetryWrite = Cleaning
+after_no_sync RenameFirst = Cleaning
 
 -- ---- the table of steps
 
@@ -118,6 +132,7 @@ point_at (Writing c cs) = Some write_point
 point_at (WritingAgain c cs) = Some write_point
 point_at Syncing = Some sync_point
 point_at Renaming = Some rename_point
+point_at SyncingRenamed = Some sync_point
 point_at SyncingDir = Some sync_dir_point
 point_at SyncingLate = Some sync_point
 point_at Cleaning = Some unlink_point
@@ -130,7 +145,8 @@ on_go v t es (Creating chunks) = state (at_step t (write_step v chunks)) (Create
 on_go v t es (Writing c cs) = state (at_step t (write_step v cs)) (Append tmp c ∷ es)
 on_go v t es (WritingAgain c cs) = state (at_step t (write_step v cs)) (Append tmp c ∷ es)
 on_go v t es Syncing = state (at_step t Renaming) (Sync tmp ∷ es)
-on_go v t es Renaming = state (at_step t SyncingDir) (Rename tmp target ∷ es)
+on_go v t es Renaming = state (at_step t (after_rename v)) (Rename tmp target ∷ es)
+on_go v t es SyncingRenamed = state (at_step t SyncingDir) (Sync target ∷ es)
 on_go v t es SyncingDir = after_sync_dir v t (SyncDir ∷ es)
 on_go v t es SyncingLate = done t (Sync target ∷ es)
 on_go v t es Cleaning = failed t (Unlink tmp ∷ es)
@@ -144,6 +160,7 @@ on_return v t es (Writing c cs) = state (at_step t (after_half v c cs)) (Append 
 on_return v t es (WritingAgain c cs) = state (at_step t Cleaning) (Append tmp (half c) ∷ es)
 on_return v t es Syncing = state (at_step t (after_no_sync v)) es
 on_return v t es Renaming = state (at_step t Cleaning) es
+on_return v t es SyncingRenamed = failed t es
 on_return v t es SyncingDir = failed t es
 on_return v t es SyncingLate = failed t es
 on_return v t es Cleaning = failed t es

@@ -1,7 +1,7 @@
 -- Names and numbers of the file replacement: points, labels, codes of failures, and the names on the device.
 use Rattle.std.specs.Prelude.{ℕ, ◌==◌, if◌then◌else◌, List, [], ◌∷◌, codes}
 use Rattle.file_replace.specs.declared.variant.Variant.{Variant}
-use Rattle.file_replace.specs.declared.variant.Variant.TheVariants.{Sound, LateSync, IgnoreSync, RetryWrite}
+use Rattle.file_replace.specs.declared.variant.Variant.TheVariants.{Sound, LateSync, IgnoreSync, RetryWrite, RenameFirst}
 use Rattle.file_replace.specs.declared.disk.Name.{Name}
 use Rattle.file_replace.specs.declared.disk.Name.TheVariants as name
 
@@ -37,6 +37,7 @@ label Sound = codes "replace sound"
 label LateSync = codes "replace late_sync"
 label IgnoreSync = codes "replace ignore_sync"
 label RetryWrite = codes "replace retry_write"
+label RenameFirst = codes "replace rename_first"
 
 -- the codes of failures: contents that nobody ever wrote whole, and contents that were replaced
 abbrev pub torn : ℕ

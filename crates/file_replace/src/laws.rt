@@ -4,8 +4,8 @@ ghost use Rattle.action_eval.specs.Answers.{given_of};
 ghost use Rattle.target_trait.specs.Outcomes.{outcome};
 ghost use Rattle.target_trait.specs.declared.judgement.Verdict.TheVariants.{Fail, Pass};
 ghost use Rattle.target_trait.specs.Cuts.{with_keep, asks_with};
-ghost use Rattle.file_replace.specs.Crash.{cut_of, renamed_alone, renamed_without_the_first_chunk, renamed_unnamed};
-ghost use Rattle.file_replace.specs.declared.variant.Variant.TheVariants.{Sound, LateSync, IgnoreSync, RetryWrite};
+ghost use Rattle.file_replace.specs.Crash.{cut_of, renamed_alone, renamed_without_the_first_chunk, renamed_unsynced, renamed_unnamed};
+ghost use Rattle.file_replace.specs.declared.variant.Variant.TheVariants.{Sound, LateSync, IgnoreSync, RetryWrite, RenameFirst};
 ghost use Rattle.file_replace.specs.Words.{point_names, torn, stale};
 ghost use Rattle.file_replace.specs.Steps.{asks_of};
 ghost use Rattle.file_replace.specs.Flaws.{old_to_new, empty_to_new, sync_fails, write_fails, left_by};
@@ -56,4 +56,13 @@ pub fn a_kept_rename_shows_late_sync()
         (given_of renamed_without_the_first_chunk (with_keep point_names) seed stream 1000)).verdict ≡ Fail torn }
     ensures sound { (seed stream : ℕ) → (outcome (asks_with (asks_of Sound old_to_new) (cut_of Sound old_to_new) 7)
         (given_of renamed_unnamed (with_keep point_names) seed stream 1000)).verdict ≡ Pass }
+{}
+
+/// rename_first fails where a cut keeps the rename of a file whose sync failed, and nothing else: `target` holds nothing then. A cut that loses all doesn't
+/// show it, under the same fault.
+pub fn a_kept_rename_shows_rename_first()
+    ensures renamed { (seed stream : ℕ) → (outcome (asks_with (asks_of RenameFirst old_to_new) (cut_of RenameFirst old_to_new) 7)
+        (given_of renamed_unsynced (with_keep point_names) seed stream 1000)).verdict ≡ Fail torn }
+    ensures lost { (seed stream : ℕ) → (outcome (asks_with (asks_of RenameFirst old_to_new) (cut_of RenameFirst old_to_new) 7)
+        (given_of sync_fails (with_keep point_names) seed stream 1000)).verdict ≡ Pass }
 {}

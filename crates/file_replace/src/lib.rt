@@ -1,4 +1,4 @@
-//! Atomic replacement of a file, as a target, in four variants.
+//! Atomic replacement of a file, as a target, in five variants.
 #![tactic(auto)]
 
 mod contents;
@@ -17,8 +17,8 @@ mod work;
 pub use chunked_text::Chunks;
 pub use judge::{STALE, TORN};
 pub use laws::{
-    a_kept_rename_shows_late_sync, ignore_sync_is_stale, late_sync_is_torn, retry_write_is_torn,
-    sound_never_fails,
+    a_kept_rename_shows_late_sync, a_kept_rename_shows_rename_first, ignore_sync_is_stale,
+    late_sync_is_torn, retry_write_is_torn, sound_never_fails,
 };
 pub use play::play as play_on;
 pub use replace::Replace;

@@ -40,7 +40,7 @@ fn point_of(stage: Stage<'_>) -> Option<u32>
         Stage::Clearing(_) => Some(Point::Clear as u32),
         Stage::Creating(_) => Some(Point::Create as u32),
         Stage::Writing(_, _) | Stage::WritingAgain(_, _) => Some(Point::Write as u32),
-        Stage::Syncing | Stage::SyncingLate => Some(Point::Sync as u32),
+        Stage::Syncing | Stage::SyncingRenamed | Stage::SyncingLate => Some(Point::Sync as u32),
         Stage::Renaming => Some(Point::Rename as u32),
         Stage::SyncingDir => Some(Point::SyncDir as u32),
         Stage::Cleaning => Some(Point::Unlink as u32),
@@ -175,6 +175,18 @@ pub fn play(
 
 /// The number of the cut's point.
 const KEEP: u32 = 7;
+
+/// The names of the points, with that of the cut behind them.
+pub const TO_CUT: &[&str] = &[
+    "replace::clear",
+    "replace::create",
+    "replace::write",
+    "replace::sync",
+    "replace::rename",
+    "replace::sync_dir",
+    "replace::unlink",
+    "power::keep",
+];
 
 /// Plays a run on a device, which is cleared first, and its power cut, which keeps what it is told to.
 ///

@@ -10,7 +10,7 @@ ghost use Rattle.file_replace.specs.Crash.{cut_of};
 ghost use Rattle.file_replace.specs.Lawful.{asks-within, asks-halts};
 
 use crate::judge::TORN;
-use crate::play::{play, play_to_cut};
+use crate::play::{TO_CUT, play, play_to_cut};
 use crate::variant::Variant;
 use crate::work::Replacements;
 use sim_device::{CrashDevice, FileDevice};
@@ -72,6 +72,7 @@ impl Target for Replace {
             Variant::LateSync => "replace late_sync",
             Variant::IgnoreSync => "replace ignore_sync",
             Variant::RetryWrite => "replace retry_write",
+            Variant::RenameFirst => "replace rename_first",
         }
     }
 
@@ -122,16 +123,7 @@ impl CrashTarget for Replace {
     ghost cut = { cut_of };
 
     fn catalogue_to_cut() -> &'static [&'static str] {
-        &[
-            "replace::clear",
-            "replace::create",
-            "replace::write",
-            "replace::sync",
-            "replace::rename",
-            "replace::sync_dir",
-            "replace::unlink",
-            "power::keep",
-        ]
+        TO_CUT
     }
 
     fn run_to_cut(

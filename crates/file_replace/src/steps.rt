@@ -4,7 +4,7 @@ ghost use Rattle.sim_device.specs.Disk.{entry_at};
 ghost use Rattle.chunked_text.specs.Chunks.{half};
 ghost use Rattle.file_replace.specs.inside.Left.{left};
 ghost use Rattle.file_replace.specs.Words.{target, tmp};
-ghost use Rattle.file_replace.specs.Steps.{on_go, on_return, prepared, failed, done, after_sync_dir, write_step, after_half, after_no_sync};
+ghost use Rattle.file_replace.specs.Steps.{on_go, on_return, prepared, failed, done, after_sync_dir, write_step, after_half, after_no_sync, after_rename};
 ghost use Rattle.file_replace.specs.inside.Ready.{IsReadyOn};
 ghost use Rattle.file_replace.specs.inside.Seen.{step_of, Shows};
 ghost use Rattle.file_replace.specs.inside.Devices.{Adds};
@@ -24,7 +24,7 @@ pub fn write_stage<'w>(variant: Variant, rest: Rest<'w>) -> Stage<'w>
     match rest.split_first() {
         Some((chunk, rest)) => Stage::Writing(chunk, rest),
         None => match variant {
-            Variant::LateSync => Stage::Renaming,
+            Variant::LateSync | Variant::RenameFirst => Stage::Renaming,
             Variant::Sound | Variant::IgnoreSync | Variant::RetryWrite => Stage::Syncing,
         },
     }
@@ -36,7 +36,9 @@ pub fn half_stage<'w>(variant: Variant, chunk: &'w [u8], rest: Rest<'w>) -> Stag
 {
     match variant {
         Variant::RetryWrite => Stage::WritingAgain(chunk, rest),
-        Variant::Sound | Variant::LateSync | Variant::IgnoreSync => Stage::Cleaning,
+        Variant::Sound | Variant::LateSync | Variant::IgnoreSync | Variant::RenameFirst => {
+            Stage::Cleaning
+        }
     }
 }
 
@@ -46,7 +48,21 @@ fn no_sync_stage(variant: Variant) -> Stage<'static>
 {
     match variant {
         Variant::IgnoreSync => Stage::Renaming,
-        Variant::Sound | Variant::LateSync | Variant::RetryWrite => Stage::Cleaning,
+        Variant::Sound | Variant::LateSync | Variant::RetryWrite | Variant::RenameFirst => {
+            Stage::Cleaning
+        }
+    }
+}
+
+/// The stage after the rename.
+fn renamed_stage(variant: Variant) -> Stage<'static>
+    ensures { step_of result ≡ after_rename variant }
+{
+    match variant {
+        Variant::RenameFirst => Stage::SyncingRenamed,
+        Variant::Sound | Variant::LateSync | Variant::IgnoreSync | Variant::RetryWrite => {
+            Stage::SyncingDir
+        }
     }
 }
 
@@ -94,6 +110,7 @@ fn sync_dir<D: Device>(variant: Variant, progress: &mut Progress<'_>, device: &m
         Variant::Sound => finish(progress, device),
         Variant::IgnoreSync => finish(progress, device),
         Variant::RetryWrite => finish(progress, device),
+        Variant::RenameFirst => finish(progress, device),
     }
 }
 
@@ -133,6 +150,10 @@ pub fn go<D: Device>(
         }
         Stage::Renaming => {
             device.rename()?;
+            progress.go_to(renamed_stage(variant));
+        }
+        Stage::SyncingRenamed => {
+            device.sync(Name::Target);
             progress.go_to(Stage::SyncingDir);
         }
         Stage::SyncingDir => sync_dir(variant, progress, device),
@@ -165,6 +186,7 @@ pub fn fail<D: Device>(
         Stage::Renaming => progress.go_to(Stage::Cleaning),
         Stage::Clearing(_)
         | Stage::Creating(_)
+        | Stage::SyncingRenamed
         | Stage::SyncingDir
         | Stage::SyncingLate
         | Stage::Cleaning => next(progress, device),

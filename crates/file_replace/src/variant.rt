@@ -9,4 +9,6 @@ pub enum Variant {
     IgnoreSync,
     /// A chunk whose write fails is written once more, after the half that is there already.
     RetryWrite,
+    /// The file is renamed before it is synced; both before the directory is. Only a cut that keeps some of what is pending shows it.
+    RenameFirst,
 }

@@ -11,6 +11,8 @@ mod devices;
 #[cfg(test)]
 mod journals;
 #[cfg(test)]
+mod kept_writes;
+#[cfg(test)]
 mod shelf;
 #[cfg(test)]
 mod sinks;

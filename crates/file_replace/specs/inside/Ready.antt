@@ -4,7 +4,7 @@ use Rattle.sim_device.specs.FileEffects.{Effect, Live, leads}
 use Rattle.sim_device.specs.Disk.{entry_at}
 use Rattle.sim_device.specs.declared.names.Entry.{Entry}
 use Rattle.file_replace.specs.Words.{target, tmp}
-use Rattle.file_replace.specs.Steps.{Step, Clearing, Creating, Writing, WritingAgain, Syncing, Renaming, SyncingDir, SyncingLate, Cleaning, Over}
+use Rattle.file_replace.specs.Steps.{Step, Clearing, Creating, Writing, WritingAgain, Syncing, Renaming, SyncingRenamed, SyncingDir, SyncingLate, Cleaning, Over}
 
 -- the names that the step needs are there, by the files that `target` and `tmp` lead to
 abbrev pub IsReady : Step → Option ℕ → Option ℕ → Type 0
@@ -14,6 +14,7 @@ IsReady (Writing c cs) old new = is_none new ≡ false
 IsReady (WritingAgain c cs) old new = is_none new ≡ false
 IsReady Syncing old new = is_none new ≡ false
 IsReady Renaming old new = is_none new ≡ false
+IsReady SyncingRenamed old new = is_none old ≡ false
 IsReady SyncingDir old new = is_none old ≡ false
 IsReady SyncingLate old new = is_none old ≡ false
 IsReady Cleaning old new = is_none new ≡ false

@@ -10,7 +10,7 @@ use Rattle.file_replace.specs.declared.stage.Stage.{Stage}
 use Rattle.file_replace.specs.declared.stage.Stage.TheVariants as stage
 use Rattle.file_replace.specs.Work.{Work}
 use Rattle.file_replace.specs.Judgement.{Past}
-use Rattle.file_replace.specs.Steps.{Step, Clearing, Creating, Writing, WritingAgain, Syncing, Renaming, SyncingDir, SyncingLate, Cleaning, Over}
+use Rattle.file_replace.specs.Steps.{Step, Clearing, Creating, Writing, WritingAgain, Syncing, Renaming, SyncingRenamed, SyncingDir, SyncingLate, Cleaning, Over}
 use Rattle.file_replace.specs.Steps.{Tally, State, state, machine, point_at}
 use Rattle.file_replace.specs.inside.Left.{left}
 
@@ -21,6 +21,7 @@ step_of (stage.Writing chunk rest) = Writing chunk.now (left rest)
 step_of (stage.WritingAgain chunk rest) = WritingAgain chunk.now (left rest)
 step_of stage.Syncing = Syncing
 step_of stage.Renaming = Renaming
+step_of stage.SyncingRenamed = SyncingRenamed
 step_of stage.SyncingDir = SyncingDir
 step_of stage.SyncingLate = SyncingLate
 step_of stage.Cleaning = Cleaning

@@ -20,3 +20,8 @@ returns-in-RetryWrite g c = λ es h.
 
 pub returns-in-LateSync : goal.returns-in-LateSync
 returns-in-LateSync g c = search rules
+
+pub returns-in-RenameFirst : goal.returns-in-RenameFirst
+returns-in-RenameFirst g c = λ es h.
+    subst (λ (v : Variant). Shows g.D.Device.stands (after_sync_dir v c.args.progress.now (SyncDir ∷ es)) c.finish-in-RenameFirst.new.progress c.sync_dir.new.self) (sym c.in-RenameFirst.is)
+    (c.finish-in-RenameFirst.ensures _ (c.sync_dir.ensures es h))
