@@ -129,7 +129,8 @@ pub fn go<D: Device>(
     device: &mut D,
 ) -> Result<(), AllocError>
     requires { IsReadyOn progress.old.step (D.names device.old) }
-    ensures { OnOk result ((es : List Effect) → D.stands device.old es → Shows D.stands (on_go variant progress.old es progress.old.step) progress.new device.new) }
+    ensures { OnOk result ((es : List Effect) → D.stands device.old es
+        → Shows D.stands (on_go variant progress.old es progress.old.step) progress.new device.new) }
 {
     match progress.stage() {
         Stage::Clearing(rest) => {
@@ -171,7 +172,8 @@ pub fn fail<D: Device>(
     device: &mut D,
 ) -> Result<(), AllocError>
     requires { IsReadyOn progress.old.step (D.names device.old) }
-    ensures { OnOk result ((es : List Effect) → D.stands device.old es → Shows D.stands (on_return variant progress.old es progress.old.step) progress.new device.new) }
+    ensures { OnOk result ((es : List Effect) → D.stands device.old es
+        → Shows D.stands (on_return variant progress.old es progress.old.step) progress.new device.new) }
 {
     match progress.stage() {
         Stage::Writing(chunk, rest) => {
