@@ -7,3 +7,5 @@ pub mod Flawed
 mod Kept
 mod Keeping
 mod Cutting
+mod Sturdy
+mod Survives

@@ -66,3 +66,16 @@ pub fn a_kept_rename_shows_rename_first()
     ensures lost { (seed stream : ℕ) → (outcome (asks_with (asks_of RenameFirst old_to_new) (cut_of RenameFirst old_to_new) 7)
         (given_of sync_fails (with_keep point_names) seed stream 1000)).verdict ≡ Pass }
 {}
+
+/// The sound variant never fails, whatever a power cut keeps: for every scenario, of its points and of `power::keep`, the verdict of its run with the cut is
+/// pass or unresolved.
+pub fn sound_survives_each_cut(
+    workload: &Replacements,
+    scenario: &Scenario,
+    seed: u64,
+    stream: u64,
+    max_hits: u32,
+)
+    ensures { (code : ℕ) → (outcome (asks_with (asks_of Sound workload.now) (cut_of Sound workload.now) 7)
+        (given_of scenario.now (with_keep point_names) seed stream max_hits)).verdict ≡ Fail code → ⊥ }
+{}

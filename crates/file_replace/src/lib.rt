@@ -18,7 +18,7 @@ pub use chunked_text::Chunks;
 pub use judge::{STALE, TORN};
 pub use laws::{
     a_kept_rename_shows_late_sync, a_kept_rename_shows_rename_first, ignore_sync_is_stale,
-    late_sync_is_torn, retry_write_is_torn, sound_never_fails,
+    late_sync_is_torn, retry_write_is_torn, sound_never_fails, sound_survives_each_cut,
 };
 pub use play::play as play_on;
 pub use replace::Replace;
