@@ -14,10 +14,10 @@ use Rattle.target_trait.specs.Machine.{Reached, AsksInTurn}
 use Rattle.target_trait.proofs.Machine.{reached_first, reached_more, reached_on, reached_end, gone}
 use Rattle.target_trait.proofs.Running.{runs_go, runs_return, running_at}
 use Rattle.file_replace.specs.declared.variant.Variant.{Variant}
-use Rattle.file_replace.specs.Words.{tmp, write_point}
+use Rattle.file_replace.specs.Words.{written_name, write_point}
 use Rattle.file_replace.specs.Work.{Work}
 use Rattle.file_replace.specs.Judgement.{judged}
-use Rattle.file_replace.specs.Steps.{Step, Clearing, Creating, Writing, WritingAgain, Syncing, Renaming, SyncingRenamed, SyncingDir, SyncingLate, Cleaning, Over, Tally, State, state, on_go, on_return, stepped, at_step, write_step, begun, before_all, prepared, start_of, machine, move_of, point_at, asks_of}
+use Rattle.file_replace.specs.Steps.{Step, Clearing, Creating, Writing, WritingAgain, Syncing, Renaming, SyncingRenamed, SyncingDir, SyncingLate, Cleaning, Over, Tally, State, state, on_go, on_return, stepped, at_step, write_step, begun, is_there, before_all, prepared, start_of, machine, move_of, point_at, asks_of}
 use Rattle.file_replace.specs.inside.Seen.{Shows, Played}
 
 asks_point : (t : Tally) (es : List Effect) (p : ℕ) → point_at t.step ≡ Some p → move_of (state t es) ≡ Ask p
@@ -45,9 +45,9 @@ known_point Over p n e h = absurd cc
 
 -- a run that has just begun
 pub played_first : {D : Type 0} {stands : D → List Effect → Type 0} (v : Variant) (w : Work) (r : Run) (t : Tally) (d : D) → r ≡ start r.given → replies (start r.given) ≡ [] → stopped r ≡ None
-    → t ≡ begun false (before_all w) → stands d (prepared w.old) → Played stands v w r t d
+    → t ≡ begun (is_there v (prepared w.old)) (before_all w) → stands d (prepared w.old) → Played stands v w r t d
 played_first v w r t d new none runs t_is device =
-    let P : Run → Type 0 = λ x. Reached (machine v w) x (start_of w) in
+    let P : Run → Type 0 = λ x. Reached (machine v w) x (start_of v w) in
     let Q : Tally → Type 0 = λ x. Reached (machine v w) r (state x (prepared w.old)) in
     record {
       effects = prepared w.old;
@@ -95,7 +95,7 @@ played_halt v w r t d p k at r' same a is more t' t'_is =
 -- a chunk is written whole
 pub wrote : {D : Type 0} {stands : D → List Effect → Type 0} (v : Variant) (w : Work) (r : Run) (t : Tally) (d : D) (c : List ℕ) (cs : List (List ℕ)) → Played stands v w r (at_step t (Writing c cs)) d
     → (r' : Run) → r' ≡ hit r write_point → (a : Answer) → a ≡ answer.Go → replies r' ≡ replies r ++ reply_of_answer a ∷ [] → GoesOn (reply_of_answer a) r'
-    → (d' : D) → Adds stands d d' (Append tmp c) → Played stands v w r' (at_step t (write_step v cs)) d'
+    → (d' : D) → Adds stands d d' (Append (written_name v) c) → Played stands v w r' (at_step t (write_step v cs)) d'
 wrote v w r t d c cs k r' same a is more goes_on d' adds =
     played_go v w r (at_step t (Writing c cs)) d write_point k refl r' same a is more goes_on (at_step t (write_step v cs)) d' (λ es h. record { tally = refl; device = adds es h })
 
@@ -104,21 +104,21 @@ wrote v w r t d c cs k r' same a is more goes_on d' adds =
 asks_writes : (v : Variant) (w : Work) (t : Tally) (n : ℕ) (cs : List (List ℕ)) (es : List Effect) → n ≤ length cs → AsksInTurn (machine v w) (state (at_step t (write_step v cs)) es) (replicate n write_point)
 asks_writes v w t zero cs es few = tt
 asks_writes v w t (suc n) [] es few = let no : ⊥ = omega (arith, few) in elim no [ ]
-asks_writes v w t (suc n) (c ∷ cs) es few = (refl, asks_writes v w t n cs (Append tmp c ∷ es) (omega (arith, few)))
+asks_writes v w t (suc n) (c ∷ cs) es few = (refl, asks_writes v w t n cs (Append (written_name v) c ∷ es) (omega (arith, few)))
 
 writes_on : (v : Variant) (w : Work) (t : Tally) (n : ℕ) (cs : List (List ℕ)) (es : List Effect) → n ≤ length cs
-    → gone (machine v w) (state (at_step t (write_step v cs)) es) (replicate n write_point) ≡ state (at_step t (write_step v (drop n cs))) (with_chunks (take n cs) es)
+    → gone (machine v w) (state (at_step t (write_step v cs)) es) (replicate n write_point) ≡ state (at_step t (write_step v (drop n cs))) (with_chunks (written_name v) (take n cs) es)
 writes_on v w t zero cs es few = refl
 writes_on v w t (suc n) [] es few = let no : ⊥ = omega (arith, few) in elim no [ ]
-writes_on v w t (suc n) (c ∷ cs) es few = writes_on v w t n cs (Append tmp c ∷ es) (omega (arith, few))
+writes_on v w t (suc n) (c ∷ cs) es few = writes_on v w t n cs (Append (written_name v) c ∷ es) (omega (arith, few))
 
 -- these chunks written at once, of those that are left
 pub played_on : {D : Type 0} {stands : D → List Effect → Type 0} (v : Variant) (w : Work) (r : Run) (t : Tally) (d : D) (cs : List (List ℕ)) (n : ℕ) → Played stands v w r (at_step t (write_step v cs)) d → n ≤ length cs
     → (r' : Run) → r' ≡ hits_of r (replicate n write_point) → AllGo r (replicate n write_point) → stopped r' ≡ None
-    → (d' : D) → ((es : List Effect) → stands d es → stands d' (with_chunks (take n cs) es))
+    → (d' : D) → ((es : List Effect) → stands d es → stands d' (with_chunks (written_name v) (take n cs) es))
     → (rest : List (List ℕ)) → rest ≡ drop n cs → (step : Step) → step ≡ write_step v rest → Played stands v w r' (at_step t step) d'
 played_on v w r t d cs n k few r' same goes runs d' adds rest rest_is step step_is =
-    let effects : List Effect = with_chunks (take n cs) k.effects in
+    let effects : List Effect = with_chunks (written_name v) (take n cs) k.effects in
     let now : step ≡ write_step v (drop n cs) = step_is ∙ ap (write_step v) rest_is in
     let P : State → Type 0 = λ s. Reached (machine v w) (hits_of r (replicate n write_point)) s in
     let Q : Step → Type 0 = λ s. Reached (machine v w) (hits_of r (replicate n write_point)) (state (at_step t s) effects) in
@@ -145,17 +145,21 @@ pub more_hits : (n : ℕ) (r r' : Run) (ps : List ℕ) → r' ≡ hits_of r ps �
 more_hits n r r' ps same few = let P : Run → Type 0 = λ x. n ≤ length x.hits in subst P (sym same) (omega (arith, length-append r.hits ps))
 
 -- several chunks appended by one call
-with_parts : (chunks : List (List ℕ)) (es : List Effect) → appended tmp chunks es ≡ with_chunks chunks es
-with_parts [] es = refl
-with_parts (chunk ∷ chunks) es = with_parts chunks (Append tmp chunk ∷ es)
+with_parts : (name : ℕ) (chunks : List (List ℕ)) (es : List Effect) → appended name chunks es ≡ with_chunks name chunks es
+with_parts name [] es = refl
+with_parts name (chunk ∷ chunks) es = with_parts name chunks (Append name chunk ∷ es)
 
-ok_weaker : {P Q T E : Type 0} (r : Result T E) → (P → Q) → OnOk r P → OnOk r Q
+pub ok_weaker : {P Q T E : Type 0} (r : Result T E) → (P → Q) → OnOk r P → OnOk r Q
 ok_weaker (Ok x) f h = f h
 ok_weaker (Err x) f h = tt
 
-pub chunks_appended : {E : Type 0} (r : Result (Unit {0}) E) (d d' : Disk) (chunks : List (List ℕ)) (bytes : List ℕ) (name : ℕ) → bytes ≡ joined chunks → name ≡ tmp
-    → OnOk r (AddsEffect d d' (Append name bytes)) → OnOk r ((es : List Effect) → StandsFor d es → StandsFor d' (with_chunks chunks es))
-chunks_appended r d d' chunks bytes name bytes_are is h =
-    let now : OnOk r (AddsEffect d d' (Append tmp (joined chunks))) =
+pub chunks_appended : {E : Type 0} (r : Result (Unit {0}) E) (d d' : Disk) (chunks : List (List ℕ)) (bytes : List ℕ) (name place : ℕ) → bytes ≡ joined chunks → name ≡ place
+    → OnOk r (AddsEffect d d' (Append name bytes)) → OnOk r ((es : List Effect) → StandsFor d es → StandsFor d' (with_chunks place chunks es))
+chunks_appended r d d' chunks bytes name place bytes_are is h =
+    let now : OnOk r (AddsEffect d d' (Append place (joined chunks))) =
     subst (λ (n : ℕ). OnOk r (AddsEffect d d' (Append n (joined chunks)))) is (subst (λ (b : List ℕ). OnOk r (AddsEffect d d' (Append name b))) bytes_are h) in
-    ok_weaker r (λ adds es k. subst (StandsFor d') (with_parts chunks es) (stands_appended d' tmp chunks es (adds es k))) now
+    ok_weaker r (λ adds es k. subst (StandsFor d') (with_parts place chunks es) (stands_appended d' place chunks es (adds es k))) now
+
+-- the same state by either name of it, for this variant
+pub shows_as : {D : Type 0} {stands : D → List Effect → Type 0} (one other : Variant → State) (v u : Variant) (t : Tally) (d : D) → v ≡ u → one u ≡ other u → Shows stands (one v) t d → Shows stands (other v) t d
+shows_as {stands = stands} one other v u t d is same k = subst (λ (s : State). Shows stands s t d) (ap one is ∙ same ∙ sym (ap other is)) k

@@ -239,23 +239,23 @@ go_safe t es (WritingAgain c cs) k m r = absurd r
 go_safe t es Syncing k m r = record { solid = sync_solid es t.past.allowed k; mine = m; step = (r.0, r.1, synced es r.0 r.1 ∙ r.2) }
 go_safe t es Renaming k m r = record { solid = rename_solid es t.past.allowed t.whole r.0 k m r.1 r.2; mine = m; step = (r.0, r.1, r.2) }
 go_safe t es SyncingDir k m r =
-    begun_safe (is_there (SyncDir ∷ es)) (acknowledged t) t.rest (SyncDir ∷ es) (sync_dir_solid es t.past.allowed t.whole r.0 k r.1 r.2) (first_among t.whole [])
+    begun_safe (is_there Sound (SyncDir ∷ es)) (acknowledged t) t.rest (SyncDir ∷ es) (sync_dir_solid es t.past.allowed t.whole r.0 k r.1 r.2) (first_among t.whole [])
 go_safe t es SyncingRenamed k m r = absurd r
 go_safe t es SyncingLate k m r = absurd r
-go_safe t es Cleaning k m r = begun_safe (is_there (Unlink 1 ∷ es)) t t.rest (Unlink 1 ∷ es) (unlink_solid es t.past.allowed k) m
+go_safe t es Cleaning k m r = begun_safe (is_there Sound (Unlink 1 ∷ es)) t t.rest (Unlink 1 ∷ es) (unlink_solid es t.past.allowed k) m
 go_safe t es Over k m r = record { solid = k; mine = m; step = tt }
 
 return_safe : (t : Tally) (es : List Effect) (step : Step) → Solid es t.past.allowed → among t.whole t.past.allowed ≡ true → StepSafe step t.whole es → Safe (on_return Sound t es step)
-return_safe t es (Clearing chunks) k m r = begun_safe (is_there es) t t.rest es k m
-return_safe t es (Creating chunks) k m r = begun_safe (is_there es) t t.rest es k m
+return_safe t es (Clearing chunks) k m r = begun_safe (is_there Sound es) t t.rest es k m
+return_safe t es (Creating chunks) k m r = begun_safe (is_there Sound es) t t.rest es k m
 return_safe t es (Writing c cs) k m r = record { solid = append_solid es t.past.allowed (half c) k; mine = m; step = tt }
 return_safe t es (WritingAgain c cs) k m r = absurd r
 return_safe t es Syncing k m r = record { solid = k; mine = m; step = tt }
 return_safe t es Renaming k m r = record { solid = k; mine = m; step = tt }
-return_safe t es SyncingDir k m r = begun_safe (is_there es) t t.rest es k m
+return_safe t es SyncingDir k m r = begun_safe (is_there Sound es) t t.rest es k m
 return_safe t es SyncingRenamed k m r = absurd r
 return_safe t es SyncingLate k m r = absurd r
-return_safe t es Cleaning k m r = begun_safe (is_there es) t t.rest es k m
+return_safe t es Cleaning k m r = begun_safe (is_there Sound es) t t.rest es k m
 return_safe t es Over k m r = record { solid = k; mine = m; step = tt }
 
 pub step_safe : (s : State) (a : Reply) → Safe s → Safe (stepped Sound s a)
@@ -279,7 +279,7 @@ prepared_solid old = record {
   apart_h = λ f e _. absurd_none f e;
 }
 
-pub start_safe : (w : Work) → Safe (start_of w)
+pub start_safe : (w : Work) → Safe (start_of Sound w)
 start_safe w = begun_safe false (before_all w) w.replacements (prepared w.old) (prepared_solid w.old) (first_among w.old [])
 
 judged_kept : (past : Past) (es : List Effect) → Solid es past.allowed → judged past es ≡ Kept
@@ -291,4 +291,4 @@ judged_kept past es k =
 pub sound_kept : (w : Work) (answers : List Reply) (j : Judgement) → asks_of Sound w answers ≡ Done j → j ≡ Kept
 sound_kept w answers j e =
     let s = after (machine Sound w) answers in
-    done_kept (point_at s.tally.step) _ j (judged_kept s.tally.past s.effects (led_safe w (start_of w) answers (start_safe w)).solid) e
+    done_kept (point_at s.tally.step) _ j (judged_kept s.tally.past s.effects (led_safe w (start_of Sound w) answers (start_safe w)).solid) e

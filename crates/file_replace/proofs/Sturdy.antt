@@ -376,23 +376,23 @@ go_firm t es Syncing k m r c = record {
 go_firm t es Renaming k m r c = record { sturdy = sturdy_rename es t.past.allowed t.whole r.0 k m r.1 r.2 (c r.0 r.1); calm = tt }
 go_firm t es SyncingRenamed k m r c = absurd r
 go_firm t es SyncingDir k m r c =
-    begun_firm (is_there (SyncDir ∷ es)) (acknowledged t) t.rest (SyncDir ∷ es) (sturdy_sync_dir es t.past.allowed t.whole r.0 k r.1 r.2)
+    begun_firm (is_there Sound (SyncDir ∷ es)) (acknowledged t) t.rest (SyncDir ∷ es) (sturdy_sync_dir es t.past.allowed t.whole r.0 k r.1 r.2)
 go_firm t es SyncingLate k m r c = absurd r
-go_firm t es Cleaning k m r c = begun_firm (is_there (Unlink 1 ∷ es)) t t.rest (Unlink 1 ∷ es) (sturdy_unlink es t.past.allowed k)
+go_firm t es Cleaning k m r c = begun_firm (is_there Sound (Unlink 1 ∷ es)) t t.rest (Unlink 1 ∷ es) (sturdy_unlink es t.past.allowed k)
 go_firm t es Over k m r c = record { sturdy = k; calm = tt }
 
 return_firm : (t : Tally) (es : List Effect) (step : Step) → Sturdy es t.past.allowed → StepSafe step t.whole es → Firm (on_return Sound t es step)
 unfolding StepCalm
-return_firm t es (Clearing chunks) k r = begun_firm (is_there es) t t.rest es k
-return_firm t es (Creating chunks) k r = begun_firm (is_there es) t t.rest es k
+return_firm t es (Clearing chunks) k r = begun_firm (is_there Sound es) t t.rest es k
+return_firm t es (Creating chunks) k r = begun_firm (is_there Sound es) t t.rest es k
 return_firm t es (Writing c cs) k r = record { sturdy = sturdy_append es t.past.allowed (half c) k; calm = tt }
 return_firm t es (WritingAgain c cs) k r = absurd r
 return_firm t es Syncing k r = record { sturdy = k; calm = tt }
 return_firm t es Renaming k r = record { sturdy = k; calm = tt }
 return_firm t es SyncingRenamed k r = absurd r
-return_firm t es SyncingDir k r = begun_firm (is_there es) t t.rest es k
+return_firm t es SyncingDir k r = begun_firm (is_there Sound es) t t.rest es k
 return_firm t es SyncingLate k r = absurd r
-return_firm t es Cleaning k r = begun_firm (is_there es) t t.rest es k
+return_firm t es Cleaning k r = begun_firm (is_there Sound es) t t.rest es k
 return_firm t es Over k r = record { sturdy = k; calm = tt }
 
 step_firm : (s : State) (a : Reply) → Safe s → Firm s → Firm (stepped Sound s a)
@@ -413,11 +413,11 @@ prepared_sturdy (b ∷ bs) =
     let good : Good (prepared (b ∷ bs)) ((b ∷ bs) ∷ []) 0 = record { made = omega arith; holds = first_among (b ∷ bs) []; untouched = tt; apart = λ f e _. absurd_none f e } in
     record { lasting = record { f = 0; is = refl; good = good }; live = record { f = 0; is = refl; good = good }; names = tt }
 
-start_firm : (w : Work) → Firm (start_of w)
+start_firm : (w : Work) → Firm (start_of Sound w)
 start_firm w = begun_firm false (before_all w) w.replacements (prepared w.old) (prepared_sturdy w.old)
 
 -- whatever was answered, and whatever of it a cut keeps, is allowed
 pub sound_keeps : (w : Work) (own : List Reply) (keep : List Bool) → judged_keeping (after (machine Sound w) own) keep ≡ Kept
 sound_keeps w own keep =
     let s = after (machine Sound w) own in
-    sturdy_kept s.tally.past s.effects keep (led_firm w (start_of w) own (start_safe w) (start_firm w)).sturdy
+    sturdy_kept s.tally.past s.effects keep (led_firm w (start_of Sound w) own (start_safe w) (start_firm w)).sturdy

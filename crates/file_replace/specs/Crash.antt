@@ -58,6 +58,14 @@ renamed_without_the_first_chunk = panics_once (codes "replace::sync_dir") ∷ ke
 abbrev pub renamed_unsynced : Entries
 renamed_unsynced = fails_once (codes "replace::sync") ∷ keeps_after 3 (Some 1) ∷ []
 
+-- the new file can't be created
+abbrev pub create_fails : Entries
+create_fails = fails_once (codes "replace::create") ∷ []
+
+-- the same, and the cut keeps the one pending write, by which the old name is gone
+abbrev pub unlinked_alone : Entries
+unlinked_alone = fails_once (codes "replace::create") ∷ (codes "power::keep", full_term (Some 1) (task.Return None) ∷ []) ∷ []
+
 -- the directory's sync fails, and the cut keeps the rename, and not the name that is renamed
 abbrev pub renamed_unnamed : Entries
 renamed_unnamed = fails_once (codes "replace::sync_dir") ∷ keeps_after 1 None ∷ []

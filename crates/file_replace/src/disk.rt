@@ -63,11 +63,16 @@ pub trait Device: Sized {
         ensures most { result ≡ most chunks }
         ensures few { result ≤ chunks };
 
-    /// The next so many chunks at the end of `tmp`, one after another.
-    fn append_chunks(&mut self, chunks: Rest<'_>, count: usize) -> Result<(), AllocError>
-        requires there { is_none (entry_at (names self.old) tmp).live ≡ false }
+    /// The next so many chunks at the end of a file, one after another.
+    fn append_chunks(
+        &mut self,
+        name: Name,
+        chunks: Rest<'_>,
+        count: usize,
+    ) -> Result<(), AllocError>
+        requires there { is_none (entry_at (names self.old) (number_of name)).live ≡ false }
         requires few { count ≤ most (length (left chunks)) }
-        ensures { OnOk result ((es : List Effect) → stands self.old es → stands self.new (with_chunks (take count (left chunks.entry)) es)) };
+        ensures { OnOk result ((es : List Effect) → stands self.old es → stands self.new (with_chunks (number_of name) (take count (left chunks.entry)) es)) };
 
     /// What a file holds lasts.
     fn sync(&mut self, name: Name)
@@ -120,9 +125,14 @@ impl Device for FileDevice {
         chunks
     }
 
-    fn append_chunks(&mut self, chunks: Rest<'_>, count: usize) -> Result<(), AllocError> {
+    fn append_chunks(
+        &mut self,
+        name: Name,
+        chunks: Rest<'_>,
+        count: usize,
+    ) -> Result<(), AllocError> {
         let (bytes, _) = chunks.split_at(count);
-        self.must_append(Name::Tmp.number(), bytes)
+        self.must_append(name.number(), bytes)
     }
 
     fn sync(&mut self, name: Name) {
@@ -190,7 +200,12 @@ impl Device for CrashDevice {
         0
     }
 
-    fn append_chunks(&mut self, _chunks: Rest<'_>, _count: usize) -> Result<(), AllocError> {
+    fn append_chunks(
+        &mut self,
+        _name: Name,
+        _chunks: Rest<'_>,
+        _count: usize,
+    ) -> Result<(), AllocError> {
         Ok(())
     }
 

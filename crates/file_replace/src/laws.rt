@@ -4,8 +4,8 @@ ghost use Rattle.action_eval.specs.Answers.{given_of};
 ghost use Rattle.target_trait.specs.Outcomes.{outcome};
 ghost use Rattle.target_trait.specs.declared.judgement.Verdict.TheVariants.{Fail, Pass};
 ghost use Rattle.target_trait.specs.Cuts.{with_keep, asks_with};
-ghost use Rattle.file_replace.specs.Crash.{cut_of, renamed_alone, renamed_without_the_first_chunk, renamed_unsynced, renamed_unnamed};
-ghost use Rattle.file_replace.specs.declared.variant.Variant.TheVariants.{Sound, LateSync, IgnoreSync, RetryWrite, RenameFirst};
+ghost use Rattle.file_replace.specs.Crash.{cut_of, renamed_alone, renamed_without_the_first_chunk, renamed_unsynced, renamed_unnamed, unlinked_alone, create_fails};
+ghost use Rattle.file_replace.specs.declared.variant.Variant.TheVariants.{Sound, LateSync, IgnoreSync, RetryWrite, RenameFirst, InPlace};
 ghost use Rattle.file_replace.specs.Words.{point_names, torn, stale};
 ghost use Rattle.file_replace.specs.Steps.{asks_of};
 ghost use Rattle.file_replace.specs.Flaws.{old_to_new, empty_to_new, sync_fails, write_fails, left_by};
@@ -65,6 +65,14 @@ pub fn a_kept_rename_shows_rename_first()
         (given_of renamed_unsynced (with_keep point_names) seed stream 1000)).verdict ≡ Fail torn }
     ensures lost { (seed stream : ℕ) → (outcome (asks_with (asks_of RenameFirst old_to_new) (cut_of RenameFirst old_to_new) 7)
         (given_of sync_fails (with_keep point_names) seed stream 1000)).verdict ≡ Pass }
+{}
+
+/// in_place fails where the new file can't be created, and a cut keeps that the old name is gone. A cut that loses all doesn't show it, under the same fault.
+pub fn a_kept_unlink_shows_in_place()
+    ensures unlinked { (seed stream : ℕ) → (outcome (asks_with (asks_of InPlace old_to_new) (cut_of InPlace old_to_new) 7)
+        (given_of unlinked_alone (with_keep point_names) seed stream 1000)).verdict ≡ Fail torn }
+    ensures lost { (seed stream : ℕ) → (outcome (asks_with (asks_of InPlace old_to_new) (cut_of InPlace old_to_new) 7)
+        (given_of create_fails (with_keep point_names) seed stream 1000)).verdict ≡ Pass }
 {}
 
 /// The sound variant never fails, whatever a power cut keeps: for every scenario, of its points and of `power::keep`, the verdict of its run with the cut is

@@ -9,11 +9,11 @@ ghost use Rattle.file_replace.specs.Steps.{asks_of, effects_of, point_at};
 ghost use Rattle.file_replace.specs.Crash.{cut_of};
 ghost use Rattle.file_replace.specs.inside.Seen.{step_of, Played};
 
-use crate::disk::{Device, Name};
+use crate::disk::Device;
 use crate::judge::{judge, judge_keeping};
 use crate::progress::Progress;
 use crate::stage::Stage;
-use crate::steps::{fail, go, half_stage, prepare, write_half, write_stage};
+use crate::steps::{fail, go, prepare, write_stage, written};
 use crate::variant::Variant;
 use crate::work::Replacements;
 use sim_device::{CrashDevice, FileDevice};
@@ -87,14 +87,14 @@ fn write_on<D: Device>(
     ensures played { OnOk result (Played D.stands variant workload.now session.new progress.new device.new) }
     ensures more { OnOk result (length session.old.hits ≤ length session.new.hits) }
 {
+    let name = written(variant);
     let mut stage = progress.stage();
     while let Stage::Writing(chunk, rest) = stage {
         match session.hit(Point::Write as u32)? {
-            Answer::Go => device.append(Name::Tmp, chunk)?,
+            Answer::Go => device.append(name, chunk)?,
             Answer::Return(_) => {
-                write_half(device, chunk)?;
-                progress.go_to(half_stage(variant, chunk, rest));
-                return Ok(());
+                progress.go_to(stage);
+                return fail(variant, progress, device);
             }
             Answer::Halt => {
                 progress.go_to(Stage::Over);
@@ -102,7 +102,7 @@ fn write_on<D: Device>(
             }
         }
         let passed = session.pass(Point::Write as u32, D::at_once(rest.len()))?;
-        device.append_chunks(rest, passed)?;
+        device.append_chunks(name, rest, passed)?;
         let (_, left) = rest.split_at(passed);
         stage = write_stage(variant, left);
     }
@@ -125,7 +125,7 @@ pub fn play_out<'w, D: Device>(
 {
     prepare(device, workload.old())?;
     let mut progress = Progress::new(workload);
-    progress.begin(false);
+    progress.begin(device.exists(written(variant)));
     while let Some(point) = point_of(progress.stage()) {
         ask(variant, workload, point, &mut progress, device, session)?;
         write_on(variant, workload, &mut progress, device, session)?;

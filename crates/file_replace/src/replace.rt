@@ -73,6 +73,7 @@ impl Target for Replace {
             Variant::IgnoreSync => "replace ignore_sync",
             Variant::RetryWrite => "replace retry_write",
             Variant::RenameFirst => "replace rename_first",
+            Variant::InPlace => "replace in_place",
         }
     }
 

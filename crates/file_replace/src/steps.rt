@@ -3,8 +3,8 @@ ghost use Rattle.sim_device.specs.FileEffects.{Effect, Append, Sync, SyncDir, Un
 ghost use Rattle.sim_device.specs.Disk.{entry_at};
 ghost use Rattle.chunked_text.specs.Chunks.{half};
 ghost use Rattle.file_replace.specs.inside.Left.{left};
-ghost use Rattle.file_replace.specs.Words.{target, tmp};
-ghost use Rattle.file_replace.specs.Steps.{on_go, on_return, prepared, failed, done, after_sync_dir, write_step, after_half, after_no_sync, after_rename};
+ghost use Rattle.file_replace.specs.Words.{target, tmp, number_of, written_name};
+ghost use Rattle.file_replace.specs.Steps.{on_go, on_return, prepared, failed, done, after_sync_dir, write_step, given_up, after_half, after_no_sync, after_sync, after_rename};
 ghost use Rattle.file_replace.specs.inside.Ready.{IsReadyOn};
 ghost use Rattle.file_replace.specs.inside.Seen.{step_of, Shows};
 ghost use Rattle.file_replace.specs.inside.Devices.{Adds};
@@ -17,6 +17,20 @@ use crate::variant::Variant;
 use scenario_values::Text;
 use std::alloc::AllocError;
 
+/// The name that the new contents are written under.
+pub fn written(variant: Variant) -> Name
+    ensures { number_of result ≡ written_name variant }
+{
+    match variant {
+        Variant::InPlace => Name::Target,
+        Variant::Sound
+        | Variant::LateSync
+        | Variant::IgnoreSync
+        | Variant::RetryWrite
+        | Variant::RenameFirst => Name::Tmp,
+    }
+}
+
 /// The stage after a write.
 pub fn write_stage<'w>(variant: Variant, rest: Rest<'w>) -> Stage<'w>
     ensures { step_of result ≡ write_step variant (left rest.entry) }
@@ -25,32 +39,24 @@ pub fn write_stage<'w>(variant: Variant, rest: Rest<'w>) -> Stage<'w>
         Some((chunk, rest)) => Stage::Writing(chunk, rest),
         None => match variant {
             Variant::LateSync | Variant::RenameFirst => Stage::Renaming,
-            Variant::Sound | Variant::IgnoreSync | Variant::RetryWrite => Stage::Syncing,
+            Variant::Sound | Variant::IgnoreSync | Variant::RetryWrite | Variant::InPlace => {
+                Stage::Syncing
+            }
         },
     }
 }
 
-/// The stage after a write that fails.
-pub fn half_stage<'w>(variant: Variant, chunk: &'w [u8], rest: Rest<'w>) -> Stage<'w>
-    ensures { step_of result ≡ after_half variant chunk.now (left rest.entry) }
+/// The stage after a sync.
+fn synced_stage(variant: Variant) -> Stage<'static>
+    ensures { step_of result ≡ after_sync variant }
 {
     match variant {
-        Variant::RetryWrite => Stage::WritingAgain(chunk, rest),
-        Variant::Sound | Variant::LateSync | Variant::IgnoreSync | Variant::RenameFirst => {
-            Stage::Cleaning
-        }
-    }
-}
-
-/// The stage after a sync that fails.
-fn no_sync_stage(variant: Variant) -> Stage<'static>
-    ensures { step_of result ≡ after_no_sync variant }
-{
-    match variant {
-        Variant::IgnoreSync => Stage::Renaming,
-        Variant::Sound | Variant::LateSync | Variant::RetryWrite | Variant::RenameFirst => {
-            Stage::Cleaning
-        }
+        Variant::InPlace => Stage::SyncingDir,
+        Variant::Sound
+        | Variant::LateSync
+        | Variant::IgnoreSync
+        | Variant::RetryWrite
+        | Variant::RenameFirst => Stage::Renaming,
     }
 }
 
@@ -60,44 +66,50 @@ fn renamed_stage(variant: Variant) -> Stage<'static>
 {
     match variant {
         Variant::RenameFirst => Stage::SyncingRenamed,
-        Variant::Sound | Variant::LateSync | Variant::IgnoreSync | Variant::RetryWrite => {
-            Stage::SyncingDir
-        }
+        Variant::Sound
+        | Variant::LateSync
+        | Variant::IgnoreSync
+        | Variant::RetryWrite
+        | Variant::InPlace => Stage::SyncingDir,
     }
 }
 
 /// Begins the next replacement.
-fn next<D: Device>(progress: &mut Progress<'_>, device: &D)
-    ensures { (es : List Effect) → D.stands device.now es → Shows D.stands (failed progress.old es) progress.new device.now }
+fn next<D: Device>(variant: Variant, progress: &mut Progress<'_>, device: &D)
+    ensures { (es : List Effect) → D.stands device.now es → Shows D.stands (failed variant progress.old es) progress.new device.now }
 {
-    progress.begin(device.exists(Name::Tmp));
+    progress.begin(device.exists(written(variant)));
 }
 
 /// Acknowledges the replacement under way, and begins the next.
-fn finish<D: Device>(progress: &mut Progress<'_>, device: &D)
-    ensures { (es : List Effect) → D.stands device.now es → Shows D.stands (done progress.old es) progress.new device.now }
+fn finish<D: Device>(variant: Variant, progress: &mut Progress<'_>, device: &D)
+    ensures { (es : List Effect) → D.stands device.now es → Shows D.stands (done variant progress.old es) progress.new device.now }
 {
     progress.acknowledge();
-    progress.begin(device.exists(Name::Tmp));
+    progress.begin(device.exists(written(variant)));
 }
 
 /// Takes `tmp` away, and begins the next replacement.
-fn clean<D: Device>(progress: &mut Progress<'_>, device: &mut D) -> Result<(), AllocError>
+fn clean<D: Device>(
+    variant: Variant,
+    progress: &mut Progress<'_>,
+    device: &mut D,
+) -> Result<(), AllocError>
     requires { is_none (entry_at (D.names device.old) tmp).live ≡ false }
-    ensures { OnOk result ((es : List Effect) → D.stands device.old es → Shows D.stands (failed progress.old (Unlink tmp ∷ es)) progress.new device.new) }
+    ensures { OnOk result ((es : List Effect) → D.stands device.old es → Shows D.stands (failed variant progress.old (Unlink tmp ∷ es)) progress.new device.new) }
 {
     device.unlink(Name::Tmp)?;
-    next(progress, device);
+    next(variant, progress, device);
     Ok(())
 }
 
 /// What `target` holds lasts, and the replacement is acknowledged.
-fn finish_late<D: Device>(progress: &mut Progress<'_>, device: &mut D)
+fn finish_late<D: Device>(variant: Variant, progress: &mut Progress<'_>, device: &mut D)
     requires { is_none (entry_at (D.names device.old) target).live ≡ false }
-    ensures { (es : List Effect) → D.stands device.old es → Shows D.stands (done progress.old (Sync target ∷ es)) progress.new device.new }
+    ensures { (es : List Effect) → D.stands device.old es → Shows D.stands (done variant progress.old (Sync target ∷ es)) progress.new device.new }
 {
     device.sync(Name::Target);
-    finish(progress, device);
+    finish(variant, progress, device);
 }
 
 /// The names last.
@@ -107,19 +119,64 @@ fn sync_dir<D: Device>(variant: Variant, progress: &mut Progress<'_>, device: &m
     device.sync_dir();
     match variant {
         Variant::LateSync => progress.go_to(Stage::SyncingLate),
-        Variant::Sound => finish(progress, device),
-        Variant::IgnoreSync => finish(progress, device),
-        Variant::RetryWrite => finish(progress, device),
-        Variant::RenameFirst => finish(progress, device),
+        Variant::Sound => finish(variant, progress, device),
+        Variant::IgnoreSync => finish(variant, progress, device),
+        Variant::RetryWrite => finish(variant, progress, device),
+        Variant::RenameFirst => finish(variant, progress, device),
+        Variant::InPlace => finish(variant, progress, device),
     }
 }
 
-/// Appends the first half of a chunk to `tmp`.
-pub fn write_half<D: Device>(device: &mut D, chunk: &[u8]) -> Result<(), AllocError>
-    requires { is_none (entry_at (D.names device.old) tmp).live ≡ false }
-    ensures { OnOk result (Adds D.stands device.old device.new (Append tmp (half chunk.now))) }
+/// Gives up what is written: `tmp` is cleaned up next, and where there is none the next replacement is begun.
+fn give_up<D: Device>(variant: Variant, progress: &mut Progress<'_>, device: &D)
+    ensures { (es : List Effect) → D.stands device.now es → Shows D.stands (given_up variant progress.old es) progress.new device.now }
 {
-    device.append(Name::Tmp, &chunk[..chunk.len() / 2])
+    match variant {
+        Variant::InPlace => next(variant, progress, device),
+        Variant::Sound
+        | Variant::LateSync
+        | Variant::IgnoreSync
+        | Variant::RetryWrite
+        | Variant::RenameFirst => progress.go_to(Stage::Cleaning),
+    }
+}
+
+/// Appends the first half of a chunk, and does what follows where no more of it can be written.
+fn write_half<'w, D: Device>(
+    variant: Variant,
+    progress: &mut Progress<'w>,
+    device: &mut D,
+    chunk: &'w [u8],
+    rest: Rest<'w>,
+) -> Result<(), AllocError>
+    requires { is_none (entry_at (D.names device.old) (written_name variant)).live ≡ false }
+    ensures { OnOk result ((es : List Effect) → D.stands device.old es
+        → Shows D.stands (after_half variant progress.old (Append (written_name variant) (half chunk.now) ∷ es) chunk.now (left rest.entry)) progress.new device.new) }
+{
+    device.append(written(variant), &chunk[..chunk.len() / 2])?;
+    match variant {
+        Variant::RetryWrite => progress.go_to(Stage::WritingAgain(chunk, rest)),
+        Variant::Sound
+        | Variant::LateSync
+        | Variant::IgnoreSync
+        | Variant::RenameFirst
+        | Variant::InPlace => give_up(variant, progress, device),
+    }
+    Ok(())
+}
+
+/// Does what follows where a sync fails.
+fn not_synced<D: Device>(variant: Variant, progress: &mut Progress<'_>, device: &D)
+    ensures { (es : List Effect) → D.stands device.now es → Shows D.stands (after_no_sync variant progress.old es) progress.new device.now }
+{
+    match variant {
+        Variant::IgnoreSync => progress.go_to(Stage::Renaming),
+        Variant::Sound
+        | Variant::LateSync
+        | Variant::RetryWrite
+        | Variant::RenameFirst
+        | Variant::InPlace => give_up(variant, progress, device),
+    }
 }
 
 /// Does the step that was asked for.
@@ -128,26 +185,26 @@ pub fn go<D: Device>(
     progress: &mut Progress<'_>,
     device: &mut D,
 ) -> Result<(), AllocError>
-    requires { IsReadyOn progress.old.step (D.names device.old) }
+    requires { IsReadyOn variant progress.old.step (D.names device.old) }
     ensures { OnOk result ((es : List Effect) → D.stands device.old es
         → Shows D.stands (on_go variant progress.old es progress.old.step) progress.new device.new) }
 {
     match progress.stage() {
         Stage::Clearing(rest) => {
-            device.unlink(Name::Tmp)?;
+            device.unlink(written(variant))?;
             progress.go_to(Stage::Creating(rest));
         }
         Stage::Creating(rest) => {
-            device.create(Name::Tmp)?;
+            device.create(written(variant))?;
             progress.go_to(write_stage(variant, rest));
         }
         Stage::Writing(chunk, rest) | Stage::WritingAgain(chunk, rest) => {
-            device.append(Name::Tmp, chunk)?;
+            device.append(written(variant), chunk)?;
             progress.go_to(write_stage(variant, rest));
         }
         Stage::Syncing => {
-            device.sync(Name::Tmp);
-            progress.go_to(Stage::Renaming);
+            device.sync(written(variant));
+            progress.go_to(synced_stage(variant));
         }
         Stage::Renaming => {
             device.rename()?;
@@ -158,8 +215,8 @@ pub fn go<D: Device>(
             progress.go_to(Stage::SyncingDir);
         }
         Stage::SyncingDir => sync_dir(variant, progress, device),
-        Stage::SyncingLate => finish_late(progress, device),
-        Stage::Cleaning => clean(progress, device)?,
+        Stage::SyncingLate => finish_late(variant, progress, device),
+        Stage::Cleaning => clean(variant, progress, device)?,
         Stage::Over => progress.go_to(Stage::Over),
     }
     Ok(())
@@ -171,27 +228,24 @@ pub fn fail<D: Device>(
     progress: &mut Progress<'_>,
     device: &mut D,
 ) -> Result<(), AllocError>
-    requires { IsReadyOn progress.old.step (D.names device.old) }
+    requires { IsReadyOn variant progress.old.step (D.names device.old) }
     ensures { OnOk result ((es : List Effect) → D.stands device.old es
         → Shows D.stands (on_return variant progress.old es progress.old.step) progress.new device.new) }
 {
     match progress.stage() {
-        Stage::Writing(chunk, rest) => {
-            write_half(device, chunk)?;
-            progress.go_to(half_stage(variant, chunk, rest));
-        }
+        Stage::Writing(chunk, rest) => write_half(variant, progress, device, chunk, rest)?,
         Stage::WritingAgain(chunk, _) => {
-            write_half(device, chunk)?;
-            progress.go_to(Stage::Cleaning);
+            device.append(written(variant), &chunk[..chunk.len() / 2])?;
+            give_up(variant, progress, device);
         }
-        Stage::Syncing => progress.go_to(no_sync_stage(variant)),
+        Stage::Syncing => not_synced(variant, progress, device),
         Stage::Renaming => progress.go_to(Stage::Cleaning),
         Stage::Clearing(_)
         | Stage::Creating(_)
         | Stage::SyncingRenamed
         | Stage::SyncingDir
         | Stage::SyncingLate
-        | Stage::Cleaning => next(progress, device),
+        | Stage::Cleaning => next(variant, progress, device),
         Stage::Over => progress.go_to(Stage::Over),
     }
     Ok(())

@@ -113,3 +113,38 @@ fn ignore_sync_is_torn_where_a_chunk_is_kept(rt: HostRuntime) -> Result<(), Fail
     comes_to(&rt, rt.alloc(), variant, both, Verdict::Pass, 2)?;
     Ok(())
 }
+
+// There is no file but the one that is replaced: once its name is gone, only what is kept of the new one stands there. Pending are the old name's end,
+// the new name, and the two chunks, but for what a sync has made last.
+#[test]
+fn in_place_is_torn_where_the_end_of_the_old_name_is_kept(rt: HostRuntime) -> Result<(), Fail> {
+    let variant = Variant::InPlace;
+    let unlinked = "replace::create=1*return;power::keep=1*return";
+    comes_to(&rt, rt.alloc(), variant, unlinked, TORN_FILE, 1)?;
+    // all is lost: the old contents are there
+    let lost = "replace::create=1*return";
+    comes_to(&rt, rt.alloc(), variant, lost, Verdict::Pass, 1)?;
+    // the old name isn't taken away
+    let cleared = "replace::clear=1*return;power::keep=return";
+    comes_to(&rt, rt.alloc(), variant, cleared, Verdict::Pass, 0)?;
+    // half of the first chunk is there, and nothing cleans it up
+    let half = "replace::write=1*return;power::keep=return";
+    comes_to(&rt, rt.alloc(), variant, half, TORN_FILE, 3)?;
+    // the file isn't synced, and its name is kept without the chunks, or with both
+    let empty = "replace::sync=1*return;power::keep=1*off->1*return";
+    comes_to(&rt, rt.alloc(), variant, empty, TORN_FILE, 4)?;
+    let whole = "replace::sync=1*return;power::keep=return";
+    comes_to(&rt, rt.alloc(), variant, whole, Verdict::Pass, 4)?;
+    // it is synced, and only names are pending
+    let named = "replace::sync_dir=1*return;power::keep=1*off->1*return";
+    comes_to(&rt, rt.alloc(), variant, named, Verdict::Pass, 2)?;
+    comes_to(
+        &rt,
+        rt.alloc(),
+        variant,
+        "power::keep=return",
+        Verdict::Pass,
+        0,
+    )?;
+    Ok(())
+}

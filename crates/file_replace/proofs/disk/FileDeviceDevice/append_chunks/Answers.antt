@@ -4,4 +4,4 @@ use Rattle.file_replace.proofs.Playing.{chunks_appended}
 use Rattle.file_replace.proofs.disk.FileDeviceDevice.append_chunks.Goals as goal
 
 pub returns : goal.returns
-returns c = chunks_appended c.must_append.result _ _ (take c.args.count (left c.args.chunks)) _ _ c.split_at.ensures.bytes c.number.ensures c.must_append.ensures.ok
+returns c = chunks_appended c.must_append.result _ _ (take c.args.count (left c.args.chunks)) _ _ _ c.split_at.ensures.bytes c.number.ensures c.must_append.ensures.ok
