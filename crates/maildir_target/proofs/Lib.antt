@@ -5,3 +5,5 @@ pub mod Playing
 pub mod Writing
 pub mod Readying
 pub mod Numbers
+mod Sturdy
+mod Survives

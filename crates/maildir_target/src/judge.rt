@@ -4,7 +4,7 @@ ghost use Rattle.sim_device.specs.FileEffects.{Effect, PowerCut, Live, held};
 ghost use Rattle.sim_device.specs.Disk.{StandsFor, AddsEffect};
 ghost use Rattle.chunked_text.specs.Chunks.{joined};
 ghost use Rattle.maildir_target.specs.Words.{new_name};
-ghost use Rattle.maildir_target.specs.Judgement.{differs, is_torn, has_torn, is_delivered, has_lost, judged_by, judged};
+ghost use Rattle.maildir_target.specs.Judgement.{standing, differs, is_torn, has_torn, is_delivered, has_lost, judged_by, judged};
 
 use crate::name::{Attempt, Folder, Name};
 use chunked_text::Chunks;
@@ -40,7 +40,7 @@ fn differs(device: &FileDevice, name: u32, chunks: &Chunks) -> bool
 
 /// Whether a name of this message under `new/` holds anything but the whole of it.
 fn is_torn(device: &FileDevice, message: u16, chunks: &Chunks) -> bool
-    ensures { (es : List Effect) → StandsFor device.now es → result ≡ is_torn es message (joined chunks.now) }
+    ensures { (es : List Effect) → StandsFor device.now es → result ≡ is_torn (standing es) message (joined chunks.now) }
 {
     differs(device, new_name(message, Attempt::First), chunks)
         || differs(device, new_name(message, Attempt::Second), chunks)
@@ -49,7 +49,7 @@ fn is_torn(device: &FileDevice, message: u16, chunks: &Chunks) -> bool
 /// Whether that is so of one of these messages.
 fn has_torn(device: &FileDevice, messages: &[Chunks]) -> bool
     requires { length messages.now ≤ 1000 }
-    ensures { (es : List Effect) → StandsFor device.now es → result ≡ has_torn es 1 messages.now }
+    ensures { (es : List Effect) → StandsFor device.now es → result ≡ has_torn (standing es) 1 messages.now }
 {
     let mut number = 1;
     for message in messages {
@@ -63,7 +63,7 @@ fn has_torn(device: &FileDevice, messages: &[Chunks]) -> bool
 
 /// Whether a message has a name under `new/`.
 fn is_delivered(device: &FileDevice, message: u16) -> bool
-    ensures { (es : List Effect) → StandsFor device.now es → result ≡ is_delivered es message }
+    ensures { (es : List Effect) → StandsFor device.now es → result ≡ is_delivered (standing es) message }
 {
     device.exists(new_name(message, Attempt::First))
         || device.exists(new_name(message, Attempt::Second))
@@ -71,7 +71,7 @@ fn is_delivered(device: &FileDevice, message: u16) -> bool
 
 /// Whether one of these messages, by their numbers, has no name under `new/`.
 fn has_lost(device: &FileDevice, messages: &[u16]) -> bool
-    ensures { (es : List Effect) → StandsFor device.now es → result ≡ has_lost es messages.now }
+    ensures { (es : List Effect) → StandsFor device.now es → result ≡ has_lost (standing es) messages.now }
 {
     for message in messages {
         if !is_delivered(device, *message) {

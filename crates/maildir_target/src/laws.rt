@@ -6,6 +6,8 @@ ghost use Rattle.target_trait.specs.declared.judgement.Verdict.TheVariants.{Fail
 ghost use Rattle.maildir_target.specs.declared.variant.Variant.TheVariants.{Sound, LinkFirst, IgnoreWrite, AppendTmp};
 ghost use Rattle.maildir_target.specs.Words.{point_names, torn};
 ghost use Rattle.maildir_target.specs.Steps.{asks_of};
+ghost use Rattle.maildir_target.specs.Crash.{cut_of};
+ghost use Rattle.target_trait.specs.Cuts.{with_keep, asks_with};
 ghost use Rattle.maildir_target.specs.Flaws.{hi, m, write_fails, sync_and_unlink_fail};
 
 use crate::messages::Messages;
@@ -39,4 +41,17 @@ pub fn ignore_write_is_torn()
 /// the stream, with a limit of 1,000 hits. The first attempt leaves its file, and the second writes the message behind it once more.
 pub fn append_tmp_is_torn()
     ensures { (seed stream : ℕ) → (outcome (asks_of AppendTmp m) (given_of sync_and_unlink_fail point_names seed stream 1000)).verdict ≡ Fail torn }
+{}
+
+/// The sound variant never fails, whatever a power cut keeps: for every scenario, of its points and of `power::keep`, the verdict of its run with the cut is
+/// pass or unresolved.
+pub fn sound_survives_each_cut(
+    workload: &Messages,
+    scenario: &Scenario,
+    seed: u64,
+    stream: u64,
+    max_hits: u32,
+)
+    ensures { (code : ℕ) → (outcome (asks_with (asks_of Sound workload.now) (cut_of Sound workload.now) 7)
+        (given_of scenario.now (with_keep point_names) seed stream max_hits)).verdict ≡ Fail code → ⊥ }
 {}

@@ -1,0 +1,28 @@
+-- What a run leaves to the power cut at its end: how many writes are pending, and what is judged where the cut keeps some of them.
+use Rattle.std.specs.Prelude.{ℕ, Bool, List, length}
+use Rattle.sim_device.specs.FileEffects.{Effect, Lasting, leads, contents}
+use Rattle.sim_device.specs.Pending.{Pending, pending, kept, leads_with, holds_with}
+use Rattle.target_trait.specs.declared.judgement.Judgement.{Judgement}
+use Rattle.target_trait.specs.Machine.{after}
+use Rattle.target_trait.specs.Cuts.{Cut}
+use Rattle.maildir_target.specs.declared.variant.Variant.{Variant}
+use Rattle.maildir_target.specs.Judgement.{Standing, judged_now}
+use Rattle.maildir_target.specs.Steps.{State, machine}
+
+-- what stands after a power cut that kept these writes
+abbrev pub standing_keeping : List Pending → List Effect → Standing
+standing_keeping writes effects = record {
+  leads = λ name. leads_with writes name (leads effects Lasting name);
+  contents = λ f. holds_with writes f (contents effects Lasting f);
+}
+
+-- the judgement after a cut of which these answers tell what it keeps
+abbrev pub judged_keeping : List (List (List ℕ)) → State → List Bool → Judgement
+judged_keeping messages s keep = judged_now messages s.tally.acknowledged (standing_keeping (kept keep (pending s.effects)) s.effects)
+
+-- by the answers of a run
+abbrev pub cut_of : Variant → List (List (List ℕ)) → Cut
+cut_of v messages = record {
+  pending = λ own. length (pending (after (machine v messages) own).effects);
+  judge = λ own keep. judged_keeping messages (after (machine v messages) own) keep;
+}
