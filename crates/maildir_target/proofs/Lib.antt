@@ -7,3 +7,4 @@ pub mod Readying
 pub mod Numbers
 mod Sturdy
 mod Survives
+mod Kept

@@ -1,5 +1,10 @@
--- What a run leaves to the power cut at its end: how many writes are pending, and what is judged where the cut keeps some of them.
-use Rattle.std.specs.Prelude.{ℕ, Bool, List, length}
+-- What a run leaves to the power cut at its end: how many writes are pending, and what is judged where the cut keeps some of them. And scenarios
+-- in which only a kept write shows a flaw.
+use Rattle.std.specs.Prelude.{ℕ, Bool, List, [], ◌∷◌, length, Option, Some, None, codes}
+use Rattle.scenario_values.specs.declared.term.Term.{Term}
+use Rattle.scenario_values.specs.declared.term.Task.{Task}
+use Rattle.scenario_values.specs.declared.term.Task.TheVariants as task
+use Rattle.scenario_values.specs.Scenario.{Entries}
 use Rattle.sim_device.specs.FileEffects.{Effect, Lasting, leads, contents}
 use Rattle.sim_device.specs.Pending.{Pending, pending, kept, leads_with, holds_with}
 use Rattle.target_trait.specs.declared.judgement.Judgement.{Judgement}
@@ -26,3 +31,17 @@ cut_of v messages = record {
   pending = λ own. length (pending (after (machine v messages) own).effects);
   judge = λ own keep. judged_keeping messages (after (machine v messages) own) keep;
 }
+
+-- ---- scenarios
+
+abbrev pub once : Task → List Term
+once what = record { share = 1000000; count = Some 1; task = what } ∷ []
+
+-- the run panics at the first write
+abbrev pub write_panics : Entries
+write_panics = (codes "maildir::write", once (task.Panic None)) ∷ []
+
+-- the same, and of the pending writes the cut loses the first, and keeps the second
+abbrev pub second_kept : Entries
+second_kept = (codes "maildir::write", once (task.Panic None))
+    ∷ (codes "power::keep", record { share = 1000000; count = Some 1; task = task.Off } ∷ once (task.Return None)) ∷ []

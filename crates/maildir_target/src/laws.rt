@@ -2,11 +2,11 @@
 ghost use Rattle.std.specs.Prelude.{◌≡◌, ℕ};
 ghost use Rattle.action_eval.specs.Answers.{given_of};
 ghost use Rattle.target_trait.specs.Outcomes.{outcome};
-ghost use Rattle.target_trait.specs.declared.judgement.Verdict.TheVariants.{Fail};
+ghost use Rattle.target_trait.specs.declared.judgement.Verdict.TheVariants.{Fail, Pass};
 ghost use Rattle.maildir_target.specs.declared.variant.Variant.TheVariants.{Sound, LinkFirst, IgnoreWrite, AppendTmp};
 ghost use Rattle.maildir_target.specs.Words.{point_names, torn};
 ghost use Rattle.maildir_target.specs.Steps.{asks_of};
-ghost use Rattle.maildir_target.specs.Crash.{cut_of};
+ghost use Rattle.maildir_target.specs.Crash.{cut_of, write_panics, second_kept};
 ghost use Rattle.target_trait.specs.Cuts.{with_keep, asks_with};
 ghost use Rattle.maildir_target.specs.Flaws.{hi, m, write_fails, sync_and_unlink_fail};
 
@@ -41,6 +41,18 @@ pub fn ignore_write_is_torn()
 /// the stream, with a limit of 1,000 hits. The first attempt leaves its file, and the second writes the message behind it once more.
 pub fn append_tmp_is_torn()
     ensures { (seed stream : ℕ) → (outcome (asks_of AppendTmp m) (given_of sync_and_unlink_fail point_names seed stream 1000)).verdict ≡ Fail torn }
+{}
+
+/// A cut that keeps a name under `new/`, and not that under `tmp/`, shows what none does that loses all: link_first has made it before anything is written.
+/// Where the run panics at the write of `hi`, that name leads to an empty file. The sound variant has made no such name by then, and of it nothing
+/// is pending but the name under `tmp/`.
+pub fn a_kept_link_shows_link_first()
+    ensures linked { (seed stream : ℕ) → (outcome (asks_with (asks_of LinkFirst hi) (cut_of LinkFirst hi) 7)
+        (given_of second_kept (with_keep point_names) seed stream 1000)).verdict ≡ Fail torn }
+    ensures lost { (seed stream : ℕ) → (outcome (asks_with (asks_of LinkFirst hi) (cut_of LinkFirst hi) 7)
+        (given_of write_panics (with_keep point_names) seed stream 1000)).verdict ≡ Pass }
+    ensures sound { (seed stream : ℕ) → (outcome (asks_with (asks_of Sound hi) (cut_of Sound hi) 7)
+        (given_of second_kept (with_keep point_names) seed stream 1000)).verdict ≡ Pass }
 {}
 
 /// The sound variant never fails, whatever a power cut keeps: for every scenario, of its points and of `power::keep`, the verdict of its run with the cut is

@@ -18,8 +18,8 @@ mod write;
 
 pub use judge::{LOST, TORN, judge as judge_mail};
 pub use laws::{
-    append_tmp_is_torn, ignore_write_is_torn, link_first_is_torn, sound_never_fails,
-    sound_survives_each_cut,
+    a_kept_link_shows_link_first, append_tmp_is_torn, ignore_write_is_torn, link_first_is_torn,
+    sound_never_fails, sound_survives_each_cut,
 };
 pub use maildir::Maildir;
 pub use messages::Messages;
