@@ -96,7 +96,8 @@ fn clean<D: Device>(
     device: &mut D,
 ) -> Result<(), AllocError>
     requires { is_none (entry_at (D.names device.old) tmp).live ≡ false }
-    ensures { OnOk result ((es : List Effect) → D.stands device.old es → Shows D.stands (failed variant progress.old (Unlink tmp ∷ es)) progress.new device.new) }
+    ensures { OnOk result ((es : List Effect) → D.stands device.old es
+        → Shows D.stands (failed variant progress.old (Unlink tmp ∷ es)) progress.new device.new) }
 {
     device.unlink(Name::Tmp)?;
     next(variant, progress, device);
@@ -151,7 +152,8 @@ fn write_half<'w, D: Device>(
 ) -> Result<(), AllocError>
     requires { is_none (entry_at (D.names device.old) (written_name variant)).live ≡ false }
     ensures { OnOk result ((es : List Effect) → D.stands device.old es
-        → Shows D.stands (after_half variant progress.old (Append (written_name variant) (half chunk.now) ∷ es) chunk.now (left rest.entry)) progress.new device.new) }
+        → Shows D.stands (after_half variant progress.old (Append (written_name variant) (half chunk.now) ∷ es) chunk.now (left rest.entry))
+        progress.new device.new) }
 {
     device.append(written(variant), &chunk[..chunk.len() / 2])?;
     match variant {
