@@ -120,7 +120,7 @@ What a report doesn't show is told beside each form, on standard error.
 
   $ paklour report --page --strict odd.toml < answers > page
   strict: 2 of 5 plans unresolved
-  strict: no plan names '
+  strict: no hit without faults of '
   [1]
 
 One form at most is written.
