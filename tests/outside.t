@@ -2,8 +2,8 @@ Campaigns on components that somebody else runs, as docs/OUTSIDE.md tells: setti
 tried, a file of answers is all that is known, and `report` tells what comes of it.
 
 The bundled targets as such components: one call of `try` is the component. However answers come, in any parts, repeated, with some that nobody
-asked for, the report is byte for byte that of `run`, in each form, with pairs, storms and several codes; and each line that is asked is asked
-once, has no answer, and the first is what `report` waits for. The longest list of plans takes each command well under a second.
+asked for, the report is byte for byte that of `run`, in brief and for programs too, with pairs, storms and several codes; and each line that is
+asked is asked once, has no answer, and the first is what `report` waits for. The longest list of plans takes each command well under a second.
 
   $ python3 "$TESTDIR/outside_campaigns.py"
   0 checks failed

@@ -1,6 +1,6 @@
 #!/usr/bin/env python3
 """Runs whole campaigns of bundled targets as if somebody else ran them: one call of `try` is the component. However the answers come, the
-report is that of `run`, in each form; before that each scenario that is asked has no answer and is asked once, and `report` waits for the first.
+report is that of `run`, as text and for programs; before that each scenario that is asked has no answer and is asked once, and `report` waits for the first.
 
     tests/outside_campaigns.py
 
@@ -15,8 +15,8 @@ import tempfile
 
 EXAMPLES = os.path.join(os.path.dirname(os.path.abspath(__file__)), "..", "examples")
 CODES = {"replace": ["torn", "stale"], "maildir": ["torn", "lost"], "commit": ["split", "lost", "phantom"]}
-# the forms of a report by answers, each beside the command that writes the same of a bundled target
-FORMS = {"--brief": ["run", "--brief"], "--json": ["run", "--json"], "--junit": ["run", "--junit"], "--map": ["map"]}
+# the forms of a report that tell codes by their names; a map has a colour for the number of each, and these codes have another order
+FORMS = ("--brief", "--json", "--junit")
 
 
 class Campaigns:
@@ -113,8 +113,8 @@ def bundled(campaigns, name, more=""):
         rounds += 1
     given = b"".join(answers)
     campaigns.expect(f"{name}: report", (status, wanted, told(given)), campaigns.run(["report", settings], given))
-    for form, words in FORMS.items():
-        status, wanted, _ = campaigns.run([*words, own])
+    for form in FORMS:
+        status, wanted, _ = campaigns.run(["run", form, own])
         campaigns.expect(f"{name}: {form}", (status, wanted, told(given)), campaigns.run(["report", form, settings], given))
 
 
