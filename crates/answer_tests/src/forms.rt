@@ -75,15 +75,22 @@ fn told_in(
     }
 }
 
+/// The label of a report.
+fn label_of<'a>(report: &'a str) -> &'a str {
+    for line in report.lines() {
+        if let Some(name) = line.strip_prefix("target ") {
+            return name;
+        }
+    }
+    ""
+}
+
 /// Settings for the target as a component from outside, by the first lines of a report.
 fn outside_settings(alloc: Global, report: &str) -> Result<Settings, Fail> {
-    let mut label = "";
+    let label = label_of(report);
     let mut points = String::new(alloc);
     let mut hits = String::new(alloc);
     for line in report.lines() {
-        if let Some(name) = line.strip_prefix("target ") {
-            label = name;
-        }
         if let Some((point, count)) = line
             .strip_prefix("census ")
             .and_then(|counted| counted.rsplit_once(' '))
