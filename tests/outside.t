@@ -71,6 +71,8 @@ What is asked of two points before anything is known, tidied, each once; and wha
   a=return
   a=1*panic
   b=1*return(no)
+  $ paklour asks --left small.toml < /dev/null
+  left 5
   $ paklour report small.toml < /dev/null
   not answered none
   [2]
@@ -78,6 +80,8 @@ What is asked of two points before anything is known, tidied, each once; and wha
   $ paklour asks small.toml < answers
   a=1*return
   b=1*return(no)
+  $ paklour asks --left small.toml < answers
+  left 2
   $ paklour report small.toml < answers
   not answered a=1*return
   [2]
@@ -100,6 +104,8 @@ A failure is reduced: the candidates of its first round are asked before the oth
   c=return
   $ printf 'fail lost\ta=return\npass\tb=return\nunresolved\tc=return\n' >> answers
   $ paklour asks two.toml < answers
+  $ paklour asks --left two.toml < answers
+  left 0
   $ paklour report two.toml < answers
   target three points
   seed 0

@@ -101,6 +101,8 @@ def bundled(campaigns, name, more=""):
         campaigns.expect(f"{name}: asks", (0, told(given)), (asked[0], asked[2]))
         lines = asked[1].splitlines()
         campaigns.expect(f"{name}: each once", len(lines), len(set(lines)))
+        left = campaigns.run(["asks", "--left", settings], given)
+        campaigns.expect(f"{name}: asks --left", (0, b"left %d\n" % len(lines), told(given)), left)
         campaigns.expect(f"{name}: none that is answered", set(), set(lines) & set(known) - {NOBODY})
         if not lines or asked[0] != 0:
             break

@@ -178,6 +178,10 @@ What is wrong is told on standard error, and nothing is on standard output.
   error: unexpected argument '--junit' found
   $ refused plans --brief
   error: unexpected argument '--brief' found
+  $ refused asks --left --left f
+  error: the argument '--left' cannot be used multiple times
+  $ refused report --left f
+  error: unexpected argument '--left' found
   $ refused asks --brief f
   error: unexpected argument '--brief' found
   $ refused plans --progress

@@ -3,7 +3,7 @@
 use crate::plain::{number_of, plain_report, tidied_text, verdict_of};
 use campaign_given::{CampaignSettings, Outside};
 use campaign_settings::{Choice, Settings};
-use outside_campaign::{Form, OutsideFault, list_plans, write_asks, write_report_in};
+use outside_campaign::{Asking, Form, OutsideFault, list_plans, write_asks, write_report_in};
 use std::alloc::Global;
 use std::fmt::Write;
 use std::process::Abort;
@@ -38,7 +38,14 @@ fn asks(
     answers: &str,
 ) -> Result<String, Fail> {
     let mut out = Out::new(Vec::new(alloc));
-    write_asks(alloc, outside, settings, answers.as_bytes(), &mut out)?;
+    write_asks(
+        alloc,
+        Asking::Lines,
+        outside,
+        settings,
+        answers.as_bytes(),
+        &mut out,
+    )?;
     text_in(out)
 }
 
@@ -143,6 +150,7 @@ fn is_refused(rt: &impl Abort, alloc: Global, answers: &str, line: &str) -> Resu
     let mut out = Out::new(Vec::new(alloc));
     match write_asks(
         alloc,
+        Asking::Lines,
         outside,
         &settings.campaign,
         answers.as_bytes(),

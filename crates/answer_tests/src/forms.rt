@@ -8,7 +8,7 @@ use campaign_core::{
 use campaign_given::{CampaignSettings, Outside};
 use campaign_settings::{Choice, Settings};
 use file_replace::{Replace, Replacements, Variant};
-use outside_campaign::{Form, write_asks, write_report_in};
+use outside_campaign::{Asking, Form, write_asks, write_report_in};
 use std::alloc::Global;
 use std::fmt::Write;
 use std::process::Abort;
@@ -142,7 +142,14 @@ fn all_answers(
     let mut answers = String::new(alloc);
     for _ in 0..100 {
         let mut out = Out::new(Vec::new(alloc));
-        write_asks(alloc, outside, settings, answers.as_bytes(), &mut out)?;
+        write_asks(
+            alloc,
+            Asking::Lines,
+            outside,
+            settings,
+            answers.as_bytes(),
+            &mut out,
+        )?;
         let asked = text_in(out)?;
         if asked.is_empty() {
             return Ok(answers);

@@ -31,18 +31,18 @@ use Rattle.campaign_main.specs.Ends.{IsNoted, IsUntouched, Leaves, OnWhole, Refu
 use Rattle.campaign_main.specs.Exit.{concluded, exit_of}
 use Rattle.campaign_main.specs.FaultLines.{answers_read_line, read_fault_line, refusal_line, settings_line, unreadable_answers_line, unreadable_line}
 use Rattle.campaign_main.specs.QuestionNotes.{is_question_doubted, question_notes}
-use Rattle.campaign_main.specs.Questions.{ComesToText, ConcludesText, EndsAnswered, EndsQuestion, FallsShortOf, IsAnswered, IsConcluded, IsEndOfQuestion, IsNotAnswered, IsPart, IsUnnoted, NotesText, RefusesQuestion, Subject, TellsOfQuestion, TellsWhy, chosen_subject, given_subject, subject_of, text_subject, told_text}
+use Rattle.campaign_main.specs.Questions.{ComesToText, ConcludesText, EndsAnswered, EndsQuestion, FallsShortOf, IsAnswered, IsConcluded, IsEndOfQuestion, IsNotAnswered, IsPart, IsUnnoted, NotesText, RefusesQuestion, Subject, TellsOfQuestion, TellsWhy, asked, chosen_subject, given_subject, subject_of, text_subject, told_text}
 use Rattle.campaign_main.proofs.EndLemmas.{broken-meaning, if_some, long-meaning, memory-apart, read-meaning, tells-of, text-meaning, unset-cause}
 
 -- ---- by what the lower crate came to
 
 module _ (s : Given) (d : Description) (answers : List ℕ) (old new : Option (List ℕ)) (failed : Bool) where
-  asks-short : (f : OutsideFault) → AsksFault d s answers old new failed f → FallsShortOf Asks (s, d) answers old new failed f
-  asks-short (outside.Answers f) h = ((h.0, h.1), h.2)
-  asks-short (outside.NotAnswered t) h = absurd h
-  asks-short (outside.Campaign campaign.TooManyPlans) h = ((h.0, h.1), h.2)
-  asks-short (outside.Campaign campaign.Memory) h = h
-  asks-short (outside.Campaign (campaign.Write n)) h = (h.0, h.1)
+  asks-short : (left : Bool) (f : OutsideFault) → AsksFault (asked left) d s answers old new failed f → FallsShortOf (Asks left) (s, d) answers old new failed f
+  asks-short left (outside.Answers f) h = ((h.0, h.1), h.2)
+  asks-short left (outside.NotAnswered t) h = absurd h
+  asks-short left (outside.Campaign campaign.TooManyPlans) h = ((h.0, h.1), h.2)
+  asks-short left (outside.Campaign campaign.Memory) h = h
+  asks-short left (outside.Campaign (campaign.Write n)) h = (h.0, h.1)
 
   report-short : (form : ToldForm) (f : OutsideFault) → TextFault (told_text form (s, d)) d s answers old new failed f → FallsShortOf (Report form false) (s, d) answers old new failed f
   report-short form (outside.Answers f) h = ((h.0, h.1), h.2)
@@ -57,8 +57,8 @@ module _ (s : Given) (d : Description) (answers : List ℕ) (old new : Option (L
   short-of-up question (Ok found) f is short = absurd is
   short-of-up question (Err e) f is short = let P : OutsideFault → Type 0 = λ x. FallsShortOf question (s, d) answers old new failed x in subst P (sym is) short
 
-  pub asks-up : (result : Result Bool OutsideFault) (f : OutsideFault) → IsErrAnd result (λ e. e ≡ f) → AsksFault d s answers old new failed f → ComesToText Asks (s, d) answers old new failed result
-  asks-up result f is h = short-of-up Asks result f is (asks-short f h)
+  pub asks-up : (left : Bool) (result : Result Bool OutsideFault) (f : OutsideFault) → IsErrAnd result (λ e. e ≡ f) → AsksFault (asked left) d s answers old new failed f → ComesToText (Asks left) (s, d) answers old new failed result
+  asks-up left result f is h = short-of-up (Asks left) result f is (asks-short left f h)
 
   pub report-up : (form : ToldForm) (result : Result Bool OutsideFault) (f : OutsideFault) → IsErrAnd result (λ e. e ≡ f) → TextFault (told_text form (s, d)) d s answers old new failed f → ComesToText (Report form false) (s, d) answers old new failed result
   report-up form result f is h = short-of-up (Report form false) result f is (report-short form f h)
@@ -105,11 +105,11 @@ module _ (question : Question) (s : Subject) (answers : List ℕ) where
     concluded-ends Doubtful h = h
 
     answered-sound : (q : Question) (found : Bool) → IsAnswered q s answers old new failed found → failed ≡ false
-    answered-sound Asks found h = h.sound
+    answered-sound (Asks left) found h = h.sound
     answered-sound (Report form strict) found h = h.sound
 
     part-broken : (q : Question) (n : ℕ) → IsPart q s answers old new failed n → failed ≡ true
-    part-broken Asks n h = h.1
+    part-broken (Asks left) n h = h.1
     part-broken (Report form strict) n h = h.1
 
     pub answered-leaves : (end : Exit) → EndsAnswered question s answers end old new failed → Leaves end old new failed

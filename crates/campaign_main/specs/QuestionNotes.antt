@@ -77,10 +77,10 @@ answered_doubts true given outside answers =
 -- ---- of a question
 
 abbrev pub question_notes : Question → Given → Description → List ℕ → List ℕ
-question_notes Asks given outside answers = name_notes given outside answers
+question_notes (Asks left) given outside answers = name_notes given outside answers
 question_notes (Report form strict) given outside answers = name_notes given outside answers ++ answered_doubts strict given outside answers
 
 -- whether something is noted that is to count
 abbrev pub is_question_doubted : Question → List ℕ → Bool
-is_question_doubted Asks notes = false
+is_question_doubted (Asks left) notes = false
 is_question_doubted (Report form strict) notes = is_doubted strict notes

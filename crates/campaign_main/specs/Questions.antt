@@ -6,7 +6,6 @@ use Rattle.scenario_values.specs.Scenario.{Entries}
 use Rattle.plan_gen.specs.PlanList.{most_plans}
 use Rattle.result_book.specs.Verdicts.{verdicts_from, numbered}
 use Rattle.result_book.specs.FirstFailures.{first_failures}
-use Rattle.report.specs.ReportText.{text_of}
 use Rattle.campaign_core.specs.Pages.{NotesFacts}
 use Rattle.command_words.specs.declared.words.ToldForm.{ToldForm}
 use Rattle.command_words.specs.declared.words.ToldForm.TheVariants as told
@@ -23,8 +22,10 @@ use Rattle.campaign_core.specs.declared.ending.CampaignFault.TheVariants as camp
 use Rattle.command_words.specs.declared.words.Question.{Question}
 use Rattle.command_words.specs.declared.words.Question.TheVariants.{Asks, Report}
 use Rattle.outside_campaign.specs.Outside.{Component, say}
-use Rattle.outside_campaign.specs.Asked.{lines_for}
+use Rattle.outside_campaign.specs.Asked.{asked_text, lines_for}
 use Rattle.outside_campaign.specs.Campaigns.{IsCut, report_in, untried}
+use Rattle.outside_campaign.specs.declared.asking.Asking.{Asking}
+use Rattle.outside_campaign.specs.declared.asking.Asking.TheVariants as asking
 use Rattle.outside_campaign.specs.declared.forms.Form.{Form}
 use Rattle.outside_campaign.specs.declared.forms.Form.TheVariants as forms
 use Rattle.outside_campaign.specs.declared.refusal.OutsideFault.{OutsideFault}
@@ -70,9 +71,13 @@ subject_of bytes = of_text text_subject bytes
 abbrev pub untried_of : Subject → List ℕ → List Entries
 untried_of s answers = untried (known_by s.1.codes answers) (outside_plans s.0 s.1)
 
--- the lines that ask for it
-abbrev pub asks_text : Subject → List ℕ → List ℕ
-asks_text s answers = text_of (lines_for (untried_of s answers))
+-- what is written of it: the lines that ask for it, or how many these are
+abbrev pub asked : Bool → Asking
+asked false = asking.Lines
+asked true = asking.Left
+
+abbrev pub asks_text : Bool → Subject → List ℕ → List ℕ
+asks_text left s answers = asked_text (asked left) (lines_for (untried_of s answers))
 
 -- what a page by answers tells beside the campaign
 abbrev pub told_notes : NotesFacts
@@ -99,8 +104,8 @@ is_found s component =
 -- ---- ends
 
 -- what is still to be tried was written, of answers without a fault
-pub record IsAsked (s : Subject) (answers : List ℕ) (old new : Option (List ℕ)) (failed found : Bool) : Type 0 where
-  pub text : Appends old new (asks_text s answers)
+pub record IsAsked (left : Bool) (s : Subject) (answers : List ℕ) (old new : Option (List ℕ)) (failed found : Bool) : Type 0 where
+  pub text : Appends old new (asks_text left s answers)
   pub none : found ≡ false
   pub sound : failed ≡ false
   pub few : length (outside_plans s.0 s.1) ≤ most_plans
@@ -116,12 +121,12 @@ pub record IsReported (form : ToldForm) (s : Subject) (answers : List ℕ) (old 
   pub few : length (outside_plans s.0 s.1) ≤ most_plans
 
 abbrev pub IsAnswered : Question → Subject → List ℕ → Option (List ℕ) → Option (List ℕ) → Bool → Bool → Type 0
-IsAnswered Asks s answers old new failed found = IsAsked s answers old new failed found
+IsAnswered (Asks left) s answers old new failed found = IsAsked left s answers old new failed found
 IsAnswered (Report form strict) s answers old new failed found = IsReported form s answers old new failed found
 
 -- so many bytes of that text, and not all, were written before the sink failed
 abbrev pub IsPart : Question → Subject → List ℕ → Option (List ℕ) → Option (List ℕ) → Bool → ℕ → Type 0
-IsPart Asks s answers old new failed n = IsCut old new (asks_text s answers) n × (failed ≡ true)
+IsPart (Asks left) s answers old new failed n = IsCut old new (asks_text left s answers) n × (failed ≡ true)
 IsPart (Report form strict) s answers old new failed n =
     ((component : Component) → AgreesWithText s.1.codes answers component → IsCut old new (told_text form s component) n) × (failed ≡ true)
 
@@ -170,7 +175,7 @@ IsUnnoted s answers (outside.Campaign (campaign.Write n)) = ⊥
 
 -- a report waits for the first of what is still to be tried
 abbrev pub IsWaitedFor : Question → Subject → List ℕ → Entries → Type 0
-IsWaitedFor Asks s answers t = ⊥
+IsWaitedFor (Asks left) s answers t = ⊥
 IsWaitedFor (Report form strict) s answers t = (more : List Entries) × (untried_of s answers ≡ t ∷ more)
 
 -- why a question is refused, by the answers

@@ -220,7 +220,7 @@ pub fn is_question_doubted(question: &Question, notes: &str) -> bool
     ensures { result ≡ is_question_doubted question.now notes.now }
 {
     match question {
-        Question::Asks => false,
+        Question::Asks { .. } => false,
         Question::Report { strict, .. } => is_doubted(*strict, notes),
     }
 }

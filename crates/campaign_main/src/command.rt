@@ -5,7 +5,9 @@ ghost use Rattle.plan_gen.specs.PlanList.{most_plans};
 ghost use Rattle.campaign_core.specs.CommandTexts.{IsFault, IsReducedToMinimal};
 ghost use Rattle.campaign_core.specs.Headline.{campaign_in, first_failure, plans};
 ghost use Rattle.campaign_main.specs.Commands.{explain_answer, map_answer, order_answer, page_notes, plans_answer, reduce_answer, report_in, run_answer, taken, taken_answer, try_answer};
-ghost use Rattle.campaign_main.specs.Ends.{ComesTo, IsUntaken, Noted};
+ghost use Rattle.campaign_main.specs.Ends.{ComesTo, IsNoted, IsUntaken, Noted};
+ghost use Rattle.campaign_main.specs.Exit.{concluded};
+ghost use Rattle.target_trait.specs.Verdicts.{is_fail};
 ghost use Rattle.campaign_main.specs.Notes.{notes_of};
 ghost use Rattle.campaign_main.specs.Promises.{KeepsPromises, RunKeepsPromises};
 
@@ -23,7 +25,7 @@ use command_words::{Form, Order, VERSION, Which};
 use scenario_grammar::{Scenario, parse};
 use std::sync::Wait;
 use std::thread::Threads;
-use target_trait::{Sink, Target};
+use target_trait::{Sink, Target, Verdict};
 use work_gate::Gate;
 
 /// What a page tells beside the campaign.
@@ -157,21 +159,45 @@ where
     }
 }
 
-/// The same with what is noted beside the command's text. Nothing is written.
+/// The scenario that a command takes.
+#[derive(Drop)]
+pub struct Taken {
+    /// The stream number of its run.
+    pub stream: u64,
+    pub scenario: Scenario,
+    /// What is noted beside the command's text: a line for each name in it that no point of the target has.
+    pub notes: String,
+}
+
+/// What a command takes. Nothing is written.
 pub fn take_noted<T: Target + Send, H: Threads + Wait + Sync, G: Gate>(
     host: &Host<'_, G, H>,
     subject: &Subject<'_, T>,
     which: &Which,
-) -> Result<(u64, Scenario, String), CommandFault>
+) -> Result<Taken, CommandFault>
 where
     T::Workload: Sync,
-    ensures ok { IfOk result (λ t. taken (campaign_in T.Target subject.now) which.now ≡ Ok (t.0, t.1)) }
-    ensures notes { IfOk result (λ t. string_bytes t.2 ≡ notes_of T.names t.1) }
+    ensures ok { IfOk result (λ t. taken (campaign_in T.Target subject.now) which.now ≡ Ok (t.stream, t.scenario)) }
+    ensures notes { IfOk result (λ t. string_bytes t.notes ≡ notes_of T.names t.scenario) }
     ensures fault { IfErr result (IsUntaken (taken (campaign_in T.Target subject.now) which.now)) }
 {
     let (stream, scenario) = take_scenario(host, subject, which)?;
     let lines = notes_on(host.alloc, T::catalogue(), &scenario)?;
-    Ok((stream, scenario, lines))
+    Ok(Taken {
+        stream,
+        scenario,
+        notes: lines,
+    })
+}
+
+/// What a text with this verdict comes to, beside which this is noted.
+pub fn judged<E: Sink>(verdict: Verdict, notes: &str, faults: &mut E) -> Conclusion
+    requires { E.has_failed faults.old ≡ false }
+    ensures conclusion { result ≡ concluded (is_fail verdict) false }
+    ensures noted { IsNoted notes.now (E.told faults.old) (E.told faults.new) (E.has_failed faults.new) }
+{
+    note(notes, faults);
+    concluded(is_fail(verdict), false)
 }
 
 /// Tries the scenario that the command takes.
@@ -191,19 +217,18 @@ where
     ensures noted { let c = campaign_in T.Target subject.now in
         Noted (taken_answer (try_answer c) (taken c which.now)) (E.told faults.old) (E.told faults.new) (E.has_failed faults.new) result }
 {
-    let (stream, scenario, notes) = take_noted(host, subject, which)?;
+    let taken = take_noted(host, subject, which)?;
     let mut twin = subject.target.twin()?;
     let verdict = try_one(
         host.alloc,
         &mut twin,
         subject.workload,
         subject.settings,
-        stream,
-        &scenario,
+        taken.stream,
+        &taken.scenario,
         output,
     )?;
-    note(notes.as_str(), faults);
-    Ok(concluded(is_fail(verdict), false))
+    Ok(judged(verdict, taken.notes.as_str(), faults))
 }
 
 /// Tells the run of the scenario that the command takes.
@@ -223,19 +248,18 @@ where
     ensures noted { let c = campaign_in T.Target subject.now in
         Noted (taken_answer (explain_answer c) (taken c which.now)) (E.told faults.old) (E.told faults.new) (E.has_failed faults.new) result }
 {
-    let (stream, scenario, notes) = take_noted(host, subject, which)?;
+    let taken = take_noted(host, subject, which)?;
     let mut twin = subject.target.twin()?;
     let verdict = explain_one(
         host.alloc,
         &mut twin,
         subject.workload,
         subject.settings,
-        stream,
-        &scenario,
+        taken.stream,
+        &taken.scenario,
         output,
     )?;
-    note(notes.as_str(), faults);
-    Ok(concluded(is_fail(verdict), false))
+    Ok(judged(verdict, taken.notes.as_str(), faults))
 }
 
 /// Reduces the scenario that the command takes.
@@ -257,10 +281,9 @@ where
     ensures minimal { let c = campaign_in T.Target subject.now in
         OnOk result (IfOk (taken c which.now) (λ t. IsReducedToMinimal c t.0 t.1)) }
 {
-    let (stream, scenario, notes) = take_noted(host, subject, which)?;
-    let verdict = reduce_one(host, subject, stream, &scenario, output)?;
-    note(notes.as_str(), faults);
-    Ok(concluded(is_fail(verdict), false))
+    let taken = take_noted(host, subject, which)?;
+    let verdict = reduce_one(host, subject, taken.stream, &taken.scenario, output)?;
+    Ok(judged(verdict, taken.notes.as_str(), faults))
 }
 
 /// Does what is ordered with this target, writes the command's text, and after it to the sink of faults what is noted beside it.

@@ -2,7 +2,7 @@
 ghost use Rattle.std.specs.Prelude.{◌≡◌, true, false, IfSome, Ok, Some};
 ghost use Rattle.campaign_main.specs.Ends.{IsNoted, Leaves, OnWhole, TellsOf};
 ghost use Rattle.campaign_main.specs.QuestionNotes.{question_notes};
-ghost use Rattle.campaign_main.specs.Questions.{ComesToText, ConcludesText, EndsAnswered, EndsQuestion, IsNotAnswered, NotesQuestion, NotesText, TellsOfQuestion, TellsWhy, chosen_subject, subject_of, text_subject, written};
+ghost use Rattle.campaign_main.specs.Questions.{ComesToText, ConcludesText, EndsAnswered, EndsQuestion, IsNotAnswered, NotesQuestion, NotesText, TellsOfQuestion, TellsWhy, asked, chosen_subject, subject_of, text_subject, written};
 
 use crate::answer_notes::{is_question_doubted, question_notes_on};
 use crate::exit::{Conclusion, Exit, concluded, exit_of};
@@ -13,24 +13,33 @@ use campaign_core::PageNotes;
 use campaign_given::{CampaignSettings, Outside};
 use campaign_settings::{Choice, Settings};
 use command_words::{Question, ToldForm, VERSION};
-use outside_campaign::{Form, OutsideFault, write_asks, write_report_in};
+use outside_campaign::{Asking, Form, OutsideFault, write_asks, write_report_in};
 use std::alloc::Global;
 use std::io::Read;
 use target_trait::Sink;
 
-/// Writes what is still to be tried, in which no verdict stands.
+/// What is written of what is still to be tried.
+fn asked(left: bool) -> Asking
+    ensures { result ≡ asked left }
+{
+    if left { Asking::Left } else { Asking::Lines }
+}
+
+/// Writes what is still to be tried, or how much, in which no verdict stands.
 fn write_asked<W: Sink>(
     alloc: Global,
+    left: bool,
     outside: &Outside,
     settings: &CampaignSettings,
     answers: &[u8],
     output: &mut W,
 ) -> Result<bool, OutsideFault>
     requires { W.has_failed output.old ≡ false }
-    ensures { ComesToText Question.Asks (settings.now, outside.now) answers.now (W.told output.old) (W.told output.new)
+    ensures { ComesToText (Question.Asks left) (settings.now, outside.now) answers.now (W.told output.old) (W.told output.new)
         (W.has_failed output.new) result }
 {
-    write_asks(alloc, outside, settings, answers, output)?;
+    let asking = asked(left);
+    write_asks(alloc, asking, outside, settings, answers, output)?;
     Ok(false)
 }
 
@@ -83,7 +92,7 @@ fn write_answer<W: Sink>(
         (W.has_failed output.new) result }
 {
     match question {
-        Question::Asks => write_asked(alloc, outside, settings, answers, output),
+        Question::Asks { left } => { write_asked(alloc, *left, outside, settings, answers, output) }
         Question::Report { form, .. } => {
             write_reported(alloc, *form, outside, settings, answers, output)
         }

@@ -5,10 +5,10 @@ ghost use Rattle.campaign_main.specs.Ends.{ComesTo, EndsAs, Noted, OnWhole, Tell
 ghost use Rattle.campaign_main.specs.Promises.{KeepsPromises};
 ghost use Rattle.campaign_main.specs.OwnTarget.{telling_answer};
 
-use crate::command::{command, take_noted};
-use crate::exit::{Conclusion, Exit, concluded, exit_of, is_fail};
+use crate::command::{command, judged, take_noted};
+use crate::exit::{Conclusion, Exit, exit_of};
 use crate::fault::CommandFault;
-use crate::lines::{note, unanswered};
+use crate::lines::unanswered;
 use crate::own::broken_off;
 use campaign_core::{Host, Subject, explain_one_telling};
 use campaign_given::CampaignSettings;
@@ -37,19 +37,18 @@ where
         (T.reason_of subject.now.target.now subject.now.workload.now) (Order.Explain which.now) (campaign_in T.Target subject.now))
         (E.told faults.old) (E.told faults.new) (E.has_failed faults.new) result }
 {
-    let (stream, scenario, notes) = take_noted(host, subject, which)?;
+    let taken = take_noted(host, subject, which)?;
     let mut twin = subject.target.twin()?;
     let verdict = explain_one_telling(
         host.alloc,
         &mut twin,
         subject.workload,
         subject.settings,
-        stream,
-        &scenario,
+        taken.stream,
+        &taken.scenario,
         output,
     )?;
-    note(notes.as_str(), faults);
-    Ok(concluded(is_fail(verdict), false))
+    Ok(judged(verdict, taken.notes.as_str(), faults))
 }
 
 /// Does what is ordered with this target, as [`command`] does; an explained run tells its end too.

@@ -126,7 +126,7 @@ name-entered words name rows none e =
 -- a parse's values are those among its rows
 values-rows : (f : Found) → values_of f ≡ values_in (rows_of f)
 values-rows f =
-    rw (first_value-rows f (codes "scenario"), first_value-rows f (codes "plan"), first_value-rows f (codes "brief"), first_value-rows f (codes "json"), first_value-rows f (codes "junit"), first_value-rows f (codes "map"), first_value-rows f (codes "page"), first_value-rows f (codes "strict"), first_value-rows f (codes "recheck"), first_value-rows f (codes "progress"), first_value-rows f (codes "progress-plain"), first_value-rows f (codes "file")) refl
+    rw (first_value-rows f (codes "scenario"), first_value-rows f (codes "plan"), first_value-rows f (codes "brief"), first_value-rows f (codes "json"), first_value-rows f (codes "junit"), first_value-rows f (codes "map"), first_value-rows f (codes "page"), first_value-rows f (codes "left"), first_value-rows f (codes "strict"), first_value-rows f (codes "recheck"), first_value-rows f (codes "progress"), first_value-rows f (codes "progress-plain"), first_value-rows f (codes "file")) refl
 
 pub line-read : (o : Option (Text × List Row)) (name : Text) (f : Found) (line : Line) → o ≡ Some (name, rows_of f) → IsLineOf name (values_of f) line → IsLine o line
 line-read o name f line e h =

@@ -84,6 +84,10 @@ progress_rule = flag_rule (codes "progress")
 abbrev pub progress_plain_rule : Rule
 progress_plain_rule = flag_rule (codes "progress-plain")
 
+-- --left, a flag
+abbrev pub left_rule : Rule
+left_rule = flag_rule (codes "left")
+
 -- --strict, a flag
 abbrev pub strict_rule : Rule
 strict_rule = flag_rule (codes "strict")
@@ -118,9 +122,9 @@ shown_app app = with_rule (with_rule app progress_rule) progress_plain_rule
 abbrev pub rechecked_app : App → App
 rechecked_app app = with_rule app recheck_rule
 
--- a command that takes FILE, which has to be there since standard input has the answers
+-- a command that asks what is left, and takes FILE, which has to be there since standard input has the answers
 abbrev pub question_app : Text → App
-question_app name = with_rule (new_app name) needed_file_rule
+question_app name = with_rule (with_rule (new_app name) left_rule) needed_file_rule
 
 -- a command that writes a report by answers, in one of these forms, or as the map or a page
 abbrev pub told_app : App → App
@@ -179,6 +183,7 @@ pub record Values : Type 0 where
   pub junit : Option Text
   pub map : Option Text
   pub page : Option Text
+  pub left : Option Text
   pub strict : Option Text
   pub recheck : Option Text
   pub progress : Option Text
@@ -194,6 +199,7 @@ values_in rows = record {
   junit = first_of (codes "junit") rows;
   map = first_of (codes "map") rows;
   page = first_of (codes "page") rows;
+  left = first_of (codes "left") rows;
   strict = first_of (codes "strict") rows;
   recheck = first_of (codes "recheck") rows;
   progress = first_of (codes "progress") rows;
@@ -211,6 +217,7 @@ values_of f = record {
   junit = first_value f (codes "junit");
   map = first_value f (codes "map");
   page = first_value f (codes "page");
+  left = first_value f (codes "left");
   strict = first_value f (codes "strict");
   recheck = first_value f (codes "recheck");
   progress = first_value f (codes "progress");
@@ -282,7 +289,7 @@ IsOrder name v (order.Explain which) = (name ≡ codes "explain") × IsWhich v w
 
 -- the question that a command's name and its values give
 abbrev pub IsQuestion : Text → Values → Question → Type 0
-IsQuestion name v Asks = name ≡ codes "asks"
+IsQuestion name v (Asks left) = (name ≡ codes "asks") × (left ≡ is_set v.left)
 IsQuestion name v (Report form strict) = (name ≡ codes "report") × (told_form_of v ≡ Some form) × (strict ≡ is_set v.strict)
 
 -- the order of no command is Run, with the whole report, on the settings that come from standard input, and nothing more is shown

@@ -73,6 +73,9 @@ pub const MAP_FORM: &str = "Write the map, an SVG picture";
 
 pub const PAGE_FORM: &str = "Write a page to look at, as HTML; it tells no run hit by hit";
 
+pub const LEFT: &str =
+    "Write how many scenarios are still to be tried, as far as is known, and not which";
+
 pub const STRICT: &str = "Tell on standard error what the report doesn't show, and end with 5 then";
 
 pub const RECHECK: &str =
@@ -124,6 +127,7 @@ known; its exit status is 0. `report` writes the report, or that a scenario is `
 
 Example:
   paklour asks my.toml < answers | xargs -r -d '\\n' -n 1 ./try.sh >> answers
+  paklour asks --left my.toml < answers
   paklour report my.toml < answers
   paklour report --brief my.toml < answers
   paklour report --page my.toml < answers > page.html

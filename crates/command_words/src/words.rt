@@ -107,8 +107,8 @@ pub enum Order {
 /// What is asked of the answers on standard input, about a component that somebody else runs.
 #[derive(Clone, Copy, Debug)]
 pub enum Question {
-    /// Which scenarios are still to be tried.
-    Asks,
+    /// Which scenarios are still to be tried, or how many where `left` is set.
+    Asks { left: bool },
     /// The campaign's report, in a form. Where `strict` is set, what makes it say less than it seems to is told beside it.
     Report { form: ToldForm, strict: bool },
 }
@@ -330,7 +330,9 @@ fn question_command<'a>(
     ensures app { IfOk result (λ command. app_of command ≡ question_app name.entry.now) }
     ensures local { IfOk result (λ command. (fields_of command).has_globals ≡ false) }
 {
-    named(alloc, name, about, help::ANSWERS).arg(needed_file_arg(alloc))
+    named(alloc, name, about, help::ANSWERS)
+        .arg(flag_arg(alloc, "left", help::LEFT))?
+        .arg(needed_file_arg(alloc))
 }
 
 fn question_report_command<'a>(
@@ -541,7 +543,9 @@ fn question_of<'a>(
     ensures refused { IfErr result (IsRefusedFor (choice_kinds name.now (values_of (found_of own.now)))) }
 {
     match name {
-        "asks" => Ok(Some(Question::Asks)),
+        "asks" => Ok(Some(Question::Asks {
+            left: is_set(own, "left"),
+        })),
         "report" => Ok(Some(Question::Report {
             form: told_form_of(alloc, own)?,
             strict: is_strict(own),

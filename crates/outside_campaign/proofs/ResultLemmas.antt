@@ -14,7 +14,6 @@ use Rattle.result_book.proofs.EachCodeLemmas.{firsts_in, firsts_full}
 use Rattle.result_book.proofs.SlotLemmas.{length_verdicts}
 use Rattle.plan_gen.specs.PlanList.{most_plans}
 use Rattle.report.specs.Reports.{FindingFacts, ReportFacts}
-use Rattle.report.specs.ReportText.{text_of}
 use Rattle.answer_text.specs.Known.{KnownVerdicts, known_by, Agrees, AgreesWithText}
 use Rattle.answer_text.specs.Answers.{Answer, Says}
 use Rattle.answer_text.proofs.Agreement.{agrees_by, some_agrees}
@@ -22,11 +21,12 @@ use Rattle.campaign_given.specs.Description.{Description}
 use Rattle.campaign_given.specs.Given.{Given}
 use Rattle.campaign_core.specs.Findings.{finding}
 use Rattle.outside_campaign.specs.Outside.{Component, say}
-use Rattle.outside_campaign.specs.Asked.{open_plans, open_cards, plan_verdicts, known_failures, lines_for}
+use Rattle.outside_campaign.specs.Asked.{asked_text, open_plans, open_cards, plan_verdicts, known_failures, lines_for}
 use Rattle.outside_campaign.specs.Campaigns.{plans as plans_of, code_name, report as report_by, report_in, shown, asks_text, first_failure, untried, untried_by, AsksFault}
 use Rattle.outside_campaign.specs.Forms.{text_in}
 use Rattle.outside_campaign.specs.ToldPlans.{AreOf, AreResults}
 use Rattle.outside_campaign.specs.inside.Results.{IsFirst, AreWithVerdicts, facts_of}
+use Rattle.outside_campaign.specs.declared.asking.Asking.{Asking}
 use Rattle.outside_campaign.specs.declared.forms.Form.{Form}
 use Rattle.campaign_core.specs.declared.ending.CampaignFault.TheVariants as campaign
 use Rattle.outside_campaign.specs.declared.refusal.OutsideFault.{OutsideFault}
@@ -109,13 +109,13 @@ untried_is outside settings answers known plans e is = ap (λ (k : KnownVerdicts
 -- ---- faults
 
 -- a write that failed, of the bytes that are asked
-pub asks_cut : {X : Type 0} (outside : Description) (settings : Given) (answers : List ℕ) (old new : Option (List ℕ)) (failed : Bool) (known : KnownVerdicts) (plans : List Entries) (bytes : List ℕ) (n : ℕ) (result : Result X OutsideFault)
-    → IsErrAnd result (λ f. f ≡ refusal.Campaign (campaign.Write n)) → known ≡ known_by outside.codes answers → plans ≡ plans_of outside settings → bytes ≡ text_of (lines_for (untried known plans))
-    → Appends old new (take n bytes) → n < length bytes → failed ≡ true → length (plans_of outside settings) ≤ most_plans → IfErr result (AsksFault outside settings answers old new failed)
-asks_cut outside settings answers old new failed known plans bytes n (Ok x) is k p b wrote less bad few = tt
-asks_cut outside settings answers old new failed known plans bytes n (Err f) is k p b wrote less bad few =
-    let whole : bytes ≡ asks_text outside settings answers = b ∙ ap (λ (ts : List Entries). text_of (lines_for ts)) (untried_is outside settings answers known plans k p) in
-    let P : OutsideFault → Type 0 = λ x. AsksFault outside settings answers old new failed x in
+pub asks_cut : {X : Type 0} (asking : Asking) (outside : Description) (settings : Given) (answers : List ℕ) (old new : Option (List ℕ)) (failed : Bool) (known : KnownVerdicts) (plans : List Entries) (bytes : List ℕ) (n : ℕ) (result : Result X OutsideFault)
+    → IsErrAnd result (λ f. f ≡ refusal.Campaign (campaign.Write n)) → known ≡ known_by outside.codes answers → plans ≡ plans_of outside settings → bytes ≡ asked_text asking (lines_for (untried known plans))
+    → Appends old new (take n bytes) → n < length bytes → failed ≡ true → length (plans_of outside settings) ≤ most_plans → IfErr result (AsksFault asking outside settings answers old new failed)
+asks_cut asking outside settings answers old new failed known plans bytes n (Ok x) is k p b wrote less bad few = tt
+asks_cut asking outside settings answers old new failed known plans bytes n (Err f) is k p b wrote less bad few =
+    let whole : bytes ≡ asks_text asking outside settings answers = b ∙ ap (λ (ts : List Entries). asked_text asking (lines_for ts)) (untried_is outside settings answers known plans k p) in
+    let P : OutsideFault → Type 0 = λ x. AsksFault asking outside settings answers old new failed x in
     let Q : List ℕ → Type 0 = λ t. Appends old new (take n t) × (n < length t) in
     subst P (sym is) (subst Q whole (wrote, less), bad, few)
 

@@ -1,5 +1,6 @@
 -- What is still to be tried.
-use Rattle.std.specs.Prelude.{◌≡◌, ℕ, None, List, [], ◌∷◌, ◌++◌, is_none, if◌then◌else◌, map, flat_map, fold, Option}
+use Rattle.std.specs.Prelude.{◌≡◌, ℕ, None, List, [], ◌∷◌, ◌++◌, codes, is_none, if◌then◌else◌, length, map, flat_map, fold, Option}
+use Rattle.std.specs.Fmt.{decimal}
 use Rattle.std.specs.Str.{bytes_eq}
 use Rattle.indexmap.specs.IndexSet.{insert_key}
 use Rattle.scenario_values.specs.Scenario.{Entries}
@@ -7,10 +8,12 @@ use Rattle.scenario_values.specs.Tidied.{tidied}
 use Rattle.target_trait.specs.declared.judgement.Verdict.{Verdict}
 use Rattle.result_book.specs.FirstFailures.{first_failures}
 use Rattle.result_book.specs.Slots.{in_book}
-use Rattle.report.specs.ReportText.{scenario_text}
+use Rattle.report.specs.ReportText.{scenario_text, text_of}
 use Rattle.answer_text.specs.Known.{KnownVerdicts}
 use Rattle.campaign_core.specs.Findings.{plan_at}
 use Rattle.outside_campaign.specs.Reached.{open_candidates}
+use Rattle.outside_campaign.specs.declared.asking.Asking.{Asking}
+use Rattle.outside_campaign.specs.declared.asking.Asking.TheVariants.{Lines, Left}
 
 -- the verdict of each plan, where it is known
 abbrev pub plan_verdicts : KnownVerdicts → List Entries → List (Option Verdict)
@@ -36,6 +39,15 @@ to_try known plans failures = open_cards known plans failures ++ open_plans know
 -- the lines that ask for it, each where it first stands
 abbrev pub lines_for : List Entries → List (List ℕ)
 lines_for scenarios = fold (insert_key bytes_eq) [] (map scenario_text scenarios)
+
+-- how many these are
+abbrev pub left_text : List (List ℕ) → List ℕ
+left_text lines = codes "left " ++ decimal (length lines) ++ codes "\n"
+
+-- what is written of them: each of them, or how many they are
+abbrev pub asked_text : Asking → List (List ℕ) → List ℕ
+asked_text Lines lines = text_of lines
+asked_text Left lines = left_text lines
 
 abbrev pub asked : KnownVerdicts → List Entries → List (ℕ × ℕ) → List (List ℕ)
 asked known plans failures = lines_for (to_try known plans failures)

@@ -17,8 +17,9 @@ use Rattle.campaign_core.specs.Findings.{report_of}
 use Rattle.campaign_core.specs.declared.ending.CampaignFault.{CampaignFault}
 use Rattle.campaign_core.specs.declared.ending.CampaignFault.TheVariants as campaign
 use Rattle.outside_campaign.specs.Outside.{Component, say}
-use Rattle.outside_campaign.specs.Asked.{to_try, lines_for, known_failures}
+use Rattle.outside_campaign.specs.Asked.{asked_text, to_try, lines_for, known_failures}
 use Rattle.outside_campaign.specs.Forms.{ShownFacts, text_in}
+use Rattle.outside_campaign.specs.declared.asking.Asking.{Asking}
 use Rattle.outside_campaign.specs.declared.forms.Form.{Form}
 use Rattle.outside_campaign.specs.declared.refusal.OutsideFault.{OutsideFault}
 use Rattle.outside_campaign.specs.declared.refusal.OutsideFault.TheVariants as refusal
@@ -67,8 +68,8 @@ untried known plans = to_try known plans (known_failures known plans)
 abbrev pub untried_by : Description → Given → List ℕ → List Entries
 untried_by outside given answers = untried (known_by outside.codes answers) (plans outside given)
 
-abbrev pub asks_text : Description → Given → List ℕ → List ℕ
-asks_text outside given answers = text_of (lines_for (untried_by outside given answers))
+abbrev pub asks_text : Asking → Description → Given → List ℕ → List ℕ
+asks_text asking outside given answers = asked_text asking (lines_for (untried_by outside given answers))
 
 -- ---- faults. A sink held `old` and holds `new`, where it tells its bytes.
 
@@ -84,12 +85,12 @@ IsUnwritten plans Cut old new failed campaign.Memory = (new ≡ old) × (failed 
 IsUnwritten plans Cut old new failed (campaign.Write n) = Cut n × (failed ≡ true) × (length plans ≤ most_plans)
 
 -- why what is to be tried wasn't written: the answers' first fault, or a fault as of the list of plans
-abbrev pub AsksFault : Description → Given → List ℕ → Option (List ℕ) → Option (List ℕ) → Bool → OutsideFault → Type 0
-AsksFault outside given answers old new failed (refusal.Answers fault) =
+abbrev pub AsksFault : Asking → Description → Given → List ℕ → Option (List ℕ) → Option (List ℕ) → Bool → OutsideFault → Type 0
+AsksFault asking outside given answers old new failed (refusal.Answers fault) =
     (new ≡ old) × (failed ≡ false) × (reading_of outside.codes answers ≡ Err fault)
-AsksFault outside given answers old new failed (refusal.NotAnswered t) = ⊥
-AsksFault outside given answers old new failed (refusal.Campaign fault) =
-    IsUnwritten (plans outside given) (IsCut old new (asks_text outside given answers)) old new failed fault
+AsksFault asking outside given answers old new failed (refusal.NotAnswered t) = ⊥
+AsksFault asking outside given answers old new failed (refusal.Campaign fault) =
+    IsUnwritten (plans outside given) (IsCut old new (asks_text asking outside given answers)) old new failed fault
 
 -- the same of a text on a component, for each that agrees with the answers; and it isn't written where something is to be tried, of which
 -- this is the first

@@ -3,7 +3,7 @@ ghost use Rattle.std.specs.Prelude.{◌≡◌, ◌<◌, ◌∷◌, ◌++◌, [],
 ghost use Rattle.std.specs.Str.{bytes_eq};
 ghost use Rattle.indexmap.specs.IndexSet.{insert_key};
 ghost use Rattle.report.specs.ReportText.{scenario_text, text_of};
-ghost use Rattle.outside_campaign.specs.Asked.{asked, lines_for, open_plans};
+ghost use Rattle.outside_campaign.specs.Asked.{asked, asked_text, left_text, lines_for, open_plans};
 ghost use Rattle.outside_campaign.specs.Campaigns.{untried};
 
 use crate::findings::{Findings, findings_known};
@@ -15,6 +15,15 @@ use report::write_scenario;
 use result_book::first_failures_of;
 use scenario_values::{Scenario, Text, tidy};
 use std::alloc::{AllocError, Global};
+
+/// What is written of what is still to be tried.
+#[derive(Clone, Copy)]
+pub enum Asking {
+    /// A line for each scenario.
+    Lines,
+    /// How many scenarios these are, in one line.
+    Left,
+}
 
 /// Adds the text of a scenario, unless it is there.
 fn add(alloc: Global, lines: &mut IndexSet<Text>, scenario: &Scenario) -> Result<(), AllocError>
@@ -118,17 +127,29 @@ pub fn joined(alloc: Global, lines: &IndexSet<Text>) -> Result<String, AllocErro
     Ok(text)
 }
 
-/// The lines that ask for what is still to be tried of these plans, where the reductions are those of the first failures known. An error
-/// means that memory was refused.
+/// How many lines there are. An error means that memory was refused.
+fn left_text(alloc: Global, lines: &IndexSet<Text>) -> Result<String, AllocError>
+    ensures { IfOk result (λ text. string_bytes text ≡ left_text lines.now.keys) }
+{
+    let left = lines.len();
+    format!(in alloc; "left {left}\n")
+}
+
+/// What is written of what is still to be tried of these plans, where the reductions are those of the first failures known. An error means
+/// that memory was refused.
 pub fn asks_text<K: VerdictTable>(
     alloc: Global,
+    asking: Asking,
     known: &K,
     plans: &CampaignPlans<'_>,
 ) -> Result<String, AllocError>
-    ensures { IfOk result (λ text. string_bytes text ≡ text_of (lines_for (untried (K.verdicts known.now) plans.now))) }
+    ensures { IfOk result (λ text. string_bytes text ≡ asked_text asking (lines_for (untried (K.verdicts known.now) plans.now))) }
 {
     let verdicts = plan_verdicts(alloc, known, plans)?;
     let failures = first_failures_of(alloc, verdicts.as_slice())?;
     let lines = asks(alloc, known, plans, failures.as_slice())?;
-    joined(alloc, &lines)
+    match asking {
+        Asking::Lines => joined(alloc, &lines),
+        Asking::Left => left_text(alloc, &lines),
+    }
 }

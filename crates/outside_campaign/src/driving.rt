@@ -5,7 +5,7 @@ ghost use Rattle.plan_gen.specs.PlanList.{most_plans};
 ghost use Rattle.answer_text.specs.Answers.{Answer, Says};
 ghost use Rattle.outside_campaign.specs.Campaigns.{plans, asks_text, AsksFault};
 
-use crate::asking::asks_text;
+use crate::asking::{Asking, asks_text};
 use crate::planned::{borrowed, planned};
 use crate::refusal::OutsideFault;
 use answer_text::read;
@@ -16,32 +16,33 @@ use std::alloc::Global;
 use target_trait::Sink;
 
 /// Writes what is still to be tried of a campaign on a component that somebody else runs, by the answers so far: a line for each scenario,
-/// tidied, `none` for the one without entries, and each once. First come the open candidates of the reductions, one reduction for each
+/// tidied, `none` for the one without entries, and each once; or `left` and how many lines these are. First come the open candidates of the reductions, one reduction for each
 /// code with which a plan is known to fail, from the least such plan: all that its present round waits for. Then come the plans that aren't
-/// answered. Nothing is written where all is known, and only then. Any of the lines may be tried, in any order.
+/// answered. No line is written where all is known, and only then. Any of the lines may be tried, in any order.
 ///
 /// Nothing is written before the whole text stands. `Answers` is the answers' first fault; `NotAnswered` never comes; and of a fault as of
 /// a campaign, `TooManyPlans` comes only where the list has more than 65536 plans. After each of these, and where memory was refused, the
 /// sink is as it was and hasn't failed; `Write` tells how many bytes of the text, fewer than all, went out before the sink failed.
 pub fn write_asks<W: Sink>(
     alloc: Global,
+    asking: Asking,
     outside: &Outside,
     settings: &CampaignSettings,
     answers: &[u8],
     sink: &mut W,
 ) -> Result<(), OutsideFault>
     requires { W.has_failed sink.old ≡ false }
-    ensures text { OnOk result (Appends (W.told sink.old) (W.told sink.new) (asks_text outside.now settings.now answers.now)) }
+    ensures text { OnOk result (Appends (W.told sink.old) (W.told sink.new) (asks_text asking outside.now settings.now answers.now)) }
     ensures few { OnOk result (length (plans outside.now settings.now) ≤ most_plans) }
     ensures sound { OnOk result (W.has_failed sink.new ≡ false) }
     // Where the answers have a fault nothing is asked.
     ensures said { OnOk result ((said : List Answer) × Says outside.now.codes answers.now said) }
-    ensures fault { IfErr result (AsksFault outside.now settings.now answers.now (W.told sink.old) (W.told sink.new) (W.has_failed sink.new)) }
+    ensures fault { IfErr result (AsksFault asking outside.now settings.now answers.now (W.told sink.old) (W.told sink.new) (W.has_failed sink.new)) }
 {
     let known = read(alloc, outside.codes.as_slice(), answers)?;
     let points = borrowed(alloc, outside.points.as_slice())?;
     let plans = planned(alloc, points.as_slice(), outside, settings)?;
-    let text = asks_text(alloc, &known, &CampaignPlans::by_census(&plans))?;
+    let text = asks_text(alloc, asking, &known, &CampaignPlans::by_census(&plans))?;
     write_report(text.as_bytes(), sink)?;
     Ok(())
 }

@@ -15,7 +15,7 @@ mod table;
 mod telling;
 mod verdicts;
 
-pub use asking::{asks, joined};
+pub use asking::{Asking, asks, joined};
 pub use driving::write_asks;
 pub use findings::{Findings, findings_known};
 pub use forms::{Form, Shown, text_in};

@@ -5,6 +5,7 @@ use Rattle.run_explained.specs.Tales.{telling_text}
 use Rattle.campaign_core.specs.CommandTexts.{tried, LeavesOnly}
 use Rattle.campaign_core.specs.Headline.{campaign_on}
 use Rattle.target_trait.specs.Verdicts.{is_fail}
+use Rattle.target_trait.specs.declared.judgement.Verdict.{Verdict}
 use Rattle.campaign_main.specs.Exit.{concluded}
 use Rattle.campaign_main.specs.declared.fault.CommandFault.TheVariants.{Campaign}
 use Rattle.campaign_main.proofs.AnswerLemmas.{short-up}
@@ -18,15 +19,15 @@ returns-clause-text g c =
     let tells = g.T.TellingTarget in
     let W = g.W.Sink in
     let s = c.args.subject.now in
-    let stream = c.in_ok-stream.stream in
-    let scenario = c.in_ok-stream.scenario in
+    let stream = c.in_ok-taken.taken.stream in
+    let scenario = c.in_ok-taken.taken.scenario in
     let run = given_of scenario T.names s.settings.now.plans.seed stream s.settings.now.max_hits in
-    telling-written _ _ _ _ (stream, scenario) c.in_ok-stream.ensures.ok _ _ _ _
+    telling-written _ _ _ _ (stream, scenario) c.in_ok-taken.ensures.ok _ _ _ _
     (subst (λ t. Appends (W.told c.args.output.now) (W.told c.explain_one_telling.new.sink) (telling_text T.code_text (T.asks t s.workload.now) run
     (tells.state_of t s.workload.now run) (tells.reason_of t s.workload.now run))) c.in_ok-twin.ensures c.in_ok-verdict.ensures.text)
     c.in_ok-verdict.ensures.sound
-    (c.concluded.ensures ∙ ap (λ b. concluded b false) (c.is_fail.ensures ∙ ap is_fail (c.in_ok-verdict.ensures.verdict
-    ∙ ap (λ t. (tried (campaign_on T t s.workload.now s.settings.now) stream scenario).verdict) c.in_ok-twin.ensures)))
+    (c.judged.ensures.conclusion ∙ ap (λ (v : Verdict). concluded (is_fail v) false) (c.in_ok-verdict.ensures.verdict
+    ∙ ap (λ t. (tried (campaign_on T t s.workload.now s.settings.now) stream scenario).verdict) c.in_ok-twin.ensures))
 
 pub returns-in_err-verdict-clause-text : goal.returns-in_err-verdict-clause-text
 returns-in_err-verdict-clause-text g c =
@@ -34,19 +35,19 @@ returns-in_err-verdict-clause-text g c =
     let tells = g.T.TellingTarget in
     let W = g.W.Sink in
     let s = c.args.subject.now in
-    let stream = c.in_ok-stream.stream in
-    let scenario = c.in_ok-stream.scenario in
+    let stream = c.in_ok-taken.taken.stream in
+    let scenario = c.in_ok-taken.taken.scenario in
     let run = given_of scenario T.names s.settings.now.plans.seed stream s.settings.now.max_hits in
     short-up _ _ _ _ _ (Campaign c.in_err-verdict.field-0.0) c.from_residual-in_err-verdict.ensures.1
-    (telling-short _ _ _ _ (stream, scenario) c.in_ok-stream.ensures.ok _ _ _ _
+    (telling-short _ _ _ _ (stream, scenario) c.in_ok-taken.ensures.ok _ _ _ _
     (subst (λ t. LeavesOnly (W.told c.args.output.now) (W.told c.explain_one_telling.new.sink) (W.has_failed c.explain_one_telling.new.sink)
     (telling_text T.code_text (T.asks t s.workload.now) run (tells.state_of t s.workload.now run) (tells.reason_of t s.workload.now run))
     c.in_err-verdict.field-0.0) c.in_ok-twin.ensures c.in_err-verdict.ensures.fault))
 
 pub returns-clause-noted : goal.returns-clause-noted
 returns-clause-noted g c =
-    telling-noted _ _ _ _ (c.in_ok-stream.stream, c.in_ok-stream.scenario) c.in_ok-stream.ensures.ok None None _ _ _ _
-    (c.as_str.ensures.value ∙ c.in_ok-stream.ensures.notes) c.note.ensures
+    telling-noted _ _ _ _ (c.in_ok-taken.taken.stream, c.in_ok-taken.taken.scenario) c.in_ok-taken.ensures.ok None None _ _ _ _
+    (c.as_str.ensures.value ∙ c.in_ok-taken.ensures.notes) c.judged.ensures.noted
 
 pub returns-in_err-verdict-clause-noted : goal.returns-in_err-verdict-clause-noted
 returns-in_err-verdict-clause-noted g c =
