@@ -49,6 +49,13 @@ What a page shows of a report that stands in this repository, and what a table t
   page.md: examples/replace_late_sync.toml.stdout ends otherwise: reduced none
   page.md: outside/examples/leveldb/report has 130 plans, failing 3 lost: leveldb
   page.md: outside/examples/dovecot/report has 184 plans, failing none: dovecot
+  $ printf '%s\n' '```sh' 'outside/loop "$PAKLOUR/outside/examples/sqlite/extra.toml" answers try.sh' '```' '' '```' > begin.md
+  $ { cat begin.md; printf '%s\n' 'tests 3' '```'; } > page.md
+  $ rules
+  $ { cat begin.md; printf '%s\n' 'tests 1' '```'; } > page.md
+  $ rules
+  pages:
+  page.md: outside/examples/sqlite/extra.report ends otherwise: tests 1
 
 How many plans a depth has: tests/sizes.t has 13, 21 and 21 of a small replacement, of which nothing is left from depth 2 on, and 13, 23 and 25 of
 `ignore_sync`, from depth 3 on.
