@@ -1,7 +1,7 @@
 //! The decision, and the second phase: the participants are told of it.
 ghost use Rattle.std.specs.Prelude.{◌≡◌, ◌<◌, ◌≤◌, ◌+◌, OnOk, length, if◌then◌else◌};
 ghost use Rattle.commit_target.specs.Steps.{ForceCommit, ForceCommitAgain, SendCommit, SendAbort, Over, at_step, one_of, next_of};
-ghost use Rattle.commit_target.specs.Steps.{commit_to, abort_to, after_no_commit, unacknowledged, aborted, committed, begun, end_unless};
+ghost use Rattle.commit_target.specs.Steps.{commit_to, abort_to, after_phase, after_no_commit, unacknowledged, aborted, committed, begun, end_unless};
 ghost use Rattle.commit_target.specs.inside.Batches.{AddsAll, abort_write};
 ghost use Rattle.commit_target.specs.inside.Seen.{Leads, Stands, Due, Ended};
 
@@ -23,7 +23,7 @@ const ROUND: [u32; 3] = [
     Point::SendAck as u32,
 ];
 
-/// The coordinator forces the commit record.
+/// The coordinator forces the commit record. end_first has the end record behind it.
 fn force_commit(
     variant: Variant,
     workload: &Transactions,
@@ -33,6 +33,7 @@ fn force_commit(
 ) -> Result<bool, Cut>
     requires { Stands variant workload.now session.old (at_step progress.now ForceCommit) logs.old }
     ensures given { session.new.given ≡ session.old.given }
+    ensures notes { logs.new.notes ≡ logs.old.notes }
     ensures led { Leads result (λ forced.
         Stands variant workload.now session.new (if forced then committed progress.now else after_no_commit variant workload.now progress.now) logs.new)
         (Ended variant workload.now session.new (at_step progress.now Over) logs.new) }
@@ -41,6 +42,9 @@ fn force_commit(
         return Ok(false);
     }
     logs.write(Write::Force(Party::Coordinator, progress.entry(Kind::Commit)))?;
+    if let Some(end) = progress.early_write(variant) {
+        logs.write(end)?;
+    }
     Ok(true)
 }
 
@@ -54,6 +58,7 @@ fn force_commit_again(
 ) -> Result<(), Cut>
     requires { Stands variant workload.now session.old (at_step progress.now ForceCommitAgain) logs.old }
     ensures given { session.new.given ≡ session.old.given }
+    ensures notes { logs.new.notes ≡ logs.old.notes }
     ensures led { Leads result (λ _. Stands variant workload.now session.new (committed progress.now) logs.new)
         (Ended variant workload.now session.new (at_step progress.now Over) logs.new) }
 {
@@ -74,6 +79,7 @@ pub fn commits(
 ) -> Result<bool, Cut>
     requires { Stands variant workload.now session.old (at_step progress.old ForceCommit) logs.old }
     ensures given { session.new.given ≡ session.old.given }
+    ensures notes { logs.new.notes ≡ logs.old.notes }
     ensures begun { progress.new.begun ≡ progress.old.begun }
     ensures led { Leads result (λ commits.
         Stands variant workload.now session.new (if commits then at_step progress.new (SendCommit 0) else aborted workload.now progress.new) logs.new)
@@ -84,7 +90,9 @@ pub fn commits(
             Variant::TwoTries => {
                 force_commit_again(variant, workload, progress, logs, session)?;
             }
-            Variant::Sound | Variant::LazyPrepare | Variant::EarlyEnd => return Ok(false),
+            Variant::Sound | Variant::LazyPrepare | Variant::EarlyEnd | Variant::EndFirst => {
+                return Ok(false);
+            }
         }
     }
     progress.tell()?;
@@ -102,6 +110,7 @@ fn abort_to(
 ) -> Result<(), Cut>
     requires { Stands variant workload.now session.old (at_step progress.now (SendAbort place)) logs.old }
     ensures given { session.new.given ≡ session.old.given }
+    ensures notes { logs.new.notes ≡ logs.old.notes }
     ensures led { Leads result (λ _.
         Stands variant workload.now session.new (abort_to workload.now progress.now (next_of place (length progress.now.yes))) logs.new)
         (Ended variant workload.now session.new (at_step progress.now Over) logs.new) }
@@ -118,7 +127,8 @@ fn abort_to(
 
 /// So many of those whose yes arrived, from the first one on, know of the abort.
 fn abort_each(count: usize, progress: &Progress, logs: &mut Logs) -> Result<(), AllocError>
-    ensures { OnOk result (AddsAll logs.old logs.new (λ place. abort_write progress.now place) 0 count) }
+    ensures notes { logs.new.notes ≡ logs.old.notes }
+    ensures adds { OnOk result (AddsAll logs.old logs.new (λ place. abort_write progress.now place) 0 count) }
 {
     let entry = progress.entry(Kind::Abort);
     for place in 0..count {
@@ -137,6 +147,7 @@ fn pass_aborts(
 ) -> Result<usize, Cut>
     requires { Stands variant workload.now session.old (aborted workload.now progress.now) logs.old }
     ensures given { session.new.given ≡ session.old.given }
+    ensures notes { logs.new.notes ≡ logs.old.notes }
     ensures led { Leads result (λ n. (n ≤ length progress.now.yes)
         × Stands variant workload.now session.new (abort_to workload.now progress.now (one_of n (length progress.now.yes))) logs.new)
         (Ended variant workload.now session.new (at_step progress.now Over) logs.new) }
@@ -156,6 +167,7 @@ pub fn tell_abort(
 ) -> Result<(), Cut>
     requires { Stands variant workload.now session.old (aborted workload.now progress.now) logs.old }
     ensures given { session.new.given ≡ session.old.given }
+    ensures notes { logs.new.notes ≡ logs.old.notes }
     ensures led { Leads result (λ _. Stands variant workload.now session.new (begun workload.now progress.now) logs.new)
         (Ended variant workload.now session.new (at_step progress.now Over) logs.new) }
 {
@@ -177,9 +189,10 @@ fn commit_to(
 ) -> Result<bool, Cut>
     requires { Stands variant workload.now session.old (at_step progress.now (SendCommit participant)) logs.old }
     ensures given { session.new.given ≡ session.old.given }
+    ensures notes { logs.new.notes ≡ logs.old.notes }
     ensures led { Leads result (λ acknowledges.
         let t = (if acknowledges then progress.now else unacknowledged progress.now) in let next = next_of participant workload.now.participants in
-        Due variant workload.now session.new (commit_to workload.now t next) (end_unless variant t t.acknowledged next) logs.new)
+        Due variant workload.now session.new (commit_to variant workload.now t next) (end_unless variant t t.acknowledged next) logs.new)
         (Ended variant workload.now session.new (at_step progress.now Over) logs.new) }
 {
     if !ask(session, Point::SendOutcome as u32)? {
@@ -207,8 +220,9 @@ fn pass_commits(
     requires within { participant < workload.now.participants }
     requires stands { Stands variant workload.now session.old (at_step progress.now (SendCommit participant)) logs.old }
     ensures given { session.new.given ≡ session.old.given }
+    ensures notes { logs.new.notes ≡ logs.old.notes }
     ensures led { Leads result (λ n. let next = one_of (participant + n) workload.now.participants in (participant + n ≤ workload.now.participants)
-        × Due variant workload.now session.new (commit_to workload.now progress.now next)
+        × Due variant workload.now session.new (commit_to variant workload.now progress.now next)
         (end_unless variant progress.now progress.now.acknowledged next) logs.new)
         (Ended variant workload.now session.new (at_step progress.now Over) logs.new) }
 {
@@ -232,9 +246,10 @@ fn some_commits(
     requires fits { workload.now.participants ≤ usize.MAX }
     requires stands { Stands variant workload.now session.old (at_step progress.old (SendCommit participant)) logs.old }
     ensures given { session.new.given ≡ session.old.given }
+    ensures notes { logs.new.notes ≡ logs.old.notes }
     ensures begun { progress.new.begun ≡ progress.old.begun }
     ensures led { Leads result (λ n. let next = one_of n workload.now.participants in (participant < n) × (n ≤ workload.now.participants)
-        × Due variant workload.now session.new (commit_to workload.now progress.new next)
+        × Due variant workload.now session.new (commit_to variant workload.now progress.new next)
         (end_unless variant progress.new progress.new.acknowledged next) logs.new)
         (Ended variant workload.now session.new (at_step progress.new Over) logs.new) }
 {
@@ -249,7 +264,7 @@ fn some_commits(
 }
 
 /// All participants are told of the commit, and then the coordinator ends it.
-pub fn tell_commit(
+fn tell_all(
     variant: Variant,
     workload: &Transactions,
     progress: &mut Progress,
@@ -258,8 +273,9 @@ pub fn tell_commit(
 ) -> Result<(), Cut>
     requires { Stands variant workload.now session.old (at_step progress.old (SendCommit 0)) logs.old }
     ensures given { session.new.given ≡ session.old.given }
+    ensures notes { logs.new.notes ≡ logs.old.notes }
     ensures begun { progress.new.begun ≡ progress.old.begun }
-    ensures led { Leads result (λ _. Stands variant workload.now session.new (begun workload.now progress.new) logs.new)
+    ensures led { Leads result (λ _. Stands variant workload.now session.new (after_phase variant workload.now progress.new) logs.new)
         (Ended variant workload.now session.new (at_step progress.new Over) logs.new) }
 {
     let all = workload.participants();
@@ -269,6 +285,28 @@ pub fn tell_commit(
     }
     if let Some(end) = progress.end_write(variant) {
         logs.write(end)?;
+    }
+    Ok(())
+}
+
+/// The second phase of a commit. end_first gives up where an acknowledgement is missing then.
+pub fn tell_commit(
+    variant: Variant,
+    workload: &Transactions,
+    progress: &mut Progress,
+    logs: &mut Logs,
+    session: &mut Session<'_>,
+) -> Result<(), Cut>
+    requires { Stands variant workload.now session.old (at_step progress.old (SendCommit 0)) logs.old }
+    ensures given { session.new.given ≡ session.old.given }
+    ensures notes { logs.new.notes ≡ logs.old.notes }
+    ensures begun { progress.new.begun ≡ progress.old.begun }
+    ensures led { Leads result (λ _. Stands variant workload.now session.new (begun workload.now progress.new) logs.new)
+        (Ended variant workload.now session.new (at_step progress.new Over) logs.new) }
+{
+    tell_all(variant, workload, progress, logs, session)?;
+    if progress.gives_up(variant) {
+        return Err(Cut::Over);
     }
     Ok(())
 }

@@ -37,6 +37,7 @@ fn prepare(
 ) -> Result<Vote, Cut>
     requires { Stands variant workload.now session.old (at_step progress.now (ForcePrepare participant)) logs.old }
     ensures given { session.new.given ≡ session.old.given }
+    ensures notes { logs.new.notes ≡ logs.old.notes }
     ensures led { Leads result (λ vote. Stands variant workload.now session.new (at_step progress.now (SendVote participant vote)) logs.new)
         (Ended variant workload.now session.new (at_step progress.now Over) logs.new) }
 {
@@ -59,6 +60,7 @@ fn choose(
     requires { Stands variant workload.now session.old
         (at_step progress.now (vote_step (wish workload.now (number progress.now) participant) participant)) logs.old }
     ensures given { session.new.given ≡ session.old.given }
+    ensures notes { logs.new.notes ≡ logs.old.notes }
     ensures led { Leads result (λ vote. Stands variant workload.now session.new (at_step progress.now (SendVote participant vote)) logs.new)
         (Ended variant workload.now session.new (at_step progress.now Over) logs.new) }
 {
@@ -79,6 +81,7 @@ fn vote(
 ) -> Result<(), Cut>
     requires { Stands variant workload.now session.old (at_step progress.old (SendPrepare participant)) logs.old }
     ensures given { session.new.given ≡ session.old.given }
+    ensures notes { logs.new.notes ≡ logs.old.notes }
     ensures begun { progress.new.begun ≡ progress.old.begun }
     ensures led { Leads result (λ _. Stands variant workload.now session.new (after_vote workload.now progress.new participant) logs.new)
         (Ended variant workload.now session.new (at_step progress.new Over) logs.new) }
@@ -100,7 +103,7 @@ fn manner_of(variant: Variant) -> Manner
 {
     match variant {
         Variant::LazyPrepare => Manner::Append,
-        Variant::Sound | Variant::EarlyEnd | Variant::TwoTries => Manner::Force,
+        Variant::Sound | Variant::EarlyEnd | Variant::TwoTries | Variant::EndFirst => Manner::Force,
     }
 }
 
@@ -113,7 +116,8 @@ fn prepare_each(
     logs: &mut Logs,
 ) -> Result<(), AllocError>
     requires { first + count ≤ usize.MAX }
-    ensures { OnOk result (AddsAll logs.old logs.new (λ i. prepare_write variant progress.now i) first count) }
+    ensures notes { logs.new.notes ≡ logs.old.notes }
+    ensures adds { OnOk result (AddsAll logs.old logs.new (λ i. prepare_write variant progress.now i) first count) }
 {
     let entry = progress.entry(Kind::Prepare);
     logs.add_each(first, count, entry, manner_of(variant))
@@ -132,6 +136,7 @@ fn pass_votes(
     requires fits { workload.now.participants ≤ usize.MAX }
     requires stands { Stands variant workload.now session.old (at_step progress.old (SendPrepare participant)) logs.old }
     ensures given { session.new.given ≡ session.old.given }
+    ensures notes { logs.new.notes ≡ logs.old.notes }
     ensures begun { progress.new.begun ≡ progress.old.begun }
     ensures led { Leads result (λ n. (participant + n ≤ workload.now.participants)
         × Stands variant workload.now session.new (prepare_to workload.now progress.new (one_of (participant + n) workload.now.participants)) logs.new)
@@ -157,6 +162,7 @@ fn some_votes(
     requires fits { workload.now.participants ≤ usize.MAX }
     requires stands { Stands variant workload.now session.old (at_step progress.old (SendPrepare participant)) logs.old }
     ensures given { session.new.given ≡ session.old.given }
+    ensures notes { logs.new.notes ≡ logs.old.notes }
     ensures begun { progress.new.begun ≡ progress.old.begun }
     ensures led { Leads result (λ next. (participant < next) × (next ≤ workload.now.participants)
         × Stands variant workload.now session.new (prepare_to workload.now progress.new (one_of next workload.now.participants)) logs.new)
@@ -180,6 +186,7 @@ pub fn votes(
 ) -> Result<(), Cut>
     requires { Stands variant workload.now session.old (at_step progress.old (SendPrepare 0)) logs.old }
     ensures given { session.new.given ≡ session.old.given }
+    ensures notes { logs.new.notes ≡ logs.old.notes }
     ensures begun { progress.new.begun ≡ progress.old.begun }
     ensures led { Leads result (λ _. Stands variant workload.now session.new (decided workload.now progress.new) logs.new)
         (Ended variant workload.now session.new (at_step progress.new Over) logs.new) }

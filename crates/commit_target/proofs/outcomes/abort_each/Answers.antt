@@ -1,4 +1,4 @@
-use Rattle.std.proofs.Common.{◌≡◌, ◌≤◌, ◌<◌, ◌+◌, ℕ, get_or, ap, ◌∙◌, subst, arith}
+use Rattle.std.proofs.Common.{◌≡◌, ◌≤◌, ◌<◌, ◌+◌, ℕ, get_or, refl, ap, ◌∙◌, subst, arith}
 use Rattle.commit_target.specs.declared.records.Record.{Record}
 use Rattle.commit_target.specs.declared.records.Party.TheVariants.{Participant}
 use Rattle.commit_target.specs.declared.records.Write.{Write}
@@ -9,7 +9,7 @@ use Rattle.commit_target.proofs.Batches.{none_added, one_added, all_added}
 use Rattle.commit_target.proofs.outcomes.abort_each.Goals as goal
 
 pub loop-place-init : goal.loop-place-init
-loop-place-init c = none_added _ _ 0 c.args.count
+loop-place-init c = record { notes = refl; added = none_added _ _ 0 c.args.count }
 
 pub loop-place-preserved : goal.loop-place-preserved
 loop-place-preserved c =
@@ -20,10 +20,13 @@ loop-place-preserved c =
     let is : Append (Participant c.voter.result) c.entry-entry.result ≡ abort_write c.args.progress.now k =
     ap (λ (i : ℕ). Append (Participant i) c.entry-entry.result) c.voter.ensures
     ∙ ap (λ (r : Record). Append (Participant (get_or c.args.progress.now.yes k 0)) r) c.entry-entry.ensures in
-    one_added _ _ _ writes 0 c.args.count k from before c.loop-place.invariant
-    (subst (λ (x : Write). AddsEvent c.loop-place.logs c.write.new.self (Written x)) is c.in_ok-write.ensures.ok)
+    record {
+      notes = c.write.ensures.notes ∙ c.loop-place.invariant.notes;
+      added = one_added _ _ _ writes 0 c.args.count k from before c.loop-place.invariant.added
+          (subst (λ (x : Write). AddsEvent c.loop-place.logs c.write.new.self (Written x)) is c.in_ok-write.ensures.ok);
+    }
 
-pub returns : goal.returns
-returns c =
+pub returns-clause-adds : goal.returns-clause-adds
+returns-clause-adds c =
     let there : 0 + c.args.count ≤ c.loop-place.place = omega arith in
-    all_added _ _ _ 0 c.args.count c.loop-place.place there c.loop-place.invariant
+    all_added _ _ _ 0 c.args.count c.loop-place.place there c.loop-place.invariant.added

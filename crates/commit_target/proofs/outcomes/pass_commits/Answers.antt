@@ -17,5 +17,5 @@ returns-clause-led c =
       few,
       commits_passed c.args.variant w c.args.session.now c.args.progress.now c.args.logs.now i n c.requires.within few c.requires.stands c.in_ok-passed.ensures.told
           _ c.in_ok-passed.ensures.ok c.in_ok-passed.ensures.goes_on _
-          (subst (λ (x : Record). AddsAll c.args.logs.now c.add_each.new.self (λ j. Force (Participant j) x) i n) c.entry-entry.ensures c.in_ok-add_each.ensures),
+          (subst (λ (x : Record). AddsAll c.args.logs.now c.add_each.new.self (λ j. Force (Participant j) x) i n) c.entry-entry.ensures c.in_ok-add_each.ensures.adds),
     )

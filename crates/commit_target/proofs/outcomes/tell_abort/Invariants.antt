@@ -6,5 +6,6 @@ use Rattle.commit_target.proofs.outcomes.tell_abort.Given as goal
 abbrev pub invariant-loop-place : goal.invariant-loop-place
 invariant-loop-place l = record {
   given : l.session.given ≡ l.fn.session.given;
+  notes : l.logs.notes ≡ l.fn.logs.notes;
   stands : Stands l.variant l.workload l.session (abort_to l.workload l.progress (one_of l.place (length l.progress.yes))) l.logs;
 }

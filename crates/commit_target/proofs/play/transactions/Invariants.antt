@@ -6,6 +6,7 @@ use Rattle.commit_target.proofs.play.transactions.Given as goal
 abbrev pub invariant-loop-number : goal.invariant-loop-number
 invariant-loop-number l = record {
   given : l.session.given ≡ l.fn.session.given;
+  notes : l.logs.notes ≡ l.fn.logs.notes;
   number : l.progress.begun ≡ l._number;
   stands : Stands l.variant l.workload l.session (begun l.workload l.progress) l.logs;
 }

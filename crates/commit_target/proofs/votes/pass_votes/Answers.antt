@@ -17,5 +17,5 @@ returns-clause-led c =
     subst (λ (t : ℕ). wish w t (i + k) ≡ Yes) c.number.ensures (c.willing-willing.ensures.yes k (omega arith)) in (
       few,
       votes_passed c.args.variant w c.args.session.now c.args.progress.now c.args.logs.now i n c.requires.within few all c.requires.stands c.in_ok-passed.ensures.told
-          _ c.in_ok-passed.ensures.ok c.in_ok-passed.ensures.goes_on _ c.in_ok-prepare_each.ensures _ c.in_ok-take_yes.ensures.ok,
+          _ c.in_ok-passed.ensures.ok c.in_ok-passed.ensures.goes_on _ c.in_ok-prepare_each.ensures.adds _ c.in_ok-take_yes.ensures.ok,
     )

@@ -6,6 +6,7 @@ use Rattle.commit_target.proofs.votes.votes.Given as goal
 abbrev pub invariant-loop-participant : goal.invariant-loop-participant
 invariant-loop-participant l = record {
   given : l.session.given ≡ l.fn.session.given;
+  notes : l.logs.notes ≡ l.fn.logs.notes;
   begun : l.progress.begun ≡ l.fn.progress.begun;
   few : l.participant ≤ l.workload.participants;
   stands : Stands l.variant l.workload l.session (prepare_to l.workload l.progress (one_of l.participant l.workload.participants)) l.logs;
