@@ -1,0 +1,4 @@
+mod Lost
+mod Replacing
+mod Delivering
+mod Committing

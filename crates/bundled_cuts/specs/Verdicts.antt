@@ -1,0 +1,15 @@
+-- The verdicts of runs to their power cut beside those of the runs without it.
+use Rattle.std.specs.Prelude.{◌≡◌, ℕ, List, length}
+use Rattle.scenario_values.specs.Scenario.{Entries}
+use Rattle.action_eval.specs.Answers.{Reply}
+use Rattle.target_trait.specs.Cuts.{Cut, asks_with, with_keep}
+use Rattle.target_trait.specs.Outcomes.{verdict_with}
+use Rattle.target_trait.specs.Play.{Move}
+use Rattle.cut_laws.specs.KeptSets.{run_of_case, LacksKeep, HasRoom}
+
+-- each scenario without an entry of `power::keep` comes with the cut to the verdict that it comes to without, whatever the seed and the number of the
+-- stream, and whatever the limit of hits that has room for one more hit for each pending write
+abbrev pub IsNoWeaker : (List Reply → Move) → Cut → List (List ℕ) → Type 0
+IsNoWeaker asks cut names = (seed stream limit : ℕ) (s : Entries) → LacksKeep s
+    → HasRoom limit cut (run_of_case asks names seed stream limit s)
+    → verdict_with (asks_with asks cut (length names)) (with_keep names) seed limit stream s ≡ verdict_with asks names seed limit stream s

@@ -1,0 +1,56 @@
+//! The laws, as contracts of functions that do nothing.
+ghost use Rattle.std.specs.Prelude.{ℕ, List};
+ghost use Rattle.cut_laws.specs.KeptSets.{LosesAlike};
+ghost use Rattle.file_replace.specs.declared.variant.Variant.{Variant as Replacement};
+ghost use Rattle.file_replace.specs.Work.{Work as Replacements};
+ghost use Rattle.file_replace.specs.Words.{point_names as replacement_points};
+ghost use Rattle.file_replace.specs.Steps.{asks_of as replacement_asks};
+ghost use Rattle.file_replace.specs.Crash.{cut_of as replacement_cut};
+ghost use Rattle.maildir_target.specs.declared.variant.Variant.{Variant as Delivery};
+ghost use Rattle.maildir_target.specs.Words.{point_names as delivery_points};
+ghost use Rattle.maildir_target.specs.Steps.{asks_of as delivery_asks};
+ghost use Rattle.maildir_target.specs.Crash.{cut_of as delivery_cut};
+ghost use Rattle.commit_target.specs.declared.variant.Variant.{Variant as Protocol};
+ghost use Rattle.commit_target.specs.Work.{Work as Transactions};
+ghost use Rattle.commit_target.specs.Words.{point_names as commit_points};
+ghost use Rattle.commit_target.specs.Steps.{asks_of as commit_asks};
+ghost use Rattle.commit_target.specs.Crash.{cut_of as commit_cut};
+ghost use Rattle.bundled_cuts.specs.Verdicts.{IsNoWeaker};
+
+use commit_target::Commit;
+use cut_laws::nothing_is_weaker;
+use file_replace::Replace;
+use maildir_target::Maildir;
+
+/// A replacement of a file, in each variant, is judged after a power cut that loses all as it is without one.
+pub fn file_replacement_loses_alike()
+    ensures { (variant : Replacement) (workload : Replacements)
+        → LosesAlike (replacement_asks variant workload) (replacement_cut variant workload) }
+{}
+
+/// A delivery, in each variant, is judged after a power cut that loses all as it is without one.
+pub fn delivery_loses_alike()
+    ensures { (variant : Delivery) (messages : List (List (List ℕ)))
+        → LosesAlike (delivery_asks variant messages) (delivery_cut variant messages) }
+{}
+
+/// A commit, in each variant, is judged after a power cut that loses all as it is without one, at which all parties restart.
+pub fn commit_loses_alike()
+    ensures { (variant : Protocol) (workload : Transactions)
+        → LosesAlike (commit_asks variant workload) (commit_cut variant workload) }
+{}
+
+/// Nothing weaker: of each bundled target, in each variant and over each workload, what fails without its power cut fails with it, with the same code, by
+/// the same scenario. So it is of a pass, and of a run that nothing is known of, as far as the limit has room for a hit for each pending write.
+pub fn nothing_is_weaker_for_bundled_targets()
+    ensures replacement { (variant : Replacement) (workload : Replacements)
+        → IsNoWeaker (replacement_asks variant workload) (replacement_cut variant workload) replacement_points }
+    ensures delivery { (variant : Delivery) (messages : List (List (List ℕ)))
+        → IsNoWeaker (delivery_asks variant messages) (delivery_cut variant messages) delivery_points }
+    ensures commit { (variant : Protocol) (workload : Transactions)
+        → IsNoWeaker (commit_asks variant workload) (commit_cut variant workload) commit_points }
+{
+    nothing_is_weaker::<Replace>();
+    nothing_is_weaker::<Maildir>();
+    nothing_is_weaker::<Commit>();
+}
