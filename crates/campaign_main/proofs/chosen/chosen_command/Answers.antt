@@ -1,0 +1,81 @@
+use Rattle.std.proofs.Common.{sym, subst}
+use Rattle.std.specs.Prelude.{IfSome, OnOk}
+use Rattle.campaign_main.specs.Commands.{campaign_for, choice_answer, committing_in, delivering_in, order_answer, replacing_in}
+use Rattle.campaign_main.specs.Ends.{ComesTo, Noted}
+use Rattle.campaign_main.specs.Promises.{KeepsPromises}
+use Rattle.campaign_main.proofs.chosen.chosen_command.Goals as goal
+
+pub returns-in-Replace-clause-text : goal.returns-in-Replace-clause-text
+returns-in-Replace-clause-text g c =
+    let W = g.W.Sink in
+    let order = c.args.order.now in
+    let settings = c.args.settings.now in
+    subst (λ chosen. ComesTo (choice_answer order settings chosen) (W.told c.args.output.now) (W.told c.bundled_command.new.output) (W.has_failed c.bundled_command.new.output) c.bundled_command.result) (sym c.in-Replace.is)
+    (subst (λ variant. ComesTo (order_answer order (replacing_in settings variant c.in-Replace.work)) (W.told c.args.output.now) (W.told c.bundled_command.new.output) (W.has_failed c.bundled_command.new.output) c.bundled_command.result)
+    c.new.ensures c.bundled_command.ensures.text)
+
+pub returns-in-Replace-clause-noted : goal.returns-in-Replace-clause-noted
+returns-in-Replace-clause-noted g c =
+    let E = g.E.Sink in
+    let order = c.args.order.now in
+    let settings = c.args.settings.now in
+    subst (λ chosen. Noted (choice_answer order settings chosen) (E.told c.args.faults.now) (E.told c.bundled_command.new.faults) (E.has_failed c.bundled_command.new.faults) c.bundled_command.result) (sym c.in-Replace.is)
+    (subst (λ variant. Noted (order_answer order (replacing_in settings variant c.in-Replace.work)) (E.told c.args.faults.now) (E.told c.bundled_command.new.faults) (E.has_failed c.bundled_command.new.faults) c.bundled_command.result)
+    c.new.ensures c.bundled_command.ensures.noted)
+
+pub returns-in-Replace-clause-promises : goal.returns-in-Replace-clause-promises
+returns-in-Replace-clause-promises g c =
+    let order = c.args.order.now in
+    let settings = c.args.settings.now in
+    subst (λ chosen. OnOk c.bundled_command.result (IfSome (campaign_for settings chosen) (KeepsPromises order))) (sym c.in-Replace.is)
+    (subst (λ variant. OnOk c.bundled_command.result (KeepsPromises order (replacing_in settings variant c.in-Replace.work))) c.new.ensures c.bundled_command.ensures.promises)
+
+pub returns-in-Maildir-clause-text : goal.returns-in-Maildir-clause-text
+returns-in-Maildir-clause-text g c =
+    let W = g.W.Sink in
+    let order = c.args.order.now in
+    let settings = c.args.settings.now in
+    subst (λ chosen. ComesTo (choice_answer order settings chosen) (W.told c.args.output.now) (W.told c.bundled_command-in-Maildir.new.output) (W.has_failed c.bundled_command-in-Maildir.new.output) c.bundled_command-in-Maildir.result) (sym c.in-Maildir.is)
+    (subst (λ variant. ComesTo (order_answer order (delivering_in settings variant c.in-Maildir.work)) (W.told c.args.output.now) (W.told c.bundled_command-in-Maildir.new.output) (W.has_failed c.bundled_command-in-Maildir.new.output) c.bundled_command-in-Maildir.result)
+    c.new-in-Maildir.ensures c.bundled_command-in-Maildir.ensures.text)
+
+pub returns-in-Maildir-clause-noted : goal.returns-in-Maildir-clause-noted
+returns-in-Maildir-clause-noted g c =
+    let E = g.E.Sink in
+    let order = c.args.order.now in
+    let settings = c.args.settings.now in
+    subst (λ chosen. Noted (choice_answer order settings chosen) (E.told c.args.faults.now) (E.told c.bundled_command-in-Maildir.new.faults) (E.has_failed c.bundled_command-in-Maildir.new.faults) c.bundled_command-in-Maildir.result) (sym c.in-Maildir.is)
+    (subst (λ variant. Noted (order_answer order (delivering_in settings variant c.in-Maildir.work)) (E.told c.args.faults.now) (E.told c.bundled_command-in-Maildir.new.faults) (E.has_failed c.bundled_command-in-Maildir.new.faults) c.bundled_command-in-Maildir.result)
+    c.new-in-Maildir.ensures c.bundled_command-in-Maildir.ensures.noted)
+
+pub returns-in-Maildir-clause-promises : goal.returns-in-Maildir-clause-promises
+returns-in-Maildir-clause-promises g c =
+    let order = c.args.order.now in
+    let settings = c.args.settings.now in
+    subst (λ chosen. OnOk c.bundled_command-in-Maildir.result (IfSome (campaign_for settings chosen) (KeepsPromises order))) (sym c.in-Maildir.is)
+    (subst (λ variant. OnOk c.bundled_command-in-Maildir.result (KeepsPromises order (delivering_in settings variant c.in-Maildir.work))) c.new-in-Maildir.ensures c.bundled_command-in-Maildir.ensures.promises)
+
+pub returns-in-Commit-clause-text : goal.returns-in-Commit-clause-text
+returns-in-Commit-clause-text g c =
+    let W = g.W.Sink in
+    let order = c.args.order.now in
+    let settings = c.args.settings.now in
+    subst (λ chosen. ComesTo (choice_answer order settings chosen) (W.told c.args.output.now) (W.told c.bundled_command-in-Commit.new.output) (W.has_failed c.bundled_command-in-Commit.new.output) c.bundled_command-in-Commit.result) (sym c.in-Commit.is)
+    (subst (λ variant. ComesTo (order_answer order (committing_in settings variant c.in-Commit.work)) (W.told c.args.output.now) (W.told c.bundled_command-in-Commit.new.output) (W.has_failed c.bundled_command-in-Commit.new.output) c.bundled_command-in-Commit.result)
+    c.new-in-Commit.ensures c.bundled_command-in-Commit.ensures.text)
+
+pub returns-in-Commit-clause-noted : goal.returns-in-Commit-clause-noted
+returns-in-Commit-clause-noted g c =
+    let E = g.E.Sink in
+    let order = c.args.order.now in
+    let settings = c.args.settings.now in
+    subst (λ chosen. Noted (choice_answer order settings chosen) (E.told c.args.faults.now) (E.told c.bundled_command-in-Commit.new.faults) (E.has_failed c.bundled_command-in-Commit.new.faults) c.bundled_command-in-Commit.result) (sym c.in-Commit.is)
+    (subst (λ variant. Noted (order_answer order (committing_in settings variant c.in-Commit.work)) (E.told c.args.faults.now) (E.told c.bundled_command-in-Commit.new.faults) (E.has_failed c.bundled_command-in-Commit.new.faults) c.bundled_command-in-Commit.result)
+    c.new-in-Commit.ensures c.bundled_command-in-Commit.ensures.noted)
+
+pub returns-in-Commit-clause-promises : goal.returns-in-Commit-clause-promises
+returns-in-Commit-clause-promises g c =
+    let order = c.args.order.now in
+    let settings = c.args.settings.now in
+    subst (λ chosen. OnOk c.bundled_command-in-Commit.result (IfSome (campaign_for settings chosen) (KeepsPromises order))) (sym c.in-Commit.is)
+    (subst (λ variant. OnOk c.bundled_command-in-Commit.result (KeepsPromises order (committing_in settings variant c.in-Commit.work))) c.new-in-Commit.ensures c.bundled_command-in-Commit.ensures.promises)
