@@ -12,14 +12,14 @@ WISHES = ['"yes"', '"yes"', '"no"']
 CHAINS = ["return", "1*return", "2*off->1*return", "1*off->panic", "50%return", "20%2*return->10%panic", "30%pause",
           "99.9%yield->3*print(x)->delay(7)"]
 VARIANTS = {
-    "replace": ["sound", "late_sync", "ignore_sync", "retry_write"],
-    "maildir": ["sound", "link_first", "ignore_write", "append_tmp"],
-    "commit": ["sound", "lazy_prepare", "early_end", "two_tries"],
+    "replace": ["sound", "late_sync", "ignore_sync", "retry_write", "rename_first", "in_place"],
+    "maildir": ["sound", "link_first", "ignore_write", "append_tmp", "deliver_in_new"],
+    "commit": ["sound", "lazy_prepare", "early_end", "two_tries", "end_first"],
 }
 POINTS = {
-    "replace": ["replace::write", "replace::sync", "replace::rename", "replace::unlink"],
-    "maildir": ["maildir::write", "maildir::sync", "maildir::link", "maildir::unlink"],
-    "commit": ["commit::force_prepare", "commit::force_commit", "commit::send_outcome", "elsewhere"],
+    "replace": ["replace::write", "replace::sync", "replace::rename", "replace::unlink", "power::keep"],
+    "maildir": ["maildir::write", "maildir::sync", "maildir::link", "maildir::unlink", "power::keep"],
+    "commit": ["commit::force_prepare", "commit::force_commit", "commit::send_outcome", "power::keep", "elsewhere"],
 }
 
 
@@ -54,6 +54,7 @@ def keys(numbers, points):
     yield f"rate = {numbers.below(1001)}"
     if grows:
         yield f"depth = {numbers.below(2) + 1}"
+    yield f"crash_states = {'true' if numbers.below(4) == 0 else 'false'}"
     scenarios = []
     for _ in range(numbers.below(3)):
         scenarios.append('"' + "".join(f"{numbers.among(points)}={numbers.among(CHAINS)};" for _ in range(numbers.below(3))) + '"')

@@ -9,7 +9,7 @@ replaced by the chunks `ne` and `w`, where nothing else is said. steps.py shows 
   > }
   $ small='[["ne", "w"]]'
 
-Where nothing fails, each variant does its work; one of them syncs late.
+Where nothing fails, each variant does its work. Two of them sync after the rename, and one writes `target` itself.
 
   $ replace sound old "$small"
   pass: create write write sync rename sync_dir
@@ -19,6 +19,10 @@ Where nothing fails, each variant does its work; one of them syncs late.
   pass: create write write sync rename sync_dir
   $ replace late_sync old "$small"
   pass: create write write rename sync_dir sync
+  $ replace rename_first old "$small"
+  pass: create write write rename sync sync_dir
+  $ replace in_place old "$small"
+  pass: clear create write write sync sync_dir
 
 A sync fails. The sound replacement cleans up and leaves the old contents. Where it is late or ignored an empty file is left, which is stale
 where the old contents were empty too.
@@ -50,6 +54,28 @@ two bytes is no letter. Half of nothing is nothing.
   torn: create write! write write sync rename sync_dir
   $ replace retry_write old '[["", "x"]]' write:1
   pass: create write! write write sync rename sync_dir
+
+These two sync the file before the directory, whose sync alone makes a name last. So they pass without crash states, whatever fails. Where the
+sync fails there is nothing to clean up. `in_place` clears the `target` that is there, and so none where an earlier replacement has unlinked it.
+
+  $ replace rename_first old "$small" write:1
+  pass: create write! unlink
+  $ replace rename_first old "$small" rename:1
+  pass: create write write rename! unlink
+  $ replace rename_first old "$small" sync:1
+  pass: create write write rename sync!
+  $ replace rename_first old '[["ab"], ["cd"]]' sync:1
+  pass: create write rename sync! create write rename sync sync_dir
+  $ replace in_place old "$small" clear:1
+  pass: clear!
+  $ replace in_place old "$small" write:1
+  pass: clear create write!
+  $ replace in_place old "$small" sync:1
+  pass: clear create write write sync!
+  $ replace in_place old '[["ab"], ["cd"]]' create:1
+  pass: clear create! create write sync sync_dir
+  $ replace in_place old '[["ab"], ["cd"]]' sync:1
+  pass: clear create write sync! clear create write sync sync_dir
 
 Chunks, and lists of them, may be empty.
 

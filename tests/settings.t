@@ -87,6 +87,16 @@ A variant is one of the target's own.
   settings: out of range variant
   $ told 'target = "replace"\nvariant = "lazy_prepare"\n[replace]\nold = ""\nreplacements = []'
   settings: out of range variant
+  $ told 'target = "maildir"\nvariant = "in_place"\n[maildir]\nmessages = []'
+  settings: out of range variant
+  $ told 'target = "replace"\nvariant = "rename_first"\n[replace]\nold = ""\nreplacements = []'
+  accepted
+  $ told 'target = "replace"\nvariant = "in_place"\n[replace]\nold = ""\nreplacements = []'
+  accepted
+  $ told 'target = "maildir"\nvariant = "deliver_in_new"\n[maildir]\nmessages = []'
+  accepted
+  $ told 'target = "commit"\nvariant = "end_first"\n[commit]\nparticipants = 1\ntransactions = []'
+  accepted
 
 Of several unknown keys the least is told, by its bytes. The table of another target is unknown, and where the target is none of the
 three, each table is. An unknown key comes before all that is wrong with the others.
@@ -222,6 +232,29 @@ wrong with the scenarios.
   settings: out of range rate
   $ told 'depth = 2\npairs = true\nscenarios = 1'
   settings: out of range pairs
+
+Crash states go with a depth and without one, and with pairs. They come after the depth and the pairs beside it, and before the scenarios.
+
+  $ told 'crash_states = 1'
+  settings: wrong type crash_states
+  $ told 'crash_states = "true"'
+  settings: wrong type crash_states
+  $ told 'crash_states = false'
+  accepted
+  $ told 'crash_states = true'
+  accepted
+  $ told 'crash_states = true\npairs = true'
+  accepted
+  $ told 'crash_states = true\ndepth = 2'
+  accepted
+  $ told 'crash_states = 1\ndepth = 65'
+  settings: out of range depth
+  $ told 'crash_states = 1\ndepth = 2\npairs = true'
+  settings: out of range pairs
+  $ told 'scenarios = 1\ncrash_states = 1'
+  settings: wrong type crash_states
+  $ told 'scenarios = 1\ncrash_states = true'
+  settings: wrong type scenarios
 
   $ told 'scenarios = "a=off"'
   settings: wrong type scenarios

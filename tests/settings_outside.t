@@ -24,7 +24,7 @@ Which keys there are
 --------------------
 
 The seed, and what is asked of plans, are as everywhere. `variant`, `workers` and `max_hits` mean nothing here, and other targets' tables aren't
-known; of unknown keys the least is told, before all else.
+known; of unknown keys the least is told, before all else. Nor does `crash_states`, as somebody else cuts the power.
 
   $ outside
   accepted
@@ -32,6 +32,10 @@ known; of unknown keys the least is told, before all else.
   settings: unknown key variant
   $ outside --top 'workers = 2'
   settings: unknown key workers
+  $ outside --top 'crash_states = true'
+  settings: unknown key crash_states
+  $ outside --top 'depth = 65' --top 'crash_states = 1'
+  settings: unknown key crash_states
   $ outside 'extra = 1' 'beta = 2'
   settings: unknown key outside.beta
   $ outside -label -codes -points -hits 'old = "x"'

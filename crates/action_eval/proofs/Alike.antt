@@ -44,11 +44,11 @@ words_told h = fold_tells (λ t. t.words) 0 h
 
 abbrev told_stop : List Tells → Option Stop
 told_stop [] = None
-told_stop (t ∷ ts) = option_or (stop_of t.did) (told_stop ts)
+told_stop (t ∷ ts) = option_or (told_stop ts) (stop_of t.did)
 
 stop_told : (h : List Hit) → told_stop (map tells h) ≡ stopped_by h
 stop_told [] = refl
-stop_told (x ∷ h) = ap (λ o. option_or (stop_of x.did) o) (stop_told h)
+stop_told (x ∷ h) = ap (λ o. option_or o (stop_of x.did)) (stop_told h)
 
 abbrev told_replies : List Tells → List Reply
 told_replies ts = map (λ t. reply_of t.did) ts

@@ -31,9 +31,8 @@ past : (r : Run) (p : ℕ) → r.given.limit ≤ length r.hits → is_over (hit 
 past r p h = below (length (hit r p).hits) r.given.limit (omega (arith, length-append r.hits (p ∷ [])))
 
 -- the answers are one more
-pub replies_more : (r : Run) (p : ℕ) → stopped r ≡ None → replies (hit r p) ≡ replies r ++ reply_to r p ∷ []
-replies_more r p running =
-    let here = none_first (is_over r) (stopped_by (history_of r)) running in
+pub replies_open : (r : Run) (p : ℕ) → is_over r ≡ false → replies (hit r p) ≡ replies r ++ reply_to r p ∷ []
+replies_open r p here =
     let said = λ (h : Hit). reply_of h.did in
     let told : replies r ≡ map said (history_of r) = ap (λ b. map said (history_of r) ++ cond b (Halt ∷ []) []) here ∙ append-nil (map said (history_of r)) in
     elim (cases_lt (length r.hits) r.given.limit) [
@@ -50,6 +49,9 @@ replies_more r p running =
           ∙ ap (λ b. map said (history_of r) ++ cond b (said (next r.given (history_of r) p)) Halt ∷ []) (sym (not_below r.given.limit (length r.hits) h))
           ∙ ap (λ l. l ++ reply_to r p ∷ []) (sym told)
     ]
+
+pub replies_more : (r : Run) (p : ℕ) → stopped r ≡ None → replies (hit r p) ≡ replies r ++ reply_to r p ∷ []
+replies_more r p running = replies_open r p (none_first (is_over r) (stopped_by (history_of r)) running)
 
 goes_on_task : (t : Task) (r : Run) → stopped r ≡ stop_of t → GoesOn (reply_of t) r
 goes_on_task task.Off r e = e
@@ -76,9 +78,15 @@ goes_on r p running =
     ]
 
 -- the same, of equal runs
+told_open : (r now : Run) (p : ℕ) (hits : List ℕ) (a : Reply) → r ≡ now → is_over now ≡ false → hits ≡ r.hits ++ p ∷ [] → a ≡ reply_to now p → replies (record { given = r.given; hits = hits }) ≡ replies now ++ a ∷ []
+told_open r now p hits a same here more said =
+    ap (λ (l : List ℕ). replies (record { given = r.given; hits = l })) more ∙ ap (λ (r : Run). replies (hit r p)) same ∙ replies_open now p here ∙ ap (λ (a : Reply). replies now ++ a ∷ []) (sym said)
+
 pub told_by : (r now : Run) (p : ℕ) (hits : List ℕ) (a : Reply) → r ≡ now → stopped now ≡ None → hits ≡ r.hits ++ p ∷ [] → a ≡ reply_to now p → replies (record { given = r.given; hits = hits }) ≡ replies now ++ a ∷ []
-told_by r now p hits a same running more said =
-    ap (λ (l : List ℕ). replies (record { given = r.given; hits = l })) more ∙ ap (λ (r : Run). replies (hit r p)) same ∙ replies_more now p running ∙ ap (λ (a : Reply). replies now ++ a ∷ []) (sym said)
+told_by r now p hits a same running more said = told_open r now p hits a same (none_first (is_over now) (stopped_by (history_of now)) running) more said
+
+pub told_within : (r now : Run) (p : ℕ) (hits : List ℕ) (a : Reply) → r ≡ now → length now.hits < now.given.limit → hits ≡ r.hits ++ p ∷ [] → a ≡ reply_to now p → replies (record { given = r.given; hits = hits }) ≡ replies now ++ a ∷ []
+told_within r now p hits a same room more said = told_open r now p hits a same (not_below (length now.hits) now.given.limit (omega arith)) more said
 
 pub goes_by : (r now : Run) (p : ℕ) (hits : List ℕ) (a : Reply) → r ≡ now → stopped now ≡ None → hits ≡ r.hits ++ p ∷ [] → a ≡ reply_to now p → GoesOn a (record { given = r.given; hits = hits })
 goes_by r now p hits a same running more said =

@@ -1,5 +1,5 @@
 -- The history of a run with one more hit.
-use Rattle.std.proofs.Common.{◌≡◌, ℕ, ◌+◌, ◌≤◌, ◌<◌, List, [], ◌∷◌, ◌++◌, length, take, Option, Some, None, refl, ap, ◌∙◌, arith, length-append}
+use Rattle.std.proofs.Common.{◌≡◌, ℕ, ◌+◌, ◌≤◌, ◌<◌, List, [], ◌∷◌, ◌++◌, length, take, Option, Some, None, refl, ap, sym, ◌∙◌, arith, length-append}
 use Rattle.std.specs.Option.{option_or}
 use Rattle.std.proofs.lemmas.List.{take-append-le, take_all, append-nil}
 use Rattle.std.proofs.lemmas.List.Sums.{sum_by-append}
@@ -38,15 +38,13 @@ option_or-none : {A : Type 0} (o : Option A) → option_or o None ≡ o
 option_or-none None = refl
 option_or-none (Some x) = refl
 
-none_before : {A : Type 0} (o p : Option A) → option_or o p ≡ None → o ≡ None
-none_before None p h = refl
-none_before (Some x) p h = cc
+option_or-assoc : {A : Type 0} (o p q : Option A) → option_or (option_or o p) q ≡ option_or o (option_or p q)
+option_or-assoc None p q = refl
+option_or-assoc (Some x) p q = refl
 
-none_after : {A : Type 0} (o p : Option A) → option_or o p ≡ None → p ≡ None
-none_after None p h = h
-none_after (Some x) p h = cc
+pub stopped-on : (h : List Hit) (x : Hit) → stopped_by (h ++ x ∷ []) ≡ option_or (stop_of x.did) (stopped_by h)
+stopped-on [] x = sym (option_or-none (stop_of x.did))
+stopped-on (y ∷ h) x = ap (λ o. option_or o (stop_of y.did)) (stopped-on h x) ∙ option_or-assoc (stop_of x.did) (stopped_by h) (stop_of y.did)
 
 pub stopped-more : (h : List Hit) (x : Hit) → stopped_by h ≡ None → stopped_by (h ++ x ∷ []) ≡ stop_of x.did
-stopped-more [] x n = option_or-none (stop_of x.did)
-stopped-more (y ∷ h) x n =
-    rw (none_before (stop_of y.did) (stopped_by h) n) (stopped-more h x (none_after (stop_of y.did) (stopped_by h) n))
+stopped-more h x n = stopped-on h x ∙ ap (option_or (stop_of x.did)) n ∙ option_or-none (stop_of x.did)

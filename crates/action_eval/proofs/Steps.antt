@@ -1,7 +1,7 @@
 -- A session's fields keep the run with one more hit.
 use Rattle.std.proofs.Common.{◌≡◌, ℕ, zero, suc, ◌+◌, ◌≤◌, ◌<◌, ◌^◌, true, false, cond, List, [], ◌∷◌, ◌++◌, length, map, take, slice_index, slice_index_or, slice_set, Bool, Option, Some, None, refl, ap, sym, ◌∙◌, arith, length-append, nat_lt, add-zero, subst, get_or}
 use Rattle.std.specs.List.{AllByRecursion, slice_range}
-use Rattle.std.specs.Option.{IfSome}
+use Rattle.std.specs.Option.{IfSome, option_or}
 use Rattle.std.proofs.lemmas.Bool.Decides.{nat_tests}
 use Rattle.std.proofs.lemmas.List.{append-nil}
 use Rattle.scenario_values.specs.declared.term.Term.{Term}
@@ -19,7 +19,7 @@ use Rattle.action_eval.specs.inside.Session.{IsOpen, Keeps, left_counts, start_o
 use Rattle.action_eval.proofs.Rests.{Stays, after_stays, whole_of, trial_of_rest, further, after_rest, within_rest, task_of_rest, length_of_rest, none_of_rest, rest_at, rests_set, rests_stay, rests_self, rests_length, rest_on, starts_in}
 use Rattle.action_eval.proofs.Trials.{few_words}
 use Rattle.action_eval.proofs.NamedCounts.{found, trial_by_counts, counts_spent, counts_stay, ends_within, stands, stands_nowhere}
-use Rattle.action_eval.proofs.Histories.{history-hit, words-more, millis-more, notes-more, stopped-more}
+use Rattle.action_eval.proofs.Histories.{history-hit, words-more, millis-more, notes-more, stopped-on}
 
 -- a hit of a point with this chain
 abbrev hit_of : Given → List Hit → ℕ → List Term → Hit
@@ -120,8 +120,9 @@ not_over limit n h = grind (arith, nat_tests)
 below : (limit n : ℕ) → n < limit → nat_lt n limit ≡ true
 below limit n h = grind (arith, nat_tests)
 
-still_running : (r : Run) → length r.hits ≤ r.given.limit → stopped r ≡ None → stopped_by (history_of r) ≡ None
-still_running r h n = sym (ap (λ b. cond b (Some stop.Limit) (stopped_by (history_of r))) (not_over r.given.limit (length r.hits) h)) ∙ n
+-- within the limit, what stopped a run is what a hit stopped
+stopped_within : (r : Run) → length r.hits ≤ r.given.limit → stopped r ≡ stopped_by (history_of r)
+stopped_within r h = ap (λ b. cond b (Some stop.Limit) (stopped_by (history_of r))) (not_over r.given.limit (length r.hits) h)
 
 -- the next answer is that of the next hit
 pub reply_is : (r : Run) (p : ℕ) → length r.hits < r.given.limit → reply_to r p ≡ reply_of (next r.given (history_of r) p).did
@@ -133,11 +134,11 @@ reply_found r p left did taken f h = ap reply_of f.did_is ∙ sym (reply_is r p 
 
 -- the fields after a hit keep the run with that hit
 pub keeps_hit : (r : Run) (p : ℕ) (found : List (Option (List Term × ℕ))) (left : List ℕ) (taken : ℕ) (notes : List Note) (millis : ℕ) (halt : Option Stop) → Keeps r found left taken notes millis halt
-    → length r.hits < r.given.limit → stopped r ≡ None
+    → length r.hits < r.given.limit
     → (left' : List ℕ) (did : Task) (taken' : ℕ) → Finds r p left' did taken' → millis_of did < 2 ^ 32
     → (found' : List (Option (List Term × ℕ))) → AreRests left (map (found_of r.given.scenario) r.given.catalogue) found'
-    → Keeps (hit r p) found' left' taken' (notes ++ notes_of_task p did) (millis + millis_of did) (stop_of did)
-keeps_hit r p found left taken notes millis halt k room running left' did taken' f small found' rests =
+    → Keeps (hit r p) found' left' taken' (notes ++ notes_of_task p did) (millis + millis_of did) (option_or (stop_of did) halt)
+keeps_hit r p found left taken notes millis halt k room left' did taken' f small found' rests =
     let h = history_of r in
     let x = next r.given h p in
     let more : history_of (hit r p) ≡ h ++ x ∷ [] = history-hit r p room in
@@ -156,8 +157,8 @@ keeps_hit r p found left taken notes millis halt k room running left' did taken'
           ∙ ap (λ q. notes_of h ++ notes_of_task q x.did) (sym point) ∙ sym (notes-more h x) ∙ ap notes_of (sym more);
       millis_are = sym millis_after;
       stop_is =
-          ap stop_of f.did_is ∙ sym (stopped-more h x (still_running r (omega arith) running)) ∙ ap stopped_by (sym more)
-          ∙ sym (ap (λ b. cond b (Some stop.Limit) (stopped_by (history_of (hit r p)))) (not_over r.given.limit (length (hit r p).hits) (omega (arith, longer))));
+          ap (λ d. option_or (stop_of d) halt) f.did_is ∙ ap (option_or (stop_of x.did)) (k.stop_is ∙ stopped_within r (omega arith))
+          ∙ sym (stopped-on h x) ∙ ap stopped_by (sym more) ∙ sym (stopped_within (hit r p) (omega (arith, longer)));
       few_hits = omega (arith, longer);
       few_words = omega (arith, words_after, f.taken_is, f.few, k.few_words, longer);
       few_millis = omega (arith, millis_after, k.millis_are, k.few_millis, small, longer);
@@ -292,12 +293,12 @@ finds_none r p found left taken notes millis halt k at =
     subst (λ (n : ℕ). Finds r p left task.Off n) (sym k.taken_is) (finds_nothing r p left task.Off k.left_is (none_of_rest left (found_of r.given.scenario (name_of r.given p)) at) refl)
 
 pub keeps_idle : (r : Run) (p : ℕ) (found : List (Option (List Term × ℕ))) (left : List ℕ) (taken : ℕ) (notes : List Note) (millis : ℕ) (halt : Option Stop) → Keeps r found left taken notes millis halt
-    → length r.hits < r.given.limit → stopped r ≡ None → IsRest left (found_of r.given.scenario (name_of r.given p)) None → (hits : List ℕ) → hits ≡ r.hits ++ p ∷ []
+    → length r.hits < r.given.limit → IsRest left (found_of r.given.scenario (name_of r.given p)) None → (hits : List ℕ) → hits ≡ r.hits ++ p ∷ []
     → Keeps (record { given = r.given; hits = hits }) found left taken notes millis halt
-keeps_idle r p found left taken notes millis halt k room running at hits more =
-    let kept = keeps_hit r p found left taken notes millis halt k room running left task.Off taken (finds_none r p found left taken notes millis halt k at) (omega arith) found k.found_is in
+keeps_idle r p found left taken notes millis halt k room at hits more =
+    let kept = keeps_hit r p found left taken notes millis halt k room left task.Off taken (finds_none r p found left taken notes millis halt k at) (omega arith) found k.found_is in
     keeps_same r.given.scenario r.given.catalogue r.given.limit found _ hits left left (record { seed = r.given.seed; stream = r.given.stream; taken = taken }) (record { seed = r.given.seed; stream = r.given.stream; taken = taken })
-    _ notes _ millis None halt (sym more) refl refl (append-nil notes) (add-zero millis) (sym running ∙ sym k.stop_is) kept
+    _ notes _ millis halt halt (sym more) refl refl (append-nil notes) (add-zero millis) refl kept
 
 -- a hit of a point with one, where these counts were read
 pub finds_some : (r : Run) (p : ℕ) (found : List (Option (List Term × ℕ))) (left : List ℕ) (drawn : Drawn) (notes : List Note) (millis : ℕ) (halt : Option Stop) → Keeps r found left drawn.taken notes millis halt
@@ -333,13 +334,13 @@ finds_off r p found left taken notes millis halt k read read_is chain start at h
     (finds_rest r p left k.scenario k.left_is chain start at place task.Off n (sym (ap (λ (t : Trial). t.place) same)) (sym (ap (λ (t : Trial). t.next) same)) within (sym off))
 
 pub keeps_off : (r : Run) (p : ℕ) (found : List (Option (List Term × ℕ))) (left : List ℕ) (taken : ℕ) (notes : List Note) (millis : ℕ) (halt : Option Stop) → Keeps r found left taken notes millis halt
-    → length r.hits < r.given.limit → stopped r ≡ None → (left' : List ℕ) → Finds r p left' task.Off taken → (hits : List ℕ) → hits ≡ r.hits ++ p ∷ [] → (after : List ℕ) → after ≡ left'
+    → length r.hits < r.given.limit → (left' : List ℕ) → Finds r p left' task.Off taken → (hits : List ℕ) → hits ≡ r.hits ++ p ∷ [] → (after : List ℕ) → after ≡ left'
     → (found' : List (Option (List Term × ℕ))) → AreRests left (map (found_of r.given.scenario) r.given.catalogue) found'
     → Keeps (record { given = r.given; hits = hits }) found' after taken notes millis halt
-keeps_off r p found left taken notes millis halt k room running left' f hits more after same found' rests =
-    let kept = keeps_hit r p found left taken notes millis halt k room running left' task.Off taken f (omega arith) found' rests in
+keeps_off r p found left taken notes millis halt k room left' f hits more after same found' rests =
+    let kept = keeps_hit r p found left taken notes millis halt k room left' task.Off taken f (omega arith) found' rests in
     keeps_same r.given.scenario r.given.catalogue r.given.limit found' _ hits left' after (record { seed = r.given.seed; stream = r.given.stream; taken = taken }) (record { seed = r.given.seed; stream = r.given.stream; taken = taken })
-    _ notes _ millis None halt (sym more) (sym same) refl (append-nil notes) (add-zero millis) (sym running ∙ sym k.stop_is) kept
+    _ notes _ millis halt halt (sym more) (sym same) refl (append-nil notes) (add-zero millis) refl kept
 
 -- the counts of a found chain are among those of all
 pub found_within : (r : Run) (found : List (Option (List Term × ℕ))) (left : List ℕ) (taken : ℕ) (notes : List Note) (millis : ℕ) (halt : Option Stop) → Keeps r found left taken notes millis halt

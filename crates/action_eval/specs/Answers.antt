@@ -1,6 +1,6 @@
 -- How the hits of a run are answered, by the actions of fail-rs's fail points. Nothing here counts down: each answer follows from all
 -- the hits before it.
-use Rattle.std.specs.Prelude.{◌≡◌, ℕ, zero, suc, ◌-◌, ◌==◌, ◌&&◌, nat_lt, nat_le, if◌then◌else◌, Bool, false, List, [], ◌∷◌, ◌++◌, Option, Some, None, map, take, length, sum_by, count_by, slice_get, slice_index_or}
+use Rattle.std.specs.Prelude.{◌≡◌, ℕ, zero, suc, ◌-◌, ◌==◌, ◌&&◌, nat_lt, nat_le, if◌then◌else◌, Bool, true, false, List, [], ◌∷◌, ◌++◌, Option, Some, None, map, take, length, sum_by, count_by, slice_get, slice_index_or}
 use Rattle.std.specs.Option.{option_map_or, option_or}
 use Rattle.std.specs.List.{flat_map}
 use Rattle.std.specs.Borrow.{Bor}
@@ -183,14 +183,24 @@ notes_of history = flat_map (λ h. notes_of_task h.point h.did) history
 abbrev pub total_millis : List Hit → ℕ
 total_millis history = sum_by (λ h. millis_of h.did) history
 
--- what the first hit that stops stops
+-- what the last hit that stops stops: only a power cut is asked after a stop, after that of a panic
 abbrev pub stopped_by : List Hit → Option Stop
 stopped_by [] = None
-stopped_by (h ∷ hs) = option_or (stop_of h.did) (stopped_by hs)
+stopped_by (h ∷ hs) = option_or (stopped_by hs) (stop_of h.did)
 
 -- what stopped a run
 abbrev pub stopped : Run → Option Stop
 stopped r = if is_over r then Some stop.Limit else stopped_by (history_of r)
+
+-- a pause and the limit end a run, of which nothing is known then; after a panic its power cut is still to come
+abbrev pub cuts_short : Option Stop → Bool
+cuts_short None = false
+cuts_short (Some stop.Panic) = false
+cuts_short (Some stop.Paused) = true
+cuts_short (Some stop.Limit) = true
+
+abbrev pub is_cut_short : Run → Bool
+is_cut_short r = cuts_short (stopped r)
 
 -- a run with further hits
 abbrev pub hits_of : Run → List ℕ → Run

@@ -1,6 +1,6 @@
 //! A session: one run, hit by hit.
 ghost use Rattle.std.specs.Prelude.{◌≡◌, ◌+◌, ◌^◌, ◌<◌, ◌≤◌, [], All, replicate, length, IfOk, OnOk, OnErr, None, Some, false, ◌++◌, ◌∷◌};
-ghost use Rattle.action_eval.specs.Answers.{AllGo, hits_of, rounds, did, task_at, replies, GoesOn, reply_to, reply_of_answer, hit, stopped, notes_of_task, asked, history_of, notes_of, total_millis, words_of, start, given_of, texts, name_of};
+ghost use Rattle.action_eval.specs.Answers.{AllGo, hits_of, rounds, did, task_at, replies, GoesOn, reply_to, reply_of_answer, hit, stopped, is_cut_short, notes_of_task, asked, history_of, notes_of, total_millis, words_of, start, given_of, texts, name_of};
 ghost use Rattle.action_eval.specs.MayAct.{MayAct};
 ghost use Rattle.std.specs.List.{slice_range};
 ghost use Rattle.action_eval.specs.inside.Session.{found_of, seen_in, left_counts, terms_of, IsRest, IsSpan};
@@ -22,7 +22,7 @@ fn first_room(max_hits: u32) -> usize {
     (max_hits as usize + 1).min(256)
 }
 
-/// How many hits are answered, by what stopped the run: none more where something did.
+/// How many hits `hit` answers, by what stopped the run: none more where something did.
 fn answerable_after(stopped: Option<Stop>, answerable: u32) -> u32
     ensures { stopped ≡ None → result ≡ answerable }
 {
@@ -149,7 +149,7 @@ pub struct Session<'a> {
     notes: Vec<Note>,
     millis: u64,
     stopped: Option<Stop>,
-    /// How many hits are answered: `max_hits`, and no more once the run was stopped.
+    /// How many hits `hit` answers: `max_hits`, and no more once the run was stopped.
     answerable: u32,
     /// Whether a point was hit after the run was stopped.
     asked_after_stop: bool,
@@ -318,13 +318,45 @@ impl<'a> Session<'a> {
         ensures err { OnErr result (self.new ≡ self.old) }
     {
         if self.stopped.is_none() {
-            self.hits.push(point)?;
-        } else {
-            self.asked_after_stop = true;
+            return self.hit_past(point);
         }
+        self.asked_after_stop = true;
+        self.stopped = Some(Stop::Limit);
+        Ok(Answer::Halt)
+    }
+
+    /// Hits a point past the limit: the run is over.
+    fn hit_past(&mut self, point: u32) -> Result<Answer<'a>, AllocError>
+        requires past { length self.old.hits ≡ self.old.given.limit }
+        ensures answer { IfOk result (λ a. reply_of_answer a ≡ reply_to self.old point) }
+        ensures ok { OnOk result (self.new ≡ hit self.old point) }
+        ensures told { IfOk result (λ a. replies self.new ≡ replies self.old ++ reply_of_answer a ∷ []) }
+        ensures halts { IfOk result (λ a. a ≡ Answer.Halt) }
+        ensures err { OnErr result (self.new ≡ self.old) }
+    {
+        self.hits.push(point)?;
         self.stopped = Some(Stop::Limit);
         self.answerable = 0;
         Ok(Answer::Halt)
+    }
+
+    /// Hits the point of this number in the catalogue of a run that isn't cut short: as `hit`, but also after a panic, as the power cut at the
+    /// end of a run does. The hit after `max_hits` ones is answered `Halt`, and isn't asked.
+    ///
+    /// Want of memory leaves the session as it was, its stream of words too.
+    pub fn ask_on(&mut self, point: u32) -> Result<Answer<'a>, AllocError>
+        requires known { point < length self.old.given.catalogue }
+        requires running { is_cut_short self.old ≡ false }
+        ensures answer { IfOk result (λ a. reply_of_answer a ≡ reply_to self.old point) }
+        ensures ok { OnOk result (self.new ≡ hit self.old point) }
+        ensures told { IfOk result (λ a. replies self.new ≡ replies self.old ++ reply_of_answer a ∷ []) }
+        ensures err { OnErr result (self.new ≡ self.old) }
+    {
+        if self.hits.len() >= self.max_hits as usize {
+            self.hit_past(point)
+        } else {
+            self.hit_terms(point)
+        }
     }
 
     /// Hits a point, where nothing is known of what the hit comes to.
@@ -333,11 +365,10 @@ impl<'a> Session<'a> {
         requires room { length self.old.hits < self.old.given.limit }
         requires limit { self.old.given.limit < 2 ^ 32 }
         requires known { point < length self.old.given.catalogue }
-        requires running { stopped self.old ≡ None }
         ensures answer { IfOk result (λ a. reply_of_answer a ≡ reply_to self.old point) }
         ensures ok { OnOk result (self.new ≡ hit self.old point) }
         ensures told { IfOk result (λ a. replies self.new ≡ replies self.old ++ reply_of_answer a ∷ []) }
-        ensures goes_on { IfOk result (λ a. GoesOn (reply_of_answer a) self.new) }
+        ensures goes_on { stopped self.old ≡ None → IfOk result (λ a. GoesOn (reply_of_answer a) self.new) }
         ensures err { OnErr result (self.new ≡ self.old) }
     {
         let Some(span) = self.spans[point as usize] else {
@@ -355,11 +386,10 @@ impl<'a> Session<'a> {
         requires chain { IsRest (left_counts (history_of self.old) self.old.given.scenario)
             (found_of self.old.given.scenario (name_of self.old.given point)) (seen_in self.old.given.scenario (Some span)) }
         requires span { IsSpan self.old.given.scenario span }
-        requires running { stopped self.old ≡ None }
         ensures answer { IfOk result (λ a. reply_of_answer a ≡ reply_to self.old point) }
         ensures ok { OnOk result (self.new ≡ hit self.old point) }
         ensures told { IfOk result (λ a. replies self.new ≡ replies self.old ++ reply_of_answer a ∷ []) }
-        ensures goes_on { IfOk result (λ a. GoesOn (reply_of_answer a) self.new) }
+        ensures goes_on { stopped self.old ≡ None → IfOk result (λ a. GoesOn (reply_of_answer a) self.new) }
         ensures err { OnErr result (self.new ≡ self.old) }
     {
         let taken = self.draws.taken();
@@ -379,7 +409,7 @@ impl<'a> Session<'a> {
         });
         self.heads[point as usize] = first_head(rest);
         self.millis += u64::from(millis_of(task));
-        self.stopped = stop_of(task);
+        self.stopped = stop_of(task).or(self.stopped);
         self.answerable = answerable_after(self.stopped, self.answerable);
         Ok(answer_of(task))
     }
@@ -486,11 +516,19 @@ impl<'a> Session<'a> {
         self.draws.taken()
     }
 
-    /// What stopped the session, if anything did.
+    /// What stopped the session, if anything did: the last stop, where its power cut was asked after a panic.
     pub fn stopped(&self) -> Option<Stop>
         ensures { result ≡ stopped self.now }
     {
         self.stopped
+    }
+
+    /// Whether a pause or the limit ended the run. Nothing is asked after that, and nothing is known of the run; after a panic its power cut is
+    /// still to come.
+    pub fn is_cut_short(&self) -> bool
+        ensures { result ≡ is_cut_short self.now }
+    {
+        matches!(self.stopped, Some(Stop::Paused | Stop::Limit))
     }
 
     /// Whether a point was hit after the run was stopped. No proved caller does that: it is for targets that aren't proved, whose run is then

@@ -94,6 +94,12 @@ part_whole t l d runs agrees =
 
 -- ---- found one after another
 
+-- each plan is as short as all of them
+pub short_at : (most : ℕ) (plans : List (List Rig)) (i : ℕ) → i < length plans → AllByRecursion (λ plan. length plan ≤ most) plans → length (get_or plans i []) ≤ most
+short_at most [] i less all = absurd (omega (arith, less))
+short_at most (plan ∷ plans) zero less all = all.0
+short_at most (plan ∷ plans) (suc i) less all = short_at most plans i (omega (arith, less)) all.1
+
 pub unbroken_more : (runs : KnownRuns) (plans : List (List Rig)) (n : ℕ) (plan : List Rig) → n < length plans → plan ≡ get_or plans n [] → break_at runs plan ≡ None → AllByRecursion (IsUnbroken runs) (take n plans) → AllByRecursion (IsUnbroken runs) (take (n + 1) plans)
 unbroken_more runs plans n plan less is here before =
     let whole : take (n + 1) plans ≡ take n plans ++ plan ∷ [] = take_more plans n [] less ∙ ap (λ (x : List Rig). take n plans ++ x ∷ []) (sym is) in

@@ -22,8 +22,9 @@ use Rattle.plan_gen.specs.RiggedAnswers.{AreInOrder, IsBefore}
 use Rattle.answer_text.specs.Runs.{KnownRuns}
 use Rattle.answer_text.specs.declared.runs.ToldRun.{ToldRun}
 use Rattle.answer_text.proofs.Members.{same_printed}
-use Rattle.grown_plans.specs.GrownPlans.{Subject, is_before, usual_kinds}
-use Rattle.grown_plans.specs.Promises.{verdict_of_rigs}
+use Rattle.grown_plans.specs.GrownPlans.{Subject, is_before, kinds_at}
+use Rattle.grown_plans.specs.Promises.{IsLawful, verdict_of_rigs}
+use Rattle.grown_plans.proofs.KeptChildren.{usual_apart, usual_once}
 use Rattle.grown_plans.proofs.Members.{all_map, all_of, all_weaker, contains_head, contains_tail}
 use Rattle.known_runs.specs.Walks.{once}
 use Rattle.known_runs.proofs.Steps.{same_verdict}
@@ -31,7 +32,7 @@ use Rattle.answered_runs.specs.Answered.{plan_runs}
 use Rattle.answered_runs.specs.Components.{AgreesWithRuns, IsComponent, IsTrueRun}
 use Rattle.answered_runs.specs.Rigged.{are_in_order, are_lawful, are_small, if_made, make, most_hit, points_into, rigs_of_scenario}
 use Rattle.answered_runs.specs.Verdicts.{AreVerdictsOf, told_or, verdict_by, walked_by}
-use Rattle.answered_runs.proofs.Runs.{agree}
+use Rattle.answered_runs.proofs.Runs.{agree_lawful}
 
 -- ---- tests that hold
 
@@ -70,8 +71,23 @@ in_order (r ∷ rs) e =
       in_order rs more,
     )
 
-of_kinds : (kinds : ℕ → List Kind) → kinds ≡ usual_kinds → (r : Rig) → Contains (kinds r.site.point) (once r.kind)
-of_kinds kinds usual r = subst (λ (ks : ℕ → List Kind). Contains (ks r.site.point) (once r.kind)) (sym usual) (at r.kind)
+-- ---- a component that tries each fault at each point, with the same runs
+
+abbrev with_any : Subject → Subject
+with_any t = record { asks = t.asks; names = t.names; limit = t.limit; kinds = kinds_at None }
+
+lawful_any : (t : Subject) → IsLawful t → IsLawful (with_any t)
+lawful_any t l = record { catalogue = l.catalogue; within = l.within; once = usual_once None; apart = usual_apart None }
+
+true_any : (t : Subject) (s : Entries) (o : Option ToldRun) → IfSome o (IsTrueRun t s) → IfSome o (IsTrueRun (with_any t) s)
+true_any t s None h = tt
+true_any t s (Some r) h = record { verdict = h.verdict; hits = h.hits }
+
+agrees_any : (t : Subject) (told : KnownRuns) → AgreesWithRuns t told → AgreesWithRuns (with_any t) told
+agrees_any t told agrees = λ s lawful. true_any t s (told s) (agrees s lawful)
+
+any_of : (r : Rig) → Contains (kinds_at None r.site.point) (once r.kind)
+any_of r = at r.kind
   where
     at : (kind : Kind) → Contains (OnceReturn ∷ OncePanic ∷ []) (once kind)
     at OnceReturn = contains_head OnceReturn (OncePanic ∷ [])
@@ -128,8 +144,10 @@ true_of t points told depth is low agrees s v ok known seed stream = by_told (to
         let l = lawful rigs (left (are_lawful rigs) (bytes_eq (printed (rigging points rigs)) (printed s)) m) in
         let prints : printed (rigging points rigs) ≡ printed s = (bytes_eq-Decides (printed (rigging points rigs)) (printed s)).0 (right (are_lawful rigs) (bytes_eq (printed (rigging points rigs)) (printed s)) m) in
         let same : rigging points rigs ≡ s = same_printed (rigging points rigs) s (rigging_keeps points rigs catalogue l.few l.small) ok prints in
-        let kinds = all_of (λ (r : Rig). Contains (t.kinds r.site.point) (once r.kind)) (of_kinds t.kinds is.usual) rigs in
-        let w : (seed stream : ℕ) → verdict_of_rigs t seed stream rigs ≡ v = same_verdict (plan_runs points told) rigs depth (Some v) (sym k) t is.lawful (agree t points told depth is low agrees) l.ordered kinds in
+        let kinds = all_of (λ (r : Rig). Contains (kinds_at None r.site.point) (once r.kind)) any_of rigs in
+        let any = lawful_any t is.lawful in
+        let known = agree_lawful (with_any t) points told depth any is.names is.few low (agrees_any t told agrees) in
+        let w : (seed stream : ℕ) → verdict_of_rigs t seed stream rigs ≡ v = same_verdict (plan_runs points told) rigs depth (Some v) (sym k) (with_any t) any known l.ordered kinds in
         sym (verdict_is t.asks t.names seed t.limit stream s) ∙ ap (verdict_with t.asks t.names seed t.limit stream) (sym same ∙ ap (λ (names : List (List ℕ)). rigging names rigs) (sym is.names)) ∙ w seed stream
 
     by_told : (o : Option ToldRun) → IfSome o (IsTrueRun t s) → told_or (walked_by (plan_runs points told) depth (rigs_of_scenario points s)) o ≡ Some v → (outcome t.asks (given_of s t.names seed stream t.limit)).verdict ≡ v

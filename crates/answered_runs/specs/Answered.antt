@@ -6,10 +6,13 @@ use Rattle.answer_text.specs.Hits.{most_hits, points_of}
 use Rattle.answer_text.specs.Runs.{KnownRuns, RunBook, told_in}
 use Rattle.answer_text.specs.declared.hits.Stretch.{Stretch}
 use Rattle.answer_text.specs.declared.runs.ToldRun.{ToldRun}
+use Rattle.action_eval.specs.declared.rig.Rig.{Rig}
 use Rattle.campaign_plans.specs.GrownScenarios.{grown_scenario}
+use Rattle.grown_plans.specs.GrownPlans.{usual_kinds}
 use Rattle.known_runs.specs.Known.{Told}
 use Rattle.known_runs.specs.Known.{KnownRuns as PlanRuns}
 use Rattle.known_runs.specs.Looks.{told}
+use Rattle.known_runs.specs.ToldPart.{part_known}
 
 -- the names of a component's points, and what answers tell of each printed form
 pub record Answered : Type 0 where
@@ -36,3 +39,7 @@ plan_runs points known plan = if nat_le (length plan) 64 then option_map told_of
 
 abbrev pub runs_in : Answered → PlanRuns
 runs_in a = plan_runs a.points (told_in a.book)
+
+-- the plans that grow to a depth and are known by now
+abbrev pub known_plans : Answered → ℕ → List (List Rig)
+known_plans a depth = part_known (usual_kinds a.points) (runs_in a) depth

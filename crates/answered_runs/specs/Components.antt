@@ -9,12 +9,12 @@ use Rattle.answer_text.specs.declared.runs.ToldRun.{ToldRun}
 use Rattle.grown_plans.specs.GrownPlans.{Subject, usual_kinds}
 use Rattle.grown_plans.specs.Promises.{IsLawful}
 
--- a component with these points: what it asks next follows from the answers so far, and a return and a panic are tried at each hit of a run,
--- of which fewer than so many are answered
+-- a component with these points: what it asks next follows from the answers so far, and the usual kinds of faults are tried at each hit of a
+-- run, of which fewer than so many are answered
 pub record IsComponent (points : List (List ℕ)) (t : Subject) : Type 0 where
   pub lawful : IsLawful t
   pub names : t.names ≡ points
-  pub usual : t.kinds ≡ usual_kinds
+  pub usual : t.kinds ≡ usual_kinds points
   pub few : t.limit < 2 ^ 32
 
 -- what a line tells of a scenario is true of a component, under whatever seed and stream number: nothing is drawn for it

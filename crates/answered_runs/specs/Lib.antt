@@ -1,5 +1,4 @@
 pub mod Answered
-pub mod Asked
 pub mod Broken
 pub mod Components
 pub mod Rigged

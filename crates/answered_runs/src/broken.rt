@@ -1,10 +1,9 @@
 //! Runs that break with those that they ought to begin like.
-ghost use Rattle.std.specs.Prelude.{◌≡◌, ◌≤◌, Some, drop, length, IfOk, IfSome};
+ghost use Rattle.std.specs.Prelude.{◌≡◌, ◌≤◌, ◌<◌, Some, drop, length, IfOk, IfSome, IsErrOf};
 ghost use Rattle.std.specs.List.{AllByRecursion};
 ghost use Rattle.answer_text.specs.Runs.{told_in};
-ghost use Rattle.grown_plans.specs.GrownPlans.{Subject, usual_kinds};
-ghost use Rattle.known_runs.specs.ToldPart.{part_known};
-ghost use Rattle.answered_runs.specs.Answered.{runs_in};
+ghost use Rattle.grown_plans.specs.GrownPlans.{Subject};
+ghost use Rattle.answered_runs.specs.Answered.{known_plans, runs_in};
 ghost use Rattle.answered_runs.specs.Broken.{AreBroken, break_at, broken_text, line_told};
 ghost use Rattle.answered_runs.specs.Components.{AgreesWithRuns, IsComponent};
 
@@ -12,7 +11,7 @@ use crate::scenarios::plan_scenario;
 use crate::table::AnsweredRuns;
 use action_eval::{Kind, Rig};
 use grown_plans::GrownPlans;
-use known_runs::{Break, KnownFault, Look, RunTable, break_of, known_plans};
+use known_runs::{Break, KnownFault, Look, RunTable, break_of};
 use std::alloc::{AllocError, Global};
 use std::fmt;
 
@@ -144,8 +143,7 @@ fn first_break(
 /// another point, or that fault isn't met; with the lines that tell the two. Plans with a fault from then on aren't looked at. Where there is
 /// such a run, what the component asks next doesn't follow from the answers so far, or the answers are those of two.
 ///
-/// There are at most so many known plans, of at most 65536; they are refused as too many where a level, or those from then on, would make
-/// more.
+/// There may be so many known plans, up to 65536. `TooManyPlans` comes only where they are more.
 pub fn broken_run(
     alloc: Global,
     runs: &AnsweredRuns<'_>,
@@ -154,11 +152,12 @@ pub fn broken_run(
 ) -> Result<Option<BrokenRun>, KnownFault>
     requires depth { depth ≤ 64 }
     requires most { most ≤ 65536 }
-    ensures first { IfOk result (AreBroken runs.now (part_known usual_kinds (runs_in runs.now) depth)) }
+    ensures first { IfOk result (AreBroken runs.now (known_plans runs.now depth)) }
     // No component agrees with answers of which a run breaks.
     ensures none { IfOk result (λ found. IfSome found (λ broken. (t : Subject) → IsComponent runs.now.points t
         → AgreesWithRuns t (told_in runs.now.book) → ⊥)) }
+    ensures many { IsErrOf result KnownFault.TooManyPlans → most < length (known_plans runs.now depth) }
 {
-    let known = known_plans(alloc, runs, depth, most)?;
+    let known = runs.known_plans(alloc, depth, most)?;
     Ok(first_break(alloc, runs, &known.plans)?)
 }

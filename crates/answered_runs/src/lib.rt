@@ -1,16 +1,15 @@
 //! Runs of a component that somebody else runs, as texts of answers tell them: what is known by them of plans that grow.
 #![tactic(auto)]
 
-mod asking;
 mod broken;
 mod laws;
+mod plans;
 mod rigged;
 mod scenarios;
 mod table;
 mod verdicts;
 mod whole;
 
-pub use asking::asks;
 pub use broken::broken_run;
 pub use laws::{answers_tell_plans, answers_tell_verdicts};
 pub use rigged::rigs_of_scenario;

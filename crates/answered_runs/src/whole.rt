@@ -1,15 +1,15 @@
 //! Whether the runs of a whole list of plans are told.
-ghost use Rattle.std.specs.Prelude.{◌≡◌, ◌≤◌, length, IfOk};
+ghost use Rattle.std.specs.Prelude.{◌≡◌, ◌≤◌, ◌<◌, length, IfOk, IsErrOf};
 ghost use Rattle.std.specs.List.{AllByRecursion};
 ghost use Rattle.answer_text.specs.Runs.{told_in};
 ghost use Rattle.grown_plans.specs.GrownPlans.{Subject};
-ghost use Rattle.answered_runs.specs.Answered.{runs_in};
+ghost use Rattle.answered_runs.specs.Answered.{known_plans, runs_in};
 ghost use Rattle.answered_runs.specs.Components.{AgreesWithRuns, IsComponent};
 ghost use Rattle.answered_runs.specs.WholeList.{AreListed, AreSeen};
 
 use crate::table::AnsweredRuns;
 use grown_plans::GrownPlans;
-use known_runs::{KnownFault, KnownPlans, Look, RunTable, known_plans};
+use known_runs::{KnownFault, KnownPlans, Look, RunTable};
 use std::alloc::{AllocError, Global};
 
 /// What stands between a list of plans and its report.
@@ -54,8 +54,7 @@ pub struct Listed {
 /// The plans that grow to a depth, up to 64, by what answers tell of their runs: where the hits of each are told, they are the whole list of
 /// every component that agrees with the answers, with the size of each level and of the one after the last.
 ///
-/// There are at most so many known plans, of at most 65536; they are refused as too many where a level, or those from then on, would make
-/// more.
+/// There may be so many known plans, up to 65536. `TooManyPlans` comes only where they are more.
 pub fn listed_plans(
     alloc: Global,
     runs: &AnsweredRuns<'_>,
@@ -64,13 +63,15 @@ pub fn listed_plans(
 ) -> Result<Listed, KnownFault>
     requires depth { depth ≤ 64 }
     requires most { most ≤ 65536 }
+    ensures grown { IfOk result (λ listed. listed.known.plans ≡ known_plans runs.now depth) }
     ensures seen { IfOk result (λ listed. AreSeen (runs_in runs.now) listed.known.plans listed.gap) }
     ensures whole { IfOk result (λ listed. (t : Subject) → IsComponent runs.now.points t → AgreesWithRuns t (told_in runs.now.book)
         → AreListed t depth listed) }
     ensures short { IfOk result (λ listed. AllByRecursion (λ plan. length plan ≤ depth) listed.known.plans) }
     ensures few { IfOk result (λ listed. length listed.known.plans ≤ most) }
+    ensures many { IsErrOf result KnownFault.TooManyPlans → most < length (known_plans runs.now depth) }
 {
-    let known = known_plans(alloc, runs, depth, most)?;
+    let known = runs.known_plans(alloc, depth, most)?;
     let gap = first_gap(alloc, runs, &known.plans)?;
     Ok(Listed { known, gap })
 }

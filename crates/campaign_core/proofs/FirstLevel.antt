@@ -1,20 +1,20 @@
 -- Where plans grow, a census has few sites: each is a fault of the first level.
-use Rattle.std.proofs.Common.{◌≡◌, ℕ, zero, suc, ◌+◌, ◌*◌, ◌<◌, ◌≤◌, ◌==◌, Bool, true, false, cond, nat_eq, List, [], ◌∷◌, ◌++◌, map, length, count_by, refl, ap, sym, ◌∙◌, arith, eq-eqb, length-append, subst, rules}
+use Rattle.std.proofs.Common.{◌≡◌, ℕ, zero, suc, ◌+◌, ◌*◌, ◌<◌, ◌≤◌, ◌==◌, Bool, true, false, cond, nat_eq, Option, List, [], ◌∷◌, ◌++◌, map, length, count_by, refl, ap, sym, ◌∙◌, arith, eq-eqb, length-append, subst, rules}
 use Rattle.std.specs.List.{range_with_len, AllByRecursion, flat_map}
-use Rattle.std.proofs.lemmas.List.{append-nil}
+use Rattle.std.proofs.lemmas.List.{append-nil, length-map}
 use Rattle.std.proofs.lemmas.List.Sums.{sum_by-cons}
 use Rattle.scenario_values.specs.Scenario.{Entries}
 use Rattle.action_eval.specs.Answers.{Reply, given_of}
 use Rattle.action_eval.specs.Rigging.{rigging, entries_from, rig}
 use Rattle.action_eval.specs.declared.rig.Rig.{Rig}
 use Rattle.action_eval.specs.declared.rig.Site.{Site}
+use Rattle.action_eval.specs.declared.rig.Kind.TheVariants.{OnceReturn, OncePanic}
 use Rattle.target_trait.specs.Play.{Move}
 use Rattle.target_trait.specs.Outcomes.{outcome}
 use Rattle.plan_gen.specs.Census.{census_of, counts_of, sites_of}
 use Rattle.plan_gen.specs.Counts.{total_of}
 use Rattle.plan_gen.proofs.Counting.{sites_length}
-use Rattle.plan_gen.proofs.Lists.{flat_length, map_length}
-use Rattle.grown_plans.specs.GrownPlans.{Subject, usual_subject, given_for, children, level, levels, onward, grown}
+use Rattle.grown_plans.specs.GrownPlans.{Subject, cut_point, is_cut, kinds_at, usual_subject, given_for, children, level, levels, onward, grown}
 use Rattle.grown_plans.specs.AskedPoints.{GrowsByAsked, sites_from, children_by}
 use Rattle.grown_plans.specs.Promises.{IsLawful}
 use Rattle.grown_plans.proofs.AskedSites.{grows_by_asked}
@@ -68,7 +68,7 @@ total_counts n (q ∷ asked) =
     let rest = total_counts n asked in
     omega (arith, parts, once, rest)
 
--- ---- each hit of the run without faults has two children
+-- ---- each hit of the run without faults has a child, at least
 
 no_entries : (p : ℕ) (names : List (List ℕ)) → entries_from p names [] ≡ []
 no_entries p [] = refl
@@ -82,20 +82,39 @@ length_sites : (before asked : List ℕ) → length (sites_from before asked) �
 length_sites before [] = refl
 length_sites before (p ∷ asked) = ap suc (length_sites (before ++ p ∷ []) asked)
 
+some_kind : (cut : Option ℕ) (point : ℕ) → 1 ≤ length (kinds_at cut point)
+some_kind cut point = by_choice (is_cut cut point)
+  where
+    by_choice : (b : Bool) → 1 ≤ length (cond b (OnceReturn ∷ []) (OnceReturn ∷ OncePanic ∷ []))
+    by_choice true = omega arith
+    by_choice false = omega arith
+
+each_has_one : (cut : Option ℕ) (sites : List Site) → length sites ≤ length (flat_map (λ (s : Site). map (λ kind. rig s kind ∷ []) (kinds_at cut s.point)) sites)
+each_has_one cut [] = omega arith
+each_has_one cut (s ∷ ss) =
+    let f : Site → List (List Rig) = λ s. map (λ kind. rig s kind ∷ []) (kinds_at cut s.point) in
+    let here = length-map (kinds_at cut s.point) (λ kind. rig s kind ∷ []) in
+    let one = some_kind cut s.point in
+    let rest = each_has_one cut ss in
+    let whole = length-append (f s) (flat_map f ss) in
+    omega (arith, here, one, rest, whole)
+
 first_level : (asks : List Reply → Move) (names : List (List ℕ)) (limit seed : ℕ) → GrowsByAsked (usual_subject asks names limit) []
-    → length (level (usual_subject asks names limit) 1) ≡ 2 * length (outcome asks (given_of [] names seed 0 limit)).asked
+    → length (outcome asks (given_of [] names seed 0 limit)).asked ≤ length (level (usual_subject asks names limit) 1)
 unfolding level
 first_level asks names limit seed grows =
     let t : Subject = usual_subject asks names limit in
     let asked : Entries → List ℕ = λ s. (outcome asks (given_of s names seed 0 limit)).asked in
-    ap length (append-nil (children t []) ∙ grows seed 0)
-    ∙ flat_length (λ (s : Site). map (λ kind. rig s kind ∷ []) (t.kinds s.point)) 2 (λ s. refl) (sites_from [] (asked (rigging names [])))
-    ∙ ap (λ n. 2 * n) (length_sites [] (asked (rigging names [])) ∙ ap (λ s. length (asked s)) (no_rigs names))
+    let sites = sites_from [] (asked (rigging names [])) in
+    let many = ap length (append-nil (children t []) ∙ grows seed 0) in
+    let each = each_has_one (cut_point names) sites in
+    let all : length sites ≡ length (asked []) = length_sites [] (asked (rigging names [])) ∙ ap (λ s. length (asked s)) (no_rigs names) in
+    omega (arith, many, each, all)
 
 -- ---- the first level is one of those that grow
 
-first_of_levels : (t : Subject) (d : ℕ) → 1 ≤ d → length (level t 1) ≤ length (levels t d)
-unfolding levels
+first_of_levels : (t : Subject) (d : ℕ) → 1 ≤ d → length (level t 1) < length (levels t d)
+unfolding levels level
 first_of_levels t zero some = absurd (omega arith)
 first_of_levels t (suc zero) some = let e = length-append (levels t 0) (level t 1) in omega (arith, e)
 first_of_levels t (suc (suc d)) some =

@@ -1,5 +1,5 @@
 -- What a campaign is given by its settings.
-use Rattle.std.specs.Prelude.{ℕ, ◌≡◌, ◌≤◌, false, List, [], Option, None, IfSome, length}
+use Rattle.std.specs.Prelude.{ℕ, Bool, ◌≡◌, ◌≤◌, false, List, [], Option, None, IfSome, length}
 use Rattle.scenario_values.specs.Scenario.{Entries}
 use Rattle.action_eval.specs.Answers.{Reply}
 use Rattle.target_trait.specs.declared.judgement.Verdict.{Verdict}
@@ -8,11 +8,13 @@ use Rattle.target_trait.specs.Play.{Move}
 use Rattle.plan_gen.specs.PlanList.{Asked}
 
 -- how many workers there are; how many hits of a run are answered; up to how many faults each behaviour is tried with, where plans grow from
--- each run's own hits; what is asked of the list of plans, the seed of every draw among it; and the text that all of it was read from
+-- each run's own hits; whether each run ends with a power cut that asks which pending writes it keeps; what is asked of the list of plans, the
+-- seed of every draw among it; and the text that all of it was read from
 pub record Given : Type 0 where
   pub workers : ℕ
   pub max_hits : ℕ
   pub depth : Option ℕ
+  pub crash_states : Bool
   pub plans : Asked
   pub source : List ℕ
 
@@ -22,13 +24,21 @@ defaults = record {
   workers = 1;
   max_hits = 1000;
   depth = None;
+  crash_states = false;
   plans = record { pairs = false; storms = 0; rate = 100; listed = []; seed = 0 };
   source = [];
 }
 
 -- the same, as read from a text
 abbrev pub read_from : List ℕ → Given → Given
-read_from text g = record { workers = g.workers; max_hits = g.max_hits; depth = g.depth; plans = g.plans; source = text }
+read_from text g = record {
+  workers = g.workers;
+  max_hits = g.max_hits;
+  depth = g.depth;
+  crash_states = g.crash_states;
+  plans = g.plans;
+  source = text;
+}
 
 -- the ranges; with a depth there are no pairs
 pub record IsGiven (g : Given) : Type 0 where

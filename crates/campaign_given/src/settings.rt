@@ -27,6 +27,9 @@ pub const STORMS_IF_MISSING: u32 = 0;
 /// How many of a thousand sites a storm takes where nothing is given.
 pub const RATE_IF_MISSING: u32 = 100;
 
+/// Whether a power cut asks which pending writes it keeps, where nothing is given.
+pub const CRASH_STATES_IF_MISSING: bool = false;
+
 /// Which plans a campaign has, and how they are run. Each value keeps the ranges that stand at its fields.
 #[derive(Drop)]
 pub struct CampaignSettings {
@@ -45,6 +48,9 @@ pub struct CampaignSettings {
     /// Up to how many faults each behaviour is tried with, 1 to 64; `None` where plans come from the run without faults. With a depth `pairs`
     /// is false.
     pub depth: Option<u32>,
+    /// Whether each run ends with a power cut that asks which pending writes it keeps. It is for whoever chooses the target: `WithCut` of it, or
+    /// the target alone. A target that isn't `WithCut` has nothing pending, and for it this changes nothing.
+    pub crash_states: bool,
     /// The scenarios that are tried besides, up to 1000.
     pub scenarios: Vec<Scenario>,
     /// The text that the settings were read from, which a page shows. It is empty where a program made them.
@@ -71,6 +77,7 @@ impl Model for CampaignSettings {
       workers = s.workers;
       max_hits = s.max_hits;
       depth = s.depth;
+      crash_states = s.crash_states;
       plans = record { pairs = s.pairs; storms = s.storms; rate = s.rate; listed = s.scenarios.items; seed = s.seed };
       source = s.source;
     } };
@@ -78,7 +85,7 @@ impl Model for CampaignSettings {
 
 impl CampaignSettings {
     /// What holds where nothing is given: seed 0, one worker, at most 1000 hits, no pairs, no storms, 100 of a thousand sites for a storm, no
-    /// depth, no listed scenarios, and no text. A program that brings a target of its own sets from here what differs.
+    /// depth, no crash states, no listed scenarios, and no text. A program that brings a target of its own sets from here what differs.
     pub fn new(alloc: Global) -> Self
         ensures { result ≡ defaults }
     {
@@ -90,6 +97,7 @@ impl CampaignSettings {
             storms: STORMS_IF_MISSING,
             rate: RATE_IF_MISSING,
             depth: None,
+            crash_states: CRASH_STATES_IF_MISSING,
             scenarios: Vec::new(alloc),
             source: Text::from_string(String::new(alloc)),
         }

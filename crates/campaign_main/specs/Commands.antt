@@ -4,10 +4,22 @@ use Rattle.std.specs.Str.{is_utf8}
 use Rattle.scenario_values.specs.Scenario.{Entries}
 use Rattle.scenario_grammar.specs.FirstFault.{Fault, reading}
 use Rattle.target_trait.specs.declared.judgement.Verdict.{Verdict}
+use Rattle.action_eval.specs.Answers.{Reply}
+use Rattle.target_trait.specs.Play.{Move}
+use Rattle.target_trait.specs.declared.target.Target.{Ghosts}
+use Rattle.target_trait.specs.Cuts.{Cut, asks_with, with_keep}
+use Rattle.file_replace.specs.declared.variant.Variant.{Variant as ReplaceVariant}
+use Rattle.file_replace.specs.Work.{Work as Replacing}
+use Rattle.file_replace.specs.Crash.{cut_of as replace_cut}
 use Rattle.file_replace.specs.Steps.{asks_of as replacing}
 use Rattle.file_replace.specs.Words.{point_names as replace_points, code_text as replace_codes, label as replace_label}
+use Rattle.maildir_target.specs.declared.variant.Variant.{Variant as MaildirVariant}
+use Rattle.maildir_target.specs.Crash.{cut_of as maildir_cut}
 use Rattle.maildir_target.specs.Steps.{asks_of as delivering}
 use Rattle.maildir_target.specs.Words.{point_names as maildir_points, code_text as maildir_codes, label as maildir_label}
+use Rattle.commit_target.specs.declared.variant.Variant.{Variant as CommitVariant}
+use Rattle.commit_target.specs.Work.{Work as Committing}
+use Rattle.commit_target.specs.Crash.{cut_of as commit_cut}
 use Rattle.commit_target.specs.Steps.{asks_of as committing}
 use Rattle.commit_target.specs.Words.{point_names as commit_points, code_text as commit_codes, label as commit_label}
 use Rattle.plan_gen.specs.PlanList.{most_plans, plan_list}
@@ -19,6 +31,7 @@ use Rattle.campaign_settings.specs.Settings.{Cause, Read, settings_of, too_long}
 use Rattle.campaign_settings.specs.declared.choice.Choice.{Choice}
 use Rattle.campaign_settings.specs.declared.choice.Choice.TheVariants as choice
 use Rattle.campaign_settings.specs.declared.settings.Settings.{Settings}
+use Rattle.campaign_core.specs.declared.subject.Subject.{Subject}
 use Rattle.campaign_core.specs.Headline.{Campaign, campaign_of, say, plans, report_text, brief_report_text, campaign_map_text, first_failure}
 use Rattle.campaign_core.specs.CommandTexts.{counted, explained, plan_lines, plans_text, try_text, tried, reduce_text}
 use Rattle.campaign_core.specs.Machines.{machine_text}
@@ -148,14 +161,36 @@ outside_answer (order.Explain which) plans notes = Err outside_target
 
 -- ---- by the settings
 
--- what a campaign on a bundled target with its workload is given; a component from outside isn't run here
+-- what a campaign is given by what its target asks; with crash states each run ends with its power cut, which asks as well
+abbrev pub campaign_to_cut : (List Reply → Move) → Cut → List (List ℕ) → (ℕ → List ℕ) → List ℕ → Given → Campaign
+campaign_to_cut asks cut points codes label given =
+    if given.crash_states then campaign_of (asks_with asks cut (length points)) (with_keep points) codes label given
+    else campaign_of asks points codes label given
+
+-- the same by what is tried
+abbrev pub campaign_to_cut_in : {T W : Type 0} → Ghosts T W → (T → W → Cut) → Subject T W → Campaign
+campaign_to_cut_in target cut tried =
+    campaign_to_cut (target.asks tried.target.now tried.workload.now) (cut tried.target.now tried.workload.now) target.names target.code_text
+    (target.label_of tried.target.now) tried.settings.now
+
+-- on each bundled target with its workload
+abbrev pub replacing_in : Given → ReplaceVariant → Replacing → Campaign
+replacing_in given variant work =
+    campaign_to_cut (replacing variant work) (replace_cut variant work) replace_points replace_codes (replace_label variant) given
+
+abbrev pub delivering_in : Given → MaildirVariant → List (List (List ℕ)) → Campaign
+delivering_in given variant messages =
+    campaign_to_cut (delivering variant messages) (maildir_cut variant messages) maildir_points maildir_codes (maildir_label variant) given
+
+abbrev pub committing_in : Given → CommitVariant → Committing → Campaign
+committing_in given variant work =
+    campaign_to_cut (committing variant work) (commit_cut variant work) commit_points commit_codes (commit_label variant) given
+
+-- on the one that is chosen; a component from outside isn't run here
 abbrev pub campaign_for : Given → Choice → Option Campaign
-campaign_for given (choice.Replace variant work) =
-    Some (campaign_of (replacing variant work) replace_points replace_codes (replace_label variant) given)
-campaign_for given (choice.Maildir variant messages) =
-    Some (campaign_of (delivering variant messages) maildir_points maildir_codes (maildir_label variant) given)
-campaign_for given (choice.Commit variant work) =
-    Some (campaign_of (committing variant work) commit_points commit_codes (commit_label variant) given)
+campaign_for given (choice.Replace variant work) = Some (replacing_in given variant work)
+campaign_for given (choice.Maildir variant messages) = Some (delivering_in given variant messages)
+campaign_for given (choice.Commit variant work) = Some (committing_in given variant work)
 campaign_for given (choice.Outside outside) = None
 
 -- the plans over the points and the counts that the settings tell of a component from outside
@@ -163,12 +198,9 @@ abbrev pub outside_plans : Given → Description → List Entries
 outside_plans given outside = plan_list outside.points outside.hits given.plans
 
 abbrev pub choice_answer : Order → Given → Choice → Answer
-choice_answer order given (choice.Replace variant work) =
-    order_answer order (campaign_of (replacing variant work) replace_points replace_codes (replace_label variant) given)
-choice_answer order given (choice.Maildir variant messages) =
-    order_answer order (campaign_of (delivering variant messages) maildir_points maildir_codes (maildir_label variant) given)
-choice_answer order given (choice.Commit variant work) =
-    order_answer order (campaign_of (committing variant work) commit_points commit_codes (commit_label variant) given)
+choice_answer order given (choice.Replace variant work) = order_answer order (replacing_in given variant work)
+choice_answer order given (choice.Maildir variant messages) = order_answer order (delivering_in given variant messages)
+choice_answer order given (choice.Commit variant work) = order_answer order (committing_in given variant work)
 choice_answer order given (choice.Outside outside) =
     outside_answer order (outside_plans given outside) (listed_notes outside.points given.plans.listed)
 

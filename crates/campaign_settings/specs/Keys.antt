@@ -29,6 +29,7 @@ key_name key.Pairs = codes "pairs"
 key_name key.Storms = codes "storms"
 key_name key.Rate = codes "rate"
 key_name key.Depth = codes "depth"
+key_name key.CrashStates = codes "crash_states"
 key_name key.Scenarios = codes "scenarios"
 key_name key.Own = codes "own"
 key_name (key.Table target) = target_name target
@@ -47,14 +48,14 @@ abbrev pub is_shared_key : Text → Bool
 is_shared_key name = list_any (bytes_eq name) (codes "target" ∷ codes "seed" ∷ codes "pairs" ∷ codes "storms" ∷ codes "rate"
     ∷ codes "depth" ∷ codes "scenarios" ∷ [])
 
--- what the program is told of a target that it runs itself; a target from outside has no variant, and somebody else runs it
+-- what the program is told of a target that it runs itself; a target from outside has no variant, and somebody else runs it and cuts its power
 abbrev pub is_bundled_key : Text → Bool
-is_bundled_key name = list_any (bytes_eq name) (codes "variant" ∷ codes "workers" ∷ codes "max_hits" ∷ [])
+is_bundled_key name = list_any (bytes_eq name) (codes "variant" ∷ codes "workers" ∷ codes "max_hits" ∷ codes "crash_states" ∷ [])
 
 -- the keys of a program with a target of its own
 abbrev pub is_own_key : Text → Bool
 is_own_key name = list_any (bytes_eq name) (codes "seed" ∷ codes "workers" ∷ codes "max_hits" ∷ codes "pairs" ∷ codes "storms"
-    ∷ codes "rate" ∷ codes "depth" ∷ codes "scenarios" ∷ [])
+    ∷ codes "rate" ∷ codes "depth" ∷ codes "crash_states" ∷ codes "scenarios" ∷ [])
 
 -- those of one whose target takes words
 abbrev pub is_word_key : Text → Bool

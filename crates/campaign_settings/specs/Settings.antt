@@ -164,14 +164,19 @@ depth_beside pairs ms =
     after (keyed key.Depth (optional_at 1 64 (get_member (codes "depth") ms))) (λ depth.
     if is_some depth && pairs then Err (wrong key.Pairs fault.OutOfRange) else Ok depth)
 
--- which plans are made, besides those of one fault
+-- whether a run's power cut asks what it keeps. Of a target from outside `crash_states` is an unknown key: it is false then.
+abbrev pub crash_states_in : Members → Read Bool
+crash_states_in ms = keyed key.CrashStates (boolean_at defaults.crash_states (get_member (codes "crash_states") ms))
+
+-- which plans are made, besides those of one fault, and how their runs end
 abbrev pub planning_in : Members → Read Planning
 planning_in ms =
     after (keyed key.Pairs (boolean_at defaults.plans.pairs (get_member (codes "pairs") ms))) (λ pairs.
     after (keyed key.Storms (number_at (Ok defaults.plans.storms) 0 10000 (get_member (codes "storms") ms))) (λ storms.
     after (keyed key.Rate (number_at (Ok defaults.plans.rate) 0 1000 (get_member (codes "rate") ms))) (λ rate.
     after (depth_beside pairs ms) (λ depth.
-    Ok (record { pairs = pairs; storms = storms; rate = rate; depth = depth })))))
+    after (crash_states_in ms) (λ crash_states.
+    Ok (record { pairs = pairs; storms = storms; rate = rate; depth = depth; crash_states = crash_states }))))))
 
 -- those of a target: no plans grow for one from outside yet
 abbrev pub growing_for : Setup → Planning → Read Planning
@@ -202,6 +207,7 @@ campaign_of running planning scenarios = record {
   workers = running.workers;
   max_hits = running.max_hits;
   depth = planning.depth;
+  crash_states = planning.crash_states;
   plans = record {
     pairs = planning.pairs;
     storms = planning.storms;

@@ -57,19 +57,23 @@ abbrev pub replace_named : Text → Result Setup KeyFault
 replace_named name = if bytes_eq name (codes "sound") then Ok (setup.Replace replace.Sound)
     else (if bytes_eq name (codes "late_sync") then Ok (setup.Replace replace.LateSync)
     else (if bytes_eq name (codes "ignore_sync") then Ok (setup.Replace replace.IgnoreSync)
-    else (if bytes_eq name (codes "retry_write") then Ok (setup.Replace replace.RetryWrite) else Err OutOfRange)))
+    else (if bytes_eq name (codes "retry_write") then Ok (setup.Replace replace.RetryWrite)
+    else (if bytes_eq name (codes "rename_first") then Ok (setup.Replace replace.RenameFirst)
+    else (if bytes_eq name (codes "in_place") then Ok (setup.Replace replace.InPlace) else Err OutOfRange)))))
 
 abbrev pub maildir_named : Text → Result Setup KeyFault
 maildir_named name = if bytes_eq name (codes "sound") then Ok (setup.Maildir maildir.Sound)
     else (if bytes_eq name (codes "link_first") then Ok (setup.Maildir maildir.LinkFirst)
     else (if bytes_eq name (codes "ignore_write") then Ok (setup.Maildir maildir.IgnoreWrite)
-    else (if bytes_eq name (codes "append_tmp") then Ok (setup.Maildir maildir.AppendTmp) else Err OutOfRange)))
+    else (if bytes_eq name (codes "append_tmp") then Ok (setup.Maildir maildir.AppendTmp)
+    else (if bytes_eq name (codes "deliver_in_new") then Ok (setup.Maildir maildir.DeliverInNew) else Err OutOfRange))))
 
 abbrev pub commit_named : Text → Result Setup KeyFault
 commit_named name = if bytes_eq name (codes "sound") then Ok (setup.Commit commit.Sound)
     else (if bytes_eq name (codes "lazy_prepare") then Ok (setup.Commit commit.LazyPrepare)
     else (if bytes_eq name (codes "early_end") then Ok (setup.Commit commit.EarlyEnd)
-    else (if bytes_eq name (codes "two_tries") then Ok (setup.Commit commit.TwoTries) else Err OutOfRange)))
+    else (if bytes_eq name (codes "two_tries") then Ok (setup.Commit commit.TwoTries)
+    else (if bytes_eq name (codes "end_first") then Ok (setup.Commit commit.EndFirst) else Err OutOfRange))))
 
 -- a target from outside has none: its settings have no such key
 abbrev pub setup_named : TargetName → Text → Result Setup KeyFault

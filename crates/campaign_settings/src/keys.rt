@@ -20,6 +20,7 @@ pub enum Key {
     Storms,
     Rate,
     Depth,
+    CrashStates,
     Scenarios,
     Own,
     Table(TargetName),
@@ -90,6 +91,7 @@ impl Key {
             Key::Storms => "storms",
             Key::Rate => "rate",
             Key::Depth => "depth",
+            Key::CrashStates => "crash_states",
             Key::Scenarios => "scenarios",
             Key::Own => "own",
             Key::Table(target) => target.name(),
@@ -163,7 +165,7 @@ fn is_shared_key(name: &str) -> bool
 fn is_bundled_key(name: &str) -> bool
     ensures { result ≡ is_bundled_key name.now }
 {
-    stands_in(name, &["variant", "workers", "max_hits"])
+    stands_in(name, &["variant", "workers", "max_hits", "crash_states"])
 }
 
 fn is_own_key(name: &str) -> bool
@@ -179,6 +181,7 @@ fn is_own_key(name: &str) -> bool
             "storms",
             "rate",
             "depth",
+            "crash_states",
             "scenarios",
         ],
     )

@@ -1,7 +1,7 @@
 //! The numbers of the settings, by what they are for.
 ghost use Rattle.std.specs.Prelude.{◌≡◌, ◌≤◌, Ok, IfOk, IfErr, IfSome, false, length};
 ghost use Rattle.toml.specs.View.{table_view};
-ghost use Rattle.campaign_settings.specs.Settings.{IsPlanning, IsRunning, RefusedBy, campaign_of, depth_beside, planning_for, planning_in, running_in};
+ghost use Rattle.campaign_settings.specs.Settings.{IsPlanning, IsRunning, RefusedBy, campaign_of, crash_states_in, depth_beside, planning_for, planning_in, running_in};
 
 use crate::choice::Setup;
 use crate::fault::SettingsFault;
@@ -9,8 +9,8 @@ use crate::keys::Key;
 use crate::tables::keyed;
 use crate::values::{read_boolean, read_number, read_optional, value_at};
 use campaign_given::{
-    CampaignSettings, MAX_HITS_IF_MISSING, PAIRS_IF_MISSING, RATE_IF_MISSING, SEED_IF_MISSING,
-    STORMS_IF_MISSING, WORKERS_IF_MISSING,
+    CRASH_STATES_IF_MISSING, CampaignSettings, MAX_HITS_IF_MISSING, PAIRS_IF_MISSING,
+    RATE_IF_MISSING, SEED_IF_MISSING, STORMS_IF_MISSING, WORKERS_IF_MISSING,
 };
 use scenario_grammar::{Scenario, Text};
 use std::alloc::Global;
@@ -24,13 +24,14 @@ pub struct Running {
     pub max_hits: u32,
 }
 
-// Which plans are made.
+// Which plans are made, and how their runs end.
 #[derive(Clone, Copy)]
 pub struct Planning {
     pub pairs: bool,
     pub storms: u32,
     pub rate: u32,
     pub depth: Option<u32>,
+    pub crash_states: bool,
 }
 
 pub fn read_running(table: &Table) -> Result<Running, SettingsFault>
@@ -85,11 +86,13 @@ pub fn read_planning(table: &Table) -> Result<Planning, SettingsFault>
     let rate = read_number(value_at(table, "rate"), Ok(RATE_IF_MISSING as u64), 0, 1000);
     let rate = keyed(Key::Rate, rate)?;
     let depth = read_depth(pairs, table)?;
+    let crash_states = read_crash_states(table)?;
     Ok(Planning {
         pairs,
         storms: storms as u32,
         rate: rate as u32,
         depth,
+        crash_states,
     })
 }
 
@@ -106,6 +109,17 @@ fn read_depth(pairs: bool, table: &Table) -> Result<Option<u32>, SettingsFault>
         return Err(SettingsFault::OutOfRange(Key::Pairs));
     }
     Ok(depth)
+}
+
+// Whether a run's power cut asks what it keeps.
+fn read_crash_states(table: &Table) -> Result<bool, SettingsFault>
+    ensures ok { IfOk result (λ crash_states. crash_states_in (table_view table.now) ≡ Ok crash_states) }
+    ensures refused { IfErr result (RefusedBy (crash_states_in (table_view table.now))) }
+{
+    keyed(
+        Key::CrashStates,
+        read_boolean(value_at(table, "crash_states"), CRASH_STATES_IF_MISSING),
+    )
 }
 
 // Which plans are made for a target.
@@ -141,6 +155,7 @@ pub fn campaign_of(
         storms: planning.storms,
         rate: planning.rate,
         depth: planning.depth,
+        crash_states: planning.crash_states,
         scenarios,
         source: Text::from_string(String::new(alloc)),
     }

@@ -23,7 +23,7 @@ pub const LIMIT: usize = 1048576;
 impl Settings {
     /// The settings that a text of TOML gives. `Err` is the first fault of the text, in this order: too long, no TOML, an unknown key at the
     /// top, each key as [`Key`] lists them, and in the target's table its unknown key before its keys; or that memory ran out. Pairs beside a
-    /// depth, and a depth of a target from outside, are out of range: that comes after the depth's own fault, and before the scenarios.
+    /// depth, and a depth of a target from outside, are out of range: that comes after the depth's own fault, and before the keys behind it.
     pub fn read(alloc: Global, text: &str) -> Result<Settings, SettingsFault>
         ensures ok { IfOk result (λ settings. settings_of text.now ≡ Ok settings) }
         ensures refused { IfErr result (RefusedBy (settings_of text.now)) }

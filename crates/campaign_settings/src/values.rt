@@ -136,6 +136,8 @@ fn replace_named(name: &str) -> Result<Setup, KeyFault>
         "late_sync" => file_replace::Variant::LateSync,
         "ignore_sync" => file_replace::Variant::IgnoreSync,
         "retry_write" => file_replace::Variant::RetryWrite,
+        "rename_first" => file_replace::Variant::RenameFirst,
+        "in_place" => file_replace::Variant::InPlace,
         _ => return Err(KeyFault::OutOfRange),
     };
     Ok(Setup::Replace(variant))
@@ -149,6 +151,7 @@ fn maildir_named(name: &str) -> Result<Setup, KeyFault>
         "link_first" => maildir_target::Variant::LinkFirst,
         "ignore_write" => maildir_target::Variant::IgnoreWrite,
         "append_tmp" => maildir_target::Variant::AppendTmp,
+        "deliver_in_new" => maildir_target::Variant::DeliverInNew,
         _ => return Err(KeyFault::OutOfRange),
     };
     Ok(Setup::Maildir(variant))
@@ -162,6 +165,7 @@ fn commit_named(name: &str) -> Result<Setup, KeyFault>
         "lazy_prepare" => commit_target::Variant::LazyPrepare,
         "early_end" => commit_target::Variant::EarlyEnd,
         "two_tries" => commit_target::Variant::TwoTries,
+        "end_first" => commit_target::Variant::EndFirst,
         _ => return Err(KeyFault::OutOfRange),
     };
     Ok(Setup::Commit(variant))

@@ -30,6 +30,7 @@ fn values_if_missing(rt: HostRuntime) -> Result<(), Fail> {
     has_numbers(&rt, &settings.campaign, [0, 1, 1000, 0, 100, 0]);
     assert!(rt; !settings.campaign.pairs);
     assert_eq!(rt; settings.campaign.depth, None);
+    assert!(rt; !settings.campaign.crash_states);
     let Choice::Replace(ReplaceVariant::Sound, work) = &settings.choice else {
         return Err(Fail::from("another target"));
     };
@@ -41,7 +42,7 @@ fn values_if_missing(rt: HostRuntime) -> Result<(), Fail> {
 #[test]
 fn values_that_are_given(rt: HostRuntime) -> Result<(), Fail> {
     let text =
-        "target = 'commit'\nvariant = 'two_tries'\nseed = 9223372036854775807\nworkers = 3\nmax_hits = 4\npairs = true\nstorms = 5\nrate = 6\nscenarios = ['a=off', '']\n[commit]\nparticipants = 2\ntransactions = [['yes', 'no']]\n";
+        "target = 'commit'\nvariant = 'two_tries'\nseed = 9223372036854775807\nworkers = 3\nmax_hits = 4\npairs = true\nstorms = 5\nrate = 6\ncrash_states = true\nscenarios = ['a=off', '']\n[commit]\nparticipants = 2\ntransactions = [['yes', 'no']]\n";
     let settings = read(rt.alloc(), text)?;
     has_numbers(
         &rt,
@@ -49,6 +50,7 @@ fn values_that_are_given(rt: HostRuntime) -> Result<(), Fail> {
         [9223372036854775807, 3, 4, 5, 6, 2],
     );
     assert!(rt; settings.campaign.pairs);
+    assert!(rt; settings.campaign.crash_states);
     let Choice::Commit(CommitVariant::TwoTries, work) = &settings.choice else {
         return Err(Fail::from("another target"));
     };

@@ -141,17 +141,18 @@ pub const SETTINGS: &str = "\
 Settings are TOML. Their keys, with ranges and defaults:
   target     \"replace\", \"maildir\", \"commit\" or \"outside\"; has to be there
   variant    \"sound\", or one with a flaw, by the target; default \"sound\"
-               replace: \"late_sync\", \"ignore_sync\", \"retry_write\"
-               maildir: \"link_first\", \"ignore_write\", \"append_tmp\"
-               commit:  \"lazy_prepare\", \"early_end\", \"two_tries\"
+               replace: \"late_sync\", \"ignore_sync\", \"retry_write\", \"rename_first\", \"in_place\"
+               maildir: \"link_first\", \"ignore_write\", \"append_tmp\", \"deliver_in_new\"
+               commit:  \"lazy_prepare\", \"early_end\", \"two_tries\", \"end_first\"
   seed       the seed of all that is drawn, 0 to 9223372036854775807; default 0
   workers    how many threads run plans, 1 to 64; default 1
   max_hits   how many steps a run may take before it counts as unresolved, 1 to 100000; default 1000
   pairs      true or false: plans of two steps that both fail, or the second panics; default false
   storms     how many plans of faults drawn at random there are, 0 to 10000; default 0
   rate       how many steps in a thousand each of these plans draws, 0 to 1000; default 100
-  depth      with up to how many faults each behaviour is tried, 1 to 64, without pairs; default
-             none: plans come from the run without faults
+  depth      with up to how many returns and panics each behaviour is tried, 1 to 64, without pairs;
+             default none: plans come from the run without faults
+  crash_states  true or false: the power cut asks power::keep for each pending write; default false
   scenarios  scenarios to run as plans too, up to 1000 texts; default none
 and the table of the target, with all of its keys:
   [replace]
@@ -168,7 +169,7 @@ and the table of the target, with all of its keys:
     points        the names of its points, 1 to 64 texts of up to 200 bytes
     hits          how often each point is hit without faults, as many numbers from 0 to 100000
 With \"outside\" somebody else runs the component: only plans, asks and report take such settings, in
-which variant, workers and max_hits are unknown keys, and depth is out of range.
+which variant, workers, max_hits and crash_states are unknown keys, and depth is out of range.
 A chunk is a text of up to 4096 bytes. `paklour help try` says what a scenario may hold.
 
 Example:

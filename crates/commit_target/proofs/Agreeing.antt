@@ -1,14 +1,22 @@
--- What the logs say of a transaction that was decided, and of one that was not, and how each ends after a restart of all.
-use Rattle.std.proofs.Common.{◌≡◌, ◌⊎◌, inl, inr, ℕ, zero, suc, ◌<◌, ◌≤◌, Bool, true, false, cond, List, ◌∷◌, refl, ap, sym, ◌∙◌, arith}
-use Rattle.std.proofs.lemmas.Bool.{or_right, or_from, and_left, and_from, not_from_true, not_from_false}
+-- What the logs say of a transaction that was decided, and of one that was not, and how each ends after a restart of all, whatever of what was pending
+-- the restart keeps.
+use Rattle.std.proofs.Common.{◌≡◌, ◌⊎◌, inl, inr, ℕ, zero, suc, ◌<◌, ◌≤◌, Bool, true, false, ◌||◌, cond, List, ◌∷◌, ◌++◌, take, drop, refl, ap, sym, ◌∙◌, arith}
+use Rattle.std.proofs.lemmas.List.{take-append-drop}
+use Rattle.std.proofs.lemmas.List.Folds.{list_any-append}
+use Rattle.std.proofs.lemmas.Bool.{or_left, or_right, or_from, and_left, and_from, not_from_true, not_from_false}
 use Rattle.sim_device.specs.FileEffects.{Live, Lasting}
+use Rattle.sim_device.specs.LogEffects.{LogEffect, records, unforced, kept_front, survivors}
 use Rattle.target_trait.specs.declared.judgement.Judgement.TheVariants.{Kept}
+use Rattle.commit_target.specs.declared.records.Record.{Record}
+use Rattle.commit_target.specs.declared.records.Party.TheVariants.{Coordinator, Participant}
 use Rattle.commit_target.specs.declared.records.Kind.{Kind}
 use Rattle.commit_target.specs.declared.records.Kind.TheVariants.{Prepare, Commit, Abort, End}
 use Rattle.commit_target.specs.declared.records.Write.{Write}
-use Rattle.commit_target.specs.Writes.{Event, Written}
-use Rattle.commit_target.specs.Judgement.{is_committed, answers_commit, some_ends, judged_ends, was_told, known, own, judged_one, or_then, judged}
+use Rattle.commit_target.specs.Writes.{Event, Written, pending, on_coordinator, on_participant}
+use Rattle.commit_target.specs.Judgement.{has, is_committed, answers_commit, some_ends, judged_ends, was_told, known, own, judged_one, or_then, judged_by}
+use Rattle.commit_target.specs.Crash.{answers_of, known_keeping, own_keeping}
 use Rattle.commit_target.specs.Protocol.{BearsOut}
+use Rattle.commit_target.proofs.Fronts.{live_is}
 use Rattle.commit_target.proofs.Logged.{is_it, decides, holds, entry_of, decides_never, holds_never, decides_stays, decides_spared, holds_stays, holds_spared}
 
 -- a record of this kind lasts in each participant's log
@@ -130,21 +138,77 @@ by_none false true prepare answer c a = refl
 by_none false false true answer c a = a
 by_none false false false answer c a = refl
 
--- one that prepared and doesn't know of the commit inquires: there is no end record then
-inquires : (p : ℕ) (es : List Event) (k n : ℕ) → n < p → Committed p es k → holds es n Lasting k Commit ≡ false → answers_commit (known es) k ≡ true
-inquires p es k n below h none = and_from _ _ h.decided (not_from_false _ (unended h.ended))
-  where
-    unended : ((decides es Live k End ≡ false) ⊎ AllHold p es k Commit) → decides es Lasting k End ≡ false
-    unended (inl e) = decides_never es k End e
-    unended (inr all) = absurd (not_both _ (all n below) none)
+-- ---- what a restart leaves
 
-pub ends_alike : (b : Bool) (p : ℕ) (es : List Event) (k n : ℕ) → n < p → Settled p es k b → is_committed (known es) (own es n) k ≡ b
-ends_alike true p es k n below h =
-    by_own (holds es n Lasting k Commit) (holds es n Lasting k Abort) (holds es n Lasting k Prepare) (answers_commit (known es) k)
-    (holds_never es n k Abort (h.unaborted n)) (h.prepared n below) (inquires p es k n below h)
-ends_alike false p es k n below h =
-    by_none (holds es n Lasting k Commit) (holds es n Lasting k Abort) (holds es n Lasting k Prepare) (answers_commit (known es) k)
-    (holds_never es n k Commit (h.uncommitted n)) (and_left _ _ (decides_never es k Commit h.undecided))
+-- the records that are left of a log: all that lasts, and nothing that wasn't there
+pub record Left (log : List (LogEffect Record)) (left : List Record) : Type 0 where
+  pub lasting : (k : ℕ) (kind : Kind) → has (records log Lasting) k kind ≡ true → has left k kind ≡ true
+  pub live : (k : ℕ) (kind : Kind) → has (records log Live) k kind ≡ false → has left k kind ≡ false
+
+-- the same of all logs
+pub record AllLeft (es : List Event) (known : List Record) (own : ℕ → List Record) : Type 0 where
+  pub coordinator : Left (on_coordinator es) known
+  pub participants : (n : ℕ) → Left (on_participant es n) (own n)
+
+pub restarted : (es : List Event) → AllLeft es (known es) (own es)
+restarted es = record {
+  coordinator = record { lasting = λ k kind h. h; live = λ k kind h. decides_never es k kind h };
+  participants = λ n. record { lasting = λ k kind h. h; live = λ k kind h. holds_never es n k kind h };
+}
+
+neither : (a b : Bool) → (a || b) ≡ false → (a ≡ false) × (b ≡ false)
+neither true b h = cc
+neither false b h = (refl, h)
+
+has_both : (front rest : List Record) (k : ℕ) (kind : Kind) → has (front ++ rest) k kind ≡ (has front k kind || has rest k kind)
+has_both front rest k kind = list_any-append (λ r. is_it r k kind) front rest
+
+has_none : (m : ℕ) (log : List Record) (k : ℕ) (kind : Kind) → has log k kind ≡ false → has (take m log) k kind ≡ false
+has_none m log k kind h =
+    (neither (has (take m log) k kind) (has (drop m log) k kind)
+    (sym (has_both (take m log) (drop m log) k kind) ∙ ap (λ (x : List Record). has x k kind) (take-append-drop m log) ∙ h)).0
+
+kept_left : (log : List (LogEffect Record)) (keep : List Bool) → Left log (survivors log keep)
+kept_left log keep =
+    let front = records log Lasting in
+    let rest = take (kept_front keep) (unforced log) in
+    record {
+      lasting = λ k kind h. has_both front rest k kind ∙ or_left _ _ h;
+      live = λ k kind h.
+          let both = neither (has front k kind) (has (unforced log) k kind)
+          (sym (has_both front (unforced log) k kind) ∙ ap (λ (x : List Record). has x k kind) (sym (live_is log)) ∙ h) in
+          has_both front rest k kind ∙ or_from _ _ both.0 (has_none (kept_front keep) (unforced log) k kind both.1);
+    }
+
+-- whatever a cut keeps
+pub all_kept_left : (es : List Event) (keep : List Bool) → AllLeft es (known_keeping es keep) (own_keeping es keep)
+all_kept_left es keep = record {
+  coordinator = kept_left (on_coordinator es) (answers_of Coordinator (pending es) keep);
+  participants = λ n. kept_left (on_participant es n) (answers_of (Participant n) (pending es) keep);
+}
+
+-- ---- how each ends by what is left
+
+-- one that prepared and doesn't know of the commit inquires: there is no end record then
+inquires : (p : ℕ) (es : List Event) (known : List Record) (own : ℕ → List Record) → AllLeft es known own → (k n : ℕ) → n < p → Committed p es k
+    → has (own n) k Commit ≡ false
+    → answers_commit known k ≡ true
+inquires p es known own left k n below h none = and_from _ _ (left.coordinator.lasting k Commit h.decided) (not_from_false _ (unended h.ended))
+  where
+    unended : ((decides es Live k End ≡ false) ⊎ AllHold p es k Commit) → has known k End ≡ false
+    unended (inl e) = left.coordinator.live k End e
+    unended (inr all) = absurd (not_both _ ((left.participants n).lasting k Commit (all n below)) none)
+
+pub ends_alike : (b : Bool) (p : ℕ) (es : List Event) (known : List Record) (own : ℕ → List Record) → AllLeft es known own → (k n : ℕ) → n < p
+    → Settled p es k b
+    → is_committed known (own n) k ≡ b
+ends_alike true p es known own left k n below h =
+    let mine = left.participants n in
+    by_own (has (own n) k Commit) (has (own n) k Abort) (has (own n) k Prepare) (answers_commit known k)
+    (mine.live k Abort (h.unaborted n)) (mine.lasting k Prepare (h.prepared n below)) (inquires p es known own left k n below h)
+ends_alike false p es known own left k n below h =
+    by_none (has (own n) k Commit) (has (own n) k Abort) (has (own n) k Prepare) (answers_commit known k)
+    ((left.participants n).live k Commit (h.uncommitted n)) (and_left _ _ (left.coordinator.live k Commit h.undecided))
 
 -- ---- the judgement
 
@@ -166,13 +230,16 @@ kept_by true p some f all =
     ∙ ap (λ a. judged_ends true a true) (none_aborts f p all)
 kept_by false p some f all = ap (λ c. judged_ends c (some_ends f false p) false) (none_commits f p all)
 
-pub one_kept : (p : ℕ) → 1 ≤ p → (told : List ℕ) (es : List Event) (k : ℕ) → Settled p es k (was_told told k) → judged_one p told es k ≡ Kept
-one_kept p some told es k h =
-    kept_by (was_told told k) p some (λ n. is_committed (known es) (own es n) k) (λ n below. ends_alike (was_told told k) p es k n below h)
+pub one_kept : (p : ℕ) → 1 ≤ p → (told : List ℕ) (es : List Event) (known : List Record) (own : ℕ → List Record) → AllLeft es known own → (k : ℕ)
+    → Settled p es k (was_told told k)
+    → judged_one p told known own k ≡ Kept
+one_kept p some told es known own left k h =
+    kept_by (was_told told k) p some (λ n. is_committed known (own n) k) (λ n below. ends_alike (was_told told k) p es known own left k n below h)
 
-pub all_kept : (p : ℕ) → 1 ≤ p → (told : List ℕ) (es : List Event) (begun : ℕ) → ((k : ℕ) → k < begun → Settled p es k (was_told told k))
-    → judged p told es begun ≡ Kept
-all_kept p some told es zero all = refl
-all_kept p some told es (suc k) all =
-    ap (λ j. or_then j (judged_one p told es k)) (all_kept p some told es k (λ i below. all i (omega arith)))
-    ∙ one_kept p some told es k (all k (omega arith))
+pub all_kept : (p : ℕ) → 1 ≤ p → (told : List ℕ) (es : List Event) (known : List Record) (own : ℕ → List Record) → AllLeft es known own → (begun : ℕ)
+    → ((k : ℕ) → k < begun → Settled p es k (was_told told k))
+    → judged_by p told known own begun ≡ Kept
+all_kept p some told es known own left zero all = refl
+all_kept p some told es known own left (suc k) all =
+    ap (λ j. or_then j (judged_one p told known own k)) (all_kept p some told es known own left k (λ i below. all i (omega arith)))
+    ∙ one_kept p some told es known own left k (all k (omega arith))

@@ -12,3 +12,7 @@ pub mod Rounds
 pub mod Rows
 pub mod First
 pub mod Fronts
+pub mod Noting
+pub mod Cutting
+pub mod Kept
+pub mod Survives

@@ -1,10 +1,10 @@
 -- Rounds of points that are answered to go on, one after another.
-use Rattle.std.proofs.Common.{◌≡◌, ◌<◌, ◌≤◌, ℕ, zero, suc, ◌+◌, Bool, true, false, cond, List, ◌∷◌, length, replicate, ◌==◌, nat_lt, Option, Some, None, refl, ap, sym, ◌∙◌, subst, arith}
+use Rattle.std.proofs.Common.{◌≡◌, ◌<◌, ◌≤◌, ℕ, zero, suc, ◌+◌, Bool, true, false, cond, List, ◌∷◌, length, replicate, ◌==◌, Option, Some, None, refl, ap, sym, ◌∙◌, subst, arith}
 use Rattle.action_eval.specs.Answers.{Run, Go, AllGo, hits_of, rounds, stopped}
 use Rattle.target_trait.specs.Machine.{Reached, AsksInTurn}
 use Rattle.target_trait.proofs.Machine.{gone, reached_on}
 use Rattle.commit_target.specs.declared.variant.Variant.{Variant}
-use Rattle.commit_target.specs.declared.variant.Variant.TheVariants.{Sound, LazyPrepare, EarlyEnd, TwoTries}
+use Rattle.commit_target.specs.declared.variant.Variant.TheVariants.{Sound, LazyPrepare, EarlyEnd, TwoTries, EndFirst}
 use Rattle.commit_target.specs.declared.work.Vote.{Vote}
 use Rattle.commit_target.specs.declared.work.Vote.TheVariants.{Yes}
 use Rattle.commit_target.specs.declared.records.Write.{Write}
@@ -13,19 +13,12 @@ use Rattle.commit_target.specs.declared.records.Party.TheVariants.{Participant}
 use Rattle.commit_target.specs.declared.records.Write.TheVariants.{Force}
 use Rattle.commit_target.specs.Work.{Work, wish}
 use Rattle.commit_target.specs.Writes.{Event, Written, AllLogs}
-use Rattle.commit_target.specs.Steps.{SendCommit, SendAck, SendAbort, commit_to, end_unless, with_write, entry, Step, SendPrepare, ForcePrepare, SendVote, ForceCommit, Over, Tally, State, machine, number, at_step, with_yes, opened, begun, first_of, one_of, abort_to, aborted, prepare_to, vote_step, prepare_write}
+use Rattle.commit_target.specs.Steps.{SendCommit, SendAck, SendAbort, commit_to, end_unless, with_write, entry, Step, SendPrepare, ForcePrepare, SendVote, ForceCommit, Tally, State, machine, number, at_step, with_yes, first_of, one_of, abort_to, aborted, prepare_to, vote_step, prepare_write}
 use Rattle.commit_target.specs.inside.Batches.{all_written, AddsAll, prepares, with_all_yes, abort_write}
 use Rattle.commit_target.specs.inside.Seen.{Due, at_commit, commit_points, Here, Stands, at_vote, at_abort, WishYes, vote_points}
-use Rattle.commit_target.proofs.Playing.{same_end, same_prepare, some_of}
+use Rattle.commit_target.proofs.Playing.{begun_step, commit_at, same_end, same_prepare, some_of}
 
 -- ---- where the steps lead doesn't depend on the step
-
-begun_step : (w : Work) (t : Tally) (step : Step) → begun w (at_step t step) ≡ begun w t
-begun_step w t step = in_case (nat_lt t.begun (length w.transactions))
-  where
-    in_case : (more : Bool) → cond more (at_step (opened (at_step t step)) (SendPrepare 0)) (at_step (at_step t step) Over) ≡ cond more (at_step (opened t) (SendPrepare 0)) (at_step t Over)
-    in_case true = refl
-    in_case false = refl
 
 abort_step : (w : Work) (t : Tally) (step : Step) (next : Option ℕ) → abort_to w (at_step t step) next ≡ abort_to w t next
 abort_step w t step (Some k) = refl
@@ -89,7 +82,7 @@ votes_asked v w (suc n) t i es h all =
 passed_on : (v : Variant) (w : Work) (r : Run) (ps : List ℕ) (s : State) → Here v w r s → AsksInTurn (machine v w) s ps → AllGo r ps
     → (r' : Run) → r' ≡ hits_of r ps → stopped r' ≡ None → Here v w r' (gone (machine v w) s ps)
 passed_on v w r ps s here asks goes r' same running = record {
-  points = ap (λ (x : Run). x.given.catalogue) same ∙ here.points;
+  points = subst (λ (x : Run). 7 ≤ length x.given.catalogue) (sym same) here.points;
   running = running;
   reached = subst (λ (x : Run). Reached (machine v w) x (gone (machine v w) s ps)) (sym same) (reached_on (machine v w) ps r s here.reached asks goes);
 }
@@ -102,6 +95,7 @@ same_writes Sound t i = refl
 same_writes LazyPrepare t i = refl
 same_writes EarlyEnd t i = refl
 same_writes TwoTries t i = refl
+same_writes EndFirst t i = refl
 
 votes_gone : (v : Variant) (w : Work) (n : ℕ) (t : Tally) (i : ℕ) (es : List Event) → i + n ≤ w.participants → WishYes w (number t) i n
     → gone (machine v w) (at_vote w t i es) (rounds n vote_points) ≡ at_vote w (with_all_yes t i n) (i + n) (all_written (λ j. prepare_write v t j) i n es)
@@ -130,22 +124,18 @@ votes_passed v w r t l i n below h all k goes r' same running l' adds t' is =
 
 -- ---- a round of commits
 
-commit_at : (w : Work) (t : Tally) (step : Step) (next : Option ℕ) → commit_to w (at_step t step) next ≡ commit_to w t next
-commit_at w t step (Some i) = refl
-commit_at w t step None = begun_step w t step
-
 forced : Tally → ℕ → Write
 forced t i = Force (Participant i) (entry t kind.Commit)
 
 tells_first : (v : Variant) (w : Work) (t : Tally) (i : ℕ) (es : List Event) → i < w.participants → at_commit v w t i es ≡ record { tally = at_step t (SendCommit i); events = es }
 tells_first v w t i es h =
-    ap (λ (o : Option ℕ). let s : State = record { tally = commit_to w t o; events = with_write (end_unless v t t.acknowledged o) es } in s) (some_of i w.participants h)
+    ap (λ (o : Option ℕ). let s : State = record { tally = commit_to v w t o; events = with_write (end_unless v t t.acknowledged o) es } in s) (some_of i w.participants h)
 
 told : (v : Variant) (w : Work) (t : Tally) (i : ℕ) (es : List Event) → (machine v w).step (record { tally = at_step t (SendAck i); events = es }) Go ≡ at_commit v w t (i + 1) es
 told v w t i es =
     let next : Option ℕ = one_of (i + 1) w.participants in
-    ap (λ (u : Tally). let s : State = record { tally = u; events = with_write (end_unless v (at_step t (SendAck i)) t.acknowledged next) es } in s) (commit_at w t (SendAck i) next)
-    ∙ ap (λ (o : Option Write). let s : State = record { tally = commit_to w t next; events = with_write o es } in s) (same_end v t (SendAck i) t.acknowledged next)
+    ap (λ (u : Tally). let s : State = record { tally = u; events = with_write (end_unless v (at_step t (SendAck i)) t.acknowledged next) es } in s) (commit_at v w t (SendAck i) next)
+    ∙ ap (λ (o : Option Write). let s : State = record { tally = commit_to v w t next; events = with_write o es } in s) (same_end v t (SendAck i) t.acknowledged next)
 
 commit_gone : (v : Variant) (w : Work) (t : Tally) (i : ℕ) (es : List Event) (ps : List ℕ) → i < w.participants
     → gone (machine v w) (at_commit v w t i es) (4 ∷ 5 ∷ 6 ∷ ps) ≡ gone (machine v w) (at_commit v w t (i + 1) (Written (forced t i) ∷ es)) ps
@@ -179,7 +169,7 @@ commits_gone v w (suc n) t i es h =
 pub commits_passed : (v : Variant) (w : Work) (r : Run) (t : Tally) (l : AllLogs) (i n : ℕ) → i < w.participants → i + n ≤ w.participants → Stands v w r (at_step t (SendCommit i)) l
     → AllGo r (rounds n commit_points) → (r' : Run) → r' ≡ hits_of r (rounds n commit_points) → stopped r' ≡ None
     → (l' : AllLogs) → AddsAll l l' (λ j. Force (Participant j) (entry t kind.Commit)) i n
-    → Due v w r' (commit_to w t (one_of (i + n) w.participants)) (end_unless v t t.acknowledged (one_of (i + n) w.participants)) l'
+    → Due v w r' (commit_to v w t (one_of (i + n) w.participants)) (end_unless v t t.acknowledged (one_of (i + n) w.participants)) l'
 commits_passed v w r t l i n below h k goes r' same running l' adds =
     let here : Here v w r' (gone (machine v w) (at_commit v w t i k.events) (rounds n commit_points)) =
     passed_on v w r (rounds n commit_points) (at_commit v w t i k.events) (subst (Here v w r) (sym (tells_first v w t i k.events below)) k.here) (commits_asked v w n t i k.events h) goes r' same running in
@@ -190,9 +180,9 @@ commits_passed v w r t l i n below h k goes r' same running l' adds =
     }
 
 pub first_told : (v : Variant) (w : Work) (r : Run) (t : Tally) (l : AllLogs) → 1 ≤ w.participants → Stands v w r (at_step t (SendCommit 0)) l
-    → Due v w r (commit_to w t (one_of 0 w.participants)) (end_unless v t t.acknowledged (one_of 0 w.participants)) l
+    → Due v w r (commit_to v w t (one_of 0 w.participants)) (end_unless v t t.acknowledged (one_of 0 w.participants)) l
 first_told v w r t l some k =
-    subst (λ (o : Option ℕ). Due v w r (commit_to w t o) (end_unless v t t.acknowledged o) l) (sym (some_of 0 w.participants (omega arith))) k
+    subst (λ (o : Option ℕ). Due v w r (commit_to v w t o) (end_unless v t t.acknowledged o) l) (sym (some_of 0 w.participants (omega arith))) k
 
 -- ---- aborts
 

@@ -7,10 +7,13 @@ use Rattle.sim_device.specs.LogEffects as effect
 use Rattle.commit_target.specs.declared.marked.Manner.{Manner}
 use Rattle.commit_target.specs.declared.marked.Manner.TheVariants.{Append, Force}
 use Rattle.commit_target.specs.declared.records.Record.{Record}
+use Rattle.commit_target.specs.declared.records.Party.{Party}
 use Rattle.commit_target.specs.declared.records.Party.TheVariants.{Participant}
 use Rattle.commit_target.specs.declared.records.Write.{Write}
-use Rattle.commit_target.specs.Writes.{Event, Written, AllLogs, LogsStandFor, on_coordinator, on_participant, log_at}
+use Rattle.commit_target.specs.Writes.{Event, Written, AllLogs, LogsStandFor, on_coordinator, on_participant, pending, log_at}
 use Rattle.commit_target.specs.inside.Batches.{effect_of, write_of, all_written, AddsAll, AddsRow}
+use Rattle.commit_target.specs.inside.Held.{noted_each}
+use Rattle.commit_target.proofs.Noting.{one_noted}
 
 -- each write has this effect on the log of the participant of its number, and on no other
 pub record IsRow (w : ℕ → Write) (effect : LogEffect Record) : Type 0 where
@@ -56,6 +59,13 @@ on_these w effect row n i (suc m) es from below = elim (cases_eq n i) [
       ∙ ap (λ (l : List (LogEffect Record)). effect ∷ l) (row.others i n es apart)
 ]
 
+-- whose records are pending then
+pub row_noted : (m : Manner) (r : Record) (i count : ℕ) (es : List Event)
+    → pending (all_written (λ j. write_of m (Participant j) r) i count es) ≡ noted_each m i count (pending es)
+row_noted m r i zero es = refl
+row_noted m r i (suc n) es =
+    row_noted m r (i + 1) n (Written (write_of m (Participant i) r) ∷ es) ∙ ap (λ (x : List Party). noted_each m (i + 1) n x) (one_noted m (Participant i) r es)
+
 -- one log more
 pub one_written : (old now : List (Log Record)) (effect : LogEffect Record) (first i : ℕ) (l l' : Log Record) → i < length now → l ≡ log_at old i
     → AddsLogEffect l l' effect → ((n : ℕ) → first ≤ n → n < i → AddsLogEffect (log_at old n) (log_at now n) effect)
@@ -71,13 +81,15 @@ one_written old now effect first i l l' there is adds done n from before = elim 
 
 pub row_added : (old new : AllLogs) (w : ℕ → Write) (effect : LogEffect Record) → IsRow w effect → (i count end : ℕ) → end ≤ i + count
     → ((n : ℕ) → n < length old.participants → n < i + count → n < end) → new.coordinator ≡ old.coordinator
+    → ((es : List Event) → old.pending ≡ pending es → new.pending ≡ pending (all_written w i count es))
     → AddsRow old.participants new.participants effect i end → AddsAll old new w i count
-row_added old new w effect row i count end within all same adds = λ most es stands. record {
+row_added old new w effect row i count end within all same notes adds = λ most es stands. record {
   enough = subst (λ (n : ℕ). most ≤ n) (sym adds.same) stands.enough;
   coordinator =
       subst (λ (l : Log Record). LogStandsFor l (on_coordinator (all_written w i count es))) (sym same)
       (subst (λ (x : List (LogEffect Record)). LogStandsFor old.coordinator x) (sym (on_none w effect row i count es)) stands.coordinator);
   participants = λ n h. at most es stands n h (cases_lt n i) (cases_lt n (i + count));
+  pending = notes es stands.pending;
 }
   where
     kept : (most : ℕ) (es : List Event) → LogsStandFor most old es → (n : ℕ) → n < most → log_at new.participants n ≡ log_at old.participants n

@@ -19,10 +19,11 @@ use Rattle.commit_target.specs.declared.records.Write.{Write}
 use Rattle.commit_target.specs.declared.records.Write.TheVariants.{Append, Force}
 use Rattle.commit_target.specs.Work.{Work, wish}
 use Rattle.commit_target.specs.Writes.{Event, Written}
-use Rattle.commit_target.specs.Judgement.{was_told}
-use Rattle.commit_target.specs.Steps.{Step, SendPrepare, ForcePrepare, SendVote, ForceCommit, ForceCommitAgain, SendCommit, ForceOutcome, SendAck, SendAbort, Over, Tally, State, number, at_step, with_yes, unacknowledged, with_told, first_of, next_of, opened, begun, commit_to, abort_to, aborted, decided, prepare_to, after_vote, vote_step, entry, end_if, end_unless, go_write, return_write, with_write, on_go, on_return, stepped, before_all, start_of, laid, point_at, judged_at, asks_of}
+use Rattle.commit_target.specs.Judgement.{was_told, known, own}
+use Rattle.commit_target.specs.Crash.{known_keeping, own_keeping, judged_keeping}
+use Rattle.commit_target.specs.Steps.{Step, SendPrepare, ForcePrepare, SendVote, ForceCommit, ForceCommitAgain, SendCommit, ForceOutcome, SendAck, SendAbort, Over, Tally, State, number, at_step, with_yes, unacknowledged, with_told, first_of, next_of, opened, begun, commit_to, abort_to, aborted, decided, prepare_to, after_vote, vote_step, entry, end_if, end_unless, go_write, then_write, return_write, with_write, on_go, on_return, stepped, before_all, start_of, laid, point_at, judged_at, asks_of}
 use Rattle.commit_target.proofs.Logged.{decides, holds, entry_of, is_entry, other_transaction, other_kind, decides_stays, decides_spared, decided as forced_decision, held}
-use Rattle.commit_target.proofs.Agreeing.{AllHold, NoneHolds, Committed, Undecided, Settled, Open, all_stay, none_stay, undecided_stay, open_stay, settled_stay, all_kept}
+use Rattle.commit_target.proofs.Agreeing.{AllHold, NoneHolds, Committed, Undecided, Settled, Open, all_stay, none_stay, undecided_stay, open_stay, settled_stay, restarted, all_kept_left, all_kept}
 
 -- ---- what is claimed
 
@@ -255,11 +256,11 @@ end_safe w some t es false i over b k =
 
 commit_safe : (w : Work) → 1 ≤ w.participants → (t : Tally) (es : List Event) (i : ℕ) → Base w.participants t.told t.begun es
     → Telling w.participants (number t) t.told t.acknowledged (i + 1) es
-    → Safe w (state (commit_to w t (next_of i w.participants)) (with_write (end_unless Sound t t.acknowledged (next_of i w.participants)) es))
+    → Safe w (state (commit_to Sound w t (next_of i w.participants)) (with_write (end_unless Sound t t.acknowledged (next_of i w.participants)) es))
 commit_safe w some t es i b k = in_case (nat_lt (i + 1) w.participants) refl
   where
     in_case : (more : Bool) → nat_lt (i + 1) w.participants ≡ more
-        → Safe w (state (commit_to w t (cond more (Some (i + 1)) None)) (with_write (end_unless Sound t t.acknowledged (cond more (Some (i + 1)) None)) es))
+        → Safe w (state (commit_to Sound w t (cond more (Some (i + 1)) None)) (with_write (end_unless Sound t t.acknowledged (cond more (Some (i + 1)) None)) es))
     in_case true e = record { base = b; step = (ltb-true (i + 1) w.participants e, k) }
     in_case false e = end_safe w some t es t.acknowledged (i + 1) (ltb-false (i + 1) w.participants e) b k
 
@@ -291,7 +292,7 @@ telling_more p c told all i es k this = record {
 
 lost_safe : (w : Work) → 1 ≤ w.participants → (t : Tally) (es : List Event) (i : ℕ) → Base w.participants t.told t.begun es
     → Telling w.participants (number t) t.told t.acknowledged i es
-    → Safe w (state (commit_to w (unacknowledged t) (next_of i w.participants)) (with_write (end_unless Sound t false (next_of i w.participants)) es))
+    → Safe w (state (commit_to Sound w (unacknowledged t) (next_of i w.participants)) (with_write (end_unless Sound t false (next_of i w.participants)) es))
 lost_safe w some t es i b k = commit_safe w some (unacknowledged t) es i b (telling_lost w.participants (number t) t.told t.acknowledged i es k)
 
 -- ---- step by step
@@ -403,7 +404,7 @@ abbrev Before : Step → Work → Tally → List Event → Type 0
 Before step w t es = StepSafe step w.participants (number t) t.told t.yes t.acknowledged es
 
 go_safe : (w : Work) → 1 ≤ w.participants → (t : Tally) (es : List Event) (step : Step) → Stands w t es → Before step w t es
-    → Safe w (state (on_go w t step) (with_write (go_write Sound w t step) es))
+    → Safe w (state (on_go Sound w t step) (with_write (then_write Sound t step) (with_write (go_write Sound w t step) es)))
 go_safe w some t es (SendPrepare i) b r = wish_safe w (wish w (number t) i) t es i r.0 b r.1
 go_safe w some t es (ForcePrepare i) b r = prepared_safe w t es i r.0 b r.1
 go_safe w some t es (SendVote i Yes) b r = vote_safe w some (with_yes t i) es i r.0 b (polled_yes (number t) t.told t.yes i es r.1.0 r.1.1)
@@ -482,7 +483,14 @@ all_settled w some answers k = in_case (nat_lt 0 (length w.transactions))
 laid_kept : (w : Work) → 1 ≤ w.participants → (answers : List Reply) → judged_at w (laid Sound w (start_of w) answers) ≡ Kept
 laid_kept w some answers =
     let s = laid Sound w (start_of w) answers in
-    all_kept w.participants some s.tally.told s.events s.tally.begun (λ k h. all_settled w some answers k)
+    all_kept w.participants some s.tally.told s.events (known s.events) (own s.events) (restarted s.events) s.tally.begun (λ k h. all_settled w some answers k)
+
+-- whatever is answered, and whatever of what is pending a cut keeps
+pub sound_keeps : (w : Work) → 1 ≤ w.participants → (answers : List Reply) (keep : List Bool) → judged_keeping w (laid Sound w (start_of w) answers) keep ≡ Kept
+sound_keeps w some answers keep =
+    let s = laid Sound w (start_of w) answers in
+    all_kept w.participants some s.tally.told s.events (known_keeping s.events keep) (own_keeping s.events keep) (all_kept_left s.events keep) s.tally.begun
+    (λ k h. all_settled w some answers k)
 
 -- whatever is answered, the sound variant keeps its word
 pub sound_kept : (w : Work) → 1 ≤ w.participants → (answers : List Reply) (j : Judgement) → asks_of Sound w answers ≡ Done j → j ≡ Kept

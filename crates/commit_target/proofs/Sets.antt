@@ -14,8 +14,7 @@ use Rattle.commit_target.specs.declared.records.Kind.TheVariants.{Prepare, Commi
 use Rattle.commit_target.specs.declared.judge.Ends.{Ends}
 use Rattle.target_trait.specs.declared.judgement.Judgement.{Judgement}
 use Rattle.target_trait.specs.declared.judgement.Judgement.TheVariants.{Kept}
-use Rattle.commit_target.specs.Writes.{Event}
-use Rattle.commit_target.specs.Judgement.{is_kind, has, is_committed, some_ends, known, own, judged_ends, judged_one, or_then, judged, was_told}
+use Rattle.commit_target.specs.Judgement.{is_kind, has, is_committed, some_ends, judged_ends, judged_one, or_then, judged_by, was_told}
 use Rattle.commit_target.specs.inside.Marks.{among, place_of, AreMarks, EndsOf}
 use Rattle.commit_target.proofs.Counting.{one_judged}
 
@@ -184,18 +183,18 @@ committed_is first theirs own log records a b commit prepare abort decided ended
 
 -- ---- one transaction more
 
-pub next_judged : (p : ℕ) (told : List ℕ) (es : List Event) (ends : Ends) → EndsOf p told es ends → (t : ℕ) → ends.first ≤ t → t < ends.first + 64 → (j : Judgement) → j ≡ judged p told es t
-    → or_then j (judged_ends (among ends.committed (t - ends.first)) (among ends.aborted (t - ends.first)) (among ends.told (t - ends.first))) ≡ judged p told es (t + 1)
-next_judged p told es ends k t from within j is =
+pub next_judged : (p : ℕ) (told : List ℕ) (known : List Record) (own : ℕ → List Record) (ends : Ends) → EndsOf p told known own ends → (t : ℕ) → ends.first ≤ t → t < ends.first + 64 → (j : Judgement) → j ≡ judged_by p told known own t
+    → or_then j (judged_ends (among ends.committed (t - ends.first)) (among ends.aborted (t - ends.first)) (among ends.told (t - ends.first))) ≡ judged_by p told known own (t + 1)
+next_judged p told known own ends k t from within j is =
     let place : ℕ = t - ends.first in
     let below : place < 64 = omega arith in
     let there : ends.first + place ≡ t = omega arith in
     ap (λ (b : Bool). or_then j (judged_ends b (among ends.aborted place) (among ends.told place))) (k.committed place below)
-    ∙ ap (λ (b : Bool). or_then j (judged_ends (some_ends (λ n. is_committed (known es) (own es n) (ends.first + place)) true p) b (among ends.told place))) (k.aborted place below)
-    ∙ ap (λ (b : Bool). or_then j (judged_ends (some_ends (λ n. is_committed (known es) (own es n) (ends.first + place)) true p) (some_ends (λ n. is_committed (known es) (own es n) (ends.first + place)) false p) b)) (k.told_so place below)
-    ∙ ap (λ (x : ℕ). or_then j (judged_one p told es x)) there
-    ∙ ap (λ (x : Judgement). or_then x (judged_one p told es t)) is
-    ∙ sym (one_judged p told es t)
+    ∙ ap (λ (b : Bool). or_then j (judged_ends (some_ends (λ n. is_committed known (own n) (ends.first + place)) true p) b (among ends.told place))) (k.aborted place below)
+    ∙ ap (λ (b : Bool). or_then j (judged_ends (some_ends (λ n. is_committed known (own n) (ends.first + place)) true p) (some_ends (λ n. is_committed known (own n) (ends.first + place)) false p) b)) (k.told_so place below)
+    ∙ ap (λ (x : ℕ). or_then j (judged_one p told known own x)) there
+    ∙ ap (λ (x : Judgement). or_then x (judged_one p told known own t)) is
+    ∙ sym (one_judged p told known own t)
 
 -- ---- none is broken
 
@@ -219,14 +218,14 @@ kept_at c a t c_fits t_fits none k h = kept_by (among c k) (among a k) (among t 
     ∙ ap (λ (x : Bool). ((among c k && among a k) || (among c k && not (among t k))) || x) (among_and t (bit_not w64 c) k ∙ ap (λ (y : Bool). among t k && y) (among_not c k c_fits h)))
     ∙ ap (λ (x : ℕ). among x k) none ∙ nothing_at k)
 
-pub all_kept : (p : ℕ) (told : List ℕ) (es : List Event) (ends : Ends) → EndsOf p told es ends → ends.first ≡ 0
-    → ((k : ℕ) → k < 64 → judged_ends (among ends.committed k) (among ends.aborted k) (among ends.told k) ≡ Kept) → (n : ℕ) → n ≤ 64 → judged p told es n ≡ Kept
-all_kept p told es ends k first kept zero h = refl
-all_kept p told es ends k first kept (suc n) h =
+pub all_kept : (p : ℕ) (told : List ℕ) (known : List Record) (own : ℕ → List Record) (ends : Ends) → EndsOf p told known own ends → ends.first ≡ 0
+    → ((k : ℕ) → k < 64 → judged_ends (among ends.committed k) (among ends.aborted k) (among ends.told k) ≡ Kept) → (n : ℕ) → n ≤ 64 → judged_by p told known own n ≡ Kept
+all_kept p told known own ends k first kept zero h = refl
+all_kept p told known own ends k first kept (suc n) h =
     let place : n - ends.first ≡ n = omega (arith, first) in
-    let before : judged p told es n ≡ Kept = all_kept p told es ends k first kept n (omega arith) in
-    ap (judged p told es) (the_next n)
-    ∙ sym (next_judged p told es ends k n (omega (arith, first)) (omega (arith, first)) Kept (sym before))
+    let before : judged_by p told known own n ≡ Kept = all_kept p told known own ends k first kept n (omega arith) in
+    ap (judged_by p told known own) (the_next n)
+    ∙ sym (next_judged p told known own ends k n (omega (arith, first)) (omega (arith, first)) Kept (sym before))
     ∙ kept (n - ends.first) (omega (arith, first))
   where
     the_next : (n : ℕ) → suc n ≡ n + 1

@@ -10,7 +10,7 @@ use Rattle.commit_target.specs.declared.records.Kind.TheVariants as kind
 use Rattle.commit_target.specs.declared.records.Write.{Write}
 use Rattle.commit_target.specs.Work.{Work, wish}
 use Rattle.commit_target.specs.Writes.{Event}
-use Rattle.commit_target.specs.Steps.{Step, SendPrepare, ForcePrepare, SendVote, ForceCommit, ForceCommitAgain, SendCommit, ForceOutcome, SendAck, SendAbort, Over, Tally, State, number, at_step, with_yes, unacknowledged, first_of, next_of, begun, commit_to, abort_to, aborted, decided, prepare_to, vote_step, entry, go_write, return_write, with_write, on_go, on_return, stepped, before_all, start_of, laid}
+use Rattle.commit_target.specs.Steps.{Step, SendPrepare, ForcePrepare, SendVote, ForceCommit, ForceCommitAgain, SendCommit, ForceOutcome, SendAck, SendAbort, Over, Tally, State, number, at_step, with_yes, unacknowledged, first_of, next_of, begun, commit_to, abort_to, aborted, decided, prepare_to, vote_step, entry, go_write, then_write, return_write, with_write, on_go, on_return, stepped, before_all, start_of, laid}
 use Rattle.commit_target.proofs.Logged.{holds, is_entry, holds_stays, held}
 use Rattle.commit_target.proofs.Safe.{state, first_asked}
 
@@ -50,7 +50,7 @@ begun_voted w t es h = in_case (nat_lt t.begun (length w.transactions))
     in_case true = record { voters = All-nil (Has es (number (first_asked t))); mine = tt }
     in_case false = record { voters = h; mine = tt }
 
-commit_voted : (w : Work) (t : Tally) (es : List Event) (next : Option ℕ) → Prepared es (number t) t.yes → Voted (state (commit_to w t next) es)
+commit_voted : (w : Work) (t : Tally) (es : List Event) (next : Option ℕ) → Prepared es (number t) t.yes → Voted (state (commit_to Sound w t next) es)
 commit_voted w t es (Some i) h = record { voters = h; mine = tt }
 commit_voted w t es None h = begun_voted w t es h
 
@@ -74,7 +74,7 @@ wish_voted Yes t es i h = record { voters = h; mine = tt }
 wish_voted No t es i h = record { voters = h; mine = tt }
 
 go_voted : (w : Work) (t : Tally) (es : List Event) (step : Step) → Prepared es (number t) t.yes → Mine step es (number t)
-    → Voted (state (on_go w t step) (with_write (go_write Sound w t step) es))
+    → Voted (state (on_go Sound w t step) (with_write (then_write Sound t step) (with_write (go_write Sound w t step) es)))
 go_voted w t es (SendPrepare i) h m = wish_voted (wish w (number t) i) t es i h
 go_voted w t es (ForcePrepare i) h m = record {
   voters = stay (go_write Sound w t (ForcePrepare i)) es (number t) t.yes h;
@@ -97,7 +97,7 @@ go_voted w t es (SendAbort k) h m =
 go_voted w t es Over h m = record { voters = h; mine = tt }
 
 lost_voted : (w : Work) (t : Tally) (write : Option Write) (es : List Event) (i : ℕ) → Prepared es (number t) t.yes
-    → Voted (state (commit_to w (unacknowledged t) (next_of i w.participants)) (with_write write es))
+    → Voted (state (commit_to Sound w (unacknowledged t) (next_of i w.participants)) (with_write write es))
 lost_voted w t write es i h = commit_voted w (unacknowledged t) (with_write write es) (next_of i w.participants) (stay write es (number t) t.yes h)
 
 return_voted : (w : Work) (t : Tally) (es : List Event) (step : Step) → Prepared es (number t) t.yes → Mine step es (number t)

@@ -53,17 +53,11 @@ judged_ends true false false = Broken phantom
 abbrev pub was_told : List ℕ → ℕ → Bool
 was_told told transaction = list_any (λ n. n == transaction) told
 
--- the records in the logs after a restart of all
-abbrev pub known : List Event → List Record
-known events = records (on_coordinator (AllRestart ∷ events)) Live
-
-abbrev pub own : List Event → ℕ → List Record
-own events participant = records (on_participant (AllRestart ∷ events) participant) Live
-
-abbrev pub judged_one : ℕ → List ℕ → List Event → ℕ → Judgement
-judged_one participants told events transaction =
-    judged_ends (some_ends (λ n. is_committed (known events) (own events n) transaction) true participants)
-    (some_ends (λ n. is_committed (known events) (own events n) transaction) false participants) (was_told told transaction)
+-- the judgement of a transaction by the records that are in the coordinator's log and in each participant's
+abbrev pub judged_one : ℕ → List ℕ → List Record → (ℕ → List Record) → ℕ → Judgement
+judged_one participants told known own transaction =
+    judged_ends (some_ends (λ n. is_committed known (own n) transaction) true participants)
+    (some_ends (λ n. is_committed known (own n) transaction) false participants) (was_told told transaction)
 
 -- what is broken first stays so
 abbrev pub or_then : Judgement → Judgement → Judgement
@@ -71,6 +65,17 @@ or_then Kept next = next
 or_then (Broken code) next = Broken code
 
 -- the judgement of the transactions that were begun, in order
+abbrev pub judged_by : ℕ → List ℕ → List Record → (ℕ → List Record) → ℕ → Judgement
+judged_by participants told known own zero = Kept
+judged_by participants told known own (suc begun) =
+    or_then (judged_by participants told known own begun) (judged_one participants told known own begun)
+
+-- the records in the logs after a restart of all
+abbrev pub known : List Event → List Record
+known events = records (on_coordinator (AllRestart ∷ events)) Live
+
+abbrev pub own : List Event → ℕ → List Record
+own events participant = records (on_participant (AllRestart ∷ events) participant) Live
+
 abbrev pub judged : ℕ → List ℕ → List Event → ℕ → Judgement
-judged participants told events zero = Kept
-judged participants told events (suc begun) = or_then (judged participants told events begun) (judged_one participants told events begun)
+judged participants told events begun = judged_by participants told (known events) (own events) begun

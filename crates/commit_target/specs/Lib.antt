@@ -5,4 +5,5 @@ pub mod Judgement
 pub mod Steps
 pub mod inside
 pub mod Flaws
+pub mod Crash
 pub mod Protocol

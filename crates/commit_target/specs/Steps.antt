@@ -9,7 +9,7 @@ use Rattle.target_trait.specs.Play.{Move, move_by, IsWithin, IsDone}
 use Rattle.target_trait.proofs.Machine.{within_by, halts_by}
 use Rattle.std.proofs.Common.{arith, refl, ap, sym, subst}
 use Rattle.commit_target.specs.declared.variant.Variant.{Variant}
-use Rattle.commit_target.specs.declared.variant.Variant.TheVariants.{Sound, LazyPrepare, EarlyEnd, TwoTries}
+use Rattle.commit_target.specs.declared.variant.Variant.TheVariants.{Sound, LazyPrepare, EarlyEnd, TwoTries, EndFirst}
 use Rattle.commit_target.specs.declared.work.Vote.{Vote}
 use Rattle.commit_target.specs.declared.work.Vote.TheVariants.{Yes, No}
 use Rattle.commit_target.specs.declared.records.Record.{Record}
@@ -104,13 +104,21 @@ begun w t = if nat_lt t.begun (length w.transactions) then at_step (opened t) (S
 
 -- ---- the second phase
 
--- an outcome of commit is sent to this participant; without one the transaction is over
-abbrev pub commit_to : Work → Tally → Option ℕ → Tally
-commit_to w t (Some i) = at_step t (SendCommit i)
-commit_to w t None = begun w t
+-- the second phase of a commit is over. Where an acknowledgement is missing then, end_first asks nothing more
+abbrev pub after_phase : Variant → Work → Tally → Tally
+after_phase Sound w t = begun w t
+after_phase LazyPrepare w t = begun w t
+after_phase EarlyEnd w t = begun w t
+after_phase TwoTries w t = begun w t
+after_phase EndFirst w t = if t.acknowledged then begun w t else at_step t Over
 
-abbrev pub after_commit_to : Work → Tally → ℕ → Tally
-after_commit_to w t i = commit_to w t (next_of i w.participants)
+-- an outcome of commit is sent to this participant; without one the second phase is over
+abbrev pub commit_to : Variant → Work → Tally → Option ℕ → Tally
+commit_to v w t (Some i) = at_step t (SendCommit i)
+commit_to v w t None = after_phase v w t
+
+abbrev pub after_commit_to : Variant → Work → Tally → ℕ → Tally
+after_commit_to v w t i = commit_to v w t (next_of i w.participants)
 
 -- an outcome of abort is sent to those whose yes arrived
 abbrev pub abort_to : Work → Tally → Option ℕ → Tally
@@ -156,21 +164,22 @@ after_no_commit Sound w t = aborted w t
 after_no_commit LazyPrepare w t = aborted w t
 after_no_commit EarlyEnd w t = aborted w t
 after_no_commit TwoTries w t = at_step t ForceCommitAgain
+after_no_commit EndFirst w t = aborted w t
 
 -- ---- the table of steps
 
 -- where a step leads that was answered to go on
-abbrev pub on_go : Work → Tally → Step → Tally
-on_go w t (SendPrepare i) = at_step t (vote_step (wish w (number t) i) i)
-on_go w t (ForcePrepare i) = at_step t (SendVote i Yes)
-on_go w t (SendVote i vote) = after_vote w (with_vote t i vote) i
-on_go w t ForceCommit = committed t
-on_go w t ForceCommitAgain = committed t
-on_go w t (SendCommit i) = at_step t (ForceOutcome i)
-on_go w t (ForceOutcome i) = at_step t (SendAck i)
-on_go w t (SendAck i) = after_commit_to w t i
-on_go w t (SendAbort k) = after_abort_to w t k
-on_go w t Over = at_step t Over
+abbrev pub on_go : Variant → Work → Tally → Step → Tally
+on_go v w t (SendPrepare i) = at_step t (vote_step (wish w (number t) i) i)
+on_go v w t (ForcePrepare i) = at_step t (SendVote i Yes)
+on_go v w t (SendVote i vote) = after_vote w (with_vote t i vote) i
+on_go v w t ForceCommit = committed t
+on_go v w t ForceCommitAgain = committed t
+on_go v w t (SendCommit i) = at_step t (ForceOutcome i)
+on_go v w t (ForceOutcome i) = at_step t (SendAck i)
+on_go v w t (SendAck i) = after_commit_to v w t i
+on_go v w t (SendAbort k) = after_abort_to w t k
+on_go v w t Over = at_step t Over
 
 -- where it leads where it was answered that it fails. What was sent is lost, and a participant that can't prepare votes no. After its
 -- second try two_tries goes on as if the commit record stood
@@ -180,9 +189,9 @@ on_return v w t (ForcePrepare i) = at_step t (SendVote i No)
 on_return v w t (SendVote i vote) = after_vote w t i
 on_return v w t ForceCommit = after_no_commit v w t
 on_return v w t ForceCommitAgain = committed t
-on_return v w t (SendCommit i) = after_commit_to w (unacknowledged t) i
-on_return v w t (ForceOutcome i) = after_commit_to w (unacknowledged t) i
-on_return v w t (SendAck i) = after_commit_to w (unacknowledged t) i
+on_return v w t (SendCommit i) = after_commit_to v w (unacknowledged t) i
+on_return v w t (ForceOutcome i) = after_commit_to v w (unacknowledged t) i
+on_return v w t (SendAck i) = after_commit_to v w (unacknowledged t) i
 on_return v w t (SendAbort k) = after_abort_to w t k
 on_return v w t Over = at_step t Over
 
@@ -197,8 +206,9 @@ prepare_write Sound t i = Force (Participant i) (entry t kind.Prepare)
 prepare_write LazyPrepare t i = Append (Participant i) (entry t kind.Prepare)
 prepare_write EarlyEnd t i = Force (Participant i) (entry t kind.Prepare)
 prepare_write TwoTries t i = Force (Participant i) (entry t kind.Prepare)
+prepare_write EndFirst t i = Force (Participant i) (entry t kind.Prepare)
 
--- the end record of a commit, once all have acknowledged; early_end forces it, whatever was acknowledged
+-- the end record of a commit, once all have acknowledged; early_end forces it, whatever was acknowledged, and end_first has it by then
 abbrev pub end_if : Bool → Tally → Option Write
 end_if all t = if all then Some (Append Coordinator (entry t kind.End)) else None
 
@@ -207,6 +217,7 @@ end_write Sound t all = end_if all t
 end_write LazyPrepare t all = end_if all t
 end_write EarlyEnd t all = Some (Force Coordinator (entry t kind.End))
 end_write TwoTries t all = end_if all t
+end_write EndFirst t all = None
 
 -- the second phase of a commit is over with its last participant
 abbrev pub end_unless : Variant → Tally → Bool → Option ℕ → Option Write
@@ -224,6 +235,26 @@ go_write v w t (ForceOutcome i) = Some (Force (Participant i) (entry t kind.Comm
 go_write v w t (SendAck i) = end_unless v t t.acknowledged (next_of i w.participants)
 go_write v w t (SendAbort k) = Some (Append (Participant (slice_index_or t.yes k 0)) (entry t kind.Abort))
 go_write v w t Over = None
+
+-- and what is written after that: end_first appends the end record behind the commit record, before anybody is told
+abbrev pub early_write : Variant → Tally → Option Write
+early_write Sound t = None
+early_write LazyPrepare t = None
+early_write EarlyEnd t = None
+early_write TwoTries t = None
+early_write EndFirst t = Some (Append Coordinator (entry t kind.End))
+
+abbrev pub then_write : Variant → Tally → Step → Option Write
+then_write v t (SendPrepare i) = None
+then_write v t (ForcePrepare i) = None
+then_write v t (SendVote i vote) = None
+then_write v t ForceCommit = early_write v t
+then_write v t ForceCommitAgain = None
+then_write v t (SendCommit i) = None
+then_write v t (ForceOutcome i) = None
+then_write v t (SendAck i) = None
+then_write v t (SendAbort k) = None
+then_write v t Over = None
 
 abbrev pub return_write : Variant → Work → Tally → Step → Option Write
 return_write v w t (SendPrepare i) = None
@@ -245,7 +276,10 @@ with_write (Some w) es = Written w ∷ es
 
 -- after a halt nothing is done or asked
 abbrev pub stepped : Variant → Work → State → Reply → State
-stepped v w s Go = record { tally = on_go w s.tally s.tally.step; events = with_write (go_write v w s.tally s.tally.step) s.events }
+stepped v w s Go = record {
+  tally = on_go v w s.tally s.tally.step;
+  events = with_write (then_write v s.tally s.tally.step) (with_write (go_write v w s.tally s.tally.step) s.events);
+}
 stepped v w s (Return text) = record { tally = on_return v w s.tally s.tally.step; events = with_write (return_write v w s.tally s.tally.step) s.events }
 stepped v w s Halt = record { tally = at_step s.tally Over; events = s.events }
 
@@ -306,7 +340,7 @@ over_done : (j : Judgement) (step : Step) → step ≡ Over → IsDone (move_by 
 over_done j step e = subst (λ (x : Step). IsDone (move_by j (point_at x))) (sym e) tt
 
 over_stays : (v : Variant) (w : Work) (s : State) (a : Reply) → s.tally.step ≡ Over → (stepped v w s a).tally.step ≡ Over
-over_stays v w s Go e = ap (λ (x : Step). (on_go w s.tally x).step) e
+over_stays v w s Go e = ap (λ (x : Step). (on_go v w s.tally x).step) e
 over_stays v w s (Return text) e = ap (λ (x : Step). (on_return v w s.tally x).step) e
 over_stays v w s Halt e = refl
 

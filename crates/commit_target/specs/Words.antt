@@ -1,7 +1,7 @@
 -- Names and numbers of two-phase commit: points, labels, and codes of failures.
 use Rattle.std.specs.Prelude.{ℕ, ◌==◌, if◌then◌else◌, List, [], ◌∷◌, codes}
 use Rattle.commit_target.specs.declared.variant.Variant.{Variant}
-use Rattle.commit_target.specs.declared.variant.Variant.TheVariants.{Sound, LazyPrepare, EarlyEnd, TwoTries}
+use Rattle.commit_target.specs.declared.variant.Variant.TheVariants.{Sound, LazyPrepare, EarlyEnd, TwoTries, EndFirst}
 
 -- the points, in the order of their numbers
 abbrev pub point_names : List (List ℕ)
@@ -35,6 +35,7 @@ label Sound = codes "commit sound"
 label LazyPrepare = codes "commit lazy_prepare"
 label EarlyEnd = codes "commit early_end"
 label TwoTries = codes "commit two_tries"
+label EndFirst = codes "commit end_first"
 
 -- the codes of failures: two participants ended differently; the client was told of a commit that nobody kept; all committed what the
 -- client was not told of

@@ -1,7 +1,9 @@
--- What the parties wrote to their logs, the newest write first, and what each log then holds.
-use Rattle.std.specs.Prelude.{ℕ, ◌<◌, ◌≤◌, ◌==◌, if◌then◌else◌, List, [], ◌∷◌, length, slice_index_or}
+-- What the parties wrote to their logs, the newest write first, and what each log then holds. And which records are pending over all logs: those that
+-- their log wasn't forced after.
+use Rattle.std.specs.Prelude.{◌≡◌, ℕ, ◌<◌, ◌≤◌, ◌==◌, not, if◌then◌else◌, Bool, true, false, List, [], ◌∷◌, ◌++◌, filter, length, slice_index_or}
 use Rattle.sim_device.specs.LogEffects.{LogEffect, Append, Force, Restart, Log, LogStandsFor}
 use Rattle.commit_target.specs.declared.records.Record.{Record}
+use Rattle.commit_target.specs.declared.records.Party.{Party}
 use Rattle.commit_target.specs.declared.records.Party.TheVariants.{Coordinator, Participant}
 use Rattle.commit_target.specs.declared.records.Write.{Write}
 use Rattle.commit_target.specs.declared.records.Write.TheVariants as write
@@ -29,10 +31,28 @@ on_participant (Written (write.Force Coordinator r) ∷ before) n = on_participa
 on_participant (Written (write.Force (Participant m) r) ∷ before) n = if n == m then Force r ∷ on_participant before n else on_participant before n
 on_participant (AllRestart ∷ before) n = Restart ∷ on_participant before n
 
--- the logs of all parties, as contracts see them
+abbrev pub is_party : Party → Party → Bool
+is_party Coordinator Coordinator = true
+is_party Coordinator (Participant n) = false
+is_party (Participant m) Coordinator = false
+is_party (Participant m) (Participant n) = m == n
+
+-- a force of a party's log makes all of it last
+abbrev pub without : Party → List Party → List Party
+without party parties = filter (λ other. not (is_party other party)) parties
+
+-- the parties in whose logs the pending records are, in the order in which these were made over all logs
+abbrev pub pending : List Event → List Party
+pending [] = []
+pending (Written (write.Append party r) ∷ before) = pending before ++ party ∷ []
+pending (Written (write.Force party r) ∷ before) = without party (pending before)
+pending (AllRestart ∷ before) = []
+
+-- the logs of all parties, as contracts see them, and whose records are pending
 pub record AllLogs : Type 0 where
   pub coordinator : Log Record
   pub participants : List (Log Record)
+  pub pending : List Party
 
 abbrev pub log_at : List (Log Record) → ℕ → Log Record
 log_at logs n = slice_index_or logs n (record { live = []; lasting = [] })
@@ -42,6 +62,7 @@ pub record LogsStandFor (count : ℕ) (logs : AllLogs) (events : List Event) : T
   pub enough : count ≤ length logs.participants
   pub coordinator : LogStandsFor logs.coordinator (on_coordinator events)
   pub participants : (n : ℕ) → n < count → LogStandsFor (log_at logs.participants n) (on_participant events n)
+  pub pending : logs.pending ≡ pending events
 
 -- from each list of events that the logs stood for they go to that list with the event added
 abbrev pub AddsEvent : AllLogs → AllLogs → Event → Type 0

@@ -6,16 +6,17 @@ ghost use Rattle.target_trait.specs.declared.judgement.Judgement.TheVariants.{Ke
 ghost use Rattle.commit_target.specs.declared.variant.Variant.TheVariants.{Sound};
 ghost use Rattle.commit_target.specs.Words.{label, code_text, point_names};
 ghost use Rattle.commit_target.specs.Steps.{asks_of, asks-within, asks-halts};
+ghost use Rattle.commit_target.specs.Crash.{cut_of};
 
 use crate::judge::{LOST, SPLIT};
 use crate::logs::Logs;
-use crate::play::play;
+use crate::play::{TO_CUT, play, play_to_cut};
 use crate::progress::Progress;
 use crate::variant::Variant;
 use crate::work::Transactions;
 use std::alloc::{AllocError, Global};
 use std::marker::Model;
-use target_trait::{Judgement, Session, Target};
+use target_trait::{CrashTarget, Judgement, Session, Target};
 
 /// Two-phase commit with presumed abort, as a target. Its setup, which is all that contracts see of it, is the variant.
 ///
@@ -70,6 +71,7 @@ impl Target for Commit {
             Variant::LazyPrepare => "commit lazy_prepare",
             Variant::EarlyEnd => "commit early_end",
             Variant::TwoTries => "commit two_tries",
+            Variant::EndFirst => "commit end_first",
         }
     }
 
@@ -126,4 +128,29 @@ impl Target for Commit {
     ghost halts = { asks-halts };
 
     ghost lawful = { Prim.search rules };
+}
+
+impl CrashTarget for Commit {
+    ghost cut = { cut_of };
+
+    fn catalogue_to_cut() -> &'static [&'static str] {
+        TO_CUT
+    }
+
+    fn run_to_cut(
+        &mut self,
+        workload: &Transactions,
+        session: &mut Session<'_>,
+    ) -> Result<Judgement, AllocError> {
+        play_to_cut(
+            self.alloc,
+            self.variant,
+            workload,
+            &mut self.progress,
+            &mut self.logs,
+            session,
+        )
+    }
+
+    ghost lawful_to_cut = { Prim.search rules };
 }

@@ -13,8 +13,8 @@ use target_trait::{Answer, Session};
 /// Why a run goes no further.
 #[derive(Clone, Copy, Debug)]
 pub enum Cut {
-    /// It was halted.
-    Halted,
+    /// It was halted, or it gives up.
+    Over,
     /// Memory was refused.
     Refused,
 }
@@ -39,6 +39,6 @@ pub fn ask(session: &mut Session<'_>, point: u32) -> Result<bool, Cut>
     match session.hit(point)? {
         Answer::Go => Ok(true),
         Answer::Return(_) => Ok(false),
-        Answer::Halt => Err(Cut::Halted),
+        Answer::Halt => Err(Cut::Over),
     }
 }

@@ -1,13 +1,17 @@
-ghost use Rattle.std.specs.Prelude.{◌≡◌, ◌<◌, ◌≤◌, ◌+◌, ◌-◌, ◌∷◌, ℕ, List, true};
+ghost use Rattle.std.specs.Prelude.{◌≡◌, ◌<◌, ◌≤◌, ◌+◌, ◌-◌, ℕ, List, true, IfOk};
 ghost use Rattle.target_trait.specs.declared.judgement.Judgement.TheVariants.{Kept};
-ghost use Rattle.commit_target.specs.Judgement.{is_committed, judged_ends, or_then, judged};
+ghost use Rattle.commit_target.specs.Judgement.{is_committed, judged_ends, or_then, judged_by, judged};
+ghost use Rattle.commit_target.specs.Crash.{known_keeping, own_keeping};
+ghost use Rattle.commit_target.specs.inside.Held.{Holds};
 ghost use Rattle.commit_target.specs.inside.Marks.{among, AreMarks, EndsOf};
 ghost use Rattle.commit_target.specs.Writes.{Event, AllRestart, LogsStandFor, AddsEvent};
 ghost use Rattle.commit_target.specs.declared.records.Record.{Record};
 
 use crate::logs::Logs;
 use crate::marks::{Marks, WIDTH, among, set_of};
+use crate::progress::Progress;
 use crate::records::Kind;
+use std::alloc::AllocError;
 use target_trait::Judgement;
 
 /// The code of a transaction that two participants end differently.
@@ -49,12 +53,12 @@ struct Ends {
 }
 
 impl Ends {
-    /// How those from the first one on end, where all parties have restarted.
+    /// How those from the first one on end, by the records that are in the logs.
     // It is called with 0 but for more than 64 transactions, and is inlined for that.
     #[inline(always)]
     fn from(logs: &Logs, participants: usize, told: &[usize], first: usize) -> Ends
         ensures first { result.first ≡ first }
-        ensures ends { (es : List Event) → LogsStandFor participants logs.now (AllRestart ∷ es) → EndsOf participants told.now es result }
+        ensures ends { (known : List Record) (own : ℕ → List Record) → Holds participants logs.now known own → EndsOf participants told.now known own result }
     {
         let coordinator = logs.coordinator().marks(first);
         let mut committed_by = 0;
@@ -77,8 +81,8 @@ impl Ends {
         requires { self.first ≤ transaction }
         ensures from { result.first ≤ transaction }
         ensures within { transaction < result.first + WIDTH }
-        ensures ends { (es : List Event) → LogsStandFor participants logs.now (AllRestart ∷ es)
-            → EndsOf participants told.now es self → EndsOf participants told.now es result }
+        ensures ends { (known : List Record) (own : ℕ → List Record) → Holds participants logs.now known own
+            → EndsOf participants told.now known own self → EndsOf participants told.now known own result }
     {
         if transaction - self.first < WIDTH {
             self
@@ -117,12 +121,11 @@ impl Ends {
     }
 }
 
-/// Restarts all parties, and judges the transactions that were begun, the first to the last.
-pub fn judge(logs: &mut Logs, participants: usize, told: &[usize], begun: usize) -> Judgement
-    ensures judged { (es : List Event) → LogsStandFor participants logs.old es → result ≡ judged participants told.now es begun }
-    ensures restarted { AddsEvent logs.old logs.new AllRestart }
+/// Judges the transactions that were begun, the first to the last, by the records that are in the logs.
+fn judgement(logs: &Logs, participants: usize, told: &[usize], begun: usize) -> Judgement
+    ensures { (known : List Record) (own : ℕ → List Record) → Holds participants logs.now known own
+        → result ≡ judged_by participants told.now known own begun }
 {
-    logs.restart();
     let mut ends = Ends::from(logs, participants, told, 0);
     // Nearly every run keeps all of its transactions.
     if begun <= WIDTH && ends.all_kept() {
@@ -134,4 +137,28 @@ pub fn judge(logs: &mut Logs, participants: usize, told: &[usize], begun: usize)
         judgement = ends.judged(judgement, transaction);
     }
     judgement
+}
+
+/// Restarts all parties, and judges the transactions that were begun, the first to the last.
+pub fn judge(logs: &mut Logs, participants: usize, told: &[usize], begun: usize) -> Judgement
+    ensures judged { (es : List Event) → LogsStandFor participants logs.old es → result ≡ judged participants told.now es begun }
+    ensures restarted { AddsEvent logs.old logs.new AllRestart }
+{
+    logs.restart();
+    judgement(logs, participants, told, begun)
+}
+
+/// Restarts all parties after a power cut that keeps those pending records for which the answers say so, and judges the transactions that were begun.
+/// An error means that memory was refused.
+pub fn judge_keeping(
+    logs: &mut Logs,
+    participants: usize,
+    progress: &Progress,
+    keep: &[bool],
+) -> Result<Judgement, AllocError>
+    ensures { IfOk result (λ judgement. (es : List Event) → LogsStandFor participants logs.old es
+        → judgement ≡ judged_by participants progress.now.told (known_keeping es keep.now) (own_keeping es keep.now) progress.now.begun) }
+{
+    logs.restart_keeping(keep)?;
+    Ok(judgement(logs, participants, progress.told(), progress.begun()))
 }

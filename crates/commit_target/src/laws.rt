@@ -2,8 +2,9 @@
 ghost use Rattle.std.specs.Prelude.{◌≡◌, ◌≤◌, ℕ, true, List, All};
 ghost use Rattle.action_eval.specs.Answers.{Reply, given_of};
 ghost use Rattle.target_trait.specs.Outcomes.{outcome};
-ghost use Rattle.target_trait.specs.declared.judgement.Verdict.TheVariants.{Fail};
-ghost use Rattle.commit_target.specs.declared.variant.Variant.TheVariants.{Sound, LazyPrepare, EarlyEnd, TwoTries};
+ghost use Rattle.target_trait.specs.declared.judgement.Verdict.TheVariants.{Fail, Pass};
+ghost use Rattle.target_trait.specs.Cuts.{with_keep, asks_with};
+ghost use Rattle.commit_target.specs.declared.variant.Variant.TheVariants.{Sound, LazyPrepare, EarlyEnd, TwoTries, EndFirst};
 ghost use Rattle.commit_target.specs.Work.{Work};
 ghost use Rattle.commit_target.specs.Words.{point_names, split, lost};
 ghost use Rattle.commit_target.specs.Steps.{number, laid, start_of, asks_of};
@@ -13,6 +14,7 @@ ghost use Rattle.sim_device.specs.FileEffects.{Lasting};
 ghost use Rattle.sim_device.specs.LogEffects.{records};
 ghost use Rattle.commit_target.specs.Judgement.{has, was_told};
 ghost use Rattle.commit_target.specs.Protocol.{BearsOut};
+ghost use Rattle.commit_target.specs.Crash.{cut_of, outcome_lost_end_kept, untold_end_kept, untold};
 ghost use Rattle.commit_target.specs.Flaws.{both_wish_yes, first_outcome_is_lost, each_outcome_is_lost, no_commit_record};
 
 use scenario_values::Scenario;
@@ -65,4 +67,25 @@ pub fn early_end_is_split()
 pub fn two_tries_is_split()
     ensures { (seed stream : ℕ) →
         (outcome (asks_of TwoTries both_wish_yes) (given_of no_commit_record point_names seed stream 1000)).verdict ≡ Fail split }
+{}
+
+/// end_first fails where the outcome is lost on its way to the first participant, and a power cut keeps the coordinator's end record: the first inquires,
+/// the coordinator presumes an abort, and the second has committed. Where the run panics before any is told, both abort, and the commit that the client was
+/// told of is lost. A cut that loses all shows neither, under the same faults.
+pub fn a_kept_end_shows_end_first()
+    ensures split { (seed stream : ℕ) → (outcome (asks_with (asks_of EndFirst both_wish_yes) (cut_of EndFirst both_wish_yes) 7)
+        (given_of outcome_lost_end_kept (with_keep point_names) seed stream 1000)).verdict ≡ Fail split }
+    ensures lost { (seed stream : ℕ) → (outcome (asks_with (asks_of EndFirst both_wish_yes) (cut_of EndFirst both_wish_yes) 7)
+        (given_of untold_end_kept (with_keep point_names) seed stream 1000)).verdict ≡ Fail lost }
+    ensures outcome_lost { (seed stream : ℕ) → (outcome (asks_with (asks_of EndFirst both_wish_yes) (cut_of EndFirst both_wish_yes) 7)
+        (given_of first_outcome_is_lost (with_keep point_names) seed stream 1000)).verdict ≡ Pass }
+    ensures untold { (seed stream : ℕ) → (outcome (asks_with (asks_of EndFirst both_wish_yes) (cut_of EndFirst both_wish_yes) 7)
+        (given_of untold (with_keep point_names) seed stream 1000)).verdict ≡ Pass }
+{}
+
+/// Presumed abort as published never fails, whatever a power cut keeps of what is pending in the logs: for every scenario, of its points and of
+/// `power::keep`, the verdict of its run with the cut is pass or unresolved.
+pub fn sound_survives_each_cut(scenario: &Scenario, seed: u64, stream: u64, max_hits: u32)
+    ensures { (w : Work) → 1 ≤ w.participants → (code : ℕ) → (outcome (asks_with (asks_of Sound w) (cut_of Sound w) 7)
+        (given_of scenario.now (with_keep point_names) seed stream max_hits)).verdict ≡ Fail code → ⊥ }
 {}

@@ -1,4 +1,4 @@
-//! Two-phase commit with presumed abort, as a target, in four variants.
+//! Two-phase commit with presumed abort, as a target, in five variants.
 #![tactic(auto)]
 
 mod commit;
@@ -8,6 +8,7 @@ mod laws;
 mod logs;
 mod marked;
 mod marks;
+mod order;
 mod outcomes;
 mod play;
 mod points;
@@ -20,8 +21,9 @@ mod work;
 pub use commit::Commit;
 pub use judge::{LOST, PHANTOM, SPLIT, judge as judge_logs};
 pub use laws::{
-    early_end_is_split, lazy_prepare_is_lost, lazy_prepare_is_split, sound_bears_out,
-    sound_never_fails, two_tries_is_split, yes_is_prepared,
+    a_kept_end_shows_end_first, early_end_is_split, lazy_prepare_is_lost, lazy_prepare_is_split,
+    sound_bears_out, sound_never_fails, sound_survives_each_cut, two_tries_is_split,
+    yes_is_prepared,
 };
 pub use logs::Logs;
 pub use records::{Kind, Party, Record, Write};

@@ -1,10 +1,13 @@
-ghost use Rattle.std.specs.Prelude.{◌≡◌, ◌<◌, ◌≤◌, ◌+◌, ℕ, List, [], OnOk, OnErr, length};
-ghost use Rattle.sim_device.specs.LogEffects.{Restart, LogStandsFor, AddsLogEffect};
+ghost use Rattle.std.specs.Prelude.{◌≡◌, ◌<◌, ◌≤◌, ◌+◌, ℕ, List, [], ◌∷◌, OnOk, OnErr, length};
+ghost use Rattle.sim_device.specs.LogEffects.{Restart, LogStandsFor, AddsLogEffect, RestartsKeeping};
 ghost use Rattle.commit_target.specs.declared.records.Party.TheVariants.{Participant};
-ghost use Rattle.commit_target.specs.Writes.{Event, Written, AllRestart, LogsStandFor, AddsEvent, log_at, on_coordinator, on_participant};
+ghost use Rattle.commit_target.specs.Writes.{Event, Written, AllRestart, LogsStandFor, AddsEvent, log_at};
+ghost use Rattle.commit_target.specs.Crash.{answers_of, known_keeping, own_keeping};
 ghost use Rattle.commit_target.specs.inside.Batches.{effect_of, write_of, AddsAll, AddsRow};
+ghost use Rattle.commit_target.specs.inside.Held.{Holds, StandFor};
 
 use crate::marked::{Manner, MarkedLog};
+use crate::order::{answer, note, note_each};
 use crate::records::{Party, Record, Write};
 use std::alloc::{AllocError, Global};
 use std::marker::Model;
@@ -15,6 +18,8 @@ pub struct Logs {
     alloc: Global,
     coordinator: MarkedLog,
     participants: Vec<MarkedLog>,
+    // Whose records are pending, in the order in which these were made over all logs, which no log knows.
+    order: Vec<Party>,
 }
 
 impl Model for Logs {
@@ -22,7 +27,7 @@ impl Model for Logs {
 
     ghost Value = { AllLogs };
 
-    ghost view = { λ l. record { coordinator = l.coordinator; participants = l.participants.items } };
+    ghost view = { λ l. record { coordinator = l.coordinator; participants = l.participants.items; pending = l.order.items } };
 }
 
 /// Each log is emptied.
@@ -58,6 +63,46 @@ fn restart_each(logs: &mut [MarkedLog])
     }
 }
 
+/// Each participant's log keeps what lasts, and what these answers keep of its pending records.
+fn keep_each(
+    logs: &mut [MarkedLog],
+    order: &[Party],
+    keep: &[bool],
+    answers: &mut Vec<bool>,
+) -> Result<(), AllocError>
+    ensures same { OnOk result (length logs.new ≡ length logs.old) }
+    ensures each { OnOk result ((n : ℕ) → n < length logs.old
+        → RestartsKeeping (log_at logs.old n) (log_at logs.new n) (answers_of (Participant n) order.now keep.now)) }
+{
+    for number in 0..logs.len() {
+        answer(Party::Participant(number), order, keep, answers)?;
+        logs[number].restart_keeping(answers.as_slice());
+    }
+    Ok(())
+}
+
+/// Adds a record to the log of a party. A participant without a log writes nothing.
+#[inline(always)]
+fn add_to(
+    coordinator: &mut MarkedLog,
+    participants: &mut Vec<MarkedLog>,
+    party: Party,
+    entry: Record,
+    manner: Manner,
+) -> Result<(), AllocError>
+    ensures ok { OnOk result ((count : ℕ) (es : List Event) → StandFor count coordinator.old participants.old.items es
+        → StandFor count coordinator.new participants.new.items (Written (write_of manner party entry) ∷ es)) }
+    ensures err { OnErr result ((coordinator.new ≡ coordinator.old) × (participants.new.items ≡ participants.old.items)) }
+{
+    match party {
+        Party::Coordinator => coordinator.add(entry, manner),
+        Party::Participant(number) if number < participants.len() => {
+            participants[number].add(entry, manner)
+        }
+        Party::Participant(_) => Ok(()),
+    }
+}
+
 /// Adds a record to each log, from one on, up to another.
 #[inline(always)]
 fn add_row(
@@ -85,6 +130,7 @@ impl Logs {
             alloc,
             coordinator: MarkedLog::new(alloc),
             participants: Vec::new(alloc),
+            order: Vec::new(alloc),
         }
     }
 
@@ -96,6 +142,7 @@ impl Logs {
         ensures err { OnErr result (LogsStandFor (length self.new.participants) self.new []) }
     {
         self.coordinator.clear();
+        self.order.clear();
         clear_first(self.alloc, &mut self.participants, participants)
     }
 
@@ -105,13 +152,16 @@ impl Logs {
         ensures ok { OnOk result (AddsEvent self.old self.new (Written (write_of manner party entry))) }
         ensures err { OnErr result (self.new ≡ self.old) }
     {
-        match party {
-            Party::Coordinator => self.coordinator.add(entry, manner),
-            Party::Participant(number) if number < self.participants.len() => {
-                self.participants[number].add(entry, manner)
-            }
-            Party::Participant(_) => Ok(()),
-        }
+        self.order.reserve(1)?;
+        add_to(
+            &mut self.coordinator,
+            &mut self.participants,
+            party,
+            entry,
+            manner,
+        )?;
+        note(&mut self.order, party, manner);
+        Ok(())
     }
 
     /// Does a write. A participant without a log writes nothing.
@@ -144,6 +194,7 @@ impl Logs {
     {
         let end = self.participants.len().min(first + count);
         add_row(self.participants.as_mut_slice(), first, end, entry, manner)?;
+        note_each(&mut self.order, first, count, manner)?;
         Ok(())
     }
 
@@ -151,21 +202,46 @@ impl Logs {
     pub(crate) fn restart(&mut self)
         ensures { AddsEvent self.old self.new AllRestart }
     {
+        self.order.clear();
         self.coordinator.restart();
         restart_each(self.participants.as_mut_slice());
     }
 
+    /// How many records are pending, over all logs.
+    pub(crate) fn pending(&self) -> usize
+        ensures { result ≡ length self.now.pending }
+    {
+        self.order.len()
+    }
+
+    /// All parties restart. Each log keeps what lasts, and of what is pending those records for which these answers say so, in the order in which they
+    /// were made over all logs, with those before them in their log.
+    ///
+    /// An error means that memory was refused: some logs have restarted.
+    pub(crate) fn restart_keeping(&mut self, keep: &[bool]) -> Result<(), AllocError>
+        ensures { OnOk result ((count : ℕ) (es : List Event) → LogsStandFor count self.old es
+            → Holds count self.new (known_keeping es keep.now) (own_keeping es keep.now)) }
+    {
+        let mut answers = Vec::new(self.alloc);
+        let order = self.order.as_slice();
+        answer(Party::Coordinator, order, keep, &mut answers)?;
+        self.coordinator.restart_keeping(answers.as_slice());
+        keep_each(self.participants.as_mut_slice(), order, keep, &mut answers)?;
+        self.order.clear();
+        Ok(())
+    }
+
     /// The coordinator's log.
     pub(crate) fn coordinator(&self) -> &MarkedLog
-        ensures { (count : ℕ) (es : List Event) → LogsStandFor count self.now es → LogStandsFor result.now (on_coordinator es) }
+        ensures { result.now ≡ self.now.coordinator }
     {
         &self.coordinator
     }
 
     /// The logs of the first participants: of so many, where they are there.
     pub(crate) fn participants(&self, count: usize) -> &[MarkedLog]
-        ensures { (es : List Event) → LogsStandFor count self.now es
-            → (length result.now ≡ count) × ((n : ℕ) → n < count → LogStandsFor (log_at result.now n) (on_participant es n)) }
+        ensures { count ≤ length self.now.participants
+            → (length result.now ≡ count) × ((n : ℕ) → n < count → log_at result.now n ≡ log_at self.now.participants n) }
     {
         let end = self.participants.len().min(count);
         &self.participants[..end]

@@ -1,7 +1,6 @@
 //! A log of a party, with the marks of its records. These are kept as records come: to walk each log after each run costs more.
-ghost use Rattle.std.specs.Prelude.{◌≡◌, List, [], OnOk, OnErr};
-ghost use Rattle.sim_device.specs.FileEffects.{Live};
-ghost use Rattle.sim_device.specs.LogEffects.{LogEffect, Restart, records, LogStandsFor, AddsLogEffect};
+ghost use Rattle.std.specs.Prelude.{◌≡◌, [], OnOk, OnErr};
+ghost use Rattle.sim_device.specs.LogEffects.{Restart, LogStandsFor, AddsLogEffect, RestartsKeeping};
 ghost use Rattle.commit_target.specs.declared.records.Record.{Record};
 ghost use Rattle.commit_target.specs.inside.Batches.{effect_of};
 ghost use Rattle.commit_target.specs.inside.Marks.{AreMarks};
@@ -88,10 +87,18 @@ impl MarkedLog {
         }
     }
 
+    /// Leaves the records that last, and the pending ones for which the answers say so, with those before them.
+    pub fn restart_keeping(&mut self, keep: &[bool])
+        ensures { RestartsKeeping self.old self.new keep.now }
+    {
+        self.log.restart_keeping(keep);
+        self.marks = Marks::of(self.log.records(), 0);
+    }
+
     /// The marks of the log, of the transactions from the first one on.
     #[inline(always)]
     pub fn marks(&self, first: usize) -> Marks
-        ensures { (es : List (LogEffect Record)) → LogStandsFor self.now es → AreMarks result.sets (records es Live) first }
+        ensures { AreMarks result.sets self.now.live first }
     {
         if first == 0 {
             self.marks

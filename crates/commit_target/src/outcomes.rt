@@ -1,7 +1,7 @@
 //! The decision, and the second phase: the participants are told of it.
 ghost use Rattle.std.specs.Prelude.{◌≡◌, ◌<◌, ◌≤◌, ◌+◌, OnOk, length, if◌then◌else◌};
 ghost use Rattle.commit_target.specs.Steps.{ForceCommit, ForceCommitAgain, SendCommit, SendAbort, Over, at_step, one_of, next_of};
-ghost use Rattle.commit_target.specs.Steps.{commit_to, abort_to, after_no_commit, unacknowledged, aborted, committed, begun, end_unless};
+ghost use Rattle.commit_target.specs.Steps.{commit_to, abort_to, after_phase, after_no_commit, unacknowledged, aborted, committed, begun, end_unless};
 ghost use Rattle.commit_target.specs.inside.Batches.{AddsAll, abort_write};
 ghost use Rattle.commit_target.specs.inside.Seen.{Leads, Stands, Due, Ended};
 
@@ -23,7 +23,7 @@ const ROUND: [u32; 3] = [
     Point::SendAck as u32,
 ];
 
-/// The coordinator forces the commit record.
+/// The coordinator forces the commit record. end_first has the end record behind it.
 fn force_commit(
     variant: Variant,
     workload: &Transactions,
@@ -41,6 +41,9 @@ fn force_commit(
         return Ok(false);
     }
     logs.write(Write::Force(Party::Coordinator, progress.entry(Kind::Commit)))?;
+    if let Some(end) = progress.early_write(variant) {
+        logs.write(end)?;
+    }
     Ok(true)
 }
 
@@ -84,7 +87,9 @@ pub fn commits(
             Variant::TwoTries => {
                 force_commit_again(variant, workload, progress, logs, session)?;
             }
-            Variant::Sound | Variant::LazyPrepare | Variant::EarlyEnd => return Ok(false),
+            Variant::Sound | Variant::LazyPrepare | Variant::EarlyEnd | Variant::EndFirst => {
+                return Ok(false);
+            }
         }
     }
     progress.tell()?;
@@ -179,7 +184,7 @@ fn commit_to(
     ensures given { session.new.given ≡ session.old.given }
     ensures led { Leads result (λ acknowledges.
         let t = (if acknowledges then progress.now else unacknowledged progress.now) in let next = next_of participant workload.now.participants in
-        Due variant workload.now session.new (commit_to workload.now t next) (end_unless variant t t.acknowledged next) logs.new)
+        Due variant workload.now session.new (commit_to variant workload.now t next) (end_unless variant t t.acknowledged next) logs.new)
         (Ended variant workload.now session.new (at_step progress.now Over) logs.new) }
 {
     if !ask(session, Point::SendOutcome as u32)? {
@@ -208,7 +213,7 @@ fn pass_commits(
     requires stands { Stands variant workload.now session.old (at_step progress.now (SendCommit participant)) logs.old }
     ensures given { session.new.given ≡ session.old.given }
     ensures led { Leads result (λ n. let next = one_of (participant + n) workload.now.participants in (participant + n ≤ workload.now.participants)
-        × Due variant workload.now session.new (commit_to workload.now progress.now next)
+        × Due variant workload.now session.new (commit_to variant workload.now progress.now next)
         (end_unless variant progress.now progress.now.acknowledged next) logs.new)
         (Ended variant workload.now session.new (at_step progress.now Over) logs.new) }
 {
@@ -234,7 +239,7 @@ fn some_commits(
     ensures given { session.new.given ≡ session.old.given }
     ensures begun { progress.new.begun ≡ progress.old.begun }
     ensures led { Leads result (λ n. let next = one_of n workload.now.participants in (participant < n) × (n ≤ workload.now.participants)
-        × Due variant workload.now session.new (commit_to workload.now progress.new next)
+        × Due variant workload.now session.new (commit_to variant workload.now progress.new next)
         (end_unless variant progress.new progress.new.acknowledged next) logs.new)
         (Ended variant workload.now session.new (at_step progress.new Over) logs.new) }
 {
@@ -249,6 +254,31 @@ fn some_commits(
 }
 
 /// All participants are told of the commit, and then the coordinator ends it.
+fn tell_all(
+    variant: Variant,
+    workload: &Transactions,
+    progress: &mut Progress,
+    logs: &mut Logs,
+    session: &mut Session<'_>,
+) -> Result<(), Cut>
+    requires { Stands variant workload.now session.old (at_step progress.old (SendCommit 0)) logs.old }
+    ensures given { session.new.given ≡ session.old.given }
+    ensures begun { progress.new.begun ≡ progress.old.begun }
+    ensures led { Leads result (λ _. Stands variant workload.now session.new (after_phase variant workload.now progress.new) logs.new)
+        (Ended variant workload.now session.new (at_step progress.new Over) logs.new) }
+{
+    let all = workload.participants();
+    let mut participant = 0;
+    while participant < all {
+        participant = some_commits(variant, workload, participant, progress, logs, session)?;
+    }
+    if let Some(end) = progress.end_write(variant) {
+        logs.write(end)?;
+    }
+    Ok(())
+}
+
+/// The second phase of a commit. end_first gives up where an acknowledgement is missing then.
 pub fn tell_commit(
     variant: Variant,
     workload: &Transactions,
@@ -262,13 +292,9 @@ pub fn tell_commit(
     ensures led { Leads result (λ _. Stands variant workload.now session.new (begun workload.now progress.new) logs.new)
         (Ended variant workload.now session.new (at_step progress.new Over) logs.new) }
 {
-    let all = workload.participants();
-    let mut participant = 0;
-    while participant < all {
-        participant = some_commits(variant, workload, participant, progress, logs, session)?;
-    }
-    if let Some(end) = progress.end_write(variant) {
-        logs.write(end)?;
+    tell_all(variant, workload, progress, logs, session)?;
+    if progress.gives_up(variant) {
+        return Err(Cut::Over);
     }
     Ok(())
 }

@@ -1,21 +1,23 @@
 //! A run: transaction after transaction, up to the judgement.
-ghost use Rattle.std.specs.Prelude.{◌≡◌, ◌<◌, ◌≤◌, IfOk};
+ghost use Rattle.std.specs.Prelude.{◌≡◌, ◌<◌, ◌≤◌, length, IfOk, OnOk};
 ghost use Rattle.action_eval.specs.Answers.{start};
-ghost use Rattle.target_trait.specs.Play.{IsPlay};
+ghost use Rattle.target_trait.specs.Play.{IsPlay, IsCutPlay};
+ghost use Rattle.target_trait.specs.Cuts.{asks_with, with_keep};
 ghost use Rattle.commit_target.specs.Words.{point_names};
 ghost use Rattle.commit_target.specs.Steps.{SendPrepare, Over, at_step, begun, asks_of};
+ghost use Rattle.commit_target.specs.Crash.{cut_of};
 ghost use Rattle.commit_target.specs.inside.Seen.{Leads, Stands, Ended};
 
 use crate::cut::Cut;
-use crate::judge::judge;
+use crate::judge::{judge, judge_keeping};
 use crate::logs::Logs;
 use crate::outcomes::{commits, tell_abort, tell_commit};
 use crate::progress::Progress;
 use crate::variant::Variant;
 use crate::votes::votes;
 use crate::work::Transactions;
-use std::alloc::AllocError;
-use target_trait::{Judgement, Session};
+use std::alloc::{AllocError, Global};
+use target_trait::{Judgement, Session, ask_cut};
 
 /// Plays a transaction that was begun.
 fn transaction(
@@ -61,7 +63,28 @@ fn transactions(
     Ok(())
 }
 
-/// Plays a run.
+/// Plays a run up to where it is judged.
+fn play_out(
+    variant: Variant,
+    workload: &Transactions,
+    progress: &mut Progress,
+    logs: &mut Logs,
+    session: &mut Session<'_>,
+) -> Result<(), AllocError>
+    requires new { session.old ≡ start session.old.given }
+    requires points { 7 ≤ length session.old.given.catalogue }
+    ensures ended { OnOk result (Ended variant workload.now session.new (at_step progress.new Over) logs.new) }
+    ensures given { session.new.given ≡ session.old.given }
+{
+    logs.clear(workload.participants())?;
+    progress.clear();
+    match transactions(variant, workload, progress, logs, session) {
+        Ok(()) | Err(Cut::Over) => Ok(()),
+        Err(Cut::Refused) => Err(AllocError),
+    }
+}
+
+/// Plays a run, restarts all parties, and judges.
 pub fn play(
     variant: Variant,
     workload: &Transactions,
@@ -75,15 +98,45 @@ pub fn play(
     ensures given { session.new.given ≡ session.old.given }
     ensures some { 1 ≤ workload.now.participants }
 {
-    logs.clear(workload.participants())?;
-    progress.clear();
-    match transactions(variant, workload, progress, logs, session) {
-        Ok(()) | Err(Cut::Halted) => Ok(judge(
-            logs,
-            workload.participants(),
-            progress.told(),
-            progress.begun(),
-        )),
-        Err(Cut::Refused) => Err(AllocError),
+    let participants = workload.participants();
+    play_out(variant, workload, progress, logs, session)?;
+    Ok(judge(logs, participants, progress.told(), progress.begun()))
+}
+
+/// The number of the cut's point.
+const KEEP: u32 = 7;
+
+/// The names of the points, with that of the cut behind them.
+pub const TO_CUT: &[&str] = &[
+    "commit::send_prepare",
+    "commit::force_prepare",
+    "commit::send_vote",
+    "commit::force_commit",
+    "commit::send_outcome",
+    "commit::force_outcome",
+    "commit::send_ack",
+    "power::keep",
+];
+
+/// Plays a run and its power cut, which keeps what it is told to, restarts all parties, and judges.
+///
+/// An error means that memory was refused. The session then has the hits up to there.
+pub fn play_to_cut(
+    alloc: Global,
+    variant: Variant,
+    workload: &Transactions,
+    progress: &mut Progress,
+    logs: &mut Logs,
+    session: &mut Session<'_>,
+) -> Result<Judgement, AllocError>
+    requires new { session.old ≡ start session.old.given }
+    requires points { session.old.given.catalogue ≡ with_keep point_names }
+    ensures play { IfOk result (IsCutPlay (asks_with (asks_of variant workload.now) (cut_of variant workload.now) 7) session.new) }
+    ensures given { session.new.given ≡ session.old.given }
+{
+    play_out(variant, workload, progress, logs, session)?;
+    match ask_cut(alloc, session, KEEP, logs.pending())? {
+        Some(kept) => judge_keeping(logs, workload.participants(), progress, &kept),
+        None => Ok(Judgement::Kept),
     }
 }

@@ -1,5 +1,7 @@
-ghost use Rattle.std.specs.Prelude.{◌≡◌, ◌+◌, ◌<◌, ◌≤◌, OnOk, OnErr, length, slice_index_or};
-ghost use Rattle.commit_target.specs.Steps.{with_told, with_vote, with_yes, unacknowledged, entry, number, prepare_write, end_write, opened, before_all};
+ghost use Rattle.std.specs.Prelude.{◌≡◌, ◌+◌, ◌<◌, ◌≤◌, if◌then◌else◌, OnOk, OnErr, length, slice_index_or};
+ghost use Rattle.commit_target.specs.Work.{Work};
+ghost use Rattle.commit_target.specs.Steps.{Over, at_step, with_told, with_vote, with_yes, unacknowledged, entry, number, opened, before_all, begun};
+ghost use Rattle.commit_target.specs.Steps.{prepare_write, early_write, end_write, after_phase};
 ghost use Rattle.commit_target.specs.inside.Batches.{with_all_yes};
 
 use crate::records::{Kind, Party, Record, Write};
@@ -195,11 +197,33 @@ impl Progress {
         let entry = self.entry(Kind::Prepare);
         match variant {
             Variant::LazyPrepare => Write::Append(party, entry),
-            Variant::Sound | Variant::EarlyEnd | Variant::TwoTries => Write::Force(party, entry),
+            Variant::Sound | Variant::EarlyEnd | Variant::TwoTries | Variant::EndFirst => {
+                Write::Force(party, entry)
+            }
         }
     }
 
-    /// How the coordinator ends a commit.
+    /// How the coordinator ends a commit before anybody is told of it.
+    pub fn early_write(&self, variant: Variant) -> Option<Write>
+        ensures { result ≡ early_write variant self.now }
+    {
+        match variant {
+            Variant::EndFirst => Some(Write::Append(Party::Coordinator, self.entry(Kind::End))),
+            Variant::Sound | Variant::LazyPrepare | Variant::EarlyEnd | Variant::TwoTries => None,
+        }
+    }
+
+    /// Whether nothing more is asked once the second phase of a commit is over.
+    pub fn gives_up(&self, variant: Variant) -> bool
+        ensures { (w : Work) → after_phase variant w self.now ≡ (if result then at_step self.now Over else begun w self.now) }
+    {
+        match variant {
+            Variant::EndFirst => !self.acknowledged,
+            Variant::Sound | Variant::LazyPrepare | Variant::EarlyEnd | Variant::TwoTries => false,
+        }
+    }
+
+    /// How the coordinator ends a commit once all were told of it.
     pub fn end_write(&self, variant: Variant) -> Option<Write>
         ensures { result ≡ end_write variant self.now self.now.acknowledged }
     {
@@ -213,6 +237,7 @@ impl Progress {
                     None
                 }
             }
+            Variant::EndFirst => None,
         }
     }
 }

@@ -1,3 +1,6 @@
+ghost use Rattle.std.specs.Prelude.{◌≡◌};
+ghost use Rattle.commit_target.specs.Writes.{is_party};
+
 /// What a record says of its transaction.
 #[derive(Clone, Copy, Debug, PartialEq, Eq)]
 pub enum Kind {
@@ -24,6 +27,20 @@ pub struct Record {
 pub enum Party {
     Coordinator,
     Participant(usize),
+}
+
+impl Party {
+    /// Whether it is this one.
+    pub(crate) fn is(self, other: Party) -> bool
+        ensures { result ≡ is_party self other }
+    {
+        match (self, other) {
+            (Party::Coordinator, Party::Coordinator) => true,
+            (Party::Participant(own), Party::Participant(number)) => own == number,
+            (Party::Coordinator, Party::Participant(_))
+            | (Party::Participant(_), Party::Coordinator) => false,
+        }
+    }
 }
 
 /// What is written to a party's log.

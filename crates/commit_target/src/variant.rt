@@ -9,4 +9,6 @@ pub enum Variant {
     EarlyEnd,
     /// A commit record that is refused is tried once more, and then taken for one that stands.
     TwoTries,
+    /// The coordinator ends a commit before anybody is told of it. Only a cut that keeps some of what is pending shows it.
+    EndFirst,
 }

@@ -100,7 +100,7 @@ fn manner_of(variant: Variant) -> Manner
 {
     match variant {
         Variant::LazyPrepare => Manner::Append,
-        Variant::Sound | Variant::EarlyEnd | Variant::TwoTries => Manner::Force,
+        Variant::Sound | Variant::EarlyEnd | Variant::TwoTries | Variant::EndFirst => Manner::Force,
     }
 }
 

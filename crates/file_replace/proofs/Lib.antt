@@ -4,3 +4,8 @@ pub mod Playing
 pub mod Never
 pub mod Readying
 pub mod Flawed
+mod Kept
+mod Keeping
+mod Cutting
+mod Sturdy
+mod Survives

@@ -17,9 +17,9 @@ use Rattle.chunked_text.specs.Chunks.{joined, half}
 use Rattle.file_replace.specs.Work.{Work}
 use Rattle.file_replace.specs.Words.{torn, stale}
 use Rattle.file_replace.specs.Judgement.{Past, judged_by, judged}
-use Rattle.file_replace.specs.Steps.{Step, Clearing, Creating, Writing, WritingAgain, Syncing, Renaming, SyncingDir, SyncingLate, Cleaning, Over, Tally, State, state, first_step, begun_of, is_there, acknowledged, write_step, on_go, on_return, stepped, prepared, before_all, start_of, machine, point_at, asks_of}
+use Rattle.file_replace.specs.Steps.{Step, Clearing, Creating, Writing, WritingAgain, Syncing, Renaming, SyncingRenamed, SyncingDir, SyncingLate, Cleaning, Over, Tally, State, state, first_step, begun_of, is_there, acknowledged, write_step, on_go, on_return, stepped, prepared, before_all, start_of, machine, point_at, asks_of}
 
-abbrev among : List ℕ → List (List ℕ) → Bool
+abbrev pub among : List ℕ → List (List ℕ) → Bool
 among x xs = list_any (bytes_eq x) xs
 
 eq_self : (n : ℕ) → nat_eq n n ≡ true
@@ -33,7 +33,7 @@ or_true : (b : Bool) → (b || true) ≡ true
 or_true true = refl
 or_true false = refl
 
-first_among : (x : List ℕ) (xs : List (List ℕ)) → among x (x ∷ xs) ≡ true
+pub first_among : (x : List ℕ) (xs : List (List ℕ)) → among x (x ∷ xs) ≡ true
 first_among x xs = ap (λ b. b || among x xs) (same_bytes x)
 
 or_false : (b : Bool) → (b || false) ≡ b
@@ -48,14 +48,14 @@ any_more : (x y : List ℕ) (xs : List (List ℕ)) → among x (xs ++ y ∷ []) 
 any_more x y [] = or_false (bytes_eq x y)
 any_more x y (z ∷ xs) = ap (λ b. bytes_eq x z || b) (any_more x y xs) ∙ or_assoc (bytes_eq x z) (among x xs) (bytes_eq x y)
 
-more_among : (x y : List ℕ) (xs : List (List ℕ)) → among x xs ≡ true → among x (xs ++ y ∷ []) ≡ true
+pub more_among : (x y : List ℕ) (xs : List (List ℕ)) → among x xs ≡ true → among x (xs ++ y ∷ []) ≡ true
 more_among x y xs h = any_more x y xs ∙ ap (λ b. b || bytes_eq x y) h
 
 last_among : (x : List ℕ) (xs : List (List ℕ)) → among x (xs ++ x ∷ []) ≡ true
 last_among x [] = first_among x []
 last_among x (z ∷ xs) = ap (λ b. bytes_eq x z || b) (last_among x xs) ∙ or_true (bytes_eq x z)
 
-among_same : (x y : List ℕ) (xs : List (List ℕ)) → y ≡ x → among x xs ≡ true → among y xs ≡ true
+pub among_same : (x y : List ℕ) (xs : List (List ℕ)) → y ≡ x → among x xs ≡ true → among y xs ≡ true
 among_same x y xs e h = ap (λ z. among z xs) e ∙ h
 
 pub record Solid (es : List Effect) (allowed : List (List ℕ)) : Type 0 where
@@ -68,13 +68,14 @@ pub record Solid (es : List Effect) (allowed : List (List ℕ)) : Type 0 where
   pub apart_g : (f : ℕ) → leads es Live 1 ≡ Some f → f ≡ g → ⊥
   pub apart_h : (f : ℕ) → leads es Live 1 ≡ Some f → f ≡ h → ⊥
 
-abbrev StepSafe : Step → List ℕ → List Effect → Type 0
+abbrev pub StepSafe : Step → List ℕ → List Effect → Type 0
 StepSafe (Clearing chunks) whole es = joined chunks ≡ whole
 StepSafe (Creating chunks) whole es = joined chunks ≡ whole
 StepSafe (Writing c cs) whole es = (f : ℕ) × (leads es Live 1 ≡ Some f) × (contents es Live f ++ (c ++ joined cs) ≡ whole)
 StepSafe (WritingAgain c cs) whole es = ⊥
 StepSafe Syncing whole es = (f : ℕ) × (leads es Live 1 ≡ Some f) × (contents es Live f ≡ whole)
 StepSafe Renaming whole es = (f : ℕ) × (leads es Live 1 ≡ Some f) × (contents es Lasting f ≡ whole)
+StepSafe SyncingRenamed whole es = ⊥
 StepSafe SyncingDir whole es = (f : ℕ) × (leads es Live 0 ≡ Some f) × (contents es Lasting f ≡ whole)
 StepSafe SyncingLate whole es = ⊥
 StepSafe Cleaning whole es = Unit {0}
@@ -109,7 +110,7 @@ begun_safe there t (chunks ∷ more) es k m = record {
   step = first_safe there chunks es;
 }
 
-absurd_none : (f : ℕ) → None ≡ Some f → ⊥
+pub absurd_none : (f : ℕ) → None ≡ Some f → ⊥
 absurd_none f e = cc
 
 unlink_solid : (es : List Effect) (allowed : List (List ℕ)) → Solid es allowed → Solid (Unlink 1 ∷ es) allowed
@@ -124,10 +125,10 @@ unlink_solid es allowed k = record {
   apart_h = λ f e _. absurd_none f e;
 }
 
-not_new : (n g : ℕ) → g < n → nat_eq g n ≡ false
+pub not_new : (n g : ℕ) → g < n → nat_eq g n ≡ false
 not_new n g h = ne_eqb g n (λ e. omega arith)
 
-new_apart : (n f g : ℕ) → g < n → Some n ≡ Some f → f ≡ g → ⊥
+pub new_apart : (n f g : ℕ) → g < n → Some n ≡ Some f → f ≡ g → ⊥
 new_apart n f g h e same = let is : n ≡ f = cc in omega arith
 
 create_solid : (es : List Effect) (allowed : List (List ℕ)) → Solid es allowed → Solid (Create 1 ∷ es) allowed
@@ -158,7 +159,7 @@ append_solid es allowed bytes k = record {
 }
 
 -- another file is not touched by the sync of `tmp`
-other_file : (o : Option ℕ) (g : ℕ) → ((f : ℕ) → o ≡ Some f → f ≡ g → ⊥) → is_file g o ≡ false
+pub other_file : (o : Option ℕ) (g : ℕ) → ((f : ℕ) → o ≡ Some f → f ≡ g → ⊥) → is_file g o ≡ false
 other_file None g apart = refl
 other_file (Some f) g apart = ne_eqb f g (apart f refl)
 
@@ -238,24 +239,26 @@ go_safe t es (WritingAgain c cs) k m r = absurd r
 go_safe t es Syncing k m r = record { solid = sync_solid es t.past.allowed k; mine = m; step = (r.0, r.1, synced es r.0 r.1 ∙ r.2) }
 go_safe t es Renaming k m r = record { solid = rename_solid es t.past.allowed t.whole r.0 k m r.1 r.2; mine = m; step = (r.0, r.1, r.2) }
 go_safe t es SyncingDir k m r =
-    begun_safe (is_there (SyncDir ∷ es)) (acknowledged t) t.rest (SyncDir ∷ es) (sync_dir_solid es t.past.allowed t.whole r.0 k r.1 r.2) (first_among t.whole [])
+    begun_safe (is_there Sound (SyncDir ∷ es)) (acknowledged t) t.rest (SyncDir ∷ es) (sync_dir_solid es t.past.allowed t.whole r.0 k r.1 r.2) (first_among t.whole [])
+go_safe t es SyncingRenamed k m r = absurd r
 go_safe t es SyncingLate k m r = absurd r
-go_safe t es Cleaning k m r = begun_safe (is_there (Unlink 1 ∷ es)) t t.rest (Unlink 1 ∷ es) (unlink_solid es t.past.allowed k) m
+go_safe t es Cleaning k m r = begun_safe (is_there Sound (Unlink 1 ∷ es)) t t.rest (Unlink 1 ∷ es) (unlink_solid es t.past.allowed k) m
 go_safe t es Over k m r = record { solid = k; mine = m; step = tt }
 
 return_safe : (t : Tally) (es : List Effect) (step : Step) → Solid es t.past.allowed → among t.whole t.past.allowed ≡ true → StepSafe step t.whole es → Safe (on_return Sound t es step)
-return_safe t es (Clearing chunks) k m r = begun_safe (is_there es) t t.rest es k m
-return_safe t es (Creating chunks) k m r = begun_safe (is_there es) t t.rest es k m
+return_safe t es (Clearing chunks) k m r = begun_safe (is_there Sound es) t t.rest es k m
+return_safe t es (Creating chunks) k m r = begun_safe (is_there Sound es) t t.rest es k m
 return_safe t es (Writing c cs) k m r = record { solid = append_solid es t.past.allowed (half c) k; mine = m; step = tt }
 return_safe t es (WritingAgain c cs) k m r = absurd r
 return_safe t es Syncing k m r = record { solid = k; mine = m; step = tt }
 return_safe t es Renaming k m r = record { solid = k; mine = m; step = tt }
-return_safe t es SyncingDir k m r = begun_safe (is_there es) t t.rest es k m
+return_safe t es SyncingDir k m r = begun_safe (is_there Sound es) t t.rest es k m
+return_safe t es SyncingRenamed k m r = absurd r
 return_safe t es SyncingLate k m r = absurd r
-return_safe t es Cleaning k m r = begun_safe (is_there es) t t.rest es k m
+return_safe t es Cleaning k m r = begun_safe (is_there Sound es) t t.rest es k m
 return_safe t es Over k m r = record { solid = k; mine = m; step = tt }
 
-step_safe : (s : State) (a : Reply) → Safe s → Safe (stepped Sound s a)
+pub step_safe : (s : State) (a : Reply) → Safe s → Safe (stepped Sound s a)
 step_safe s Go k = go_safe s.tally s.effects s.tally.step k.solid k.mine k.step
 step_safe s (Return text) k = return_safe s.tally s.effects s.tally.step k.solid k.mine k.step
 step_safe s Halt k = record { solid = k.solid; mine = k.mine; step = tt }
@@ -276,7 +279,7 @@ prepared_solid old = record {
   apart_h = λ f e _. absurd_none f e;
 }
 
-start_safe : (w : Work) → Safe (start_of w)
+pub start_safe : (w : Work) → Safe (start_of Sound w)
 start_safe w = begun_safe false (before_all w) w.replacements (prepared w.old) (prepared_solid w.old) (first_among w.old [])
 
 judged_kept : (past : Past) (es : List Effect) → Solid es past.allowed → judged past es ≡ Kept
@@ -288,4 +291,4 @@ judged_kept past es k =
 pub sound_kept : (w : Work) (answers : List Reply) (j : Judgement) → asks_of Sound w answers ≡ Done j → j ≡ Kept
 sound_kept w answers j e =
     let s = after (machine Sound w) answers in
-    done_kept (point_at s.tally.step) _ j (judged_kept s.tally.past s.effects (led_safe w (start_of w) answers (start_safe w)).solid) e
+    done_kept (point_at s.tally.step) _ j (judged_kept s.tally.past s.effects (led_safe w (start_of Sound w) answers (start_safe w)).solid) e

@@ -8,7 +8,7 @@ use Rattle.target_trait.proofs.Machine.{within_by, halts_by}
 use Rattle.file_replace.specs.declared.variant.Variant.{Variant}
 use Rattle.file_replace.specs.Work.{Work}
 use Rattle.file_replace.specs.Judgement.{judged}
-use Rattle.file_replace.specs.Steps.{Step, Clearing, Creating, Writing, WritingAgain, Syncing, Renaming, SyncingDir, SyncingLate, Cleaning, Over}
+use Rattle.file_replace.specs.Steps.{Step, Clearing, Creating, Writing, WritingAgain, Syncing, Renaming, SyncingRenamed, SyncingDir, SyncingLate, Cleaning, Over}
 use Rattle.file_replace.specs.Steps.{State, on_go, on_return, stepped, machine, point_at, asks_of}
 
 step_within : (j : Judgement) (step : Step) → IsWithin 7 (move_by j (point_at step))
@@ -18,6 +18,7 @@ step_within j (Writing c cs) = omega arith
 step_within j (WritingAgain c cs) = omega arith
 step_within j Syncing = omega arith
 step_within j Renaming = omega arith
+step_within j SyncingRenamed = omega arith
 step_within j SyncingDir = omega arith
 step_within j SyncingLate = omega arith
 step_within j Cleaning = omega arith

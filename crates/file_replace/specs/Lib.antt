@@ -5,3 +5,4 @@ pub mod Steps
 pub mod inside
 pub mod Flaws
 pub mod Lawful
+pub mod Crash

@@ -6,20 +6,22 @@ use Rattle.target_trait.specs.Play.{Move, move_by}
 use Rattle.target_trait.specs.Machine.{Machine, after, asks_by}
 use Rattle.chunked_text.specs.Chunks.{joined, half}
 use Rattle.file_replace.specs.declared.variant.Variant.{Variant}
-use Rattle.file_replace.specs.declared.variant.Variant.TheVariants.{Sound, LateSync, IgnoreSync, RetryWrite}
-use Rattle.file_replace.specs.Words.{target, tmp, clear_point, create_point, write_point, sync_point, rename_point, sync_dir_point, unlink_point}
+use Rattle.file_replace.specs.declared.variant.Variant.TheVariants.{Sound, LateSync, IgnoreSync, RetryWrite, RenameFirst, InPlace}
+use Rattle.file_replace.specs.Words.{target, tmp, written_name, clear_point, create_point, write_point, sync_point, rename_point, sync_dir_point, unlink_point}
 use Rattle.file_replace.specs.Work.{Work}
 use Rattle.file_replace.specs.Judgement.{Past, nothing_begun, with_begun, with_acknowledged, judged}
 
 -- the step whose question comes next, with the chunks that are left
 pub data Step : Type 0 where
-  -- `tmp`, left by a replacement that failed, is cleared
+  -- the name that is written is cleared: `tmp` that a replacement left which failed, or, by in_place, `target`
   Clearing : List (List ℕ) → Step
   Creating : List (List ℕ) → Step
   Writing : List ℕ → List (List ℕ) → Step
   WritingAgain : List ℕ → List (List ℕ) → Step
   Syncing : Step
   Renaming : Step
+  -- what was renamed is synced, before the directory is
+  SyncingRenamed : Step
   SyncingDir : Step
   -- `target` is synced once it stands under its name
   SyncingLate : Step
@@ -48,10 +50,10 @@ at_step t step = record { step = step; whole = t.whole; rest = t.rest; past = t.
 
 -- ---- between replacements
 
-abbrev pub is_there : List Effect → Bool
-is_there es = is_some (leads es Live tmp)
+abbrev pub is_there : Variant → List Effect → Bool
+is_there v es = is_some (leads es Live (written_name v))
 
--- `tmp` is cleared only where it is there
+-- the name is cleared only where it is there
 abbrev pub first_step : Bool → List (List ℕ) → Step
 first_step false chunks = Creating chunks
 first_step true chunks = Clearing chunks
@@ -68,45 +70,80 @@ abbrev pub acknowledged : Tally → Tally
 acknowledged t = record { step = t.step; whole = t.whole; rest = t.rest; past = with_acknowledged t.whole t.past }
 
 -- the replacement under way fails, and the next is begun
-abbrev pub failed : Tally → List Effect → State
-failed t es = state (begun (is_there es) t) es
+abbrev pub failed : Variant → Tally → List Effect → State
+failed v t es = state (begun (is_there v es) t) es
 
 -- the replacement under way is acknowledged, and the next is begun
-abbrev pub done : Tally → List Effect → State
-done t es = state (begun (is_there es) (acknowledged t)) es
+abbrev pub done : Variant → Tally → List Effect → State
+done v t es = state (begun (is_there v es) (acknowledged t)) es
 
 -- ---- where the variants differ
 
--- late_sync syncs after the rename
+-- late_sync and rename_first sync after the rename
 abbrev pub after_writes : Variant → Step
 after_writes Sound = Syncing
 after_writes LateSync = Renaming
 after_writes IgnoreSync = Syncing
 after_writes RetryWrite = Syncing
+after_writes RenameFirst = Renaming
+after_writes InPlace = Syncing
 
 abbrev pub write_step : Variant → List (List ℕ) → Step
 write_step v [] = after_writes v
 write_step v (c ∷ cs) = Writing c cs
 
+-- in_place has nothing to rename
+abbrev pub after_sync : Variant → Step
+after_sync Sound = Renaming
+after_sync LateSync = Renaming
+after_sync IgnoreSync = Renaming
+after_sync RetryWrite = Renaming
+after_sync RenameFirst = Renaming
+after_sync InPlace = SyncingDir
+
+-- rename_first syncs then
+abbrev pub after_rename : Variant → Step
+after_rename Sound = SyncingDir
+after_rename LateSync = SyncingDir
+after_rename IgnoreSync = SyncingDir
+after_rename RetryWrite = SyncingDir
+after_rename RenameFirst = SyncingRenamed
+after_rename InPlace = SyncingDir
+
 abbrev pub after_sync_dir : Variant → Tally → List Effect → State
-after_sync_dir Sound t es = done t es
+after_sync_dir Sound t es = done Sound t es
 after_sync_dir LateSync t es = state (at_step t SyncingLate) es
-after_sync_dir IgnoreSync t es = done t es
-after_sync_dir RetryWrite t es = done t es
+after_sync_dir IgnoreSync t es = done IgnoreSync t es
+after_sync_dir RetryWrite t es = done RetryWrite t es
+after_sync_dir RenameFirst t es = done RenameFirst t es
+after_sync_dir InPlace t es = done InPlace t es
+
+-- what can't be written to its end is cleaned up; in_place leaves it as it is
+abbrev pub given_up : Variant → Tally → List Effect → State
+given_up Sound t es = state (at_step t Cleaning) es
+given_up LateSync t es = state (at_step t Cleaning) es
+given_up IgnoreSync t es = state (at_step t Cleaning) es
+given_up RetryWrite t es = state (at_step t Cleaning) es
+given_up RenameFirst t es = state (at_step t Cleaning) es
+given_up InPlace t es = failed InPlace t es
 
 -- retry_write writes the whole chunk again after its half
-abbrev pub after_half : Variant → List ℕ → List (List ℕ) → Step
-after_half Sound c cs = Cleaning
-after_half LateSync c cs = Cleaning
-after_half IgnoreSync c cs = Cleaning
-after_half RetryWrite c cs = WritingAgain c cs
+abbrev pub after_half : Variant → Tally → List Effect → List ℕ → List (List ℕ) → State
+after_half Sound t es c cs = given_up Sound t es
+after_half LateSync t es c cs = given_up LateSync t es
+after_half IgnoreSync t es c cs = given_up IgnoreSync t es
+after_half RetryWrite t es c cs = state (at_step t (WritingAgain c cs)) es
+after_half RenameFirst t es c cs = given_up RenameFirst t es
+after_half InPlace t es c cs = given_up InPlace t es
 
 -- ignore_sync goes on as after a sync
-abbrev pub after_no_sync : Variant → Step
-after_no_sync Sound = Cleaning
-after_no_sync LateSync = Cleaning
-after_no_sync IgnoreSync = Renaming
-after_no_sync RetryWrite = Cleaning
+abbrev pub after_no_sync : Variant → Tally → List Effect → State
+after_no_sync Sound t es = given_up Sound t es
+after_no_sync LateSync t es = given_up LateSync t es
+after_no_sync IgnoreSync t es = state (at_step t Renaming) es
+after_no_sync RetryWrite t es = given_up RetryWrite t es
+after_no_sync RenameFirst t es = given_up RenameFirst t es
+after_no_sync InPlace t es = given_up InPlace t es
 
 -- ---- the table of steps
 
@@ -118,6 +155,7 @@ point_at (Writing c cs) = Some write_point
 point_at (WritingAgain c cs) = Some write_point
 point_at Syncing = Some sync_point
 point_at Renaming = Some rename_point
+point_at SyncingRenamed = Some sync_point
 point_at SyncingDir = Some sync_dir_point
 point_at SyncingLate = Some sync_point
 point_at Cleaning = Some unlink_point
@@ -125,28 +163,30 @@ point_at Over = None
 
 -- what a step does where it is answered to go on
 abbrev pub on_go : Variant → Tally → List Effect → Step → State
-on_go v t es (Clearing chunks) = state (at_step t (Creating chunks)) (Unlink tmp ∷ es)
-on_go v t es (Creating chunks) = state (at_step t (write_step v chunks)) (Create tmp ∷ es)
-on_go v t es (Writing c cs) = state (at_step t (write_step v cs)) (Append tmp c ∷ es)
-on_go v t es (WritingAgain c cs) = state (at_step t (write_step v cs)) (Append tmp c ∷ es)
-on_go v t es Syncing = state (at_step t Renaming) (Sync tmp ∷ es)
-on_go v t es Renaming = state (at_step t SyncingDir) (Rename tmp target ∷ es)
+on_go v t es (Clearing chunks) = state (at_step t (Creating chunks)) (Unlink (written_name v) ∷ es)
+on_go v t es (Creating chunks) = state (at_step t (write_step v chunks)) (Create (written_name v) ∷ es)
+on_go v t es (Writing c cs) = state (at_step t (write_step v cs)) (Append (written_name v) c ∷ es)
+on_go v t es (WritingAgain c cs) = state (at_step t (write_step v cs)) (Append (written_name v) c ∷ es)
+on_go v t es Syncing = state (at_step t (after_sync v)) (Sync (written_name v) ∷ es)
+on_go v t es Renaming = state (at_step t (after_rename v)) (Rename tmp target ∷ es)
+on_go v t es SyncingRenamed = state (at_step t SyncingDir) (Sync target ∷ es)
 on_go v t es SyncingDir = after_sync_dir v t (SyncDir ∷ es)
-on_go v t es SyncingLate = done t (Sync target ∷ es)
-on_go v t es Cleaning = failed t (Unlink tmp ∷ es)
+on_go v t es SyncingLate = done v t (Sync target ∷ es)
+on_go v t es Cleaning = failed v t (Unlink tmp ∷ es)
 on_go v t es Over = state (at_step t Over) es
 
 -- what it does where it is answered that it fails
 abbrev pub on_return : Variant → Tally → List Effect → Step → State
-on_return v t es (Clearing chunks) = failed t es
-on_return v t es (Creating chunks) = failed t es
-on_return v t es (Writing c cs) = state (at_step t (after_half v c cs)) (Append tmp (half c) ∷ es)
-on_return v t es (WritingAgain c cs) = state (at_step t Cleaning) (Append tmp (half c) ∷ es)
-on_return v t es Syncing = state (at_step t (after_no_sync v)) es
+on_return v t es (Clearing chunks) = failed v t es
+on_return v t es (Creating chunks) = failed v t es
+on_return v t es (Writing c cs) = after_half v t (Append (written_name v) (half c) ∷ es) c cs
+on_return v t es (WritingAgain c cs) = given_up v t (Append (written_name v) (half c) ∷ es)
+on_return v t es Syncing = after_no_sync v t es
 on_return v t es Renaming = state (at_step t Cleaning) es
-on_return v t es SyncingDir = failed t es
-on_return v t es SyncingLate = failed t es
-on_return v t es Cleaning = failed t es
+on_return v t es SyncingRenamed = failed v t es
+on_return v t es SyncingDir = failed v t es
+on_return v t es SyncingLate = failed v t es
+on_return v t es Cleaning = failed v t es
 on_return v t es Over = state (at_step t Over) es
 
 -- after a halt nothing is done or asked
@@ -164,15 +204,15 @@ prepared old = SyncDir ∷ Sync target ∷ Append target old ∷ Create target �
 abbrev pub before_all : Work → Tally
 before_all w = record { step = Over; whole = w.old; rest = w.replacements; past = nothing_begun w.old }
 
-abbrev pub start_of : Work → State
-start_of w = state (begun false (before_all w)) (prepared w.old)
+abbrev pub start_of : Variant → Work → State
+start_of v w = state (begun (is_there v (prepared w.old)) (before_all w)) (prepared w.old)
 
 abbrev pub move_of : State → Move
 move_of s = move_by (judged s.tally.past s.effects) (point_at s.tally.step)
 
 -- the protocol: the first state, what an answer makes of a state, and what a state asks
 abbrev pub machine : Variant → Work → Machine State
-machine v w = record { first = start_of w; step = stepped v; move = move_of }
+machine v w = record { first = start_of v w; step = stepped v; move = move_of }
 
 -- what is asked after a list of answers
 abbrev pub asks_of : Variant → Work → List Reply → Move

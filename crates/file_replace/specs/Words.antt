@@ -1,7 +1,7 @@
 -- Names and numbers of the file replacement: points, labels, codes of failures, and the names on the device.
 use Rattle.std.specs.Prelude.{ℕ, ◌==◌, if◌then◌else◌, List, [], ◌∷◌, codes}
 use Rattle.file_replace.specs.declared.variant.Variant.{Variant}
-use Rattle.file_replace.specs.declared.variant.Variant.TheVariants.{Sound, LateSync, IgnoreSync, RetryWrite}
+use Rattle.file_replace.specs.declared.variant.Variant.TheVariants.{Sound, LateSync, IgnoreSync, RetryWrite, RenameFirst, InPlace}
 use Rattle.file_replace.specs.declared.disk.Name.{Name}
 use Rattle.file_replace.specs.declared.disk.Name.TheVariants as name
 
@@ -37,6 +37,8 @@ label Sound = codes "replace sound"
 label LateSync = codes "replace late_sync"
 label IgnoreSync = codes "replace ignore_sync"
 label RetryWrite = codes "replace retry_write"
+label RenameFirst = codes "replace rename_first"
+label InPlace = codes "replace in_place"
 
 -- the codes of failures: contents that nobody ever wrote whole, and contents that were replaced
 abbrev pub torn : ℕ
@@ -54,6 +56,15 @@ target = 0
 
 abbrev pub tmp : ℕ
 tmp = 1
+
+-- the name that the new contents are written under: in_place has no other than that of the old ones
+abbrev pub written_name : Variant → ℕ
+written_name Sound = tmp
+written_name LateSync = tmp
+written_name IgnoreSync = tmp
+written_name RetryWrite = tmp
+written_name RenameFirst = tmp
+written_name InPlace = target
 
 abbrev pub number_of : Name → ℕ
 number_of name.Target = target

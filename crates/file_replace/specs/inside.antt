@@ -2,3 +2,4 @@
 pub mod Left
 pub mod Ready
 pub mod Seen
+pub mod Devices

@@ -1,10 +1,15 @@
-//! The calls of a run on its device. None of them is refused but for want of memory, and `sync` and `unlink` not at all.
-ghost use Rattle.std.specs.Prelude.{◌≡◌, ◌∷◌, ℕ, List, OnOk, is_some, is_none, false, MatchOption, None, Some};
-ghost use Rattle.sim_device.specs.FileEffects.{Effect, Append, Create, Sync, Rename, Unlink, Live, held};
-ghost use Rattle.sim_device.specs.Disk.{AddsEffect, StandsFor, entry_at};
+//! The devices of a run, and its calls on them. None of the calls is refused but for want of memory.
+ghost use Rattle.std.specs.Prelude.{◌≡◌, ◌≤◌, ℕ, List, [], length, take, OnOk, IsOk, MatchOption, None, Some, is_some, is_none, false};
+ghost use Rattle.sim_device.specs.FileEffects.{Effect, Append, Create, Sync, SyncDir, Rename, Unlink, Live, held, leads};
+ghost use Rattle.sim_device.specs.Disk.{StandsFor, entry_at, reads};
+ghost use Rattle.sim_device.specs.Pending.{Tells};
+ghost use Rattle.sim_device.specs.declared.names.Entry.{Entry};
 ghost use Rattle.file_replace.specs.Words.{number_of, target, tmp};
+ghost use Rattle.file_replace.specs.inside.Left.{left};
+ghost use Rattle.file_replace.specs.inside.Devices.{Adds, with_chunks};
 
-use sim_device::FileDevice;
+use crate::rest::Rest;
+use sim_device::{CrashDevice, DeviceFault, FileDevice};
 use std::alloc::AllocError;
 
 /// A name on the device.
@@ -28,56 +33,210 @@ impl Name {
     }
 }
 
-/// A new file.
-pub fn create(device: &mut FileDevice, name: Name) -> Result<(), AllocError>
-    requires { is_some (entry_at device.old.names (number_of name)).live ≡ false }
-    ensures { OnOk result (AddsEffect device.old device.new (Create (number_of name))) }
-{
-    device.must_create(name.number())
+/// A device of files under names. An error means that memory was refused.
+pub trait Device: Sized {
+    // It stands for this list of effects, the newest first.
+    ghost stands: { Self → List Effect → Type 0 };
+
+    // Where its names lead.
+    ghost names: { Self → List Entry };
+
+    // How many of so many chunks are written by one call.
+    ghost most: { ℕ → ℕ };
+
+    /// A new device, with no names.
+    fn clear(&mut self)
+        ensures { stands self.new [] };
+
+    /// A new file.
+    fn create(&mut self, name: Name) -> Result<(), AllocError>
+        requires { is_some (entry_at (names self.old) (number_of name)).live ≡ false }
+        ensures { OnOk result (Adds stands self.old self.new (Create (number_of name))) };
+
+    /// More bytes at the end of a file.
+    fn append(&mut self, name: Name, bytes: &[u8]) -> Result<(), AllocError>
+        requires { is_none (entry_at (names self.old) (number_of name)).live ≡ false }
+        ensures { OnOk result (Adds stands self.old self.new (Append (number_of name) bytes.now)) };
+
+    /// How many of so many chunks are written by one call.
+    fn at_once(chunks: usize) -> usize
+        ensures most { result ≡ most chunks }
+        ensures few { result ≤ chunks };
+
+    /// The next so many chunks at the end of a file, one after another.
+    fn append_chunks(
+        &mut self,
+        name: Name,
+        chunks: Rest<'_>,
+        count: usize,
+    ) -> Result<(), AllocError>
+        requires there { is_none (entry_at (names self.old) (number_of name)).live ≡ false }
+        requires few { count ≤ most (length (left chunks)) }
+        ensures { OnOk result ((es : List Effect) → stands self.old es → stands self.new (with_chunks (number_of name) (take count (left chunks.entry)) es)) };
+
+    /// What a file holds lasts.
+    fn sync(&mut self, name: Name)
+        requires { is_none (entry_at (names self.old) (number_of name)).live ≡ false }
+        ensures { Adds stands self.old self.new (Sync (number_of name)) };
+
+    /// A name is gone.
+    fn unlink(&mut self, name: Name) -> Result<(), AllocError>
+        requires { is_none (entry_at (names self.old) (number_of name)).live ≡ false }
+        ensures { OnOk result (Adds stands self.old self.new (Unlink (number_of name))) };
+
+    /// The file of `tmp` comes under `target`.
+    fn rename(&mut self) -> Result<(), AllocError>
+        requires { is_none (entry_at (names self.old) tmp).live ≡ false }
+        ensures { OnOk result (Adds stands self.old self.new (Rename tmp target)) };
+
+    /// The names last.
+    fn sync_dir(&mut self)
+        ensures { Adds stands self.old self.new SyncDir };
+
+    /// Whether a name is there.
+    fn exists(&self, name: Name) -> bool
+        ensures { result ≡ is_some (entry_at (names self.now) (number_of name)).live };
+
+    // Its names lead where the effects have led them.
+    ghost led: { (device : Self) (effects : List Effect) (name : ℕ) → stands device effects
+        → (entry_at (names device) name).live ≡ leads effects Live name };
 }
 
-/// More bytes at the end of a file.
-pub fn append(device: &mut FileDevice, name: Name, bytes: &[u8]) -> Result<(), AllocError>
-    requires { is_none (entry_at device.old.names (number_of name)).live ≡ false }
-    ensures { OnOk result (AddsEffect device.old device.new (Append (number_of name) bytes.now)) }
-{
-    device.must_append(name.number(), bytes)
-}
+impl Device for FileDevice {
+    ghost stands = { StandsFor };
 
-/// What a file holds lasts.
-pub fn sync(device: &mut FileDevice, name: Name)
-    requires { is_none (entry_at device.old.names (number_of name)).live ≡ false }
-    ensures { AddsEffect device.old device.new (Sync (number_of name)) }
-{
-    device.must_sync(name.number());
-}
+    ghost names = { λ device. device.names };
 
-/// A name is gone.
-pub fn unlink(device: &mut FileDevice, name: Name)
-    requires { is_none (entry_at device.old.names (number_of name)).live ≡ false }
-    ensures { AddsEffect device.old device.new (Unlink (number_of name)) }
-{
-    device.must_unlink(name.number());
-}
+    ghost most = { λ chunks. chunks };
 
-/// The file of `tmp` comes under `target`.
-pub fn rename(device: &mut FileDevice) -> Result<(), AllocError>
-    requires { is_none (entry_at device.old.names tmp).live ≡ false }
-    ensures { OnOk result (AddsEffect device.old device.new (Rename tmp target)) }
-{
-    device.must_rename(Name::Tmp.number(), Name::Target.number())
-}
+    fn clear(&mut self) {
+        FileDevice::clear(self);
+    }
 
-/// Whether a name is there.
-pub fn exists(device: &FileDevice, name: Name) -> bool
-    ensures { result ≡ is_some (entry_at device.now.names (number_of name)).live }
-{
-    device.exists(name.number())
+    fn create(&mut self, name: Name) -> Result<(), AllocError> {
+        self.must_create(name.number())
+    }
+
+    fn append(&mut self, name: Name, bytes: &[u8]) -> Result<(), AllocError> {
+        self.must_append(name.number(), bytes)
+    }
+
+    fn at_once(chunks: usize) -> usize {
+        chunks
+    }
+
+    fn append_chunks(
+        &mut self,
+        name: Name,
+        chunks: Rest<'_>,
+        count: usize,
+    ) -> Result<(), AllocError> {
+        let (bytes, _) = chunks.split_at(count);
+        self.must_append(name.number(), bytes)
+    }
+
+    fn sync(&mut self, name: Name) {
+        self.must_sync(name.number());
+    }
+
+    fn unlink(&mut self, name: Name) -> Result<(), AllocError> {
+        self.must_unlink(name.number());
+        Ok(())
+    }
+
+    fn rename(&mut self) -> Result<(), AllocError> {
+        self.must_rename(Name::Tmp.number(), Name::Target.number())
+    }
+
+    fn sync_dir(&mut self) {
+        FileDevice::sync_dir(self);
+    }
+
+    fn exists(&self, name: Name) -> bool {
+        FileDevice::exists(self, name.number())
+    }
+
+    ghost led = { λ device effects name stands. stands.live name };
 }
 
 /// What `target` holds, if it is there.
 pub fn target_contents(device: &FileDevice) -> Option<&[u8]>
     ensures { (es : List Effect) → StandsFor device.now es → MatchOption result (held es Live target ≡ None) (λ bytes. held es Live target ≡ Some bytes.now) }
+{
+    device.read(Name::Target.number()).ok()
+}
+
+/// The answer of a call whose other faults are ruled out.
+fn for_memory(answer: Result<(), DeviceFault>) -> Result<(), AllocError>
+    ensures { OnOk result (IsOk answer) }
+{
+    match answer {
+        Ok(()) => Ok(()),
+        Err(_) => Err(AllocError),
+    }
+}
+
+impl Device for CrashDevice {
+    ghost stands = { Tells };
+
+    ghost names = { λ device. device.disk.names };
+
+    // each chunk is a pending write
+    ghost most = { λ chunks. 0 };
+
+    fn clear(&mut self) {
+        CrashDevice::clear(self);
+    }
+
+    fn create(&mut self, name: Name) -> Result<(), AllocError> {
+        for_memory(CrashDevice::create(self, name.number()))
+    }
+
+    fn append(&mut self, name: Name, bytes: &[u8]) -> Result<(), AllocError> {
+        for_memory(CrashDevice::append(self, name.number(), bytes))
+    }
+
+    fn at_once(_chunks: usize) -> usize {
+        0
+    }
+
+    fn append_chunks(
+        &mut self,
+        _name: Name,
+        _chunks: Rest<'_>,
+        _count: usize,
+    ) -> Result<(), AllocError> {
+        Ok(())
+    }
+
+    fn sync(&mut self, name: Name) {
+        if CrashDevice::sync(self, name.number()).is_err() {
+            unreachable!()
+        }
+    }
+
+    fn unlink(&mut self, name: Name) -> Result<(), AllocError> {
+        for_memory(CrashDevice::unlink(self, name.number()))
+    }
+
+    fn rename(&mut self) -> Result<(), AllocError> {
+        for_memory(CrashDevice::rename(self, Name::Tmp.number(), Name::Target.number()))
+    }
+
+    fn sync_dir(&mut self) {
+        CrashDevice::sync_dir(self);
+    }
+
+    fn exists(&self, name: Name) -> bool {
+        self.disk().exists(name.number())
+    }
+
+    ghost led = { λ device effects name tells. tells.disk.live name };
+}
+
+/// What `target` holds on a device that told what was pending.
+pub fn target_kept(device: &CrashDevice) -> Option<&[u8]>
+    ensures { MatchOption result (reads device.now.disk target ≡ None) (λ bytes. reads device.now.disk target ≡ Some bytes.now) }
 {
     device.read(Name::Target.number()).ok()
 }

@@ -1,11 +1,15 @@
-ghost use Rattle.std.specs.Prelude.{◌≡◌, ◌∷◌, ℕ, List, Some};
+ghost use Rattle.std.specs.Prelude.{◌≡◌, ◌∷◌, ℕ, List, Some, IfOk};
+ghost use Rattle.sim_device.specs.Pending.{Tells, pending, kept};
+ghost use Rattle.file_replace.specs.Words.{target};
+ghost use Rattle.file_replace.specs.Crash.{held_keeping};
 ghost use Rattle.sim_device.specs.FileEffects.{Effect, PowerCut};
 ghost use Rattle.sim_device.specs.Disk.{StandsFor, AddsEffect};
 ghost use Rattle.file_replace.specs.Judgement.{judged_by, judged};
 
-use crate::disk::target_contents;
+use crate::disk::{target_contents, target_kept};
 use crate::progress::Progress;
-use sim_device::FileDevice;
+use sim_device::{CrashDevice, FileDevice};
+use std::alloc::AllocError;
 use target_trait::Judgement;
 
 /// The code of contents that were never written whole, or of no file at all.
@@ -35,5 +39,22 @@ pub fn judge(device: &mut FileDevice, progress: &Progress<'_>) -> Judgement
     match target_contents(device) {
         Some(bytes) => judgement(progress, bytes),
         None => Judgement::Broken(TORN),
+    }
+}
+
+/// Cuts the power, which keeps those pending writes for which the answers say so, and judges what `target` then holds. An error means that memory
+/// was refused.
+pub fn judge_keeping(
+    device: &mut CrashDevice,
+    progress: &Progress<'_>,
+    keep: &[bool],
+) -> Result<Judgement, AllocError>
+    ensures { IfOk result (λ judgement. (es : List Effect) → Tells device.old es
+        → judgement ≡ judged_by progress.now.past (held_keeping (kept keep.now (pending es)) es target)) }
+{
+    device.cut_keeping(keep)?;
+    match target_kept(device) {
+        Some(bytes) => Ok(judgement(progress, bytes)),
+        None => Ok(Judgement::Broken(TORN)),
     }
 }

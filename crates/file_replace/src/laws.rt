@@ -2,8 +2,10 @@
 ghost use Rattle.std.specs.Prelude.{◌≡◌, ℕ, [], Some, codes};
 ghost use Rattle.action_eval.specs.Answers.{given_of};
 ghost use Rattle.target_trait.specs.Outcomes.{outcome};
-ghost use Rattle.target_trait.specs.declared.judgement.Verdict.TheVariants.{Fail};
-ghost use Rattle.file_replace.specs.declared.variant.Variant.TheVariants.{Sound, LateSync, IgnoreSync, RetryWrite};
+ghost use Rattle.target_trait.specs.declared.judgement.Verdict.TheVariants.{Fail, Pass};
+ghost use Rattle.target_trait.specs.Cuts.{with_keep, asks_with};
+ghost use Rattle.file_replace.specs.Crash.{cut_of, renamed_alone, renamed_without_the_first_chunk, renamed_unsynced, renamed_unnamed, unlinked_alone, create_fails};
+ghost use Rattle.file_replace.specs.declared.variant.Variant.TheVariants.{Sound, LateSync, IgnoreSync, RetryWrite, RenameFirst, InPlace};
 ghost use Rattle.file_replace.specs.Words.{point_names, torn, stale};
 ghost use Rattle.file_replace.specs.Steps.{asks_of};
 ghost use Rattle.file_replace.specs.Flaws.{old_to_new, empty_to_new, sync_fails, write_fails, left_by};
@@ -42,4 +44,46 @@ pub fn retry_write_is_torn()
 pub fn ignore_sync_is_stale()
     ensures verdict { (seed stream : ℕ) → (outcome (asks_of IgnoreSync empty_to_new) (given_of sync_fails point_names seed stream 1000)).verdict ≡ Fail stale }
     ensures contents { (seed stream : ℕ) → left_by IgnoreSync empty_to_new (given_of sync_fails point_names seed stream 1000) ≡ Some [] }
+{}
+
+/// A power cut that keeps some of what is pending shows what none does that loses all. Where the directory's sync fails, or the run panics there,
+/// late_sync has renamed a file that was never synced: the cut keeps the rename alone, or it and the second chunk, and `target` holds nothing, or
+/// that chunk behind zeros. The sound variant has synced the file by then.
+pub fn a_kept_rename_shows_late_sync()
+    ensures renamed { (seed stream : ℕ) → (outcome (asks_with (asks_of LateSync old_to_new) (cut_of LateSync old_to_new) 7)
+        (given_of renamed_alone (with_keep point_names) seed stream 1000)).verdict ≡ Fail torn }
+    ensures chunk { (seed stream : ℕ) → (outcome (asks_with (asks_of LateSync old_to_new) (cut_of LateSync old_to_new) 7)
+        (given_of renamed_without_the_first_chunk (with_keep point_names) seed stream 1000)).verdict ≡ Fail torn }
+    ensures sound { (seed stream : ℕ) → (outcome (asks_with (asks_of Sound old_to_new) (cut_of Sound old_to_new) 7)
+        (given_of renamed_unnamed (with_keep point_names) seed stream 1000)).verdict ≡ Pass }
+{}
+
+/// rename_first fails where a cut keeps the rename of a file whose sync failed, and nothing else: `target` holds nothing then. A cut that loses all doesn't
+/// show it, under the same fault.
+pub fn a_kept_rename_shows_rename_first()
+    ensures renamed { (seed stream : ℕ) → (outcome (asks_with (asks_of RenameFirst old_to_new) (cut_of RenameFirst old_to_new) 7)
+        (given_of renamed_unsynced (with_keep point_names) seed stream 1000)).verdict ≡ Fail torn }
+    ensures lost { (seed stream : ℕ) → (outcome (asks_with (asks_of RenameFirst old_to_new) (cut_of RenameFirst old_to_new) 7)
+        (given_of sync_fails (with_keep point_names) seed stream 1000)).verdict ≡ Pass }
+{}
+
+/// in_place fails where the new file can't be created, and a cut keeps that the old name is gone. A cut that loses all doesn't show it, under the same fault.
+pub fn a_kept_unlink_shows_in_place()
+    ensures unlinked { (seed stream : ℕ) → (outcome (asks_with (asks_of InPlace old_to_new) (cut_of InPlace old_to_new) 7)
+        (given_of unlinked_alone (with_keep point_names) seed stream 1000)).verdict ≡ Fail torn }
+    ensures lost { (seed stream : ℕ) → (outcome (asks_with (asks_of InPlace old_to_new) (cut_of InPlace old_to_new) 7)
+        (given_of create_fails (with_keep point_names) seed stream 1000)).verdict ≡ Pass }
+{}
+
+/// The sound variant never fails, whatever a power cut keeps: for every scenario, of its points and of `power::keep`, the verdict of its run with the cut is
+/// pass or unresolved.
+pub fn sound_survives_each_cut(
+    workload: &Replacements,
+    scenario: &Scenario,
+    seed: u64,
+    stream: u64,
+    max_hits: u32,
+)
+    ensures { (code : ℕ) → (outcome (asks_with (asks_of Sound workload.now) (cut_of Sound workload.now) 7)
+        (given_of scenario.now (with_keep point_names) seed stream max_hits)).verdict ≡ Fail code → ⊥ }
 {}

@@ -1,4 +1,4 @@
-//! Atomic replacement of a file, as a target, in four variants.
+//! Atomic replacement of a file, as a target, in six variants.
 #![tactic(auto)]
 
 mod contents;
@@ -16,7 +16,11 @@ mod work;
 
 pub use chunked_text::Chunks;
 pub use judge::{STALE, TORN};
-pub use laws::{ignore_sync_is_stale, late_sync_is_torn, retry_write_is_torn, sound_never_fails};
+pub use laws::{
+    a_kept_rename_shows_late_sync, a_kept_rename_shows_rename_first, a_kept_unlink_shows_in_place,
+    ignore_sync_is_stale, late_sync_is_torn, retry_write_is_torn, sound_never_fails,
+    sound_survives_each_cut,
+};
 pub use play::play as play_on;
 pub use replace::Replace;
 pub use variant::Variant;

@@ -11,11 +11,11 @@ use chunked_text::Chunks;
 use std::marker::Model;
 
 /// The first stage of a replacement.
-fn first_stage<'w>(tmp_is_there: bool, chunks: &'w Chunks) -> Stage<'w>
-    ensures { step_of result ≡ first_step tmp_is_there chunks.now }
+fn first_stage<'w>(is_there: bool, chunks: &'w Chunks) -> Stage<'w>
+    ensures { step_of result ≡ first_step is_there chunks.now }
 {
     let rest = Rest::of(chunks);
-    if tmp_is_there {
+    if is_there {
         Stage::Clearing(rest)
     } else {
         Stage::Creating(rest)
@@ -61,16 +61,16 @@ impl<'w> Progress<'w> {
         }
     }
 
-    /// Begins the next replacement, if there is one.
-    pub fn begin(&mut self, tmp_is_there: bool)
-        ensures { self.new ≡ begun tmp_is_there self.old }
+    /// Begins the next replacement, if there is one. It clears the name that it writes, where that is there.
+    pub fn begin(&mut self, is_there: bool)
+        ensures { self.new ≡ begun is_there self.old }
     {
         let Some(next) = self.workload.as_slice().get(self.begun) else {
             self.stage = Stage::Over;
             return;
         };
         self.begun += 1;
-        self.stage = first_stage(tmp_is_there, next);
+        self.stage = first_stage(is_there, next);
     }
 
     /// The replacement under way is acknowledged.

@@ -6,16 +6,17 @@ ghost use Rattle.target_trait.specs.declared.judgement.Judgement.TheVariants.{Ke
 ghost use Rattle.file_replace.specs.declared.variant.Variant.TheVariants.{Sound};
 ghost use Rattle.file_replace.specs.Words.{label, code_text, point_names};
 ghost use Rattle.file_replace.specs.Steps.{asks_of};
+ghost use Rattle.file_replace.specs.Crash.{cut_of};
 ghost use Rattle.file_replace.specs.Lawful.{asks-within, asks-halts};
 
 use crate::judge::TORN;
-use crate::play::play;
+use crate::play::{TO_CUT, play, play_to_cut};
 use crate::variant::Variant;
 use crate::work::Replacements;
-use sim_device::FileDevice;
+use sim_device::{CrashDevice, FileDevice};
 use std::alloc::{AllocError, Global};
 use std::marker::Model;
-use target_trait::{Judgement, Session, Target};
+use target_trait::{CrashTarget, Judgement, Session, Target};
 
 /// Atomic replacement of a file, as a target. Its setup, which is all that contracts see of it, is the variant.
 ///
@@ -29,6 +30,7 @@ pub struct Replace {
     alloc: Global,
     variant: Variant,
     device: FileDevice,
+    crash_device: CrashDevice,
 }
 
 impl Model for Replace {
@@ -48,6 +50,7 @@ impl Replace {
             alloc,
             variant,
             device: FileDevice::new(alloc),
+            crash_device: CrashDevice::new(alloc),
         }
     }
 }
@@ -69,6 +72,8 @@ impl Target for Replace {
             Variant::LateSync => "replace late_sync",
             Variant::IgnoreSync => "replace ignore_sync",
             Variant::RetryWrite => "replace retry_write",
+            Variant::RenameFirst => "replace rename_first",
+            Variant::InPlace => "replace in_place",
         }
     }
 
@@ -113,4 +118,28 @@ impl Target for Replace {
     ghost halts = { asks-halts };
 
     ghost lawful = { Prim.search rules };
+}
+
+impl CrashTarget for Replace {
+    ghost cut = { cut_of };
+
+    fn catalogue_to_cut() -> &'static [&'static str] {
+        TO_CUT
+    }
+
+    fn run_to_cut(
+        &mut self,
+        workload: &Replacements,
+        session: &mut Session<'_>,
+    ) -> Result<Judgement, AllocError> {
+        play_to_cut(
+            self.alloc,
+            self.variant,
+            workload,
+            &mut self.crash_device,
+            session,
+        )
+    }
+
+    ghost lawful_to_cut = { Prim.search rules };
 }

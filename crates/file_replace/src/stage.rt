@@ -9,6 +9,7 @@ pub enum Stage<'w> {
     WritingAgain(&'w [u8], Rest<'w>),
     Syncing,
     Renaming,
+    SyncingRenamed,
     SyncingDir,
     SyncingLate,
     Cleaning,

@@ -9,4 +9,9 @@ pub enum Variant {
     IgnoreSync,
     /// A chunk whose write fails is written once more, after the half that is there already.
     RetryWrite,
+    /// The file is renamed before it is synced; both before the directory is. Only a cut that keeps some of what is pending shows it.
+    RenameFirst,
+    /// There is no other name than that of the old contents: they are taken away, and the new ones written and synced in their place. Only a cut that
+    /// keeps some of what is pending shows it.
+    InPlace,
 }

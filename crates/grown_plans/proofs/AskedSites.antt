@@ -1,5 +1,5 @@
 -- The hits of a run follow from the points that it asked, and so do a plan's children.
-use Rattle.std.proofs.Common.{◌≡◌, ℕ, zero, suc, ◌+◌, ◌<◌, ◌==◌, ◌&&◌, ◌||◌, Bool, true, false, cond, List, [], ◌∷◌, ◌++◌, map, length, refl, ap, sym, ◌∙◌, subst, append_assoc, count_by}
+use Rattle.std.proofs.Common.{◌≡◌, ℕ, zero, suc, ◌+◌, ◌<◌, ◌==◌, ◌&&◌, ◌||◌, Bool, true, false, cond, List, [], ◌∷◌, ◌++◌, map, length, take, refl, ap, sym, ◌∙◌, subst, append_assoc, count_by}
 use Rattle.std.specs.Prelude.{flat_map}
 use Rattle.std.specs.List.{AllByRecursion, list_any}
 use Rattle.std.proofs.lemmas.List.{append-nil, map-append}
@@ -8,21 +8,22 @@ use Rattle.action_eval.specs.declared.rig.Rig.{Rig}
 use Rattle.action_eval.specs.declared.rig.Kind.{Kind}
 use Rattle.action_eval.specs.declared.rig.Kind.TheVariants.{OnwardReturn}
 use Rattle.action_eval.specs.Rigging.{rig}
-use Rattle.action_eval.specs.Answers.{Given, Run, Hit, Reply, start, history_of, asked, reply_of}
-use Rattle.target_trait.specs.Play.{Move, IsWithin}
-use Rattle.target_trait.specs.Outcomes.{play, outcome}
+use Rattle.action_eval.specs.Answers.{Given, Run, Hit, Reply, start, hit, replies, is_cut_short, history_of, asked, reply_of}
+use Rattle.target_trait.specs.declared.judgement.Judgement.TheVariants.{Kept}
+use Rattle.target_trait.specs.Play.{Move, Ask, Done, IsWithin, move_in}
+use Rattle.target_trait.specs.Outcomes.{play, moved, outcome}
 use Rattle.plan_gen.specs.LoopRuns.{times}
 use Rattle.grown_plans.specs.Runs.{Met, met, site_after, met_after, run}
 use Rattle.grown_plans.specs.GrownPlans.{Subject, given_for, run_of_plan, is_at, is_once_return, is_hit_again, hits_after, hits_past, grown_at, children, level, grown}
 use Rattle.grown_plans.specs.AskedPoints.{sites_from, sites_after, sites_past, is_asked_again, AskAlike, AsksLikeParent, GrowsByAsked, GoesOnwardByAsked, ReachesByAsked}
 use Rattle.grown_plans.specs.Promises.{IsLawful, NeedsNoSeed}
-use Rattle.grown_plans.proofs.Members.{all_weaker, all_both}
-use Rattle.grown_plans.proofs.PlayedRuns.{points_of, history_points, run_path}
-use Rattle.grown_plans.proofs.PlanRuns.{count_points, is_within, needs_no_seed, plan_path}
+use Rattle.grown_plans.proofs.Members.{all_weaker, all_both, all_append}
+use Rattle.grown_plans.proofs.PlayedRuns.{points_of, history_points}
+use Rattle.grown_plans.proofs.PlanRuns.{count_points, needs_no_seed, plan_path}
 use Rattle.grown_plans.proofs.Levels.{IsGrown, level_grown}
 use Rattle.grown_plans.proofs.FirstHits.{ask_alike}
 use Rattle.grown_plans.proofs.Onward.{no_seed_needed, RunsAlike, grown_runs_alike}
-use Rattle.grown_plans.proofs.Paths.{IsPath, replies_of, next_is, hit_is, times_met}
+use Rattle.grown_plans.proofs.Paths.{IsPath, hit_is, times_met}
 
 abbrev pub sites_of : List Met → List Site
 sites_of ms = map (λ m. m.site) ms
@@ -128,19 +129,33 @@ goes_onward_by_asked t l n =
 
 -- ---- a run asks points of the catalogue
 
-path_within : (asks : List Reply → Move) (points : ℕ) → ((answers : List Reply) → IsWithin points (asks answers)) → (room : ℕ) (before ms : List Met)
-    → IsPath asks room before ms → AllByRecursion (λ p. p < points) (points_of ms)
-path_within asks points within room before [] p = tt
-path_within asks points within zero before (m ∷ ms) p = absurd p
-path_within asks points within (suc room) before (m ∷ ms) p = (
-  is_within points m.site.point (asks (replies_of before)) (next_is asks before m.site p.0).0 (within (replies_of before)),
-  path_within asks points within room (before ++ m ∷ []) ms p.1,
-)
+move_within : (b : Bool) (points : ℕ) (move : Move) → IsWithin points move → IsWithin points (cond b (Done Kept) move)
+move_within true points move w = tt
+move_within false points move w = w
+
+moved_within : (points : ℕ) (move : Move) (r : Run) (f : ℕ → Run) → IsWithin points move → AllByRecursion (λ p. p < points) r.hits
+    → ((p : ℕ) → p < points → AllByRecursion (λ q. q < points) (f p).hits) → AllByRecursion (λ p. p < points) (moved move r f).hits
+moved_within points (Ask p) r f w all further = further p w
+moved_within points (Done j) r f w all further = all
+
+played_within : (asks : List Reply → Move) (points : ℕ) → ((answers : List Reply) → IsWithin points (asks answers)) → (n : ℕ) (r : Run)
+    → AllByRecursion (λ p. p < points) r.hits → AllByRecursion (λ p. p < points) (play n asks r).hits
+unfolding play
+played_within asks points within zero r all = all
+played_within asks points within (suc n) r all =
+    moved_within points (move_in asks r) r (λ p. play n asks (hit r p)) (move_within (is_cut_short r) points (asks (replies r)) (within (replies r))) all
+    (λ p few. played_within asks points within n (hit r p) (all_append (λ q. q < points) r.hits (p ∷ []) all (few, tt)))
+
+taken_within : (points n : ℕ) (ps : List ℕ) → AllByRecursion (λ p. p < points) ps → AllByRecursion (λ p. p < points) (take n ps)
+taken_within points zero [] all = tt
+taken_within points zero (p ∷ ps) all = tt
+taken_within points (suc n) [] all = tt
+taken_within points (suc n) (p ∷ ps) all = (all.0, taken_within points n ps all.1)
 
 pub asked_within : (t : Subject) → IsLawful t → (g : Given) → AllByRecursion (λ p. p < length t.names) (outcome t.asks g).asked
 asked_within t l g =
-    subst (λ (ps : List ℕ). AllByRecursion (λ p. p < length t.names) ps) (asked_points t.asks g)
-    (path_within t.asks (length t.names) l.within g.limit [] (run t.asks g) (run_path t.asks g))
+    let r : Run = play (suc g.limit) t.asks (start g) in
+    taken_within (length t.names) r.given.limit r.hits (played_within t.asks (length t.names) l.within (suc g.limit) (start g) tt)
 
 -- ---- a plan's run asks like its parent's
 

@@ -20,7 +20,7 @@ use Rattle.grown_plans.proofs.Members.{all_weaker, all_contains, contains_head, 
 use Rattle.grown_plans.proofs.Paths.{replies_of, IsPath, AnsweredBy, same_path}
 use Rattle.grown_plans.proofs.PlayedRuns.{run_path, run_judged}
 use Rattle.grown_plans.proofs.Riggings.{CanAct, reply_here, reply_there, same_site}
-use Rattle.grown_plans.proofs.PlanRuns.{answers_of, plan_path, plan_answered, plan_judged, rigs_answered, rigs_unpaused}
+use Rattle.grown_plans.proofs.PlanRuns.{answers_of, plan_path, plan_answered, plan_judged, rigs_answered, rigs_path, rigs_unpaused}
 use Rattle.grown_plans.proofs.Faults.{noted, faults, faults_length, IsPlain, acts_once, can_act, faults_answer, faults_among, noted_kind}
 use Rattle.grown_plans.proofs.Levels.{IsGrown, level_grown, plain_kinds, in_level}
 use Rattle.grown_plans.proofs.Apart.{RunApart, level_in_levels, levels_run_apart}
@@ -37,7 +37,7 @@ whole_run t l ms p plain =
     (faults_answer t.asks t.limit ms [] (subst (λ (x : List Met). IsPath t.asks t.limit [] x) (sym (append-nil ms)) p) plain)
 
 pub case_path : (t : Subject) (c : FaultCase t) → IsPath t.asks t.limit [] (run_in t c)
-case_path t c = run_path t.asks (given_of c.scenario t.names c.seed c.stream t.limit)
+case_path t c = run_path t.asks (given_of c.scenario t.names c.seed c.stream t.limit) c.unpaused
 
 pub is_tried : (t : Subject) → IsLawful t → (c : FaultCase t) (plan : List Rig) → CanAct plan → run_of_plan t plan ≡ run_in t c → IsTried t c plan
 is_tried t l c plan can e =
@@ -157,7 +157,7 @@ pub rigs_few : (t : Subject) → IsLawful t → (rigs : List Rig) → AreInOrder
     → acting (run t.asks (given_of (rigging t.names rigs) t.names seed stream t.limit)) ≤ length rigs
 rigs_few t l rigs o k seed stream =
     let ms : List Met = run t.asks (given_of (rigging t.names rigs) t.names seed stream t.limit) in
-    let can : CanAct (faults [] ms) = whole_can t ms (run_path t.asks (given_of (rigging t.names rigs) t.names seed stream t.limit)) in
+    let can : CanAct (faults [] ms) = whole_can t ms (rigs_path t rigs seed stream) in
     let few : length (faults [] ms) ≤ length rigs = no_more (faults [] ms) rigs (apart_rigs (faults [] ms) can.sites_apart) (rigs_faults t l rigs o k seed stream) in
     let is = faults_length ms in
     omega (arith, few, is)

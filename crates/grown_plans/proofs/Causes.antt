@@ -16,9 +16,8 @@ use Rattle.grown_plans.specs.GrownPlans.{Subject, in_order, rigs_of, level, leve
 use Rattle.grown_plans.specs.Promises.{IsLawful, FaultCase, run_in, verdict_of_rigs, verdict_of_plan, lesser, IsCause, HasCauses}
 use Rattle.grown_plans.proofs.Members.{all_weaker, all_map, all_both, all_contains, all_contained, all_or}
 use Rattle.grown_plans.proofs.Paths.{replies_of, same_path}
-use Rattle.grown_plans.proofs.PlayedRuns.{run_path}
 use Rattle.grown_plans.proofs.Riggings.{rigs_order, all_in_order, length_in_order, merged_once}
-use Rattle.grown_plans.proofs.PlanRuns.{rigs_answered, rigs_judged}
+use Rattle.grown_plans.proofs.PlanRuns.{rigs_answered, rigs_judged, rigs_path}
 use Rattle.grown_plans.proofs.Faults.{faults}
 use Rattle.grown_plans.proofs.Levels.{IsGrown, level_grown}
 use Rattle.grown_plans.proofs.Apart.{IsGrownTo, level_in_levels, levels_grown}
@@ -83,7 +82,7 @@ rigs_same t l rigs o seed stream seed' stream' =
     let g = given_of (rigging t.names rigs) t.names seed stream t.limit in
     let g' = given_of (rigging t.names rigs) t.names seed' stream' t.limit in
     rigs_judged t rigs seed stream
-    ∙ ap (λ ms. judged (t.asks (replies_of ms))) (same_path t.asks (λ s. rigged_reply rigs s.point s.hit) t.limit [] (run t.asks g) (run t.asks g') (run_path t.asks g) (run_path t.asks g') (rigs_answered t l rigs o seed stream) (rigs_answered t l rigs o seed' stream'))
+    ∙ ap (λ ms. judged (t.asks (replies_of ms))) (same_path t.asks (λ s. rigged_reply rigs s.point s.hit) t.limit [] (run t.asks g) (run t.asks g') (rigs_path t rigs seed stream) (rigs_path t rigs seed' stream') (rigs_answered t l rigs o seed stream) (rigs_answered t l rigs o seed' stream'))
     ∙ sym (rigs_judged t rigs seed' stream')
 
 -- ---- causes

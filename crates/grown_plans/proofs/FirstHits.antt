@@ -1,16 +1,19 @@
 -- How often points are among the first hits of a run, and where in it a fault's hit stands.
-use Rattle.std.proofs.Common.{◌≡◌, ℕ, zero, suc, ◌+◌, ◌-◌, ◌*◌, ◌<◌, ◌≤◌, ◌⊎◌, inl, inr, ◌==◌, ◌&&◌, ◌||◌, nat_lt, Bool, true, false, cond, List, [], ◌∷◌, ◌++◌, take, drop, length, get_or, refl, ap, sym, ◌∙◌, subst, arith, append_assoc, Some, None}
+use Rattle.std.proofs.Common.{◌≡◌, ℕ, zero, suc, ◌+◌, ◌-◌, ◌<◌, ◌≤◌, ◌⊎◌, inl, inr, ◌==◌, ◌&&◌, ◌||◌, nat_lt, Bool, true, false, cond, List, [], ◌∷◌, ◌++◌, take, drop, length, get_or, refl, ap, sym, ◌∙◌, subst, arith, append_assoc, Some, None}
 use Rattle.std.specs.List.{flat_map, list_any, AllByRecursion}
 use Rattle.std.proofs.lemmas.Bool.Decides.{nat_tests}
-use Rattle.std.proofs.lemmas.List.{append-nil, take_more, take_all, get_or_past, take-append-drop, take-append-le, length-append, length-drop}
-use Rattle.std.proofs.Math.Nat.{zero-add}
+use Rattle.std.specs.Prelude.{min}
+use Rattle.std.proofs.lemmas.List.{append-nil, take_more, take_all, get_or_past, take-append-drop, take-append-le, length-append, length-map, drop_all}
+use Rattle.std.proofs.Math.Nat.{zero-add, min-eq_left, min-eq_right}
 use Rattle.std.proofs.Math.Seq.{take-append-add}
 use Rattle.std.proofs.lemmas.List.Sums.{sum_by-append, sum_by-cons, count_by-le-length}
 use Rattle.action_eval.specs.declared.rig.Site.{Site}
 use Rattle.action_eval.specs.declared.rig.Rig.{Rig}
+use Rattle.action_eval.specs.declared.rig.Kind.{Kind}
+use Rattle.action_eval.specs.Rigging.{rig}
 use Rattle.plan_gen.specs.LoopRuns.{times}
 use Rattle.grown_plans.specs.AskedPoints.{AreCounts, AskAlike, sites_from, sites_after, is_point_of, is_asked_again}
-use Rattle.grown_plans.specs.Kept.{kept_at, kept_children}
+use Rattle.grown_plans.specs.Kept.{grew, kept_at, kept_children}
 use Rattle.grown_plans.specs.inside.Counted.{next_site}
 use Rattle.grown_plans.specs.Begun.{AreOrdinals, CountsFirst, IsBegun, Serves}
 use Rattle.grown_plans.specs.declared.begun.Begun.{Begun}
@@ -103,23 +106,30 @@ not_at_all s asked n few all =
 
 -- ---- what follows from counts alone
 
-children_many : (number : ℕ) (before asked : List ℕ) → length (flat_map (kept_at number) (sites_from before asked)) ≡ 2 * length asked
-children_many number before [] = refl
-children_many number before (p ∷ ps) = let more = children_many number (before ++ p ∷ []) ps in omega (arith, more)
+-- as many as there are kinds for the points that are hit
+children_many : (kinds : ℕ → List Kind) (number : ℕ) (before asked : List ℕ)
+    → length (flat_map (kept_at kinds number) (sites_from before asked)) ≡ length (flat_map kinds asked)
+children_many kinds number before [] = refl
+children_many kinds number before (p ∷ ps) =
+    let s : Site = record { point = p; hit = times p before + 1 } in
+    let here = length-map (kinds p) (λ kind. grew number (rig s kind)) in
+    let more = children_many kinds number (before ++ p ∷ []) ps in
+    let whole = length-append (kinds p) (flat_map kinds ps) in
+    length-append (kept_at kinds number s) (flat_map (kept_at kinds number) (sites_from (before ++ p ∷ []) ps)) ∙ omega (arith, here, more, whole)
 
-pub all_children : (number : ℕ) (asked : List ℕ) → length (flat_map (kept_at number) (sites_from [] asked)) ≡ 2 * length asked
-all_children number asked = children_many number [] asked
-
-pub ends_children : (number : ℕ) (s : Site) (asked : List ℕ) (n : ℕ) → EndsAt s asked n
-    → length (flat_map (kept_at number) (sites_after s (sites_from [] asked))) ≡ 2 * ((length asked - n) - 1)
-ends_children number s asked n e = elim e.2 [
+ends_children : (kinds : ℕ → List Kind) (number : ℕ) (s : Site) (asked : List ℕ) (n after : ℕ) → EndsAt s asked n → after ≡ min (n + 1) (length asked)
+    → length (flat_map (kept_at kinds number) (sites_after s (sites_from [] asked))) ≡ length (flat_map kinds (drop after asked))
+ends_children kinds number s asked n after e is = elim e.2 [
   | inl all ↦
-      ap (λ (l : List Site). length (flat_map (kept_at number) l)) (not_at_all s asked n e.1 all) ∙ (let none : 0 ≡ 2 * ((length asked - n) - 1) = omega (arith, all) in none)
+      let past : after ≡ length asked = is ∙ min-eq_right {n = length asked} {m = n + 1} (omega (arith, all)) in
+      ap (λ (l : List Site). length (flat_map (kept_at kinds number) l)) (not_at_all s asked n e.1 all)
+      ∙ ap (λ (l : List ℕ). length (flat_map kinds l)) (sym (drop_all after asked (omega (arith, past))))
   | inr met ↦
-      let left = length-drop (n + 1) asked in
       let lt = met.0 in
-      ap (λ (l : List Site). length (flat_map (kept_at number) l)) (met_at s asked n e.1 met.0 met.1 met.2)
-      ∙ children_many number (take (n + 1) asked) (drop (n + 1) asked) ∙ omega (arith, left, lt)
+      let next : after ≡ n + 1 = is ∙ min-eq_left {n = n + 1} {m = length asked} (omega (arith, lt)) in
+      ap (λ (l : List Site). length (flat_map (kept_at kinds number) l)) (met_at s asked n e.1 met.0 met.1 met.2)
+      ∙ children_many kinds number (take (n + 1) asked) (drop (n + 1) asked)
+      ∙ ap (λ k. length (flat_map kinds (drop k asked))) (sym next)
 ]
 
 some_more : (b : Bool) (k : ℕ) → (b || nat_lt 0 k) ≡ nat_lt 0 (cond b 1 0 + k)
@@ -287,18 +297,20 @@ none_again : (xs : List Site) → false ≡ list_any (λ (s : Site). is_point_of
 none_again [] = refl
 none_again (x ∷ xs) = none_again xs
 
-pub no_last_children : (number : ℕ) (plan : List Rig) (asked : List ℕ) → last_site plan ≡ None → 2 * length asked ≡ length (kept_children number plan asked)
-no_last_children number [] asked e = sym (children_many number [] asked)
-no_last_children number (r ∷ rs) asked e = absurd cc
+pub no_last_children : (kinds : ℕ → List Kind) (number : ℕ) (plan : List Rig) (asked : List ℕ) → last_site plan ≡ None
+    → length (flat_map kinds asked) ≡ length (kept_children kinds number plan asked)
+no_last_children kinds number [] asked e = sym (children_many kinds number [] asked)
+no_last_children kinds number (r ∷ rs) asked e = absurd cc
 
 pub no_last_again : (plan : List Rig) (asked : List ℕ) → last_site plan ≡ None → false ≡ is_asked_again plan asked
 no_last_again [] asked e = none_again (sites_from [] asked)
 no_last_again (r ∷ rs) asked e = absurd cc
 
-pub last_children : (number : ℕ) (plan : List Rig) (asked : List ℕ) (n : ℕ) (s : Site) → last_site plan ≡ Some s → EndsAt s asked n
-    → 2 * ((length asked - n) - 1) ≡ length (kept_children number plan asked)
-last_children number [] asked n s e ends = absurd cc
-last_children number (r ∷ rs) asked n s e ends = sym (ends_children number r.site asked n (subst (λ (x : Site). EndsAt x asked n) (sym (is_site r rs s e)) ends))
+pub last_children : (kinds : ℕ → List Kind) (number : ℕ) (plan : List Rig) (asked : List ℕ) (n after : ℕ) (s : Site) → last_site plan ≡ Some s → EndsAt s asked n
+    → after ≡ min (n + 1) (length asked) → length (flat_map kinds (drop after asked)) ≡ length (kept_children kinds number plan asked)
+last_children kinds number [] asked n after s e ends is = absurd cc
+last_children kinds number (r ∷ rs) asked n after s e ends is =
+    sym (ends_children kinds number r.site asked n after (subst (λ (x : Site). EndsAt x asked n) (sym (is_site r rs s e)) ends) is)
 
 pub last_again : (plan : List Rig) (asked : List ℕ) (n : ℕ) (s : Site) → last_site plan ≡ Some s → EndsAt s asked n
     → nat_lt s.hit (times s.point asked) ≡ is_asked_again plan asked

@@ -6,6 +6,7 @@ use Rattle.std.proofs.Math.Seq.{drop-cons}
 use Rattle.action_eval.specs.declared.rig.Site.{Site}
 use Rattle.action_eval.specs.declared.rig.Rig.{Rig}
 use Rattle.grown_plans.specs.AskedPoints.{sites_from, sites_after, is_point_of}
+use Rattle.action_eval.specs.declared.rig.Kind.{Kind}
 use Rattle.grown_plans.specs.Kept.{Grew, kept_at}
 use Rattle.grown_plans.specs.inside.Counted.{next_site, is_site_of, sites_left}
 
@@ -37,34 +38,34 @@ or_more false b c = refl
 abbrev is_again_in : List Rig → List Site → Bool
 is_again_in plan xs = list_any (λ x. is_point_of plan x.point) xs
 
-abbrev Kept : ℕ → List Rig → Bool → Bool → List Grew → List Site → List Grew → Bool → Type 0
-Kept number plan past again children sites whole told =
-    (children ++ flat_map (kept_at number) (sites_left past plan sites) ≡ whole) × ((again || is_again_in plan (sites_left past plan sites)) ≡ told)
+abbrev Kept : (ℕ → List Kind) → ℕ → List Rig → Bool → Bool → List Grew → List Site → List Grew → Bool → Type 0
+Kept kinds number plan past again children sites whole told =
+    (children ++ flat_map (kept_at kinds number) (sites_left past plan sites) ≡ whole) × ((again || is_again_in plan (sites_left past plan sites)) ≡ told)
     × (plan ≡ [] → past ≡ true)
 
 -- past the last fault, each hit has children
-pub kept_past : (number : ℕ) (plan : List Rig) (past past' again again' : Bool) (children children' whole : List Grew) (told : Bool) (s : Site) (sites xs : List Site)
-    → sites ≡ s ∷ xs → past ≡ true → past' ≡ past → children' ≡ children ++ kept_at number s → again' ≡ (again || is_point_of plan s.point)
-    → Kept number plan past again children sites whole told → Kept number plan past' again' children' xs whole told
-kept_past number plan false past' again again' children children' whole told s sites xs e is same added more kept = absurd cc
-kept_past number plan true false again again' children children' whole told s sites xs e is same added more kept = absurd cc
-kept_past number plan true true again again' children children' whole told s sites xs e is same added more kept = (
-  ap (λ l. l ++ flat_map (kept_at number) xs) added ∙ append_assoc children (kept_at number s) (flat_map (kept_at number) xs)
-      ∙ ap (λ l. children ++ flat_map (kept_at number) l) (sym e) ∙ kept.0,
+pub kept_past : (kinds : ℕ → List Kind) (number : ℕ) (plan : List Rig) (past past' again again' : Bool) (children children' whole : List Grew) (told : Bool) (s : Site) (sites xs : List Site)
+    → sites ≡ s ∷ xs → past ≡ true → past' ≡ past → children' ≡ children ++ kept_at kinds number s → again' ≡ (again || is_point_of plan s.point)
+    → Kept kinds number plan past again children sites whole told → Kept kinds number plan past' again' children' xs whole told
+kept_past kinds number plan false past' again again' children children' whole told s sites xs e is same added more kept = absurd cc
+kept_past kinds number plan true false again again' children children' whole told s sites xs e is same added more kept = absurd cc
+kept_past kinds number plan true true again again' children children' whole told s sites xs e is same added more kept = (
+  ap (λ l. l ++ flat_map (kept_at kinds number) xs) added ∙ append_assoc children (kept_at kinds number s) (flat_map (kept_at kinds number) xs)
+      ∙ ap (λ l. children ++ flat_map (kept_at kinds number) l) (sym e) ∙ kept.0,
   ap (λ b. b || is_again_in plan xs) more ∙ or_more again (is_point_of plan s.point) (is_again_in plan xs)
       ∙ ap (λ l. again || is_again_in plan l) (sym e) ∙ kept.1,
   λ none. refl,
 )
 
 -- before it, a hit may be that fault's
-pub kept_before : (number : ℕ) (plan : List Rig) (past past' again again' : Bool) (children children' whole : List Grew) (told : Bool) (s : Site) (sites xs : List Site)
+pub kept_before : (kinds : ℕ → List Kind) (number : ℕ) (plan : List Rig) (past past' again again' : Bool) (children children' whole : List Grew) (told : Bool) (s : Site) (sites xs : List Site)
     → sites ≡ s ∷ xs → past ≡ false → past' ≡ is_site_of plan s → children' ≡ children → again' ≡ again
-    → Kept number plan past again children sites whole told → Kept number plan past' again' children' xs whole told
-kept_before number plan true past' again again' children children' whole told s sites xs e is now same still kept = absurd cc
-kept_before number plan false past' again again' children children' whole told s sites xs e is now same still kept =
+    → Kept kinds number plan past again children sites whole told → Kept kinds number plan past' again' children' xs whole told
+kept_before kinds number plan true past' again again' children children' whole told s sites xs e is now same still kept = absurd cc
+kept_before kinds number plan false past' again again' children children' whole told s sites xs e is now same still kept =
     let left : sites_left false plan sites ≡ sites_left past' plan xs =
     ap (sites_left false plan) e ∙ left_after plan s xs kept.2 ∙ ap (λ b. sites_left b plan xs) (sym now) in (
-      ap (λ l. l ++ flat_map (kept_at number) (sites_left past' plan xs)) same ∙ ap (λ l. children ++ flat_map (kept_at number) l) (sym left) ∙ kept.0,
+      ap (λ l. l ++ flat_map (kept_at kinds number) (sites_left past' plan xs)) same ∙ ap (λ l. children ++ flat_map (kept_at kinds number) l) (sym left) ∙ kept.0,
       ap (λ b. b || is_again_in plan (sites_left past' plan xs)) still ∙ ap (λ l. again || is_again_in plan l) (sym left) ∙ kept.1,
       begun_after plan past' kept.2,
     )

@@ -1,7 +1,6 @@
 -- Lists of plans that grew from each other.
 use Rattle.std.proofs.Common.{◌≡◌, ℕ, zero, suc, ◌+◌, ◌≤◌, ◌<◌, List, [], ◌∷◌, ◌++◌, map, length, get_or, refl, ap, sym, ◌∙◌, arith, append_assoc, subst, ◌-◌}
 use Rattle.std.specs.Prelude.{Result, Ok, Err, OnOk, is_ok, Bool, true, false, cond}
-use Rattle.std.specs.List.{AllByRecursion}
 use Rattle.std.proofs.lemmas.List.{append-nil, length-append, get_or_append_left, get_or-append-add}
 use Rattle.action_eval.specs.declared.rig.Rig.{Rig}
 use Rattle.action_eval.specs.declared.rig.Kind.TheVariants.{OnwardReturn}

@@ -13,6 +13,8 @@ pub mod FromThenOn
 pub mod AskedSites
 pub mod KeptPlans
 pub mod HitByHit
+pub mod KeptChildren
+pub mod CutPoints
 pub mod FirstHits
 pub mod Rigged
 pub mod Merges

@@ -14,9 +14,9 @@ use Rattle.action_eval.specs.declared.rig.Site.{Site}
 use Rattle.action_eval.specs.declared.rig.Rig.{Rig}
 use Rattle.action_eval.specs.declared.rig.Kind.{Kind}
 use Rattle.action_eval.specs.declared.rig.Kind.TheVariants.{OnceReturn, OnwardReturn, OncePanic}
-use Rattle.action_eval.specs.Answers.{Given, Run, Hit, Reply, given_of, start, history_of, and_then, next, stopped, stopped_by, stop_of, task_at, name_of, is_over, asked, hit, replies}
+use Rattle.action_eval.specs.Answers.{Given, Run, Hit, Reply, given_of, start, history_of, and_then, next, stopped, stopped_by, stop_of, task_at, name_of, is_over, asked, hit}
 use Rattle.action_eval.specs.Rigging.{rigging, entries_from, entry, chain_from, terms_at, done_after, rigged, term_of, full}
-use Rattle.target_trait.specs.Play.{Move, Ask, Done, IsWithin}
+use Rattle.target_trait.specs.Play.{Move, Ask, Done, IsWithin, move_in}
 use Rattle.target_trait.specs.Outcomes.{play, moved, judged}
 use Rattle.plan_gen.specs.LoopRuns.{times}
 use Rattle.plan_gen.specs.RiggedAnswers.{AreInOrder, AnswersAsRigged, rigged_reply}
@@ -52,13 +52,6 @@ as_rigged asks names within rigs law seed stream limit (suc room) before (m ∷ 
       a.0 ∙ law seed stream limit (points_of before) m.site.point inside few ∙ ap (rigged_reply rigs m.site.point) hit,
       as_rigged asks names within rigs law seed stream limit room (before ++ m ∷ []) ms (omega (arith, e, longer)) p.1 a.1,
     )
-
--- the run of these rigged hits
-pub rigs_answered : (t : Subject) → IsLawful t → (rigs : List Rig) → AreInOrder (map (λ (r : Rig). r.site) rigs) → (seed stream : ℕ)
-    → AnsweredBy (λ s. rigged_reply rigs s.point s.hit) (run t.asks (given_of (rigging t.names rigs) t.names seed stream t.limit))
-rigs_answered t l rigs o seed stream =
-    let g = given_of (rigging t.names rigs) t.names seed stream t.limit in
-    as_rigged t.asks t.names l.within rigs (answers_as_rigged t.names rigs l.catalogue o) seed stream t.limit t.limit [] (run t.asks g) (omega arith) (run_path t.asks g) (run_answered t.asks g)
 
 -- ---- no pause
 
@@ -129,7 +122,7 @@ calm_or (Some s) q a b e = a e
 
 calm_stop : (h : List Hit) → AllByRecursion (λ (x : Hit). Calm x.did) h → stopped_by h ≡ Some stop.Paused → ⊥
 calm_stop [] a e = absurd cc
-calm_stop (x ∷ h) a e = calm_or (stop_of x.did) (stopped_by h) a.0 (calm_stop h a.1) e
+calm_stop (x ∷ h) a e = calm_or (stopped_by h) (stop_of x.did) (calm_stop h a.1) a.0 e
 
 calm_over : (b : Bool) (o : Option Stop) → (o ≡ Some stop.Paused → ⊥) → cond b (Some stop.Limit) o ≡ Some stop.Paused → ⊥
 calm_over true o a e = absurd cc
@@ -145,7 +138,7 @@ given_moved (Done j) r f h = refl
 same_given : (n : ℕ) (asks : List Reply → Move) (r : Run) → (play n asks r).given ≡ r.given
 unfolding play
 same_given zero asks r = refl
-same_given (suc n) asks r = given_moved (asks (replies r)) r (λ p. play n asks (hit r p)) (λ p. same_given n asks (hit r p))
+same_given (suc n) asks r = given_moved (move_in asks r) r (λ p. play n asks (hit r p)) (λ p. same_given n asks (hit r p))
 
 pub rigs_unpaused : (t : Subject) (rigs : List Rig) (seed stream : ℕ) → IsUnpaused t.asks (given_of (rigging t.names rigs) t.names seed stream t.limit)
 unfolding rigging
@@ -153,6 +146,19 @@ rigs_unpaused t rigs seed stream =
     let g = given_of (rigging t.names rigs) t.names seed stream t.limit in
     let r = play (suc t.limit) t.asks (start g) in
     calm_run r (subst (λ (x : Given). CalmEntries x.scenario) (sym (same_given (suc t.limit) t.asks (start g))) (calm_entries 0 t.names rigs))
+
+-- the run of rigged hits is a path
+pub rigs_path : (t : Subject) (rigs : List Rig) (seed stream : ℕ) → IsPath t.asks t.limit [] (run t.asks (given_of (rigging t.names rigs) t.names seed stream t.limit))
+rigs_path t rigs seed stream = run_path t.asks (given_of (rigging t.names rigs) t.names seed stream t.limit) (rigs_unpaused t rigs seed stream)
+
+-- ---- what it comes to
+
+-- the run of these rigged hits
+pub rigs_answered : (t : Subject) → IsLawful t → (rigs : List Rig) → AreInOrder (map (λ (r : Rig). r.site) rigs) → (seed stream : ℕ)
+    → AnsweredBy (λ s. rigged_reply rigs s.point s.hit) (run t.asks (given_of (rigging t.names rigs) t.names seed stream t.limit))
+rigs_answered t l rigs o seed stream =
+    let g = given_of (rigging t.names rigs) t.names seed stream t.limit in
+    as_rigged t.asks t.names l.within rigs (answers_as_rigged t.names rigs l.catalogue o) seed stream t.limit t.limit [] (run t.asks g) (omega arith) (rigs_path t rigs seed stream) (run_answered t.asks g)
 
 -- the verdict of rigged hits, by their run
 pub rigs_judged : (t : Subject) (rigs : List Rig) (seed stream : ℕ)
@@ -167,7 +173,7 @@ answers_of plan s = rigged_reply plan s.point s.hit
 
 pub plan_path : (t : Subject) (plan : List Rig) → IsPath t.asks t.limit [] (run_of_plan t plan)
 unfolding run_of_plan
-plan_path t plan = run_path t.asks (given_for t plan 0 0)
+plan_path t plan = rigs_path t (rigs_of plan) 0 0
 
 given_answered : (t : Subject) → IsLawful t → (plan : List Rig) → CanAct plan → (seed stream : ℕ) → AnsweredBy (answers_of plan) (run t.asks (given_for t plan seed stream))
 given_answered t l plan c seed stream =
@@ -182,7 +188,7 @@ pub needs_no_seed : (t : Subject) → IsLawful t → (plan : List Rig) → CanAc
 unfolding run_of_plan
 needs_no_seed t l plan c seed stream =
     same_path t.asks (answers_of plan) t.limit [] (run t.asks (given_for t plan seed stream)) (run t.asks (given_for t plan 0 0))
-    (run_path t.asks (given_for t plan seed stream)) (run_path t.asks (given_for t plan 0 0)) (given_answered t l plan c seed stream) (given_answered t l plan c 0 0)
+    (rigs_path t (rigs_of plan) seed stream) (rigs_path t (rigs_of plan) 0 0) (given_answered t l plan c seed stream) (given_answered t l plan c 0 0)
 
 pub plan_judged : (t : Subject) → IsLawful t → (plan : List Rig) → CanAct plan → (seed stream : ℕ) → verdict_of_plan t seed stream plan ≡ judged (t.asks (replies_of (run_of_plan t plan)))
 plan_judged t l plan c seed stream =

@@ -1,5 +1,5 @@
--- The run of a case is a path, and its verdict is what is judged at the path's end.
-use Rattle.std.proofs.Common.{◌≡◌, ℕ, zero, suc, ◌+◌, ◌<◌, ◌≤◌, nat_lt, true, false, cond, Option, Some, None, List, [], ◌∷◌, ◌++◌, map, length, refl, ap, sym, ◌∙◌, subst, arith, append_assoc}
+-- The run of a case that no pause stopped is a path, and its verdict is what is judged at the path's end.
+use Rattle.std.proofs.Common.{◌≡◌, ℕ, zero, suc, ◌+◌, ◌<◌, ◌≤◌, nat_lt, Bool, true, false, cond, Option, Some, None, List, [], ◌∷◌, ◌++◌, map, length, refl, ap, sym, ◌∙◌, subst, arith, append_assoc}
 use Rattle.std.specs.Option.{option_or}
 use Rattle.std.proofs.lemmas.List.{append-nil, map-append, take_all, take_at, length_push}
 use Rattle.std.proofs.lemmas.Bool.Decides.{nat_tests}
@@ -8,10 +8,11 @@ use Rattle.action_eval.specs.declared.answer.Stop.{Stop}
 use Rattle.action_eval.specs.declared.answer.Stop.TheVariants as stop
 use Rattle.scenario_values.specs.declared.term.Task.{Task}
 use Rattle.scenario_values.specs.declared.term.Task.TheVariants as task
-use Rattle.action_eval.specs.Answers.{Given, Run, Hit, Reply, Halt, given_of, start, replies, history_of, and_then, next, is_over, stopped, stopped_by, stop_of, reply_of, reply_to}
+use Rattle.action_eval.specs.Answers.{Given, Run, Hit, Reply, Halt, given_of, start, replies, history_of, and_then, next, is_over, stopped, stopped_by, stop_of, cuts_short, is_cut_short, reply_of, reply_to}
 use Rattle.target_trait.specs.Play.{Move, Ask, Done}
 use Rattle.target_trait.specs.Outcomes.{play, moved, judged, verdict_of, verdict_with}
 use Rattle.target_trait.specs.declared.judgement.Judgement.{Judgement}
+use Rattle.target_trait.specs.declared.judgement.Judgement.TheVariants.{Kept}
 use Rattle.grown_plans.specs.Runs.{Met, met, site_after, met_after, run, IsUnpaused}
 use Rattle.grown_plans.proofs.Paths.{replies_of, next_by, next_of, IsPath}
 
@@ -100,23 +101,48 @@ Answered g before (m ∷ ms) = (m.reply ≡ reply_to (at_hits g (points_of befor
 record Came (asks : List Reply → Move) (g : Given) (before : List Met) (room : ℕ) (out : Run) : Type 0 where
   rest : List Met
   shown : met_after [] (history_of out) ≡ before ++ rest
-  path : IsPath asks room before rest
+  path : (stopped out ≡ Some stop.Paused → ⊥) → IsPath asks room before rest
   answered : Answered g before rest
   judged : (stopped out ≡ Some stop.Paused → ⊥) → verdict_of (stopped out) (asks (replies out)) ≡ judged (asks (replies_of (before ++ rest)))
 
 stops : (h : List Hit) → stopped_by h ≡ Some stop.Limit → ⊥
 stops [] e = cc
-stops (h ∷ hs) e = by_task h.did hs (stops hs) e
+stops (h ∷ hs) e = by_task h.did (stopped_by hs) (stops hs) e
   where
-    by_task : (k : Task) (hs : List Hit) → (stopped_by hs ≡ Some stop.Limit → ⊥) → option_or (stop_of k) (stopped_by hs) ≡ Some stop.Limit → ⊥
-    by_task task.Off hs n e = n e
-    by_task (task.Return t) hs n e = n e
-    by_task (task.Sleep t) hs n e = n e
-    by_task (task.Panic t) hs n e = cc
-    by_task (task.Print t) hs n e = n e
-    by_task task.Pause hs n e = cc
-    by_task task.Yield hs n e = n e
-    by_task (task.Delay t) hs n e = n e
+    by_task : (k : Task) (o : Option Stop) → (o ≡ Some stop.Limit → ⊥) → option_or o (stop_of k) ≡ Some stop.Limit → ⊥
+    by_task k (Some s) n e = n e
+    by_task task.Off None n e = cc
+    by_task (task.Return t) None n e = cc
+    by_task (task.Sleep t) None n e = cc
+    by_task (task.Panic t) None n e = cc
+    by_task (task.Print t) None n e = cc
+    by_task task.Pause None n e = cc
+    by_task task.Yield None n e = cc
+    by_task (task.Delay t) None n e = cc
+
+-- within its limit only a pause cuts a run short
+paused_when : (s : Option Stop) → (s ≡ Some stop.Limit → ⊥) → cuts_short s ≡ true → s ≡ Some stop.Paused
+paused_when None a e = cc
+paused_when (Some stop.Panic) a e = cc
+paused_when (Some stop.Paused) a e = refl
+paused_when (Some stop.Limit) a e = absurd (a refl)
+
+is_paused : (g : Given) (hits : List ℕ) → length hits ≤ g.limit → is_cut_short (at_hits g hits) ≡ true → stopped (at_hits g hits) ≡ Some stop.Paused
+is_paused g hits h e =
+    let r = at_hits g hits in
+    let still : stopped r ≡ stopped_by (history_of r) = ap (λ b. cond b (Some stop.Limit) (stopped_by (history_of r))) (within g hits h) in
+    paused_when (stopped r) (λ limit. stops (history_of r) (sym still ∙ limit)) e
+
+cut_here : (asks : List Reply → Move) (g : Given) (hits : List ℕ) (room : ℕ) → length hits ≤ g.limit → is_cut_short (at_hits g hits) ≡ true
+    → Came asks g (so_far g hits) room (at_hits g hits)
+cut_here asks g hits room h e =
+    record {
+      rest = [];
+      shown = shown g hits h ∙ sym (append-nil (so_far g hits));
+      path = λ unpaused. absurd (unpaused (is_paused g hits h e));
+      answered = tt;
+      judged = λ unpaused. absurd (unpaused (is_paused g hits h e));
+    }
 
 by_stop : (s : Option Stop) (m : Move) → (s ≡ Some stop.Paused → ⊥) → (s ≡ Some stop.Limit → ⊥) → verdict_of s m ≡ judged m
 by_stop None m a b = refl
@@ -131,7 +157,7 @@ ends_here asks g hits room j h e =
     record {
       rest = [];
       shown = shown g hits h ∙ sym (append-nil (so_far g hits));
-      path = over room;
+      path = λ unpaused. over room;
       answered = tt;
       judged = λ unpaused.
           let r = at_hits g hits in
@@ -155,7 +181,7 @@ goes_on asks g hits p room h e out k =
     record {
       rest = m ∷ k.rest;
       shown = k.shown ∙ moves;
-      path = (ap (next_by ms) e, subst (λ (l : List Met). IsPath asks room l k.rest) push k.path);
+      path = λ u. (ap (next_by ms) e, subst (λ (l : List Met). IsPath asks room l k.rest) push (k.path u));
       answered = (ap (λ l. reply_to (at_hits g l) p) (sym (points_so_far g hits)), subst (λ (l : List Met). Answered g l k.rest) push k.answered);
       judged = λ u. k.judged u ∙ ap (λ l. judged (asks (replies_of l))) moves;
     }
@@ -170,7 +196,7 @@ past_limit asks g hits p h e =
     record {
       rest = [];
       shown = ap (λ l. met_after [] (and_then g [] l)) (take_at hits (p ∷ []) g.limit h) ∙ sym (append-nil (so_far g hits));
-      path = tt;
+      path = λ u. tt;
       answered = tt;
       judged = λ u.
           ap (λ b. verdict_of (cond b (Some stop.Limit) (stopped_by (history_of r))) (asks (replies r))) over
@@ -183,15 +209,22 @@ by_move : (asks : List Reply → Move) (g : Given) (hits : List ℕ) (room : ℕ
 by_move asks g hits room h f further (Ask p) e = further p e
 by_move asks g hits room h f further (Done j) e = ends_here asks g hits room j h e
 
+by_stop_here : (asks : List Reply → Move) (g : Given) (hits : List ℕ) (room : ℕ) → length hits ≤ g.limit → (f : ℕ → Run)
+    → ((p : ℕ) → asks (replies_of (so_far g hits)) ≡ Ask p → Came asks g (so_far g hits) room (f p)) → (short : Bool) → is_cut_short (at_hits g hits) ≡ short
+    → Came asks g (so_far g hits) room (moved (cond short (Done Kept) (asks (replies (at_hits g hits)))) (at_hits g hits) f)
+by_stop_here asks g hits room h f further true e = cut_here asks g hits room h e
+by_stop_here asks g hits room h f further false e =
+    by_move asks g hits room h f further (asks (replies (at_hits g hits))) (ap asks (sym (replied g hits h)))
+
 played : (asks : List Reply → Move) (g : Given) (room : ℕ) (hits : List ℕ) → length hits + room ≡ g.limit → Came asks g (so_far g hits) room (play (suc room) asks (at_hits g hits))
 unfolding play
 played asks g zero hits e =
-    by_move asks g hits zero (omega (arith, e)) (λ p. at_hits g (hits ++ p ∷ [])) (λ p a. past_limit asks g hits p (omega (arith, e)) a)
-    (asks (replies (at_hits g hits))) (ap asks (sym (replied g hits (omega (arith, e)))))
+    by_stop_here asks g hits zero (omega (arith, e)) (λ p. at_hits g (hits ++ p ∷ [])) (λ p a. past_limit asks g hits p (omega (arith, e)) a)
+    (is_cut_short (at_hits g hits)) refl
 played asks g (suc n) hits e =
-    by_move asks g hits (suc n) (omega (arith, e)) (λ p. play (suc n) asks (at_hits g (hits ++ p ∷ [])))
+    by_stop_here asks g hits (suc n) (omega (arith, e)) (λ p. play (suc n) asks (at_hits g (hits ++ p ∷ [])))
     (λ p a. let longer = length_push hits p in goes_on asks g hits p n (omega (arith, e)) a (play (suc n) asks (at_hits g (hits ++ p ∷ []))) (played asks g n (hits ++ p ∷ []) (omega (arith, e, longer))))
-    (asks (replies (at_hits g hits))) (ap asks (sym (replied g hits (omega (arith, e)))))
+    (is_cut_short (at_hits g hits)) refl
 
 -- ---- the run of a case
 
@@ -199,9 +232,10 @@ came : (asks : List Reply → Move) (g : Given) → Came asks g [] g.limit (play
 unfolding so_far
 came asks g = played asks g g.limit [] (omega arith)
 
-pub run_path : (asks : List Reply → Move) (g : Given) → IsPath asks g.limit [] (run asks g)
+-- the run of a case that no pause stopped
+pub run_path : (asks : List Reply → Move) (g : Given) → IsUnpaused asks g → IsPath asks g.limit [] (run asks g)
 unfolding run
-run_path asks g = let k = came asks g in subst (λ (l : List Met). IsPath asks g.limit [] l) (sym k.shown) k.path
+run_path asks g unpaused = let k = came asks g in subst (λ (l : List Met). IsPath asks g.limit [] l) (sym k.shown) (k.path unpaused)
 
 pub run_answered : (asks : List Reply → Move) (g : Given) → Answered g [] (run asks g)
 unfolding run

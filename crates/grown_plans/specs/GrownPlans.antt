@@ -1,6 +1,7 @@
 -- Plans that grow from the hits of each other's runs.
-use Rattle.std.specs.Prelude.{ℕ, zero, suc, ◌+◌, ◌==◌, ◌&&◌, ◌||◌, nat_lt, if◌then◌else◌, Bool, true, false, List, [], ◌∷◌, ◌++◌, map, length, count_by}
+use Rattle.std.specs.Prelude.{ℕ, zero, suc, ◌+◌, ◌==◌, ◌&&◌, ◌||◌, nat_lt, if◌then◌else◌, Bool, true, false, Option, None, Some, List, [], ◌∷◌, ◌++◌, map, length, count_by, position, codes}
 use Rattle.std.specs.List.{flat_map, list_any}
+use Rattle.std.specs.Str.{bytes_eq}
 use Rattle.scenario_values.specs.Scenario.{Entries}
 use Rattle.action_eval.specs.Answers.{Reply, Given, given_of}
 use Rattle.action_eval.specs.declared.rig.Site.{Site}
@@ -21,12 +22,24 @@ pub record Subject : Type 0 where
   pub limit : ℕ
   pub kinds : ℕ → List Kind
 
--- where nothing else is said, a return and a panic
-abbrev pub usual_kinds : ℕ → List Kind
-usual_kinds point = OnceReturn ∷ OncePanic ∷ []
+-- the point at which a power cut asks which pending writes it keeps, where a catalogue has one
+abbrev pub cut_point : List (List ℕ) → Option ℕ
+cut_point names = position (λ name. bytes_eq name (codes "power::keep")) names
+
+abbrev pub is_cut : Option ℕ → ℕ → Bool
+is_cut None point = false
+is_cut (Some cut) point = point == cut
+
+-- where nothing else is said: a return and a panic; at the point of a power cut a return alone, which keeps a write. Any other answer there loses it,
+-- as without a fault.
+abbrev pub kinds_at : Option ℕ → ℕ → List Kind
+kinds_at cut point = if is_cut cut point then OnceReturn ∷ [] else (OnceReturn ∷ OncePanic ∷ [])
+
+abbrev pub usual_kinds : List (List ℕ) → ℕ → List Kind
+usual_kinds names = kinds_at (cut_point names)
 
 abbrev pub usual_subject : (List Reply → Move) → List (List ℕ) → ℕ → Subject
-usual_subject asks names limit = record { asks = asks; names = names; limit = limit; kinds = usual_kinds }
+usual_subject asks names limit = record { asks = asks; names = names; limit = limit; kinds = usual_kinds names }
 
 -- ---- the scenario of a plan. A plan is the list of its faults, the last one to act first.
 

@@ -3,8 +3,8 @@ use Rattle.std.specs.Prelude.{ℕ, ◌<◌, List, [], ◌∷◌, ◌++◌, map, 
 use Rattle.std.specs.List.{flat_map, AllByRecursion}
 use Rattle.action_eval.specs.declared.rig.Site.{Site}
 use Rattle.action_eval.specs.declared.rig.Rig.{Rig}
+use Rattle.action_eval.specs.declared.rig.Kind.{Kind}
 use Rattle.action_eval.specs.Rigging.{rig}
-use Rattle.grown_plans.specs.GrownPlans.{usual_kinds}
 use Rattle.grown_plans.specs.AskedPoints.{sites_from, sites_past}
 
 -- a plan that grew: its parent's number, and the fault that was added
@@ -29,8 +29,8 @@ abbrev pub GrewFrom : ℕ → List Grew → Type 0
 GrewFrom n gs = AllByRecursion (λ g. g.parent < n) gs
 
 -- a plan's children, by the points that its run asked, as they are kept
-abbrev pub kept_at : ℕ → Site → List Grew
-kept_at number s = map (λ kind. grew number (rig s kind)) (usual_kinds s.point)
+abbrev pub kept_at : (ℕ → List Kind) → ℕ → Site → List Grew
+kept_at kinds number s = map (λ kind. grew number (rig s kind)) (kinds s.point)
 
-abbrev pub kept_children : ℕ → List Rig → List ℕ → List Grew
-kept_children number plan asked = flat_map (kept_at number) (sites_past plan (sites_from [] asked))
+abbrev pub kept_children : (ℕ → List Kind) → ℕ → List Rig → List ℕ → List Grew
+kept_children kinds number plan asked = flat_map (kept_at kinds number) (sites_past plan (sites_from [] asked))

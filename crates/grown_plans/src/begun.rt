@@ -3,10 +3,12 @@ ghost use Rattle.std.specs.Prelude.{◌≡◌, ℕ, ◌+◌, ◌<◌, ◌≤◌,
 ghost use Rattle.std.specs.List.{AllByRecursion};
 ghost use Rattle.grown_plans.specs.AskedPoints.{AreCounts, is_asked_again};
 ghost use Rattle.grown_plans.specs.Begun.{AreOrdinals, IsBegun, Serves};
+ghost use Rattle.grown_plans.specs.GrownPlans.{kinds_at};
 ghost use Rattle.grown_plans.specs.Kept.{kept_children};
 ghost use Rattle.grown_plans.specs.inside.Ends.{EndsAt, EndsPlan, last_site};
 
 use crate::counts::count_none;
+use crate::kinds::Kinds;
 use action_eval::{Rig, Site};
 use std::alloc::{AllocError, Global};
 
@@ -143,6 +145,7 @@ impl Begun {
 /// that memory was refused.
 pub fn count_children(
     begun: &mut Begun,
+    kinds: Kinds,
     parent: usize,
     plan: &[Rig],
     asked: &[u32],
@@ -151,7 +154,7 @@ pub fn count_children(
     requires serves { Serves begun.old parent plan.now asked.now }
     requires points { AllByRecursion (λ p. p < 64) asked.now }
     requires few { length asked.now < 2 ^ 32 }
-    ensures children { IfOk result (λ growing. (number : ℕ) → growing.children ≡ length (kept_children number plan.now asked.now)) }
+    ensures children { IfOk result (λ growing. (number : ℕ) → growing.children ≡ length (kept_children (kinds_at kinds) number plan.now asked.now)) }
     ensures again { IfOk result (λ growing. growing.is_again ≡ is_asked_again plan.now asked.now) }
     ensures counts { OnOk result (AreCounts begun.new.whole.items asked.now) }
     ensures begun { OnOk result (IsBegun begun.new parent plan.now asked.now) }
@@ -161,15 +164,16 @@ pub fn count_children(
         count_none(&mut begun.whole)?;
         count_from(begun.whole.as_mut_slice(), asked, 0);
         return Ok(Growing {
-            children: 2 * asked.len(),
+            children: kinds.count(asked),
             is_again: false,
         });
     };
     begun.whole.clear();
     begun.whole.extend_from_slice(begun.counts.as_slice())?;
     count_from(begun.whole.as_mut_slice(), asked, begun.hits);
+    let after = (begun.hits + 1).min(asked.len());
     Ok(Growing {
-        children: 2 * (asked.len() - begun.hits).saturating_sub(1),
+        children: kinds.count(&asked[after..]),
         is_again: site.hit < count_of(begun.whole.as_slice(), site.point),
     })
 }

@@ -2,11 +2,13 @@
 ghost use Rattle.std.specs.Prelude.{◌≡◌, ℕ, ◌+◌, ◌<◌, ◌^◌, ◌++◌, ◌∷◌, [], List, length, slice_index_or, IfOk, OnOk};
 ghost use Rattle.std.specs.List.{AllByRecursion};
 ghost use Rattle.grown_plans.specs.AskedPoints.{AreCounts, is_point_of, is_asked_again};
+ghost use Rattle.grown_plans.specs.GrownPlans.{kinds_at};
 ghost use Rattle.grown_plans.specs.Kept.{kept_at, kept_children};
 ghost use Rattle.grown_plans.specs.inside.Counted.{is_site_of, next_site};
 
 use crate::child::Child;
 use crate::counts::count_none;
+use crate::kinds::Kinds;
 use action_eval::{Kind, Rig, Site};
 use std::alloc::AllocError;
 
@@ -42,13 +44,20 @@ fn is_of_last(plan: &[Rig], point: u32) -> bool
     }
 }
 
-/// Adds what grows at a hit: a return and a panic.
-fn add_at(children: &mut Vec<Child>, number: usize, site: Site) -> Result<(), AllocError>
+/// Adds what grows at a hit: a return, and a panic where that is another run.
+fn add_at(
+    children: &mut Vec<Child>,
+    kinds: Kinds,
+    number: usize,
+    site: Site,
+) -> Result<(), AllocError>
     requires { (number < 2 ^ 16) × (site.point < 2 ^ 8) }
-    ensures { OnOk result (children.new.items ≡ children.old.items ++ kept_at number site) }
+    ensures { OnOk result (children.new.items ≡ children.old.items ++ kept_at (kinds_at kinds) number site) }
 {
     children.push(Child::new(number, site, Kind::OnceReturn))?;
-    children.push(Child::new(number, site, Kind::OncePanic))?;
+    if !kinds.is_cut(site.point) {
+        children.push(Child::new(number, site, Kind::OncePanic))?;
+    }
     Ok(())
 }
 
@@ -59,6 +68,7 @@ fn add_at(children: &mut Vec<Child>, number: usize, site: Site) -> Result<(), Al
 pub fn add_children(
     children: &mut Vec<Child>,
     counts: &mut Vec<u32>,
+    kinds: Kinds,
     number: usize,
     plan: &[Rig],
     asked: &[u32],
@@ -66,7 +76,7 @@ pub fn add_children(
     requires number { number < 2 ^ 16 }
     requires points { AllByRecursion (λ p. p < 64) asked.now }
     requires few { length asked.now < 2 ^ 32 }
-    ensures children { OnOk result (children.new.items ≡ children.old.items ++ kept_children number plan.now asked.now) }
+    ensures children { OnOk result (children.new.items ≡ children.old.items ++ kept_children (kinds_at kinds) number plan.now asked.now) }
     ensures counts { OnOk result (AreCounts counts.new.items asked.now) }
     ensures again { IfOk result (λ is_again. is_again ≡ is_asked_again plan.now asked.now) }
 {
@@ -76,7 +86,7 @@ pub fn add_children(
     for point in asked {
         let site = next_site(counts, *point);
         if is_past {
-            add_at(children, number, site)?;
+            add_at(children, kinds, number, site)?;
             is_again = is_again || is_of_last(plan, *point);
         } else {
             is_past = is_last(plan, site);

@@ -5,6 +5,7 @@ mod begun;
 mod child;
 mod counts;
 mod growing;
+mod kinds;
 mod laws;
 mod list;
 mod rigs;
@@ -12,6 +13,7 @@ mod rigs;
 pub use begun::{Begun, Growing, count_children};
 pub use child::Child;
 pub use growing::add_children;
+pub use kinds::Kinds;
 pub use laws::{
     an_empty_level_makes_it_whole, each_failure_has_a_cause, each_plan_can_be_rigged,
     each_plan_grows_by_what_was_asked, each_plan_keeps_its_parents_prefix, each_plan_needs_no_seed,

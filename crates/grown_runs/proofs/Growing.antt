@@ -1,14 +1,14 @@
 -- What is kept of runs, one after another.
-use Rattle.std.proofs.Common.{◌≡◌, ℕ, zero, suc, ◌+◌, ◌-◌, ◌*◌, ◌<◌, ◌≤◌, ◌==◌, ◌&&◌, Bool, true, false, cond, max, replicate, List, [], ◌∷◌, ◌++◌, map, length, get_or, refl, ap, sym, ◌∙◌, subst, arith}
+use Rattle.std.proofs.Common.{◌≡◌, ℕ, zero, suc, ◌+◌, ◌*◌, ◌<◌, ◌≤◌, ◌==◌, ◌&&◌, Bool, true, false, cond, Option, max, replicate, List, [], ◌∷◌, ◌++◌, map, length, get_or, refl, ap, sym, ◌∙◌, subst, arith}
 use Rattle.std.proofs.lemmas.List.{length-append, append-nil, map-append}
 use Rattle.action_eval.specs.declared.rig.Rig.{Rig}
-use Rattle.target_trait.specs.declared.judgement.Verdict.{Verdict}
 use Rattle.plan_gen.specs.LoopRuns.{times}
 use Rattle.grown_plans.specs.GrownPlans.{Subject, most}
-use Rattle.std.specs.List.{flat_map}
 use Rattle.action_eval.specs.declared.rig.Site.{Site}
 use Rattle.grown_plans.specs.AskedPoints.{sites_from, sites_after, sites_past}
-use Rattle.grown_plans.specs.Kept.{Grew, GrewFrom, plan_of, kept_at, kept_children}
+use Rattle.grown_plans.specs.GrownPlans.{kinds_at}
+use Rattle.grown_plans.specs.Kept.{Grew, GrewFrom, plan_of, kept_children}
+use Rattle.grown_plans.proofs.KeptChildren.{at_most_two}
 use Rattle.grown_plans.proofs.Members.{all_append}
 use Rattle.grown_runs.specs.declared.course.Part.{Part}
 use Rattle.grown_runs.specs.declared.course.Place.{Place}
@@ -17,7 +17,7 @@ use Rattle.grown_runs.specs.declared.course.Purpose.{Purpose}
 use Rattle.grown_runs.specs.declared.course.Purpose.TheVariants.{Plans, Report}
 use Rattle.grown_runs.specs.declared.kept.Growth.{Growth}
 use Rattle.grown_runs.specs.declared.levels.Outcomes.{Outcomes}
-use Rattle.grown_runs.specs.GrownRuns.{over, told, verdict_at, children_at, onward_at, hits_at, cause_at, AreMost}
+use Rattle.grown_runs.specs.GrownRuns.{over, told, verdict_at, children_at, onward_at, hits_at, cause_at}
 use Rattle.grown_runs.specs.inside.Growths.{if_inner, if_last, if_report, IsGrowth}
 use Rattle.grown_runs.specs.inside.Levels.{AreTold}
 use Rattle.grown_runs.proofs.Overs.{over_parts, over_next, over_more, most_parts, most_single}
@@ -216,16 +216,12 @@ past_few : (plan : List Rig) (xs : List Site) → length (sites_past plan xs) �
 past_few [] xs = omega arith
 past_few (r ∷ rs) xs = after_few r.site xs
 
-kept_twice : (n : ℕ) (xs : List Site) → length (flat_map (kept_at n) xs) ≡ 2 * length xs
-kept_twice n [] = omega arith
-kept_twice n (x ∷ xs) = let rest = kept_twice n xs in omega (arith, rest)
-
-pub kept_few : (n : ℕ) (plan : List Rig) (asked : List ℕ) → length (kept_children n plan asked) ≤ 2 * length asked
-kept_few n plan asked =
+pub kept_few : (cut : Option ℕ) (n : ℕ) (plan : List Rig) (asked : List ℕ) → length (kept_children (kinds_at cut) n plan asked) ≤ 2 * length asked
+kept_few cut n plan asked =
     let sites = sites_from [] asked in
     let few = past_few plan sites in
     let all = sites_few [] asked in
-    let twice = kept_twice n (sites_past plan sites) in
+    let twice = at_most_two cut n (sites_past plan sites) in
     omega (arith, few, all, twice)
 
 -- ---- as many verdicts as plans

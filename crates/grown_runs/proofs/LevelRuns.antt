@@ -1,19 +1,18 @@
 -- What runs of a level come to: the next level, and those that go onward.
 use Rattle.std.proofs.Common.{◌≡◌, ℕ, zero, suc, ◌+◌, ◌-◌, ◌<◌, ◌≤◌, ◌==◌, List, [], ◌∷◌, ◌++◌, map, length, get_or, refl, ap, sym, ◌∙◌, subst, arith, append_assoc}
 use Rattle.std.specs.List.{AllByRecursion, flat_map, count_by, range_with_len}
-use Rattle.std.proofs.lemmas.List.{append-nil, map-append, length-append, length_push, length-map, get_or_append_left}
+use Rattle.std.proofs.lemmas.List.{map-append, length-append, length_push, length-map}
 use Rattle.std.proofs.Math.Seq.{get_or-append_seam}
 use Rattle.action_eval.specs.Answers.{Reply}
-use Rattle.action_eval.specs.declared.rig.Site.{Site}
 use Rattle.action_eval.specs.declared.rig.Rig.{Rig}
-use Rattle.action_eval.specs.declared.rig.Kind.TheVariants.{OnceReturn, OncePanic}
-use Rattle.action_eval.specs.Rigging.{rig, CanBeRigged}
+use Rattle.action_eval.specs.Rigging.{CanBeRigged}
 use Rattle.target_trait.specs.Play.{Move}
 use Rattle.grown_plans.specs.Runs.{Met}
-use Rattle.grown_plans.specs.GrownPlans.{Subject, usual_subject, usual_kinds, rigs_of, children, onward_of, run_of_plan, level, levels, onward, grown, beyond, most, reached}
+use Rattle.grown_plans.specs.GrownPlans.{Subject, usual_subject, rigs_of, children, onward_of, run_of_plan, level, levels, onward, grown, most, reached}
 use Rattle.grown_plans.specs.AskedPoints.{sites_from, sites_past, children_by, GrowsByAsked, GoesOnwardByAsked, ReachesByAsked}
 use Rattle.grown_plans.specs.Promises.{IsLawful}
-use Rattle.grown_plans.specs.Kept.{Grew, GrewFrom, grew, plan_of, kept_at, kept_children}
+use Rattle.grown_plans.specs.Kept.{Grew, GrewFrom, plan_of}
+use Rattle.grown_plans.proofs.KeptChildren.{kept_low, kept_plans}
 use Rattle.grown_plans.proofs.Members.{all_append, all_left, all_right, all_weaker}
 use Rattle.grown_plans.proofs.AskedSites.{grows_by_asked, goes_onward_by_asked, reaches_by_asked}
 use Rattle.grown_plans.proofs.Rigged.{grown_can_be_rigged}
@@ -30,23 +29,14 @@ use Rattle.grown_runs.proofs.Overs.{over_same}
 
 -- ---- each parent was run
 
-kept_low : (n m : ℕ) (sites : List Site) → n < m → GrewFrom m (flat_map (kept_at n) sites)
-kept_low n m [] lt = tt
-kept_low n m (s ∷ ss) lt = (lt, (lt, kept_low n m ss lt))
-
 pub parents_low : (t : Subject) (seed : ℕ) (plans : List (List Rig)) (first count m : ℕ) → first + count ≤ m → GrewFrom m (over (children_at t seed) plans first count)
 parents_low t seed plans first zero m le = tt
 parents_low t seed plans first (suc count) m le =
     all_append (λ (g : Grew). g.parent < m) (children_at t seed first (get_or plans first [])) (over (children_at t seed) plans (first + 1) count)
-    (kept_low first m (sites_past (get_or plans first []) (sites_from [] (told t seed first (get_or plans first [])).asked)) (omega (arith, le)))
+    (kept_low t.kinds first m (sites_past (get_or plans first []) (sites_from [] (told t seed first (get_or plans first [])).asked)) (omega (arith, le)))
     (parents_low t seed plans (first + 1) count m (omega (arith, le)))
 
 -- ---- the children of a level's plans are the next level
-
-grown_at_sites : (plans : List (List Rig)) (n : ℕ) (sites : List Site)
-    → map (plan_of plans) (flat_map (kept_at n) sites) ≡ flat_map (λ (s : Site). map (λ kind. rig s kind ∷ get_or plans n []) (usual_kinds s.point)) sites
-grown_at_sites plans n [] = refl
-grown_at_sites plans n (s ∷ ss) = ap (λ l. (rig s OnceReturn ∷ get_or plans n []) ∷ (rig s OncePanic ∷ get_or plans n []) ∷ l) (grown_at_sites plans n ss)
 
 level_children : (asks : List Reply → Move) (names : List (List ℕ)) (limit seed : ℕ) (plans before ls : List (List Rig)) → plans ≡ before ++ ls
     → AllByRecursion (GrowsByAsked (usual_subject asks names limit)) ls
@@ -59,8 +49,8 @@ level_children asks names limit seed plans before (plan ∷ rest) is grows =
     let more : length (before ++ plan ∷ []) ≡ n + 1 = length_push before plan in
     map-append (plan_of plans) (children_at t seed n (get_or plans n [])) (over (children_at t seed) plans (n + 1) (length rest))
     ∙ ap (λ l. l ++ map (plan_of plans) (over (children_at t seed) plans (n + 1) (length rest)))
-    (grown_at_sites plans n (sites_past (get_or plans n []) (sites_from [] (told t seed n (get_or plans n [])).asked))
-    ∙ ap (λ (p : List Rig). children_by usual_kinds p (told t seed n p).asked) mine ∙ sym (grows.0 seed n))
+    (kept_plans t.kinds plans n (sites_past (get_or plans n []) (sites_from [] (told t seed n (get_or plans n [])).asked))
+    ∙ ap (λ (p : List Rig). children_by t.kinds p (told t seed n p).asked) mine ∙ sym (grows.0 seed n))
     ∙ ap (λ k. children t plan ++ map (plan_of plans) (over (children_at t seed) plans k (length rest))) (sym more)
     ∙ ap (λ l. children t plan ++ l)
     (level_children asks names limit seed plans (before ++ plan ∷ []) rest (is ∙ sym (append_assoc before (plan ∷ []) rest)) grows.1)

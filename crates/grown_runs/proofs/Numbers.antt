@@ -1,29 +1,23 @@
 -- Plans one after another, and what each run asks.
-use Rattle.std.proofs.Common.{◌≡◌, ◌≢◌, ℕ, suc, ◌+◌, ◌-◌, ◌<◌, ◌≤◌, List, [], ◌∷◌, ◌++◌, length, refl, ap, sym, ◌∙◌, arith, append_assoc, subst}
+use Rattle.std.proofs.Common.{◌≡◌, ℕ, ◌<◌, List, length, sym, arith, subst}
 use Rattle.std.specs.List.{AllByRecursion}
-use Rattle.std.proofs.lemmas.List.{append-nil}
 use Rattle.action_eval.specs.Answers.{Reply, Given}
 use Rattle.action_eval.specs.Catalogue.{IsCatalogue}
-use Rattle.action_eval.specs.declared.rig.Kind.TheVariants.{OnceReturn, OncePanic}
 use Rattle.target_trait.specs.Play.{Move, IsWithin}
 use Rattle.target_trait.specs.Outcomes.{outcome}
-use Rattle.target_trait.specs.declared.judgement.Verdict.{Verdict}
-use Rattle.grown_plans.specs.GrownPlans.{Subject, usual_subject}
+use Rattle.grown_plans.specs.GrownPlans.{cut_point, usual_subject}
 use Rattle.grown_plans.specs.Promises.{IsLawful}
-use Rattle.grown_plans.specs.Kept.{Grew, kept_children}
 use Rattle.grown_plans.proofs.Members.{all_weaker}
 use Rattle.grown_plans.proofs.AskedSites.{asked_within}
-
-differ : OnceReturn ≡ OncePanic → ⊥
-differ e = cc
+use Rattle.grown_plans.proofs.KeptChildren.{usual_apart, usual_once}
 
 pub usual_lawful : (asks : List Reply → Move) (names : List (List ℕ)) (limit : ℕ) → IsCatalogue names → ((answers : List Reply) → IsWithin (length names) (asks answers))
     → IsLawful (usual_subject asks names limit)
 usual_lawful asks names limit lawful within = record {
   catalogue = lawful;
   within = within;
-  once = λ point. (refl, (refl, tt));
-  apart = λ point. ((differ, tt), (tt, tt));
+  once = usual_once (cut_point names);
+  apart = usual_apart (cut_point names);
 }
 
 -- each point that a run asks is below the most that a catalogue has

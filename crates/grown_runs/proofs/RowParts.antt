@@ -1,11 +1,11 @@
 -- Rows of a part's plans, one after another.
-use Rattle.std.proofs.Common.{◌≡◌, ℕ, suc, ◌+◌, ◌-◌, ◌*◌, ◌/◌, ◌<◌, ◌≤◌, min, max, Bool, true, false, nat_le, cond, List, [], ◌∷◌, ◌++◌, length, get_or, refl, ap, sym, ◌∙◌, subst, arith}
+use Rattle.std.proofs.Common.{◌≡◌, ℕ, ◌+◌, ◌-◌, ◌*◌, ◌≤◌, min, Bool, true, false, nat_le, cond, List, [], ◌∷◌, ◌++◌, length, get_or, refl, ap, sym, ◌∙◌, subst, arith}
 use Rattle.std.specs.Int.{div_ceil}
 use Rattle.std.proofs.lemmas.List.{length-append, length_push, append-nil}
 use Rattle.std.proofs.Math.Seq.{get_or-append_seam}
 use Rattle.action_eval.specs.declared.rig.Rig.{Rig}
 use Rattle.grown_plans.specs.GrownPlans.{Subject}
-use Rattle.plan_rows.specs.Rows.{row_count, row_start, row_size}
+use Rattle.plan_rows.specs.Rows.{row_count, row_start}
 use Rattle.plan_rows.specs.Ordered.{AreAnswers}
 use Rattle.target_trait.specs.declared.target.Target.{Ghosts}
 use Rattle.grown_runs.specs.declared.grower.Setup.{Setup}

@@ -1,5 +1,5 @@
 -- What runs of grown plans come to, of plans whose numbers stand one after another.
-use Rattle.std.specs.Prelude.{◌≡◌, ℕ, ◌==◌, ◌&&◌, ◌<◌, not, if◌then◌else◌, Bool, true, false, List, [], ◌∷◌, Option, None, Some, map, length, slice_index_or}
+use Rattle.std.specs.Prelude.{◌≡◌, ℕ, ◌==◌, ◌<◌, not, if◌then◌else◌, Bool, false, List, [], ◌∷◌, Option, None, Some, length, slice_index_or}
 use Rattle.std.specs.List.{flat_map, list_all, range_with_len}
 use Rattle.action_eval.specs.declared.rig.Rig.{Rig}
 use Rattle.action_eval.specs.Answers.{given_of}
@@ -35,7 +35,7 @@ verdict_at t seed n plan = (told t seed n plan).verdict ∷ []
 
 -- its children, as they are kept
 abbrev pub children_at : Subject → ℕ → ℕ → List Rig → List Grew
-children_at t seed n plan = kept_children n plan (told t seed n plan).asked
+children_at t seed n plan = kept_children t.kinds n plan (told t seed n plan).asked
 
 -- the plan from then on, where its run hits its last fault's point once more
 abbrev pub onward_at : Subject → ℕ → ℕ → List Rig → List (List Rig)

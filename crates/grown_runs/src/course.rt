@@ -1,9 +1,10 @@
 //! What all runs of a part of a list share.
-ghost use Rattle.std.specs.Prelude.{ℕ, ◌≤◌, ◌<◌, ◌^◌, [], All, length, slice_index_or};
+ghost use Rattle.std.specs.Prelude.{◌≡◌, ℕ, ◌≤◌, ◌<◌, ◌^◌, [], All, length, slice_index_or};
+ghost use Rattle.std.proofs.Props.{props};
 ghost use Rattle.action_eval.specs.Rigging.{most_rigs};
-ghost use Rattle.grown_plans.specs.GrownPlans.{rigs_of};
+ghost use Rattle.grown_plans.specs.GrownPlans.{cut_point, rigs_of};
 
-use grown_plans::GrownPlans;
+use grown_plans::{GrownPlans, Kinds};
 use target_trait::Target;
 
 /// How plans are run, and how far they grow.
@@ -56,12 +57,15 @@ pub struct Part {
 pub struct GrownCourse<'a, T: Target> {
     pub workload: &'a T::Workload,
     pub plans: &'a GrownPlans,
+    /// The kinds of faults over the target's catalogue.
+    pub kinds: Kinds,
     pub limits: Limits,
     pub part: Part,
     /// The number of the part's first plan.
     pub first: usize,
     /// The part ends before this number.
     pub end: usize,
+    ghost of_target: { kinds ≡ cut_point T.names } by { Prim.hlevel props },
     ghost in_order: { first ≤ end },
     ghost within: { end ≤ length plans.now },
     ghost few: { length plans.now ≤ 65536 },

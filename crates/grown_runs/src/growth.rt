@@ -4,7 +4,7 @@ ghost use Rattle.std.specs.List.{AllByRecursion};
 ghost use Rattle.action_eval.specs.declared.rig.Rig.{Rig};
 ghost use Rattle.grown_plans.specs.AskedPoints.{AreCounts, is_asked_again, is_last_return, onward_if};
 ghost use Rattle.grown_plans.specs.Begun.{AreOrdinals, Serves};
-ghost use Rattle.grown_plans.specs.GrownPlans.{Subject};
+ghost use Rattle.grown_plans.specs.GrownPlans.{Subject, kinds_at};
 ghost use Rattle.grown_plans.specs.Kept.{GrewFrom, kept_children, plan_of};
 ghost use Rattle.grown_runs.specs.declared.course.Part.{Part};
 ghost use Rattle.grown_runs.specs.GrownRuns.{causes_by};
@@ -16,7 +16,9 @@ use crate::causes::{Ran, cause_of};
 use crate::course::{GrownCourse, Place};
 use crate::kept::Growth;
 use action_eval::Rig;
-use grown_plans::{Begun, Child, Growing, GrownPlans, add_children, count_children, rigs_of};
+use grown_plans::{
+    Begun, Child, Growing, GrownPlans, Kinds, add_children, count_children, rigs_of,
+};
 use std::alloc::{AllocError, Global};
 use target_trait::Target;
 
@@ -58,17 +60,18 @@ pub fn raise(hits: &mut Vec<u32>, counts: &[u32])
     }
 }
 
-/// The number of a plan, and that of the plan that it grew from.
+/// The number of a plan, that of the plan that it grew from, and where in the list it stands.
 #[derive(Clone, Copy, Debug)]
 struct Descent {
     number: usize,
     parent: usize,
+    place: Place,
 }
 
 /// How a plan with these faults grows, by the points that its run asked, which are counted. The children of a level that isn't the last one are
 /// kept.
 fn grow_one(
-    place: Place,
+    kinds: Kinds,
     kept: &mut Vec<Child>,
     begun: &mut Begun,
     descent: Descent,
@@ -80,17 +83,18 @@ fn grow_one(
     requires serves { Serves begun.old descent.parent plan.now asked.now }
     requires points { AllByRecursion (λ p. p < 64) asked.now }
     requires few { length asked.now < 2 ^ 32 }
-    ensures kept { OnOk result (kept.new.items ≡ kept.old.items ++ if_inner place (kept_children descent.number plan.now asked.now)) }
-    ensures many { IfOk result (λ growing. growing.children ≡ length (kept_children descent.number plan.now asked.now)) }
+    ensures kept { OnOk result (kept.new.items ≡ kept.old.items ++ if_inner descent.place (kept_children (kinds_at kinds) descent.number plan.now asked.now)) }
+    ensures many { IfOk result (λ growing. growing.children ≡ length (kept_children (kinds_at kinds) descent.number plan.now asked.now)) }
     ensures again { IfOk result (λ growing. growing.is_again ≡ is_asked_again plan.now asked.now) }
     ensures counts { OnOk result (AreCounts begun.new.whole.items asked.now) }
     ensures begun { OnOk result (MovesOn begun.old begun.new descent.parent plan.now asked.now) }
 {
-    if place != Place::Inner {
-        return count_children(begun, descent.parent, plan, asked);
+    if descent.place != Place::Inner {
+        return count_children(begun, kinds, descent.parent, plan, asked);
     }
     let before = kept.len();
-    let is_again = add_children(kept, &mut begun.whole, descent.number, plan, asked)?;
+    let counts = &mut begun.whole;
+    let is_again = add_children(kept, counts, kinds, descent.number, plan, asked)?;
     Ok(Growing {
         children: kept.len() - before,
         is_again,
@@ -166,10 +170,15 @@ fn run_one<T: Target>(
     let verdict = buffers.run(target, course, rigs, number as u64)?;
     let place = course.part.place;
     let parent = course.plans.parent_of(number);
-    let descent = Descent { number, parent };
+    let descent = Descent {
+        number,
+        parent,
+        place,
+    };
     let asked = buffers.asked.as_slice();
     let children = &mut growth.children;
-    let growing = grow_one(place, children, begun, descent, faults.as_slice(), asked)?;
+    let kinds = course.kinds;
+    let growing = grow_one(kinds, children, begun, descent, faults.as_slice(), asked)?;
     growth.verdicts.push(verdict)?;
     growth.child_count += growing.children as u64;
     raise(&mut growth.hits, begun.whole.as_slice());

@@ -10,7 +10,7 @@ use crate::course::{GrownCourse, Limits, Part};
 use crate::grower::Grower;
 use crate::growth::Workspace;
 use crate::kept::Growth;
-use grown_plans::GrownPlans;
+use grown_plans::{GrownPlans, Kinds};
 use plan_rows::rows_in_order;
 use std::alloc::{AllocError, Global};
 use std::sync::Wait;
@@ -78,6 +78,7 @@ where
     let course = GrownCourse {
         workload: on.workload,
         plans,
+        kinds: Kinds::of(T::catalogue()),
         limits: on.limits,
         part,
         first,

@@ -1,0 +1,5 @@
+pub mod Scans
+pub mod Chunks
+pub mod Sturdy
+pub mod Survives
+pub mod Kept

@@ -4,7 +4,7 @@ use Rattle.std.specs.List.{list_any}
 use Rattle.target_trait.specs.declared.judgement.Judgement.{Judgement}
 use Rattle.target_trait.specs.declared.judgement.Judgement.TheVariants.{Kept, Broken}
 use Rattle.journal_target.specs.declared.variant.Variant.{Variant}
-use Rattle.journal_target.specs.declared.variant.Variant.TheVariants.{Sound, EarlyAck, NoCommitRecord}
+use Rattle.journal_target.specs.declared.variant.Variant.TheVariants.{Sound, EarlyAck, NoCommitRecord, OneSync}
 use Rattle.journal_target.specs.declared.scan.Scan.{Scan}
 use Rattle.journal_target.specs.Words.{lost, torn}
 use Rattle.journal_target.specs.Recovery.{start, scanned}
@@ -14,6 +14,7 @@ abbrev pub is_committed : Variant → Scan → Bool
 is_committed Sound s = s.committed
 is_committed EarlyAck s = s.committed
 is_committed NoCommitRecord s = nat_lt 0 s.whole
+is_committed OneSync s = s.committed
 
 -- by whether it is recovered as committed, whether all its records are whole, and whether it was acknowledged
 abbrev pub judged_by : Bool → Bool → Bool → Judgement

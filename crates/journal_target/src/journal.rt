@@ -1,8 +1,8 @@
-//! The five functions that tell a journal, each an entry of its table.
+//! The functions that tell a journal, each an entry of its tables.
 ghost use Rattle.std.specs.Prelude.{◌≡◌, OnOk};
 ghost use Rattle.std.proofs.Common.{rules};
 ghost use Rattle.journal_target.specs.Words.{label, code_text, point_names};
-ghost use Rattle.journal_target.specs.Steps.{steps, steps-within, commit_acknowledged, sync_acknowledged};
+ghost use Rattle.journal_target.specs.Steps.{steps, steps-within, cuts, judged, commit_acknowledged, sync_acknowledged};
 
 use crate::frame::{COMMIT, record_frame};
 use crate::judge::{LOST, judged_all};
@@ -12,7 +12,7 @@ use crate::variant::Variant;
 use crate::work::Transactions;
 use std::alloc::{AllocError, Global};
 use std::marker::Model;
-use target_trait::{Judgement, Protocol};
+use target_trait::{CrashProtocol, Judgement, Protocol};
 
 // the numbers of the points in the catalogue
 const APPEND: u32 = 0;
@@ -23,9 +23,10 @@ const SYNC: u32 = 2;
 
 /// A write-ahead journal. Its setup, which is all that contracts see of it, is the variant. `ByTable` makes a target of it.
 ///
-/// A run commits the transactions of its workload one after another. The records of each are appended to one file, and then a commit
-/// record; the file is synced, and the transaction acknowledged. At the end the power is cut, and what recovery finds in the file is
-/// judged: no acknowledged transaction may be missing, and no half-written one may be taken for committed.
+/// A run commits the transactions of its workload one after another. The records of each are appended to one file, and the file is synced;
+/// then a commit record is appended, the file is synced again, and the transaction acknowledged. At the end the power is cut, which keeps any
+/// of the appends since the last sync, and what recovery finds in the file is judged: no acknowledged transaction may be missing, and no
+/// half-written one may be taken for committed.
 #[derive(Drop)]
 pub struct Journal {
     alloc: Global,
@@ -47,6 +48,19 @@ impl Journal {
     {
         Journal { alloc, variant }
     }
+
+    /// The judgement of what a power cut leaves that keeps these pending appends.
+    fn judged(&self, workload: &Transactions, progress: &Progress, kept: &[bool]) -> Judgement
+        ensures { result ≡ judged self.now workload.now progress.now kept.now }
+    {
+        judged_all(
+            self.variant,
+            progress.acknowledged(),
+            progress.file(),
+            kept,
+            workload.as_slice(),
+        )
+    }
 }
 
 /// After the commit record is appended.
@@ -55,16 +69,16 @@ fn acknowledge_commit(variant: Variant, progress: &mut Progress) -> Result<(), A
 {
     match variant {
         Variant::EarlyAck => progress.acknowledge(),
-        Variant::Sound | Variant::NoCommitRecord => Ok(()),
+        Variant::Sound | Variant::NoCommitRecord | Variant::OneSync => Ok(()),
     }
 }
 
-/// After the sync.
+/// After the sync of the commit record, or of all at once.
 fn acknowledge_sync(variant: Variant, progress: &mut Progress) -> Result<(), AllocError>
     ensures { OnOk result (progress.new ≡ sync_acknowledged variant progress.old) }
 {
     match variant {
-        Variant::Sound | Variant::NoCommitRecord => progress.acknowledge(),
+        Variant::Sound | Variant::NoCommitRecord | Variant::OneSync => progress.acknowledge(),
         Variant::EarlyAck => Ok(()),
     }
 }
@@ -87,6 +101,7 @@ impl Protocol for Journal {
             Variant::Sound => "journal sound",
             Variant::EarlyAck => "journal early_ack",
             Variant::NoCommitRecord => "journal no_commit_record",
+            Variant::OneSync => "journal one_sync",
         }
     }
 
@@ -112,21 +127,26 @@ impl Protocol for Journal {
         match progress.step() {
             Step::Appending(_) => Some(APPEND),
             Step::Committing => Some(APPEND_COMMIT),
-            Step::Syncing => Some(SYNC),
+            Step::SyncingRecords | Step::Syncing => Some(SYNC),
             Step::Over => None,
         }
     }
 
     fn go(&self, workload: &Transactions, progress: &mut Progress) -> Result<(), AllocError> {
-        let number = progress.number();
+        let index = progress.index();
         match progress.step() {
             Step::Appending(place) => {
-                let frame = record_frame(self.alloc, number, workload.record(number, place))?;
+                let record = workload.record(index, place);
+                let frame = record_frame(self.alloc, progress.number(), record)?;
                 progress.append(frame.as_slice())?;
-                progress.go_after(self.variant, place, workload.records(number).len());
+                progress.go_after(self.variant, place, workload.records(index).len());
+            }
+            Step::SyncingRecords => {
+                progress.sync();
+                progress.go_to(Step::Committing);
             }
             Step::Committing => {
-                progress.append(&[COMMIT, number])?;
+                progress.append(&[COMMIT, progress.number()])?;
                 acknowledge_commit(self.variant, progress)?;
                 progress.go_to(Step::Syncing);
             }
@@ -146,10 +166,10 @@ impl Protocol for Journal {
         progress: &mut Progress,
         _text: Option<&str>,
     ) -> Result<(), AllocError> {
-        let number = progress.number();
         match progress.step() {
             Step::Appending(place) => {
-                let frame = record_frame(self.alloc, number, workload.record(number, place))?;
+                let record = workload.record(progress.index(), place);
+                let frame = record_frame(self.alloc, progress.number(), record)?;
                 let half = frame.len() / 2;
                 progress.append(&frame.as_slice()[..half])?;
                 progress.begin_next(self.variant, workload);
@@ -158,23 +178,44 @@ impl Protocol for Journal {
                 progress.append(&[COMMIT])?;
                 progress.begin_next(self.variant, workload);
             }
-            Step::Syncing => progress.begin_next(self.variant, workload),
+            Step::SyncingRecords | Step::Syncing => progress.begin_next(self.variant, workload),
             Step::Over => {}
         }
         Ok(())
     }
 
-    fn judge(&self, workload: &Transactions, mut progress: Progress) -> Judgement {
-        progress.power_cut();
-        judged_all(
-            self.variant,
-            progress.acknowledged(),
-            progress.contents(),
-            workload.as_slice(),
-        )
+    fn judge(&self, workload: &Transactions, progress: Progress) -> Judgement {
+        self.judged(workload, &progress, &[])
     }
 
     ghost within = { steps-within };
 
     ghost lawful = { Prim.search rules };
+}
+
+impl CrashProtocol for Journal {
+    ghost cut_table = { cuts };
+
+    fn catalogue_to_cut() -> &'static [&'static str] {
+        &[
+            "journal::append",
+            "journal::append_commit",
+            "journal::sync",
+            "power::keep",
+        ]
+    }
+
+    fn alloc(&self) -> Global {
+        self.alloc
+    }
+
+    fn pending(&self, _workload: &Transactions, progress: &Progress) -> usize {
+        progress.file().pending().len()
+    }
+
+    fn judge_kept(&self, workload: &Transactions, progress: Progress, kept: &[bool]) -> Judgement {
+        self.judged(workload, &progress, kept)
+    }
+
+    ghost lawful_to_cut = { Prim.search rules };
 }

@@ -1,7 +1,9 @@
 //! The judgement: what recovery makes of the bytes that a power cut left.
-ghost use Rattle.std.specs.Prelude.{◌≡◌, ◌≤◌, ◌+◌, length};
+ghost use Rattle.std.specs.Prelude.{◌≡◌, ◌<◌, ◌≤◌, length};
+ghost use Rattle.journal_target.specs.File.{left};
 ghost use Rattle.journal_target.specs.Judgement.{is_committed, judged_by, judged_one, or_then, judged_from};
 
+use crate::file::File;
 use crate::scan::{Scan, scan_for};
 use crate::variant::Variant;
 use crate::work::Records;
@@ -17,7 +19,7 @@ fn is_committed(variant: Variant, scan: Scan) -> bool
     ensures { result ≡ is_committed variant scan }
 {
     match variant {
-        Variant::Sound | Variant::EarlyAck => scan.committed,
+        Variant::Sound | Variant::EarlyAck | Variant::OneSync => scan.committed,
         Variant::NoCommitRecord => scan.whole > 0,
     }
 }
@@ -37,13 +39,15 @@ fn judged_by(is_committed: bool, is_whole: bool, is_acknowledged: bool) -> Judge
 fn judged_one(
     variant: Variant,
     acknowledged: &[u8],
-    bytes: &[u8],
+    file: &File,
+    kept: &[bool],
     transaction: u8,
     count: usize,
 ) -> Judgement
-    ensures { result ≡ judged_one variant acknowledged.now bytes.now transaction count }
+    requires { 0 < transaction }
+    ensures { result ≡ judged_one variant acknowledged.now (left file.now kept.now) transaction count }
 {
-    let scan = scan_for(transaction, bytes);
+    let scan = scan_for(transaction, file, kept);
     judged_by(
         is_committed(variant, scan),
         scan.whole == count,
@@ -51,20 +55,21 @@ fn judged_one(
     )
 }
 
-/// The judgement of these bytes, for these transactions.
+/// The judgement of what a power cut leaves of the file which keeps these pending appends, for these transactions, numbered from 1.
 pub fn judged_all(
     variant: Variant,
     acknowledged: &[u8],
-    bytes: &[u8],
+    file: &File,
+    kept: &[bool],
     transactions: &[Records],
 ) -> Judgement
     requires { length transactions.now ≤ 100 }
-    ensures { result ≡ judged_from variant acknowledged.now bytes.now 0 transactions.now }
+    ensures { result ≡ judged_from variant acknowledged.now (left file.now kept.now) 1 transactions.now }
 {
-    let mut number = 0;
+    let mut number = 1;
     for records in transactions {
         let count = records.as_slice().len();
-        match judged_one(variant, acknowledged, bytes, number, count) {
+        match judged_one(variant, acknowledged, file, kept, number, count) {
             Judgement::Kept => {}
             Judgement::Broken(code) => return Judgement::Broken(code),
         }

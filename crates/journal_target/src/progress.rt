@@ -1,11 +1,11 @@
 //! How far a run has come.
 ghost use Rattle.std.specs.Prelude.{◌≡◌, ◌+◌, OnOk};
-ghost use Rattle.journal_target.specs.Steps.{last_step, append_step, at_step, appended, synced, cut, acknowledged, begun, before_all};
+ghost use Rattle.journal_target.specs.Steps.{last_step, append_step, at_step, number, appended, synced, acknowledged, begun, before_all};
 
+use crate::file::File;
 use crate::step::Step;
 use crate::variant::Variant;
 use crate::work::Transactions;
-use sim_device::File;
 use std::alloc::{AllocError, Global};
 use std::marker::Model;
 
@@ -14,8 +14,9 @@ fn last_step(variant: Variant) -> Step
     ensures { result ≡ last_step variant }
 {
     match variant {
-        Variant::Sound | Variant::EarlyAck => Step::Committing,
+        Variant::Sound | Variant::EarlyAck => Step::SyncingRecords,
         Variant::NoCommitRecord => Step::Syncing,
+        Variant::OneSync => Step::Committing,
     }
 }
 
@@ -46,7 +47,7 @@ fn next_step(variant: Variant, place: usize, count: usize) -> Step
 #[derive(Drop)]
 pub struct Progress {
     step: Step,
-    number: u8,
+    index: u8,
     acknowledged: Vec<u8>,
     file: File,
 }
@@ -57,9 +58,9 @@ impl Model for Progress {
 
     ghost Value = { Progress };
 
-    ghost view = { λ p. record { step = p.step; number = p.number; acknowledged = p.acknowledged.items; file = p.file } };
+    ghost view = { λ p. record { step = p.step; index = p.index; acknowledged = p.acknowledged.items; file = p.file } };
 
-    ghost invariant = { λ p. p.number ≤ 100 };
+    ghost invariant = { λ p. p.index ≤ 100 };
 }
 
 impl Progress {
@@ -69,7 +70,7 @@ impl Progress {
     {
         Progress {
             step: Step::Over,
-            number: 0,
+            index: 0,
             acknowledged: Vec::new(alloc),
             file: File::new(alloc),
         }
@@ -82,11 +83,18 @@ impl Progress {
         self.step
     }
 
-    /// The number of the transaction under way.
-    pub fn number(&self) -> u8
-        ensures { result ≡ self.now.number }
+    /// The place of the transaction under way in the workload, from 0.
+    pub fn index(&self) -> u8
+        ensures { result ≡ self.now.index }
     {
-        self.number
+        self.index
+    }
+
+    /// The number of the transaction under way, from 1.
+    pub fn number(&self) -> u8
+        ensures { result ≡ number self.now }
+    {
+        self.index + 1
     }
 
     /// The transactions acknowledged so far.
@@ -96,17 +104,11 @@ impl Progress {
         self.acknowledged.as_slice()
     }
 
-    /// What is in the file.
-    pub fn contents(&self) -> &[u8]
-        ensures { result.now ≡ self.now.file.live }
+    /// The file, with what is pending.
+    pub(crate) fn file(&self) -> &File
+        ensures { result.now ≡ self.now.file }
     {
-        self.file.read()
-    }
-
-    pub fn power_cut(&mut self)
-        ensures { self.new ≡ cut self.old }
-    {
-        self.file.cut();
+        &self.file
     }
 
     pub fn append(&mut self, bytes: &[u8]) -> Result<(), AllocError>
@@ -125,7 +127,8 @@ impl Progress {
     pub fn acknowledge(&mut self) -> Result<(), AllocError>
         ensures { OnOk result (self.new ≡ acknowledged self.old) }
     {
-        self.acknowledged.push(self.number)?;
+        let number = self.number();
+        self.acknowledged.push(number)?;
         Ok(())
     }
 
@@ -142,13 +145,13 @@ impl Progress {
         self.step = next_step(variant, place, count);
     }
 
-    /// Begins the transaction of this number, if there is one.
-    pub fn begin(&mut self, variant: Variant, workload: &Transactions, number: u8)
-        ensures { self.new ≡ begun variant workload.now number self.old }
+    /// Begins the transaction at this place, if there is one.
+    pub fn begin(&mut self, variant: Variant, workload: &Transactions, index: u8)
+        ensures { self.new ≡ begun variant workload.now index self.old }
     {
-        if usize::from(number) < workload.as_slice().len() {
-            let count = workload.records(number).len();
-            self.number = number;
+        if usize::from(index) < workload.as_slice().len() {
+            let count = workload.records(index).len();
+            self.index = index;
             self.step = append_step(variant, 0, count);
         } else {
             self.step = Step::Over;
@@ -157,8 +160,8 @@ impl Progress {
 
     /// Begins the transaction after the one under way, if there is one.
     pub fn begin_next(&mut self, variant: Variant, workload: &Transactions)
-        ensures { self.new ≡ begun variant workload.now (self.old.number + 1) self.old }
+        ensures { self.new ≡ begun variant workload.now (self.old.index + 1) self.old }
     {
-        self.begin(variant, workload, self.number + 1);
+        self.begin(variant, workload, self.index + 1);
     }
 }

@@ -19,8 +19,7 @@ use Rattle.grown_plans.specs.AskedPoints.{GoesOnwardByAsked, onward_by, sites_fr
 use Rattle.grown_plans.specs.Promises.{IsLawful, KeepsPrefix}
 use Rattle.grown_plans.proofs.Members.{all_weaker, all_append, all_both, all_contains, contains_head, contains_tail, contains_map, contains_flat}
 use Rattle.grown_plans.proofs.Paths.{IsPath, Fresh, AnsweredBy, replies_of, hit_fresh, same_path}
-use Rattle.grown_plans.proofs.PlayedRuns.{run_path}
-use Rattle.grown_plans.proofs.PlanRuns.{plan_answered, plan_path, plan_judged, rigs_answered, rigs_judged}
+use Rattle.grown_plans.proofs.PlanRuns.{plan_answered, plan_path, plan_judged, rigs_answered, rigs_judged, rigs_path}
 use Rattle.grown_plans.proofs.Riggings.{CanAct}
 use Rattle.grown_plans.proofs.Onward.{grown_can}
 use Rattle.grown_plans.proofs.Levels.{IsGrown, hits_after_split, level_grown}
@@ -207,7 +206,7 @@ run_from : (t : Subject) → IsLawful t → (rigs plan : List Rig) → AreInOrde
 run_from t l rigs plan o can all =
     let runs : (seed stream : ℕ) → run t.asks (given_of (rigging t.names rigs) t.names seed stream t.limit) ≡ run_of_plan t plan =
     λ seed stream. same_path t.asks (answers rigs) t.limit [] (run t.asks (given_of (rigging t.names rigs) t.names seed stream t.limit)) (run_of_plan t plan)
-    (run_path t.asks (given_of (rigging t.names rigs) t.names seed stream t.limit)) (plan_path t plan) (rigs_answered t l rigs o seed stream) all in
+    (rigs_path t rigs seed stream) (plan_path t plan) (rigs_answered t l rigs o seed stream) all in
     record {
       runs = runs;
       verdicts = λ seed stream. rigs_judged t rigs seed stream ∙ ap (λ (ms : List Met). judged (t.asks (replies_of ms))) (runs seed stream) ∙ sym (plan_judged t l plan can seed stream);

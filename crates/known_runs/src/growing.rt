@@ -1,20 +1,20 @@
 //! Plans that grow from runs that are known.
 ghost use Rattle.std.specs.Prelude.{◌≡◌, ◌+◌, ◌-◌, ◌<◌, ◌≤◌, ◌++◌, ◌∷◌, ◌&&◌, [], length, map, slice_index_or, IfOk, OnOk, IsErrOf};
 ghost use Rattle.std.specs.List.{AllByRecursion};
-ghost use Rattle.grown_plans.specs.GrownPlans.{Subject, usual_kinds};
+ghost use Rattle.grown_plans.specs.GrownPlans.{Subject, kinds_at};
 ghost use Rattle.grown_plans.specs.AskedPoints.{is_last_return, onward_if};
 ghost use Rattle.grown_plans.specs.Kept.{GrewFrom, plan_of};
 ghost use Rattle.grown_plans.specs.Promises.{IsLawful};
 ghost use Rattle.known_runs.specs.Known.{Agrees};
 ghost use Rattle.known_runs.specs.KnownPlans.{AreKnown};
-ghost use Rattle.known_runs.specs.ToldPart.{part_known};
+ghost use Rattle.known_runs.specs.ToldPart.{levels_known, part_known};
 ghost use Rattle.known_runs.specs.declared.growing.KnownFault.TheVariants.{Memory};
 ghost use Rattle.known_runs.specs.inside.Grown.{again_known, kept_known, kept_over, onward_known, onward_over};
 ghost use Rattle.known_runs.specs.inside.GrownLevels.{AreLevels, HasOnward};
 
 use crate::table::{Look, RunTable};
 use action_eval::Rig;
-use grown_plans::{Child, GrownPlans, add_children};
+use grown_plans::{Child, GrownPlans, Kinds, add_children};
 use std::alloc::{AllocError, Global};
 
 /// Why there is no list of plans.
@@ -56,6 +56,7 @@ impl Workspace {
 /// that fault.
 fn add_children_of<T: RunTable>(
     table: &T,
+    kinds: Kinds,
     plans: &GrownPlans,
     number: usize,
     workspace: &mut Workspace,
@@ -63,7 +64,7 @@ fn add_children_of<T: RunTable>(
 ) -> Result<bool, AllocError>
     requires within { number < length plans.now }
     requires few { length plans.now ≤ 65536 }
-    ensures children { OnOk result (children.new.items ≡ children.old.items ++ kept_known (T.known table.now) plans.now number) }
+    ensures children { OnOk result (children.new.items ≡ children.old.items ++ kept_known (kinds_at kinds) (T.known table.now) plans.now number) }
     ensures again { IfOk result (λ is_again. is_again ≡ again_known (T.known table.now) plans.now number) }
 {
     plans.faults_of(number, &mut workspace.faults)?;
@@ -72,7 +73,7 @@ fn add_children_of<T: RunTable>(
         Look::Unknown | Look::Unseen(_) => Ok(false),
         Look::Seen(_) => {
             let hits = workspace.hits.as_slice();
-            add_children(children, &mut workspace.counts, number, faults, hits)
+            add_children(children, &mut workspace.counts, kinds, number, faults, hits)
         }
     }
 }
@@ -81,17 +82,18 @@ fn add_children_of<T: RunTable>(
 fn children_from<T: RunTable>(
     alloc: Global,
     table: &T,
+    kinds: Kinds,
     plans: &GrownPlans,
     first: usize,
 ) -> Result<Vec<Child>, AllocError>
     requires within { first ≤ length plans.now }
     requires few { length plans.now ≤ 65536 }
-    ensures { IfOk result (λ children. children.items ≡ kept_over (T.known table.now) plans.now first (length plans.now - first)) }
+    ensures { IfOk result (λ children. children.items ≡ kept_over (kinds_at kinds) (T.known table.now) plans.now first (length plans.now - first)) }
 {
     let mut children = Vec::new(alloc);
     let mut workspace = Workspace::new(alloc);
     for number in first..plans.len() {
-        add_children_of(table, plans, number, &mut workspace, &mut children)?;
+        add_children_of(table, kinds, plans, number, &mut workspace, &mut children)?;
     }
     Ok(children)
 }
@@ -111,6 +113,7 @@ fn check_room(most: usize, plans: usize, more: usize) -> Result<(), KnownFault>
 fn add_level<T: RunTable>(
     alloc: Global,
     table: &T,
+    kinds: Kinds,
     plans: &mut GrownPlans,
     last: usize,
     most: usize,
@@ -118,34 +121,17 @@ fn add_level<T: RunTable>(
     requires last { last ≤ length plans.old }
     requires few { length plans.old ≤ 65536 }
     ensures next { IfOk result (λ next. next ≡ length plans.old) }
-    ensures added { OnOk result (plans.new ≡ plans.old ++ map (plan_of plans.old) (kept_over (T.known table.now) plans.old last (length plans.old - last))) }
+    ensures added { OnOk result (plans.new
+        ≡ plans.old ++ map (plan_of plans.old) (kept_over (kinds_at kinds) (T.known table.now) plans.old last (length plans.old - last))) }
     ensures few { OnOk result (length plans.new ≤ most) }
+    ensures many { IsErrOf result KnownFault.TooManyPlans
+        → most < length plans.old + length (kept_over (kinds_at kinds) (T.known table.now) plans.old last (length plans.old - last)) }
 {
     let end = plans.len();
-    let children = children_from(alloc, table, plans, last)?;
+    let children = children_from(alloc, table, kinds, plans, last)?;
     check_room(most, end, children.len())?;
     plans.add(children.as_slice())?;
     Ok(end)
-}
-
-/// Adds the plan of this number with its last fault from then on, where its hits are told and its run hits that fault's point once more.
-fn add_onward_of<T: RunTable>(
-    table: &T,
-    plans: &GrownPlans,
-    number: usize,
-    workspace: &mut Workspace,
-    scratch: &mut Vec<Child>,
-    onward: &mut Vec<Child>,
-) -> Result<(), AllocError>
-    requires within { number < length plans.now }
-    requires few { length plans.now ≤ 65536 }
-    ensures plans { OnOk result (map (plan_of plans.now) onward.new.items
-        ≡ map (plan_of plans.now) onward.old.items ++ onward_known (T.known table.now) plans.now number) }
-    ensures parents { OnOk result (GrewFrom (length plans.now) onward.old.items → GrewFrom (length plans.now) onward.new.items) }
-{
-    scratch.clear();
-    let is_again = add_children_of(table, plans, number, workspace, scratch)?;
-    push_onward(plans, number, is_again, onward)
 }
 
 /// Adds the plan of this number with its last fault from then on, where that is a return and its point is hit again.
@@ -174,6 +160,7 @@ fn push_onward(
 fn onward_from<T: RunTable>(
     alloc: Global,
     table: &T,
+    kinds: Kinds,
     plans: &GrownPlans,
     first: usize,
 ) -> Result<Vec<Child>, AllocError>
@@ -183,17 +170,12 @@ fn onward_from<T: RunTable>(
     ensures parents { IfOk result (λ onward. GrewFrom (length plans.now) onward.items) }
 {
     let mut onward = Vec::new(alloc);
-    let mut scratch = Vec::new(alloc);
+    let mut children = Vec::new(alloc);
     let mut workspace = Workspace::new(alloc);
     for number in first..plans.len() {
-        add_onward_of(
-            table,
-            plans,
-            number,
-            &mut workspace,
-            &mut scratch,
-            &mut onward,
-        )?;
+        children.clear();
+        let is_again = add_children_of(table, kinds, plans, number, &mut workspace, &mut children)?;
+        push_onward(plans, number, is_again, &mut onward)?;
     }
     Ok(onward)
 }
@@ -202,19 +184,20 @@ fn onward_from<T: RunTable>(
 fn count_children<T: RunTable>(
     alloc: Global,
     table: &T,
+    kinds: Kinds,
     plans: &GrownPlans,
     first: usize,
 ) -> Result<u64, AllocError>
     requires within { first ≤ length plans.now }
     requires few { length plans.now ≤ 65536 }
-    ensures { IfOk result (λ count. count ≡ length (kept_over (T.known table.now) plans.now first (length plans.now - first))) }
+    ensures { IfOk result (λ count. count ≡ length (kept_over (kinds_at kinds) (T.known table.now) plans.now first (length plans.now - first))) }
 {
     let mut children = Vec::new(alloc);
     let mut workspace = Workspace::new(alloc);
     let mut count = 0u64;
     for number in first..plans.len() {
         children.clear();
-        add_children_of(table, plans, number, &mut workspace, &mut children)?;
+        add_children_of(table, kinds, plans, number, &mut workspace, &mut children)?;
         // so many children are more than the hits of any memory
         let Some(more) = count.checked_add(children.len() as u64) else {
             return Err(AllocError);
@@ -245,20 +228,22 @@ fn push_size(sizes: &mut Vec<u32>, size: usize) -> Result<(), AllocError>
 fn grow_levels<T: RunTable>(
     alloc: Global,
     table: &T,
+    kinds: Kinds,
     depth: u32,
     most: usize,
 ) -> Result<Levels, KnownFault>
     requires some { 0 < most }
     requires few { most ≤ 65536 }
-    ensures levels { IfOk result (AreLevels (T.known table.now) depth) }
+    ensures levels { IfOk result (AreLevels (kinds_at kinds) (T.known table.now) depth) }
     ensures few { IfOk result (λ levels. length levels.plans ≤ most) }
+    ensures many { IsErrOf result KnownFault.TooManyPlans → most < length (levels_known (kinds_at kinds) (T.known table.now) depth) }
 {
     let mut plans = GrownPlans::new(alloc);
     let mut sizes = Vec::new(alloc);
     push_size(&mut sizes, 1)?;
     let mut last = 0;
     for _ in 0..depth {
-        last = add_level(alloc, table, &mut plans, last, most)?;
+        last = add_level(alloc, table, kinds, &mut plans, last, most)?;
         push_size(&mut sizes, plans.len() - last)?;
     }
     Ok(Levels { plans, sizes, last })
@@ -281,6 +266,7 @@ pub struct KnownPlans {
 fn with_onward<T: RunTable>(
     alloc: Global,
     table: &T,
+    kinds: Kinds,
     levels: Levels,
     beyond: u64,
     most: usize,
@@ -290,10 +276,12 @@ fn with_onward<T: RunTable>(
     requires most { most ≤ 65536 }
     ensures added { IfOk result (HasOnward (T.known table.now) levels beyond) }
     ensures few { IfOk result (λ known. length known.plans ≤ most) }
+    ensures many { IsErrOf result KnownFault.TooManyPlans
+        → most < length levels.plans + length (onward_over (T.known table.now) levels.plans levels.last (length levels.plans - levels.last)) }
 {
     let Levels { plans, sizes, last } = levels;
     let mut plans = plans;
-    let onward = onward_from(alloc, table, &plans, last)?;
+    let onward = onward_from(alloc, table, kinds, &plans, last)?;
     check_room(most, plans.len(), onward.len())?;
     plans.add(onward.as_slice())?;
     Ok(KnownPlans {
@@ -304,28 +292,30 @@ fn with_onward<T: RunTable>(
     })
 }
 
-/// The plans of a list to a depth that are known by now, in its order: of each level the children of plans whose hits are told, and after the
-/// last one those of its plans with their last fault from then on. A plan is known once the hits of each plan that it grew from are, so
-/// levels wait for nothing; and of each lawful subject that agrees with the table they are the known part of its list.
+/// The plans of a list to a depth that are known by now, in its order: of each level the children of plans whose hits are told, by these kinds
+/// of faults, and after the last one those of its plans with their last fault from then on. A plan is known once the hits of each plan that it
+/// grew from are, so levels wait for nothing; and of each lawful subject that agrees with the table they are the known part of its list.
 ///
-/// There are at most so many plans, of at most 65536; they are refused as too many where a level, or those from then on, would make more.
+/// There may be so many of them, up to 65536. `TooManyPlans` comes only where they are more.
 pub fn known_plans<T: RunTable>(
     alloc: Global,
     table: &T,
+    kinds: Kinds,
     depth: u32,
     most: usize,
 ) -> Result<KnownPlans, KnownFault>
     requires { most ≤ 65536 }
-    ensures known { IfOk result (λ known. (t : Subject) → IsLawful t → t.kinds ≡ usual_kinds → Agrees t depth (T.known table.now)
+    ensures known { IfOk result (λ known. (t : Subject) → IsLawful t → t.kinds ≡ kinds_at kinds → Agrees t depth (T.known table.now)
         → AreKnown t depth (T.known table.now) known) }
-    ensures grown { IfOk result (λ known. known.plans ≡ part_known usual_kinds (T.known table.now) depth) }
+    ensures grown { IfOk result (λ known. known.plans ≡ part_known (kinds_at kinds) (T.known table.now) depth) }
     ensures short { IfOk result (λ known. AllByRecursion (λ plan. length plan ≤ depth) known.plans) }
     ensures few { IfOk result (λ known. length known.plans ≤ most) }
+    ensures many { IsErrOf result KnownFault.TooManyPlans → most < length (part_known (kinds_at kinds) (T.known table.now) depth) }
 {
     if most == 0 {
         return Err(KnownFault::TooManyPlans);
     }
-    let levels = grow_levels(alloc, table, depth, most)?;
-    let beyond = count_children(alloc, table, &levels.plans, levels.last)?;
-    with_onward(alloc, table, levels, beyond, most)
+    let levels = grow_levels(alloc, table, kinds, depth, most)?;
+    let beyond = count_children(alloc, table, kinds, &levels.plans, levels.last)?;
+    with_onward(alloc, table, kinds, levels, beyond, most)
 }

@@ -1,8 +1,10 @@
 //! What rigged hits come to, by runs that are known.
-ghost use Rattle.std.specs.Prelude.{◌≡◌, ◌∷◌, ℕ, map, find, option_map, Contains, IfOk, IfSome, OnOk};
+ghost use Rattle.std.specs.Prelude.{◌≡◌, ◌∷◌, ◌<◌, ◌^◌, ℕ, None, length, map, find, option_map, Contains, IfOk, IfSome, OnOk};
 ghost use Rattle.std.specs.List.{AllByRecursion};
 ghost use Rattle.plan_gen.specs.RiggedAnswers.{AreInOrder, acts_at};
-ghost use Rattle.grown_plans.specs.GrownPlans.{Subject};
+ghost use Rattle.grown_plans.specs.AskedPoints.{is_asked_again};
+ghost use Rattle.grown_plans.specs.GrownPlans.{Subject, kinds_at};
+ghost use Rattle.grown_plans.specs.Kept.{kept_children};
 ghost use Rattle.grown_plans.specs.Promises.{IsLawful, verdict_of_rigs};
 ghost use Rattle.known_runs.specs.Known.{Agrees, hits_of};
 ghost use Rattle.known_runs.specs.ToldPart.{onward_told};
@@ -13,7 +15,7 @@ ghost use Rattle.known_runs.specs.inside.WalkSteps.{IsOnward, IsStep, grew_at, v
 use crate::growing::Workspace;
 use crate::table::{Look, RunTable};
 use action_eval::{Kind, Rig, Site};
-use grown_plans::{Child, add_children};
+use grown_plans::{Child, Kinds, add_children};
 use std::alloc::{AllocError, Global};
 use target_trait::Verdict;
 
@@ -75,6 +77,23 @@ fn first_acting(rigs: &[Rig], children: &[Child]) -> Option<Rig>
     None
 }
 
+/// Puts what grows where a plan's run hits a point past its last fault in place of what stood in the list. Tells whether these hits have that
+/// fault's point once more. A walk looks at where children grew alone, so any kinds of faults do.
+fn put_children(
+    children: &mut Vec<Child>,
+    counts: &mut Vec<u32>,
+    plan: &[Rig],
+    hits: &[u32],
+) -> Result<bool, AllocError>
+    requires points { AllByRecursion (λ p. p < 64) hits.now }
+    requires few { length hits.now < 2 ^ 32 }
+    ensures children { OnOk result (children.new.items ≡ kept_children (kinds_at None) 0 plan.now hits.now) }
+    ensures again { IfOk result (λ is_again. is_again ≡ is_asked_again plan.now hits.now) }
+{
+    children.clear();
+    add_children(children, counts, Kinds::of(&[]), 0, plan, hits)
+}
+
 /// What follows a plan, with its faults, the last one to act first.
 fn next_step<T: RunTable>(
     table: &T,
@@ -88,9 +107,8 @@ fn next_step<T: RunTable>(
     match table.look(plan, &mut workspace.hits)? {
         Look::Unknown | Look::Unseen(_) => Ok(Step::Unknown),
         Look::Seen(verdict) => {
-            children.clear();
             let hits = workspace.hits.as_slice();
-            add_children(children, &mut workspace.counts, 0, plan, hits)?;
+            put_children(children, &mut workspace.counts, plan, hits)?;
             match first_acting(rigs, children.as_slice()) {
                 Some(fault) => Ok(Step::Acts(fault)),
                 None => Ok(Step::Ends(verdict)),
@@ -154,9 +172,8 @@ fn verdict_alike<T: RunTable>(
         return Ok(None);
     };
     // each hit, as none of them is past a fault of the plan without faults
-    children.clear();
     let hits = workspace.hits.as_slice();
-    add_children(children, &mut workspace.counts, 0, &[], hits)?;
+    put_children(children, &mut workspace.counts, &[], hits)?;
     if do_alike(rigs, plan, children.as_slice()) {
         Ok(Some(verdict))
     } else {
@@ -176,9 +193,8 @@ fn is_asked_again<T: RunTable>(
     let Look::Seen(_) = table.look(plan, &mut workspace.hits)? else {
         return Ok(false);
     };
-    children.clear();
     let hits = workspace.hits.as_slice();
-    add_children(children, &mut workspace.counts, 0, plan, hits)
+    put_children(children, &mut workspace.counts, plan, hits)
 }
 
 /// Puts a plan with its last fault from then on in place of what stood in the list, where that fault is a return and its point is hit once

@@ -5,3 +5,8 @@ pub mod Playing
 pub mod Writing
 pub mod Readying
 pub mod Numbers
+mod Sturdy
+mod Survives
+mod Kept
+mod Keeping
+mod Cutting

@@ -20,32 +20,32 @@ use Rattle.maildir_target.specs.declared.name.Attempt.TheVariants.{First, Second
 use Rattle.maildir_target.specs.declared.name.Name.{Name}
 use Rattle.maildir_target.specs.declared.name.Folder.TheVariants as folder
 use Rattle.maildir_target.specs.Words.{tmp_name, new_name}
-use Rattle.maildir_target.specs.Judgement.{differs, has_torn, is_delivered, has_lost, judged_by, judged}
+use Rattle.maildir_target.specs.Judgement.{Standing, standing, differs, has_torn, is_delivered, has_lost, judged_by, judged_now}
 use Rattle.maildir_target.specs.Steps.{Step, Looking, Creating, Writing, Syncing, Linking, Unlinking, SyncingDir, Cleaning, Over, Tally, State, state, begun_of, acknowledged, failed_of, looked, linked, is_there, write_step, on_go, on_return, stepped, before_all, start_of, point_at, machine, asks_of}
 use Rattle.maildir_target.proofs.Numbers.{apart, named}
 
 -- ---- what is claimed
 
 -- the whole of each message, by its number, is that of these messages, numbered from this number on
-abbrev Tells : (ℕ → List ℕ) → ℕ → List (List (List ℕ)) → Type 0
+abbrev pub Tells : (ℕ → List ℕ) → ℕ → List (List (List ℕ)) → Type 0
 Tells w n [] = Unit {0}
 Tells w n (chunks ∷ more) = (w n ≡ joined chunks) × Tells w (n + 1) more
 
 -- each name under `new/` leads, now and after a power cut, to a file that lasts whole
-abbrev Solid : (ℕ → List ℕ) → List Effect → Type 0
+abbrev pub Solid : (ℕ → List ℕ) → List Effect → Type 0
 Solid w es = (side : Side) (m : ℕ) (a : Attempt) (f : ℕ) → leads es side (new_name m a) ≡ Some f → contents es Lasting f ≡ w m
 
 -- the message has a name under `new/`
-abbrev There : List Effect → Side → ℕ → Type 0
+abbrev pub There : List Effect → Side → ℕ → Type 0
 There es side m = (a : Attempt) × ((f : ℕ) × (leads es side (new_name m a) ≡ Some f))
 
 -- and so have these messages, now and after a power cut
-abbrev Delivered : List Effect → List ℕ → Type 0
+abbrev pub Delivered : List Effect → List ℕ → Type 0
 Delivered es [] = Unit {0}
 Delivered es (m ∷ ms) = ((side : Side) → There es side m) × Delivered es ms
 
 -- no name under `new/` leads to this file
-abbrev IsOwn : List Effect → ℕ → Type 0
+abbrev pub IsOwn : List Effect → ℕ → Type 0
 IsOwn es f = (side : Side) (m : ℕ) (a : Attempt) → leads es side (new_name m a) ≡ Some f → ⊥
 
 -- what stands at all times, by the message under way, its chunks, the messages after it, and those acknowledged
@@ -55,18 +55,18 @@ pub record Base (w : ℕ → List ℕ) (m : ℕ) (chunks : List (List ℕ)) (res
   pub mine : w m ≡ joined chunks
   pub others : Tells w (m + 1) rest
 
-abbrev Stands : (ℕ → List ℕ) → Tally → List Effect → Type 0
+abbrev pub Stands : (ℕ → List ℕ) → Tally → List Effect → Type 0
 Stands w t es = Base w t.message t.chunks t.rest t.acknowledged es
 
 -- the names of the attempt under way
-abbrev tmp : Tally → ℕ
+abbrev pub tmp : Tally → ℕ
 tmp t = tmp_name t.message t.attempt
 
-abbrev new : Tally → ℕ
+abbrev pub new : Tally → ℕ
 new t = new_name t.message t.attempt
 
 -- what stands before a step, by the name under `tmp/`, and the message with its whole contents
-abbrev StepSafe : Step → ℕ → ℕ → List ℕ → List Effect → Type 0
+abbrev pub StepSafe : Step → ℕ → ℕ → List ℕ → List Effect → Type 0
 StepSafe Looking n m whole es = Unit {0}
 StepSafe Creating n m whole es = Unit {0}
 StepSafe (Writing c cs) n m whole es = (f : ℕ) × ((leads es Live n ≡ Some f) × (IsOwn es f × (contents es Live f ++ (c ++ joined cs) ≡ whole)))
@@ -87,13 +87,13 @@ no_tmp : (m i : ℕ) (a b : Attempt) → new_name m a ≡ tmp_name i b → ⊥
 no_tmp m i a b e = let bad : folder.New ≡ folder.Tmp = ap (λ (n : Name). n.folder) (apart (named folder.New m a) (named folder.Tmp i b) e) in cc
 
 -- no name under `new/` is one under `tmp/`
-not_tmp : (m i : ℕ) (a b : Attempt) → (new_name m a == tmp_name i b) ≡ false
+pub not_tmp : (m i : ℕ) (a b : Attempt) → (new_name m a == tmp_name i b) ≡ false
 not_tmp m i a b = ne_eqb (new_name m a) (tmp_name i b) (no_tmp m i a b)
 
-same_message : (m i : ℕ) (a b : Attempt) → (new_name m a == new_name i b) ≡ true → m ≡ i
+pub same_message : (m i : ℕ) (a b : Attempt) → (new_name m a == new_name i b) ≡ true → m ≡ i
 same_message m i a b e = ap (λ (n : Name). n.message) (apart (named folder.New m a) (named folder.New i b) (eqb-true (new_name m a) (new_name i b) e))
 
-some_same : (f g : ℕ) → Some f ≡ Some g → f ≡ g
+pub some_same : (f g : ℕ) → Some f ≡ Some g → f ≡ g
 some_same f g e = cc
 
 -- ---- what each call leaves
@@ -147,7 +147,7 @@ append_base w t es n bytes k = record {
     same_solid Lasting m a f e = k.solid Lasting m a f e
 
 -- a sync touches no other file
-not_own : (es : List Effect) (n own f : ℕ) → leads es Live n ≡ Some own → (own ≡ f → ⊥) → is_file f (leads es Live n) ≡ false
+pub not_own : (es : List Effect) (n own f : ℕ) → leads es Live n ≡ Some own → (own ≡ f → ⊥) → is_file f (leads es Live n) ≡ false
 not_own es n own f at other = ap (is_file f) at ∙ ne_eqb own f other
 
 sync_solid : (w : ℕ → List ℕ) (es : List Effect) (n own : ℕ) → leads es Live n ≡ Some own → IsOwn es own → Solid w es → Solid w (Sync n ∷ es)
@@ -251,7 +251,7 @@ linked_safe w false t es own at is k = record {
   step = (t.attempt, (own, link_shares es (tmp t) (new t) ∙ at));
 }
 
-append_own : (es : List Effect) (n f : ℕ) (bytes : List ℕ) → IsOwn es f → IsOwn (Append n bytes ∷ es) f
+pub append_own : (es : List Effect) (n f : ℕ) (bytes : List ℕ) → IsOwn es f → IsOwn (Append n bytes ∷ es) f
 append_own es n f bytes own Live m a e = own Live m a e
 append_own es n f bytes own Lasting m a e = own Lasting m a e
 
@@ -292,12 +292,12 @@ return_safe w t es SyncingDir k r = begun_safe w t t.rest es k k.others
 return_safe w t es Cleaning k r = failed_safe w t t.attempt es k
 return_safe w t es Over k r = record { base = k; step = tt }
 
-step_safe : (w : ℕ → List ℕ) (s : State) (a : Reply) → Safe w s → Safe w (stepped Sound s a)
+pub step_safe : (w : ℕ → List ℕ) (s : State) (a : Reply) → Safe w s → Safe w (stepped Sound s a)
 step_safe w s Go k = go_safe w s.tally s.effects s.tally.step k.base k.step
 step_safe w s (Return text) k = return_safe w s.tally s.effects s.tally.step k.base k.step
 step_safe w s Halt k = record { base = k.base; step = tt }
 
-led_safe : (w : ℕ → List ℕ) (messages : List (List (List ℕ))) (s : State) (answers : List Reply) → Safe w s → Safe w (led (machine Sound messages) s answers)
+pub led_safe : (w : ℕ → List ℕ) (messages : List (List (List ℕ))) (s : State) (answers : List Reply) → Safe w s → Safe w (led (machine Sound messages) s answers)
 led_safe w messages s [] k = k
 led_safe w messages s (a ∷ answers) k = led_safe w messages (stepped Sound s a) answers (step_safe w s a k)
 
@@ -315,7 +315,7 @@ tells_same v w n (chunks ∷ more) same k = (same n (omega arith) ∙ k.0, tells
 later_whole : (n : ℕ) (chunks : List (List ℕ)) (more : List (List (List ℕ))) (m : ℕ) → n + 1 ≤ m → whole_from n (chunks ∷ more) m ≡ whole_from (n + 1) more m
 later_whole n chunks more m h = ap (λ b. cond b (joined chunks) (whole_from (n + 1) more m)) (ne_eqb m n (λ e. omega arith))
 
-whole_tells : (n : ℕ) (messages : List (List (List ℕ))) → Tells (whole_from n messages) n messages
+pub whole_tells : (n : ℕ) (messages : List (List (List ℕ))) → Tells (whole_from n messages) n messages
 whole_tells n [] = tt
 whole_tells n (chunks ∷ more) = (
   ap (λ b. cond b (joined chunks) (whole_from (n + 1) more n)) (eq-eqb n n refl),
@@ -323,36 +323,38 @@ whole_tells n (chunks ∷ more) = (
 )
 
 -- before the first message there is one without a number of its own, which holds nothing
-abbrev whole_of : List (List (List ℕ)) → ℕ → List ℕ
+abbrev pub whole_of : List (List (List ℕ)) → ℕ → List ℕ
 whole_of messages = whole_from 0 ([] ∷ messages)
 
 nowhere : (f : ℕ) → None ≡ Some f → ⊥
 nowhere f e = cc
 
-start_safe : (messages : List (List (List ℕ))) → Safe (whole_of messages) (start_of Sound messages)
+pub start_safe : (messages : List (List (List ℕ))) → Safe (whole_of messages) (start_of Sound messages)
 start_safe messages =
     let tells = whole_tells 0 ([] ∷ messages) in
     begun_safe (whole_of messages) (before_all messages) messages [] (record { solid = λ side m a f e. absurd (nowhere f e); delivered = tt; mine = tells.0; others = tells.1 }) tells.1
 
 -- ---- the judgement
 
-not_differs : (es : List Effect) (file : Option ℕ) (whole : List ℕ) → ((f : ℕ) → file ≡ Some f → contents es Lasting f ≡ whole) → differs whole (option_map (contents (PowerCut ∷ es) Live) file) ≡ false
-not_differs es None whole is = refl
-not_differs es (Some f) whole is = ap not ((bytes_eq-Decides (contents es Lasting f) whole).1 (is f refl))
+not_differs : (s : Standing) (file : Option ℕ) (whole : List ℕ) → ((f : ℕ) → file ≡ Some f → s.contents f ≡ whole) → differs whole (option_map s.contents file) ≡ false
+not_differs s None whole is = refl
+not_differs s (Some f) whole is = ap not ((bytes_eq-Decides (s.contents f) whole).1 (is f refl))
 
 or_none : (a b : Bool) → a ≡ false → b ≡ false → (a || b) ≡ false
 or_none true b p q = p
 or_none false b p q = q
 
-none_torn : (w : ℕ → List ℕ) (es : List Effect) (n : ℕ) (messages : List (List (List ℕ))) → Solid w es → Tells w n messages → has_torn (PowerCut ∷ es) n messages ≡ false
-none_torn w es n [] k tells = refl
-none_torn w es n (chunks ∷ more) k tells =
+-- where each name under `new/` leads to a whole message, none is torn
+pub none_torn : (w : ℕ → List ℕ) (s : Standing) (n : ℕ) (messages : List (List (List ℕ))) → ((m : ℕ) (a : Attempt) (f : ℕ) → s.leads (new_name m a) ≡ Some f → s.contents f ≡ w m)
+    → Tells w n messages → has_torn s n messages ≡ false
+none_torn w s n [] k tells = refl
+none_torn w s n (chunks ∷ more) k tells =
     or_none _ _
     (or_none _ _ (whole_under First) (whole_under Second))
-    (none_torn w es (n + 1) more k tells.1)
+    (none_torn w s (n + 1) more k tells.1)
   where
-    whole_under : (a : Attempt) → differs (joined chunks) (option_map (contents (PowerCut ∷ es) Live) (leads es Lasting (new_name n a))) ≡ false
-    whole_under a = not_differs es (leads es Lasting (new_name n a)) (joined chunks) (λ f e. k Lasting n a f e ∙ tells.0)
+    whole_under : (a : Attempt) → differs (joined chunks) (option_map s.contents (s.leads (new_name n a))) ≡ false
+    whole_under a = not_differs s (s.leads (new_name n a)) (joined chunks) (λ f e. k n a f e ∙ tells.0)
 
 or_right : (a b : Bool) → b ≡ true → (a || b) ≡ true
 or_right true b e = refl
@@ -365,16 +367,25 @@ or_left false b e = cc
 seen : (file : Option ℕ) (f : ℕ) → file ≡ Some f → not (is_none file) ≡ true
 seen file f e = ap (λ (o : Option ℕ). not (is_none o)) e
 
-there_delivered : (es : List Effect) (m : ℕ) (a : Attempt) (f : ℕ) → leads es Lasting (new_name m a) ≡ Some f → is_delivered (PowerCut ∷ es) m ≡ true
-there_delivered es m First f e = or_left _ _ (seen (leads es Lasting (new_name m First)) f e)
-there_delivered es m Second f e = or_right _ _ (seen (leads es Lasting (new_name m Second)) f e)
+there_delivered : (s : Standing) (m : ℕ) (a : Attempt) (f : ℕ) → s.leads (new_name m a) ≡ Some f → is_delivered s m ≡ true
+there_delivered s m First f e = or_left _ _ (seen (s.leads (new_name m First)) f e)
+there_delivered s m Second f e = or_right _ _ (seen (s.leads (new_name m Second)) f e)
 
-none_lost : (es : List Effect) (ms : List ℕ) → Delivered es ms → has_lost (PowerCut ∷ es) ms ≡ false
-none_lost es [] k = refl
-none_lost es (m ∷ ms) k = or_none _ _ (let at = k.0 Lasting in ap not (there_delivered es m at.0 at.1.0 at.1.1)) (none_lost es ms k.1)
+-- these messages have names under `new/`
+abbrev pub Stand : Standing → List ℕ → Type 0
+Stand s [] = Unit {0}
+Stand s (m ∷ ms) = ((a : Attempt) × ((f : ℕ) × (s.leads (new_name m a) ≡ Some f))) × Stand s ms
 
-judged_kept : (messages : List (List (List ℕ))) (done : List ℕ) (es : List Effect) → has_torn (PowerCut ∷ es) 1 messages ≡ false → has_lost (PowerCut ∷ es) done ≡ false → judged messages done es ≡ Kept
-judged_kept messages done es whole there = ap (λ b. judged_by b (has_lost (PowerCut ∷ es) done)) whole ∙ ap (judged_by false) there
+pub none_lost : (s : Standing) (ms : List ℕ) → Stand s ms → has_lost s ms ≡ false
+none_lost s [] k = refl
+none_lost s (m ∷ ms) k = or_none _ _ (let at = k.0 in ap not (there_delivered s m at.0 at.1.0 at.1.1)) (none_lost s ms k.1)
+
+pub judged_kept : (messages : List (List (List ℕ))) (done : List ℕ) (s : Standing) → has_torn s 1 messages ≡ false → has_lost s done ≡ false → judged_now messages done s ≡ Kept
+judged_kept messages done s whole there = ap (λ b. judged_by b (has_lost s done)) whole ∙ ap (judged_by false) there
+
+lasting_stand : (es : List Effect) (ms : List ℕ) → Delivered es ms → Stand (standing (PowerCut ∷ es)) ms
+lasting_stand es [] k = tt
+lasting_stand es (m ∷ ms) k = (k.0 Lasting, lasting_stand es ms k.1)
 
 -- whatever is answered, the sound variant keeps its word
 pub sound_kept : (messages : List (List (List ℕ))) (answers : List Reply) (j : Judgement) → asks_of Sound messages answers ≡ Done j → j ≡ Kept
@@ -382,5 +393,8 @@ sound_kept messages answers j e =
     let w = whole_of messages in
     let s = after (machine Sound messages) answers in
     let k = (led_safe w messages (start_of Sound messages) answers (start_safe messages)).base in
-    let kept = judged_kept messages s.tally.acknowledged s.effects (none_torn w s.effects 1 messages k.solid (whole_tells 0 ([] ∷ messages)).1) (none_lost s.effects s.tally.acknowledged k.delivered) in
+    let left : Standing = standing (PowerCut ∷ s.effects) in
+    let kept =
+    judged_kept messages s.tally.acknowledged left (none_torn w left 1 messages (λ m a f e. k.solid Lasting m a f e) (whole_tells 0 ([] ∷ messages)).1)
+    (none_lost left s.tally.acknowledged (lasting_stand s.effects s.tally.acknowledged k.delivered)) in
     done_kept (point_at s.tally.step) _ j kept e

@@ -1,13 +1,26 @@
 -- The judgement of a run, by what the names under `new/` hold after a power cut.
-use Rattle.std.specs.Prelude.{ℕ, ◌+◌, Bool, false, ◌||◌, not, if◌then◌else◌, List, [], ◌∷◌, Option, Some, None, is_none}
+use Rattle.std.specs.Prelude.{ℕ, ◌+◌, Bool, false, ◌||◌, not, if◌then◌else◌, List, [], ◌∷◌, Option, Some, None, is_none, option_map}
 use Rattle.std.specs.List.{list_any}
 use Rattle.std.specs.Str.{bytes_eq}
-use Rattle.sim_device.specs.FileEffects.{Effect, PowerCut, Live, held, leads}
+use Rattle.sim_device.specs.FileEffects.{Effect, PowerCut, Live, contents, leads}
 use Rattle.target_trait.specs.declared.judgement.Judgement.{Judgement}
 use Rattle.target_trait.specs.declared.judgement.Judgement.TheVariants.{Kept, Broken}
 use Rattle.chunked_text.specs.Chunks.{joined}
 use Rattle.maildir_target.specs.declared.name.Attempt.TheVariants.{First, Second}
 use Rattle.maildir_target.specs.Words.{new_name, torn, lost}
+
+-- what stands on a device: the file that each name leads to, and what each file holds
+pub record Standing : Type 0 where
+  pub leads : ℕ → Option ℕ
+  pub contents : ℕ → List ℕ
+
+-- what a name holds, if it leads to a file
+abbrev pub held_in : Standing → ℕ → Option (List ℕ)
+held_in s name = option_map s.contents (s.leads name)
+
+-- what stands after these effects
+abbrev pub standing : List Effect → Standing
+standing effects = record { leads = leads effects Live; contents = contents effects Live }
 
 -- a name that is there holds anything but these contents
 abbrev pub differs : List ℕ → Option (List ℕ) → Bool
@@ -15,29 +28,29 @@ differs whole None = false
 differs whole (Some x) = not (bytes_eq x whole)
 
 -- a name of this message under `new/` holds anything but the whole of it
-abbrev pub is_torn : List Effect → ℕ → List ℕ → Bool
-is_torn effects message whole = differs whole (held effects Live (new_name message First)) || differs whole (held effects Live (new_name message Second))
+abbrev pub is_torn : Standing → ℕ → List ℕ → Bool
+is_torn s message whole = differs whole (held_in s (new_name message First)) || differs whole (held_in s (new_name message Second))
 
 -- the same of one of these messages, each by its chunks, numbered from this number on
-abbrev pub has_torn : List Effect → ℕ → List (List (List ℕ)) → Bool
-has_torn effects number [] = false
-has_torn effects number (chunks ∷ more) = is_torn effects number (joined chunks) || has_torn effects (number + 1) more
+abbrev pub has_torn : Standing → ℕ → List (List (List ℕ)) → Bool
+has_torn s number [] = false
+has_torn s number (chunks ∷ more) = is_torn s number (joined chunks) || has_torn s (number + 1) more
 
 -- the message has a name under `new/`
-abbrev pub is_delivered : List Effect → ℕ → Bool
-is_delivered effects message = not (is_none (leads effects Live (new_name message First))) || not (is_none (leads effects Live (new_name message Second)))
+abbrev pub is_delivered : Standing → ℕ → Bool
+is_delivered s message = not (is_none (s.leads (new_name message First))) || not (is_none (s.leads (new_name message Second)))
 
 -- one of these messages, by their numbers, has no name under `new/`
-abbrev pub has_lost : List Effect → List ℕ → Bool
-has_lost effects messages = list_any (λ message. not (is_delivered effects message)) messages
+abbrev pub has_lost : Standing → List ℕ → Bool
+has_lost s messages = list_any (λ message. not (is_delivered s message)) messages
 
 abbrev pub judged_by : Bool → Bool → Judgement
 judged_by is_one_torn is_one_lost = if is_one_torn then Broken torn else (if is_one_lost then Broken lost else Kept)
 
 -- torn comes before lost
-abbrev pub judged_now : List (List (List ℕ)) → List ℕ → List Effect → Judgement
-judged_now messages acknowledged effects = judged_by (has_torn effects 1 messages) (has_lost effects acknowledged)
+abbrev pub judged_now : List (List (List ℕ)) → List ℕ → Standing → Judgement
+judged_now messages acknowledged s = judged_by (has_torn s 1 messages) (has_lost s acknowledged)
 
 -- the judgement of these messages, of which these were acknowledged, by what stands after a power cut
 abbrev pub judged : List (List (List ℕ)) → List ℕ → List Effect → Judgement
-judged messages acknowledged effects = judged_now messages acknowledged (PowerCut ∷ effects)
+judged messages acknowledged effects = judged_now messages acknowledged (standing (PowerCut ∷ effects))

@@ -7,15 +7,15 @@ use Rattle.target_trait.specs.Play.{Move, move_by}
 use Rattle.target_trait.specs.Machine.{Machine, asks_by}
 use Rattle.chunked_text.specs.Chunks.{half}
 use Rattle.maildir_target.specs.declared.variant.Variant.{Variant}
-use Rattle.maildir_target.specs.declared.variant.Variant.TheVariants.{Sound, LinkFirst, IgnoreWrite, AppendTmp}
+use Rattle.maildir_target.specs.declared.variant.Variant.TheVariants.{Sound, LinkFirst, IgnoreWrite, AppendTmp, DeliverInNew}
 use Rattle.maildir_target.specs.declared.name.Attempt.{Attempt}
 use Rattle.maildir_target.specs.declared.name.Attempt.TheVariants.{First, Second}
-use Rattle.maildir_target.specs.Words.{tmp_name, new_name, stat_point, create_point, write_point, sync_point, link_point, unlink_point, sync_dir_point}
+use Rattle.maildir_target.specs.Words.{written_name, new_name, stat_point, create_point, write_point, sync_point, link_point, unlink_point, sync_dir_point}
 use Rattle.maildir_target.specs.Judgement.{judged}
 
 -- the step whose question comes next
 pub data Step : Type 0 where
-  -- is the name under `tmp/` free?
+  -- is the name that is written free?
   Looking : Step
   Creating : Step
   -- the chunk, and those after it
@@ -24,7 +24,7 @@ pub data Step : Type 0 where
   Linking : Step
   Unlinking : Step
   SyncingDir : Step
-  -- the name under `tmp/` is taken away after a failure
+  -- the name that was written is taken away after a failure
   Cleaning : Step
   Over : Step
 
@@ -58,6 +58,7 @@ first_step Sound = Looking
 first_step LinkFirst = Looking
 first_step IgnoreWrite = Looking
 first_step AppendTmp = Creating
+first_step DeliverInNew = Looking
 
 -- append_tmp uses the names of the first attempt in both
 abbrev pub named_by : Variant → Attempt → Attempt
@@ -65,10 +66,11 @@ named_by Sound attempt = attempt
 named_by LinkFirst attempt = attempt
 named_by IgnoreWrite attempt = attempt
 named_by AppendTmp attempt = First
+named_by DeliverInNew attempt = attempt
 
--- the names of the attempt under way
-abbrev pub tmp_of : Variant → Tally → ℕ
-tmp_of v t = tmp_name t.message (named_by v t.attempt)
+-- the names of the attempt under way: the one that is written, and the one under `new/`
+abbrev pub written_of : Variant → Tally → ℕ
+written_of v t = written_name v t.message (named_by v t.attempt)
 
 abbrev pub new_of : Variant → Tally → ℕ
 new_of v t = new_name t.message (named_by v t.attempt)
@@ -86,6 +88,7 @@ created_by Sound name es = Create name ∷ es
 created_by LinkFirst name es = Create name ∷ es
 created_by IgnoreWrite name es = Create name ∷ es
 created_by AppendTmp name es = create_unless (is_there name es) name es
+created_by DeliverInNew name es = Create name ∷ es
 
 abbrev pub write_step : List (List ℕ) → Step
 write_step [] = Syncing
@@ -97,18 +100,22 @@ after_create Sound chunks = write_step chunks
 after_create LinkFirst chunks = Linking
 after_create IgnoreWrite chunks = write_step chunks
 after_create AppendTmp chunks = write_step chunks
+after_create DeliverInNew chunks = write_step chunks
 
 abbrev pub after_link : Variant → List (List ℕ) → Step
 after_link Sound chunks = Unlinking
 after_link LinkFirst chunks = write_step chunks
 after_link IgnoreWrite chunks = Unlinking
 after_link AppendTmp chunks = Unlinking
+after_link DeliverInNew chunks = SyncingDir
 
+-- deliver_in_new has nothing to link, and no other name to remove
 abbrev pub after_sync : Variant → Step
 after_sync Sound = Linking
 after_sync LinkFirst = Unlinking
 after_sync IgnoreWrite = Linking
 after_sync AppendTmp = Linking
+after_sync DeliverInNew = SyncingDir
 
 -- ignore_write goes on after half a chunk as after the whole
 abbrev pub after_half : Variant → List (List ℕ) → Step
@@ -116,6 +123,7 @@ after_half Sound cs = Cleaning
 after_half LinkFirst cs = Cleaning
 after_half IgnoreWrite cs = write_step cs
 after_half AppendTmp cs = Cleaning
+after_half DeliverInNew cs = Cleaning
 
 -- ---- between messages and attempts
 
@@ -152,9 +160,17 @@ failed_of v t Second = begun v t
 abbrev pub failed : Variant → Tally → Tally
 failed v t = failed_of v t t.attempt
 
+-- what can't be taken away stays. Of deliver_in_new it is under `new/`: nothing more is asked, so that no later sync of the directory makes it last
+abbrev pub not_cleaned : Variant → Tally → Tally
+not_cleaned Sound t = failed Sound t
+not_cleaned LinkFirst t = failed LinkFirst t
+not_cleaned IgnoreWrite t = failed IgnoreWrite t
+not_cleaned AppendTmp t = failed AppendTmp t
+not_cleaned DeliverInNew t = at_step t Over
+
 -- ---- the table of steps
 
--- a name under `tmp/` that is there isn't used
+-- a name that is there isn't used
 abbrev pub looked : Bool → Variant → Tally → Tally
 looked true v t = failed v t
 looked false v t = at_step t Creating
@@ -162,30 +178,30 @@ looked false v t = at_step t Creating
 -- a name under `new/` that is there stays as it is, and the link fails
 abbrev pub linked : Bool → Variant → Tally → List Effect → State
 linked true v t es = state (at_step t Cleaning) es
-linked false v t es = state (at_step t (after_link v t.chunks)) (Link (tmp_of v t) (new_of v t) ∷ es)
+linked false v t es = state (at_step t (after_link v t.chunks)) (Link (written_of v t) (new_of v t) ∷ es)
 
 -- what a step does where it is answered to go on
 abbrev pub on_go : Variant → Tally → List Effect → Step → State
-on_go v t es Looking = state (looked (is_there (tmp_of v t) es) v t) es
-on_go v t es Creating = state (at_step t (after_create v t.chunks)) (created_by v (tmp_of v t) es)
-on_go v t es (Writing c cs) = state (at_step t (write_step cs)) (Append (tmp_of v t) c ∷ es)
-on_go v t es Syncing = state (at_step t (after_sync v)) (Sync (tmp_of v t) ∷ es)
+on_go v t es Looking = state (looked (is_there (written_of v t) es) v t) es
+on_go v t es Creating = state (at_step t (after_create v t.chunks)) (created_by v (written_of v t) es)
+on_go v t es (Writing c cs) = state (at_step t (write_step cs)) (Append (written_of v t) c ∷ es)
+on_go v t es Syncing = state (at_step t (after_sync v)) (Sync (written_of v t) ∷ es)
 on_go v t es Linking = linked (is_there (new_of v t) es) v t es
-on_go v t es Unlinking = state (at_step t SyncingDir) (Unlink (tmp_of v t) ∷ es)
+on_go v t es Unlinking = state (at_step t SyncingDir) (Unlink (written_of v t) ∷ es)
 on_go v t es SyncingDir = state (begun v (acknowledged t)) (SyncDir ∷ es)
-on_go v t es Cleaning = state (failed v t) (Unlink (tmp_of v t) ∷ es)
+on_go v t es Cleaning = state (failed v t) (Unlink (written_of v t) ∷ es)
 on_go v t es Over = state (at_step t Over) es
 
 -- what it does where it is answered that it fails
 abbrev pub on_return : Variant → Tally → List Effect → Step → State
 on_return v t es Looking = state (failed v t) es
 on_return v t es Creating = state (failed v t) es
-on_return v t es (Writing c cs) = state (at_step t (after_half v cs)) (Append (tmp_of v t) (half c) ∷ es)
+on_return v t es (Writing c cs) = state (at_step t (after_half v cs)) (Append (written_of v t) (half c) ∷ es)
 on_return v t es Syncing = state (at_step t Cleaning) es
 on_return v t es Linking = state (at_step t Cleaning) es
 on_return v t es Unlinking = state (at_step t SyncingDir) es
 on_return v t es SyncingDir = state (begun v t) es
-on_return v t es Cleaning = state (failed v t) es
+on_return v t es Cleaning = state (not_cleaned v t) es
 on_return v t es Over = state (at_step t Over) es
 
 -- after a halt nothing is done or asked

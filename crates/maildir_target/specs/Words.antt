@@ -1,7 +1,7 @@
 -- Names and numbers of the delivery: points, labels, codes of failures, and the names on the device.
 use Rattle.std.specs.Prelude.{ℕ, ◌+◌, ◌*◌, ◌==◌, if◌then◌else◌, List, [], ◌∷◌, codes}
 use Rattle.maildir_target.specs.declared.variant.Variant.{Variant}
-use Rattle.maildir_target.specs.declared.variant.Variant.TheVariants.{Sound, LinkFirst, IgnoreWrite, AppendTmp}
+use Rattle.maildir_target.specs.declared.variant.Variant.TheVariants.{Sound, LinkFirst, IgnoreWrite, AppendTmp, DeliverInNew}
 use Rattle.maildir_target.specs.declared.name.Folder.{Folder}
 use Rattle.maildir_target.specs.declared.name.Folder.TheVariants as folder
 use Rattle.maildir_target.specs.declared.name.Attempt.{Attempt}
@@ -40,6 +40,7 @@ label Sound = codes "maildir sound"
 label LinkFirst = codes "maildir link_first"
 label IgnoreWrite = codes "maildir ignore_write"
 label AppendTmp = codes "maildir append_tmp"
+label DeliverInNew = codes "maildir deliver_in_new"
 
 -- the codes of failures: a delivered message that isn't whole, and an acknowledged message that is gone
 abbrev pub torn : ℕ
@@ -69,3 +70,14 @@ tmp_name message attempt = number_of (record { folder = folder.Tmp; message = me
 
 abbrev pub new_name : ℕ → Attempt → ℕ
 new_name message attempt = number_of (record { folder = folder.New; message = message; attempt = attempt })
+
+-- the folder of the name that a message is written under: deliver_in_new has no other than the one that it is delivered in
+abbrev pub written_folder : Variant → Folder
+written_folder Sound = folder.Tmp
+written_folder LinkFirst = folder.Tmp
+written_folder IgnoreWrite = folder.Tmp
+written_folder AppendTmp = folder.Tmp
+written_folder DeliverInNew = folder.New
+
+abbrev pub written_name : Variant → ℕ → Attempt → ℕ
+written_name v message attempt = number_of (record { folder = written_folder v; message = message; attempt = attempt })

@@ -1,54 +1,64 @@
 //! An attempt at a message, as the maildir manual page tells it: stat, create, write, sync, link, and then the name under `tmp/` is removed.
 ghost use Rattle.std.specs.Prelude.{◌≡◌, List, OnOk};
 ghost use Rattle.sim_device.specs.FileEffects.{Effect};
-ghost use Rattle.sim_device.specs.Disk.{StandsFor, entry_at};
+ghost use Rattle.sim_device.specs.Disk.{entry_at};
 ghost use Rattle.maildir_target.specs.Steps.{Looking, Creating, Syncing, Linking, Unlinking, SyncingDir, Cleaning};
 ghost use Rattle.maildir_target.specs.Steps.{first_step, created_by, after_create, after_sync, after_link};
-ghost use Rattle.maildir_target.specs.inside.Seen.{IsNamed, tmp_of_delivery, CanCreate, IsAt, HasEnded, Leads, Delivers};
+ghost use Rattle.maildir_target.specs.inside.Seen.{IsNamed, written_of_delivery, CanCreate, IsAt, HasEnded, Leads, Delivers};
 
+use crate::calls::{create, link, sync, unlink};
 use crate::delivery::Delivery;
-use crate::disk::{create, link, sync, unlink};
+use crate::disk::Device;
 use crate::ended::Ended;
 use crate::mailbox::Mailbox;
 use crate::points::Point;
 use crate::variant::Variant;
 use crate::write::write_all;
-use sim_device::FileDevice;
 use std::alloc::AllocError;
 use target_trait::{Answer, Session};
 
-/// Takes the name under `tmp/` away after a failure. The attempt has failed, whether the name is gone or not.
-pub fn clean_up(delivery: &Delivery<'_>, mailbox: &mut Mailbox, session: &mut Session<'_>) -> Ended
+/// Takes the name away that was written, after a failure. The attempt has failed, whether the name is gone or not; but of deliver_in_new the run is over
+/// where it isn't.
+pub fn clean_up<D: Device>(
+    delivery: &Delivery<'_>,
+    mailbox: &mut Mailbox<D>,
+    session: &mut Session<'_>,
+) -> Ended
     requires named { IsNamed delivery.now }
-    requires at { IsAt delivery.now session.old mailbox.old Cleaning }
-    ensures ended { HasEnded delivery.now session.new mailbox.new result }
+    requires at { IsAt D.stands delivery.now session.old mailbox.old Cleaning }
+    ensures ended { HasEnded D.stands delivery.now session.new mailbox.new result }
     ensures given { session.new.given ≡ session.old.given }
 {
     match session.hit(Point::Unlink as u32) {
-        Ok(Answer::Go) => {
-            unlink(delivery, &mut mailbox.device);
-            Ended::Failed
-        }
-        Ok(Answer::Return(_)) => Ended::Failed,
+        Ok(Answer::Go) => match unlink(delivery, &mut mailbox.device) {
+            Ok(()) => Ended::Failed,
+            Err(_) => Ended::Memory,
+        },
+        Ok(Answer::Return(_)) => match delivery.variant {
+            Variant::DeliverInNew => Ended::Halted,
+            Variant::Sound | Variant::LinkFirst | Variant::IgnoreWrite | Variant::AppendTmp => {
+                Ended::Failed
+            }
+        },
         Ok(Answer::Halt) => Ended::Halted,
         Err(_) => Ended::Memory,
     }
 }
 
-/// Looks whether the name under `tmp/` is free.
-fn stat(
+/// Looks whether the name is free that is to be written.
+fn stat<D: Device>(
     delivery: &Delivery<'_>,
-    mailbox: &mut Mailbox,
+    mailbox: &mut Mailbox<D>,
     session: &mut Session<'_>,
 ) -> Result<(), Ended>
     requires named { IsNamed delivery.now }
-    requires at { IsAt delivery.now session.old mailbox.old Looking }
-    ensures leads { Leads delivery.now session.new mailbox.new Creating result }
+    requires at { IsAt D.stands delivery.now session.old mailbox.old Looking }
+    ensures leads { Leads D.stands delivery.now session.new mailbox.new Creating result }
     ensures given { session.new.given ≡ session.old.given }
 {
     match session.hit(Point::Stat as u32)? {
         Answer::Go => {
-            if mailbox.device.exists(delivery.tmp()) {
+            if mailbox.device.exists(delivery.written()) {
                 return Err(Ended::Failed);
             }
             Ok(())
@@ -59,34 +69,34 @@ fn stat(
 }
 
 /// The same where the variant looks: append_tmp doesn't.
-fn look(
+fn look<D: Device>(
     delivery: &Delivery<'_>,
-    mailbox: &mut Mailbox,
+    mailbox: &mut Mailbox<D>,
     session: &mut Session<'_>,
 ) -> Result<(), Ended>
     requires named { IsNamed delivery.now }
-    requires at { IsAt delivery.now session.old mailbox.old (first_step delivery.now.variant) }
-    ensures leads { Leads delivery.now session.new mailbox.new Creating result }
+    requires at { IsAt D.stands delivery.now session.old mailbox.old (first_step delivery.now.variant) }
+    ensures leads { Leads D.stands delivery.now session.new mailbox.new Creating result }
     ensures given { session.new.given ≡ session.old.given }
 {
     match delivery.variant {
         Variant::AppendTmp => Ok(()),
-        Variant::Sound | Variant::LinkFirst | Variant::IgnoreWrite => stat(
-            delivery, mailbox, session,
-        ),
+        Variant::Sound | Variant::LinkFirst | Variant::IgnoreWrite | Variant::DeliverInNew => {
+            stat(delivery, mailbox, session)
+        }
     }
 }
 
 /// A new file, or with append_tmp the one that is there.
-fn create_by(delivery: &Delivery<'_>, device: &mut FileDevice) -> Result<(), AllocError>
+fn create_by<D: Device>(delivery: &Delivery<'_>, device: &mut D) -> Result<(), AllocError>
     requires named { IsNamed delivery.now }
-    requires ready { CanCreate delivery.now.variant (entry_at device.old.names (tmp_of_delivery delivery.now)).live }
-    ensures { OnOk result ((es : List Effect) → StandsFor device.old es →
-        StandsFor device.new (created_by delivery.now.variant (tmp_of_delivery delivery.now) es)) }
+    requires ready { CanCreate delivery.now.variant (entry_at (D.names device.old) (written_of_delivery delivery.now)).live }
+    ensures { OnOk result ((es : List Effect) → D.stands device.old es →
+        D.stands device.new (created_by delivery.now.variant (written_of_delivery delivery.now) es)) }
 {
     let is_there = match delivery.variant {
-        Variant::AppendTmp => device.exists(delivery.tmp()),
-        Variant::Sound | Variant::LinkFirst | Variant::IgnoreWrite => false,
+        Variant::AppendTmp => device.exists(delivery.written()),
+        Variant::Sound | Variant::LinkFirst | Variant::IgnoreWrite | Variant::DeliverInNew => false,
     };
     if is_there {
         return Ok(());
@@ -94,15 +104,15 @@ fn create_by(delivery: &Delivery<'_>, device: &mut FileDevice) -> Result<(), All
     create(delivery, device)
 }
 
-/// Makes the file under `tmp/`.
-fn create_file(
+/// Makes the file.
+fn create_file<D: Device>(
     delivery: &Delivery<'_>,
-    mailbox: &mut Mailbox,
+    mailbox: &mut Mailbox<D>,
     session: &mut Session<'_>,
 ) -> Result<(), Ended>
     requires named { IsNamed delivery.now }
-    requires at { IsAt delivery.now session.old mailbox.old Creating }
-    ensures leads { Leads delivery.now session.new mailbox.new (after_create delivery.now.variant delivery.now.chunks.now) result }
+    requires at { IsAt D.stands delivery.now session.old mailbox.old Creating }
+    ensures leads { Leads D.stands delivery.now session.new mailbox.new (after_create delivery.now.variant delivery.now.chunks.now) result }
     ensures given { session.new.given ≡ session.old.given }
 {
     match session.hit(Point::Create as u32)? {
@@ -115,16 +125,16 @@ fn create_file(
     }
 }
 
-/// Syncs the file under `tmp/`.
+/// Syncs the file.
 #[inline(always)]
-fn sync_file(
+fn sync_file<D: Device>(
     delivery: &Delivery<'_>,
-    mailbox: &mut Mailbox,
+    mailbox: &mut Mailbox<D>,
     session: &mut Session<'_>,
 ) -> Result<(), Ended>
     requires named { IsNamed delivery.now }
-    requires at { IsAt delivery.now session.old mailbox.old Syncing }
-    ensures leads { Leads delivery.now session.new mailbox.new (after_sync delivery.now.variant) result }
+    requires at { IsAt D.stands delivery.now session.old mailbox.old Syncing }
+    ensures leads { Leads D.stands delivery.now session.new mailbox.new (after_sync delivery.now.variant) result }
     ensures given { session.new.given ≡ session.old.given }
 {
     match session.hit(Point::Sync as u32)? {
@@ -139,14 +149,14 @@ fn sync_file(
 
 /// Links the file under `new/`, where that name is free.
 #[inline(always)]
-fn link_new(
+fn link_new<D: Device>(
     delivery: &Delivery<'_>,
-    mailbox: &mut Mailbox,
+    mailbox: &mut Mailbox<D>,
     session: &mut Session<'_>,
 ) -> Result<(), Ended>
     requires named { IsNamed delivery.now }
-    requires at { IsAt delivery.now session.old mailbox.old Linking }
-    ensures leads { Leads delivery.now session.new mailbox.new (after_link delivery.now.variant delivery.now.chunks.now) result }
+    requires at { IsAt D.stands delivery.now session.old mailbox.old Linking }
+    ensures leads { Leads D.stands delivery.now session.new mailbox.new (after_link delivery.now.variant delivery.now.chunks.now) result }
     ensures given { session.new.given ≡ session.old.given }
 {
     match session.hit(Point::Link as u32)? {
@@ -163,19 +173,19 @@ fn link_new(
 }
 
 /// Removes the name under `tmp/`. Where that fails the name stays, and the delivery goes on.
-fn remove(
+fn remove<D: Device>(
     delivery: &Delivery<'_>,
-    mailbox: &mut Mailbox,
+    mailbox: &mut Mailbox<D>,
     session: &mut Session<'_>,
 ) -> Result<(), Ended>
     requires named { IsNamed delivery.now }
-    requires at { IsAt delivery.now session.old mailbox.old Unlinking }
-    ensures leads { Leads delivery.now session.new mailbox.new SyncingDir result }
+    requires at { IsAt D.stands delivery.now session.old mailbox.old Unlinking }
+    ensures leads { Leads D.stands delivery.now session.new mailbox.new SyncingDir result }
     ensures given { session.new.given ≡ session.old.given }
 {
     match session.hit(Point::Unlink as u32)? {
         Answer::Go => {
-            unlink(delivery, &mut mailbox.device);
+            unlink(delivery, &mut mailbox.device)?;
             Ok(())
         }
         Answer::Return(_) => Ok(()),
@@ -185,13 +195,13 @@ fn remove(
 
 /// Syncs the directory, and acknowledges the message. Where that fails it isn't acknowledged.
 #[inline(always)]
-fn acknowledge(
+fn acknowledge<D: Device>(
     delivery: &Delivery<'_>,
-    mailbox: &mut Mailbox,
+    mailbox: &mut Mailbox<D>,
     session: &mut Session<'_>,
 ) -> Result<(), Ended>
-    requires at { IsAt delivery.now session.old mailbox.old SyncingDir }
-    ensures delivers { Delivers delivery.now session.new mailbox.new result }
+    requires at { IsAt D.stands delivery.now session.old mailbox.old SyncingDir }
+    ensures delivers { Delivers D.stands delivery.now session.new mailbox.new result }
     ensures given { session.new.given ≡ session.old.given }
 {
     match session.hit(Point::SyncDir as u32)? {
@@ -207,45 +217,50 @@ fn acknowledge(
     }
 }
 
-/// Writes the file, syncs it and links it; link_first links it first.
-fn fill(
+/// Writes the file, syncs it, and brings it from `tmp/` to `new/`; link_first links it first, and deliver_in_new has it there.
+fn fill<D: Device>(
     delivery: &Delivery<'_>,
-    mailbox: &mut Mailbox,
+    mailbox: &mut Mailbox<D>,
     session: &mut Session<'_>,
 ) -> Result<(), Ended>
     requires named { IsNamed delivery.now }
-    requires at { IsAt delivery.now session.old mailbox.old (after_create delivery.now.variant delivery.now.chunks.now) }
-    ensures leads { Leads delivery.now session.new mailbox.new Unlinking result }
+    requires at { IsAt D.stands delivery.now session.old mailbox.old (after_create delivery.now.variant delivery.now.chunks.now) }
+    ensures leads { Leads D.stands delivery.now session.new mailbox.new SyncingDir result }
     ensures given { session.new.given ≡ session.old.given }
 {
     match delivery.variant {
         Variant::LinkFirst => {
             link_new(delivery, mailbox, session)?;
             write_all(delivery, mailbox, session)?;
-            sync_file(delivery, mailbox, session)
+            sync_file(delivery, mailbox, session)?;
+            remove(delivery, mailbox, session)
         }
         Variant::Sound | Variant::IgnoreWrite | Variant::AppendTmp => {
             write_all(delivery, mailbox, session)?;
             sync_file(delivery, mailbox, session)?;
-            link_new(delivery, mailbox, session)
+            link_new(delivery, mailbox, session)?;
+            remove(delivery, mailbox, session)
+        }
+        Variant::DeliverInNew => {
+            write_all(delivery, mailbox, session)?;
+            sync_file(delivery, mailbox, session)
         }
     }
 }
 
 /// An attempt from its first step to its last. An error tells how it ended before that.
-pub fn attempt(
+pub fn attempt<D: Device>(
     delivery: &Delivery<'_>,
-    mailbox: &mut Mailbox,
+    mailbox: &mut Mailbox<D>,
     session: &mut Session<'_>,
 ) -> Result<(), Ended>
     requires named { IsNamed delivery.now }
-    requires at { IsAt delivery.now session.old mailbox.old (first_step delivery.now.variant) }
-    ensures delivers { Delivers delivery.now session.new mailbox.new result }
+    requires at { IsAt D.stands delivery.now session.old mailbox.old (first_step delivery.now.variant) }
+    ensures delivers { Delivers D.stands delivery.now session.new mailbox.new result }
     ensures given { session.new.given ≡ session.old.given }
 {
     look(delivery, mailbox, session)?;
     create_file(delivery, mailbox, session)?;
     fill(delivery, mailbox, session)?;
-    remove(delivery, mailbox, session)?;
     acknowledge(delivery, mailbox, session)
 }

@@ -1,10 +1,10 @@
 ghost use Rattle.std.specs.Prelude.{◌≡◌};
 ghost use Rattle.maildir_target.specs.Steps.{named_by};
-ghost use Rattle.maildir_target.specs.Words.{tmp_name};
-ghost use Rattle.maildir_target.specs.inside.Seen.{IsNamed, tmp_of_delivery, new_of_delivery};
+ghost use Rattle.maildir_target.specs.Words.{written_folder, written_name};
+ghost use Rattle.maildir_target.specs.inside.Seen.{IsNamed, written_of_delivery, new_of_delivery};
 
 use crate::messages::Messages;
-use crate::name::{Attempt, Folder, Name};
+use crate::name::{Attempt, Folder, Name, new_name};
 use crate::variant::Variant;
 use chunked_text::Chunks;
 
@@ -20,8 +20,8 @@ pub struct Delivery<'w> {
     pub chunks: &'w Chunks,
     // the messages after it
     pub rest: &'w [Chunks],
-    // its name under `tmp/`, which most of its steps use
-    pub tmp: u32,
+    // the name that it writes, which most of its steps use
+    pub written: u32,
 }
 
 /// The attempt whose names an attempt uses.
@@ -30,16 +30,30 @@ fn named_by(variant: Variant, attempt: Attempt) -> Attempt
 {
     match variant {
         Variant::AppendTmp => Attempt::First,
-        Variant::Sound | Variant::LinkFirst | Variant::IgnoreWrite => attempt,
+        Variant::Sound | Variant::LinkFirst | Variant::IgnoreWrite | Variant::DeliverInNew => {
+            attempt
+        }
     }
 }
 
-/// The name under `tmp/` of an attempt at a message.
-pub fn tmp_of(variant: Variant, message: u16, attempt: Attempt) -> u32
-    ensures { result ≡ tmp_name message (named_by variant attempt) }
+/// The folder of the name that a message is written under.
+fn written_folder(variant: Variant) -> Folder
+    ensures { result ≡ written_folder variant }
+{
+    match variant {
+        Variant::DeliverInNew => Folder::New,
+        Variant::Sound | Variant::LinkFirst | Variant::IgnoreWrite | Variant::AppendTmp => {
+            Folder::Tmp
+        }
+    }
+}
+
+/// The name that an attempt at a message writes.
+pub fn written_of(variant: Variant, message: u16, attempt: Attempt) -> u32
+    ensures { result ≡ written_name variant message (named_by variant attempt) }
 {
     let name = Name {
-        folder: Folder::Tmp,
+        folder: written_folder(variant),
         message,
         attempt: named_by(variant, attempt),
     };
@@ -47,19 +61,18 @@ pub fn tmp_of(variant: Variant, message: u16, attempt: Attempt) -> u32
 }
 
 impl Delivery<'_> {
-    /// The name under `tmp/`.
-    pub fn tmp(&self) -> u32
+    /// The name that it writes.
+    pub fn written(&self) -> u32
         requires { IsNamed self.now }
-        ensures { result ≡ tmp_of_delivery self.now }
+        ensures { result ≡ written_of_delivery self.now }
     {
-        self.tmp
+        self.written
     }
 
-    /// The name under `new/`, which is the one after that under `tmp/`.
+    /// The name under `new/`.
     pub fn delivered(&self) -> u32
-        requires { IsNamed self.now }
         ensures { result ≡ new_of_delivery self.now }
     {
-        self.tmp + 1
+        new_name(self.message, named_by(self.variant, self.attempt))
     }
 }

@@ -8,7 +8,7 @@ use std::alloc::AllocError;
 pub enum Ended {
     /// It failed.
     Failed,
-    /// It was halted: the run is over.
+    /// The run is over with it.
     Halted,
     /// Memory was refused.
     Memory,

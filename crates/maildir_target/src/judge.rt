@@ -1,14 +1,17 @@
 //! The judgement: what the names under `new/` hold after a power cut.
-ghost use Rattle.std.specs.Prelude.{◌≡◌, ◌≤◌, ◌∷◌, ℕ, List, length};
-ghost use Rattle.sim_device.specs.FileEffects.{Effect, PowerCut, Live, held};
+ghost use Rattle.std.specs.Prelude.{◌≡◌, ◌≤◌, ◌∷◌, ℕ, List, length, not, is_none, IfOk};
+ghost use Rattle.sim_device.specs.FileEffects.{Effect, PowerCut};
 ghost use Rattle.sim_device.specs.Disk.{StandsFor, AddsEffect};
+ghost use Rattle.sim_device.specs.Pending.{Tells, pending, kept};
 ghost use Rattle.chunked_text.specs.Chunks.{joined};
-ghost use Rattle.maildir_target.specs.Words.{new_name};
-ghost use Rattle.maildir_target.specs.Judgement.{differs, is_torn, has_torn, is_delivered, has_lost, judged_by, judged};
+ghost use Rattle.maildir_target.specs.Judgement.{Standing, held_in, differs, is_torn, has_torn, is_delivered, has_lost, judged_now, judged};
+ghost use Rattle.maildir_target.specs.Crash.{standing_keeping};
 
-use crate::name::{Attempt, Folder, Name};
+use crate::disk::Device;
+use crate::name::{Attempt, new_name};
 use chunked_text::Chunks;
-use sim_device::FileDevice;
+use sim_device::{CrashDevice, FileDevice};
+use std::alloc::AllocError;
 use target_trait::Judgement;
 
 /// The code of a name under `new/` that holds anything but its whole message.
@@ -16,40 +19,28 @@ pub const TORN: u32 = 0;
 /// The code of an acknowledged message without a name under `new/`.
 pub const LOST: u32 = 1;
 
-/// The name of a message under `new/`.
-fn new_name(message: u16, attempt: Attempt) -> u32
-    ensures { result ≡ new_name message attempt }
-{
-    let name = Name {
-        folder: Folder::New,
-        message,
-        attempt,
-    };
-    name.number()
-}
-
 /// Whether a name is there and holds anything but these chunks.
-fn differs(device: &FileDevice, name: u32, chunks: &Chunks) -> bool
-    ensures { (es : List Effect) → StandsFor device.now es → result ≡ differs (joined chunks.now) (held es Live name) }
+fn differs<D: Device>(device: &D, name: u32, chunks: &Chunks) -> bool
+    ensures { (s : Standing) → D.shows device.now s → result ≡ differs (joined chunks.now) (held_in s name) }
 {
     match device.read(name) {
-        Ok(bytes) => !chunks.is_whole(bytes),
-        Err(_) => false,
+        Some(bytes) => !chunks.is_whole(bytes),
+        None => false,
     }
 }
 
 /// Whether a name of this message under `new/` holds anything but the whole of it.
-fn is_torn(device: &FileDevice, message: u16, chunks: &Chunks) -> bool
-    ensures { (es : List Effect) → StandsFor device.now es → result ≡ is_torn es message (joined chunks.now) }
+fn is_torn<D: Device>(device: &D, message: u16, chunks: &Chunks) -> bool
+    ensures { (s : Standing) → D.shows device.now s → result ≡ is_torn s message (joined chunks.now) }
 {
     differs(device, new_name(message, Attempt::First), chunks)
         || differs(device, new_name(message, Attempt::Second), chunks)
 }
 
 /// Whether that is so of one of these messages.
-fn has_torn(device: &FileDevice, messages: &[Chunks]) -> bool
+fn has_torn<D: Device>(device: &D, messages: &[Chunks]) -> bool
     requires { length messages.now ≤ 1000 }
-    ensures { (es : List Effect) → StandsFor device.now es → result ≡ has_torn es 1 messages.now }
+    ensures { (s : Standing) → D.shows device.now s → result ≡ has_torn s 1 messages.now }
 {
     let mut number = 1;
     for message in messages {
@@ -61,17 +52,24 @@ fn has_torn(device: &FileDevice, messages: &[Chunks]) -> bool
     false
 }
 
-/// Whether a message has a name under `new/`.
-fn is_delivered(device: &FileDevice, message: u16) -> bool
-    ensures { (es : List Effect) → StandsFor device.now es → result ≡ is_delivered es message }
+/// Whether a name is there.
+fn is_there<D: Device>(device: &D, name: u32) -> bool
+    ensures { (s : Standing) → D.shows device.now s → result ≡ not (is_none (s.leads name)) }
 {
-    device.exists(new_name(message, Attempt::First))
-        || device.exists(new_name(message, Attempt::Second))
+    device.read(name).is_some()
+}
+
+/// Whether a message has a name under `new/`.
+fn is_delivered<D: Device>(device: &D, message: u16) -> bool
+    ensures { (s : Standing) → D.shows device.now s → result ≡ is_delivered s message }
+{
+    is_there(device, new_name(message, Attempt::First))
+        || is_there(device, new_name(message, Attempt::Second))
 }
 
 /// Whether one of these messages, by their numbers, has no name under `new/`.
-fn has_lost(device: &FileDevice, messages: &[u16]) -> bool
-    ensures { (es : List Effect) → StandsFor device.now es → result ≡ has_lost es messages.now }
+fn has_lost<D: Device>(device: &D, messages: &[u16]) -> bool
+    ensures { (s : Standing) → D.shows device.now s → result ≡ has_lost s messages.now }
 {
     for message in messages {
         if !is_delivered(device, *message) {
@@ -81,13 +79,14 @@ fn has_lost(device: &FileDevice, messages: &[u16]) -> bool
     false
 }
 
-/// The judgement of what is known of a device.
-fn judgement(is_one_torn: bool, is_one_lost: bool) -> Judgement
-    ensures { result ≡ judged_by is_one_torn is_one_lost }
+/// The judgement of what stands on a device, of these messages, of which these numbers were acknowledged.
+fn judgement<D: Device>(device: &D, messages: &[Chunks], acknowledged: &[u16]) -> Judgement
+    requires { length messages.now ≤ 1000 }
+    ensures { (s : Standing) → D.shows device.now s → result ≡ judged_now messages.now acknowledged.now s }
 {
-    if is_one_torn {
+    if has_torn(device, messages) {
         Judgement::Broken(TORN)
-    } else if is_one_lost {
+    } else if has_lost(device, acknowledged) {
         Judgement::Broken(LOST)
     } else {
         Judgement::Kept
@@ -101,5 +100,21 @@ pub fn judge(device: &mut FileDevice, messages: &[Chunks], acknowledged: &[u16])
     ensures cut { AddsEffect device.old device.new PowerCut }
 {
     device.power_cut();
-    judgement(has_torn(device, messages), has_lost(device, acknowledged))
+    judgement(device, messages, acknowledged)
+}
+
+/// Cuts the power, which keeps those pending writes for which the answers say so, and judges what the device then holds. An error means that memory
+/// was refused.
+pub fn judge_keeping(
+    device: &mut CrashDevice,
+    messages: &[Chunks],
+    acknowledged: &[u16],
+    keep: &[bool],
+) -> Result<Judgement, AllocError>
+    requires { length messages.now ≤ 1000 }
+    ensures { IfOk result (λ judgement. (es : List Effect) → Tells device.old es
+        → judgement ≡ judged_now messages.now acknowledged.now (standing_keeping (kept keep.now (pending es)) es)) }
+{
+    device.cut_keeping(keep)?;
+    Ok(judgement(device, messages, acknowledged))
 }

@@ -1,7 +1,8 @@
-//! Maildir delivery, as a target, in four variants.
+//! Maildir delivery, as a target, in five variants.
 #![tactic(auto)]
 
 mod attempt;
+mod calls;
 mod delivery;
 mod disk;
 mod ended;
@@ -17,7 +18,10 @@ mod variant;
 mod write;
 
 pub use judge::{LOST, TORN, judge as judge_mail};
-pub use laws::{append_tmp_is_torn, ignore_write_is_torn, link_first_is_torn, sound_never_fails};
+pub use laws::{
+    a_kept_link_shows_link_first, a_kept_name_shows_deliver_in_new, append_tmp_is_torn,
+    ignore_write_is_torn, link_first_is_torn, sound_never_fails, sound_survives_each_cut,
+};
 pub use maildir::Maildir;
 pub use messages::Messages;
 pub use name::names_are_apart;

@@ -1,8 +1,6 @@
-use sim_device::FileDevice;
-
 /// What a run leaves: the device, and the numbers of the messages that were acknowledged.
 #[derive(Drop)]
-pub struct Mailbox {
-    pub device: FileDevice,
+pub struct Mailbox<D> {
+    pub device: D,
     pub acknowledged: Vec<u16>,
 }

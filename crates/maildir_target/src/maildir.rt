@@ -6,17 +6,18 @@ ghost use Rattle.target_trait.specs.declared.judgement.Judgement.TheVariants.{Ke
 ghost use Rattle.maildir_target.specs.declared.variant.Variant.TheVariants.{Sound};
 ghost use Rattle.maildir_target.specs.Words.{label, code_text, point_names};
 ghost use Rattle.maildir_target.specs.Steps.{asks_of};
+ghost use Rattle.maildir_target.specs.Crash.{cut_of};
 ghost use Rattle.maildir_target.specs.Lawful.{asks-within, asks-halts};
 
 use crate::judge::TORN;
 use crate::mailbox::Mailbox;
 use crate::messages::Messages;
-use crate::play::play;
+use crate::play::{TO_CUT, play, play_to_cut};
 use crate::variant::Variant;
-use sim_device::FileDevice;
+use sim_device::{CrashDevice, FileDevice};
 use std::alloc::{AllocError, Global};
 use std::marker::Model;
-use target_trait::{Judgement, Session, Target};
+use target_trait::{CrashTarget, Judgement, Session, Target};
 
 /// Maildir delivery, as a target. Its setup, which is all that contracts see of it, is the variant.
 ///
@@ -24,12 +25,13 @@ use target_trait::{Judgement, Session, Target};
 /// `tmp/`, chunk by chunk, which is then linked under `new/`. A message has two attempts at most. At the end the power is cut; what
 /// then stands under `new/` must be whole messages, and no acknowledged one may be missing.
 ///
-/// The mailbox is kept from run to run for its memory alone: each run clears it first.
+/// The mailboxes are kept from run to run for their memory alone: each run clears its own first.
 #[derive(Drop)]
 pub struct Maildir {
     alloc: Global,
     variant: Variant,
-    mailbox: Mailbox,
+    mailbox: Mailbox<FileDevice>,
+    crash_mailbox: Mailbox<CrashDevice>,
 }
 
 impl Model for Maildir {
@@ -50,6 +52,10 @@ impl Maildir {
             variant,
             mailbox: Mailbox {
                 device: FileDevice::new(alloc),
+                acknowledged: Vec::new(alloc),
+            },
+            crash_mailbox: Mailbox {
+                device: CrashDevice::new(alloc),
                 acknowledged: Vec::new(alloc),
             },
         }
@@ -73,6 +79,7 @@ impl Target for Maildir {
             Variant::LinkFirst => "maildir link_first",
             Variant::IgnoreWrite => "maildir ignore_write",
             Variant::AppendTmp => "maildir append_tmp",
+            Variant::DeliverInNew => "maildir deliver_in_new",
         }
     }
 
@@ -117,4 +124,28 @@ impl Target for Maildir {
     ghost halts = { asks-halts };
 
     ghost lawful = { Prim.search rules };
+}
+
+impl CrashTarget for Maildir {
+    ghost cut = { cut_of };
+
+    fn catalogue_to_cut() -> &'static [&'static str] {
+        TO_CUT
+    }
+
+    fn run_to_cut(
+        &mut self,
+        messages: &Messages,
+        session: &mut Session<'_>,
+    ) -> Result<Judgement, AllocError> {
+        play_to_cut(
+            self.alloc,
+            self.variant,
+            messages,
+            &mut self.crash_mailbox,
+            session,
+        )
+    }
+
+    ghost lawful_to_cut = { Prim.search rules };
 }

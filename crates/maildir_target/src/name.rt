@@ -1,5 +1,5 @@
 ghost use Rattle.std.specs.Prelude.{◌≡◌, ◌≤◌};
-ghost use Rattle.maildir_target.specs.Words.{number_of, folder_part, attempt_part};
+ghost use Rattle.maildir_target.specs.Words.{number_of, folder_part, attempt_part, new_name};
 ghost use Rattle.maildir_target.specs.declared.name.Name.{Name};
 
 /// A folder of the mail box.
@@ -57,6 +57,18 @@ impl Name {
     {
         4 * u32::from(self.message) + self.attempt.part() + self.folder.part()
     }
+}
+
+/// The number of the name of a message under `new/`.
+pub fn new_name(message: u16, attempt: Attempt) -> u32
+    ensures { result ≡ new_name message attempt }
+{
+    let name = Name {
+        folder: Folder::New,
+        message,
+        attempt,
+    };
+    name.number()
 }
 
 /// No two names have the same number.

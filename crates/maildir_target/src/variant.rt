@@ -10,4 +10,7 @@ pub enum Variant {
     IgnoreWrite,
     /// Both attempts use the names of the first, without a look, and what a failed attempt left under `tmp/` is written on.
     AppendTmp,
+    /// There is no name under `tmp/`: a message is written under `new/` itself, and synced there. Only a cut that keeps some of what is pending
+    /// shows it.
+    DeliverInNew,
 }

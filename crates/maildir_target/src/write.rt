@@ -4,8 +4,9 @@ ghost use Rattle.maildir_target.specs.Steps.{Writing, Syncing, write_step, after
 ghost use Rattle.maildir_target.specs.inside.Seen.{IsNamed, IsAt, HasEnded, Leads};
 
 use crate::attempt::clean_up;
+use crate::calls::{append, append_between};
 use crate::delivery::Delivery;
-use crate::disk::append;
+use crate::disk::Device;
 use crate::ended::Ended;
 use crate::mailbox::Mailbox;
 use crate::points::Point;
@@ -13,15 +14,15 @@ use crate::variant::Variant;
 use target_trait::{Answer, Session};
 
 /// What follows half a chunk: ignore_write goes on as after the whole.
-fn go_on(
+fn go_on<D: Device>(
     delivery: &Delivery<'_>,
     at: usize,
-    mailbox: &mut Mailbox,
+    mailbox: &mut Mailbox<D>,
     session: &mut Session<'_>,
 ) -> Result<(), Ended>
     requires named { IsNamed delivery.now }
-    requires at { IsAt delivery.now session.old mailbox.old (after_half delivery.now.variant (drop (at + 1) delivery.now.chunks.now)) }
-    ensures leads { Leads delivery.now session.new mailbox.new (write_step (drop (at + 1) delivery.now.chunks.now)) result }
+    requires at { IsAt D.stands delivery.now session.old mailbox.old (after_half delivery.now.variant (drop (at + 1) delivery.now.chunks.now)) }
+    ensures leads { Leads D.stands delivery.now session.new mailbox.new (write_step (drop (at + 1) delivery.now.chunks.now)) result }
     ensures given { session.new.given ≡ session.old.given }
 {
     match delivery.variant {
@@ -29,20 +30,22 @@ fn go_on(
         Variant::Sound => Err(clean_up(delivery, mailbox, session)),
         Variant::LinkFirst => Err(clean_up(delivery, mailbox, session)),
         Variant::AppendTmp => Err(clean_up(delivery, mailbox, session)),
+        Variant::DeliverInNew => Err(clean_up(delivery, mailbox, session)),
     }
 }
 
 /// Writes the chunk at a place.
-fn write_one(
+fn write_one<D: Device>(
     delivery: &Delivery<'_>,
     at: usize,
-    mailbox: &mut Mailbox,
+    mailbox: &mut Mailbox<D>,
     session: &mut Session<'_>,
 ) -> Result<(), Ended>
     requires place { at < length delivery.now.chunks.now }
     requires named { IsNamed delivery.now }
-    requires at { IsAt delivery.now session.old mailbox.old (Writing (slice_index_or delivery.now.chunks.now at []) (drop (at + 1) delivery.now.chunks.now)) }
-    ensures leads { Leads delivery.now session.new mailbox.new (write_step (drop (at + 1) delivery.now.chunks.now)) result }
+    requires at { IsAt D.stands delivery.now session.old mailbox.old
+        (Writing (slice_index_or delivery.now.chunks.now at []) (drop (at + 1) delivery.now.chunks.now)) }
+    ensures leads { Leads D.stands delivery.now session.new mailbox.new (write_step (drop (at + 1) delivery.now.chunks.now)) result }
     ensures given { session.new.given ≡ session.old.given }
 {
     match session.hit(Point::Write as u32)? {
@@ -59,44 +62,41 @@ fn write_one(
 }
 
 /// Writes the chunks from a place on that surely go through, or else one chunk. Gives the place after them.
-fn write_some(
+fn write_some<D: Device>(
     delivery: &Delivery<'_>,
     at: usize,
-    mailbox: &mut Mailbox,
+    mailbox: &mut Mailbox<D>,
     session: &mut Session<'_>,
 ) -> Result<usize, Ended>
     requires place { at < length delivery.now.chunks.now }
     requires named { IsNamed delivery.now }
-    requires at { IsAt delivery.now session.old mailbox.old (write_step (drop at delivery.now.chunks.now)) }
+    requires at { IsAt D.stands delivery.now session.old mailbox.old (write_step (drop at delivery.now.chunks.now)) }
     ensures within { IfOk result (λ next. next ≤ length delivery.now.chunks.now) }
     ensures nearer { IfOk result (λ next. at < next) }
-    ensures leads { MatchResult result (λ next. IsAt delivery.now session.new mailbox.new (write_step (drop next delivery.now.chunks.now)))
-        (λ e. HasEnded delivery.now session.new mailbox.new e) }
+    ensures leads { MatchResult result (λ next. IsAt D.stands delivery.now session.new mailbox.new (write_step (drop next delivery.now.chunks.now)))
+        (λ e. HasEnded D.stands delivery.now session.new mailbox.new e) }
     ensures given { session.new.given ≡ session.old.given }
 {
-    let passed = session.pass(Point::Write as u32, delivery.chunks.len() - at)?;
+    let count = D::at_once(delivery.chunks.len() - at);
+    let passed = session.pass(Point::Write as u32, count)?;
     if passed == 0 {
         write_one(delivery, at, mailbox, session)?;
         return Ok(at + 1);
     }
     let next = at + passed;
-    append(
-        delivery,
-        &mut mailbox.device,
-        delivery.chunks.between(at, next),
-    )?;
+    append_between(delivery, &mut mailbox.device, at, next)?;
     Ok(next)
 }
 
 /// Writes the chunks, one after another.
-pub fn write_all(
+pub fn write_all<D: Device>(
     delivery: &Delivery<'_>,
-    mailbox: &mut Mailbox,
+    mailbox: &mut Mailbox<D>,
     session: &mut Session<'_>,
 ) -> Result<(), Ended>
     requires named { IsNamed delivery.now }
-    requires at { IsAt delivery.now session.old mailbox.old (write_step delivery.now.chunks.now) }
-    ensures leads { Leads delivery.now session.new mailbox.new Syncing result }
+    requires at { IsAt D.stands delivery.now session.old mailbox.old (write_step delivery.now.chunks.now) }
+    ensures leads { Leads D.stands delivery.now session.new mailbox.new Syncing result }
     ensures given { session.new.given ≡ session.old.given }
 {
     let mut at = 0;

@@ -25,7 +25,7 @@ use Rattle.outside_campaign.specs.Outside.{Component, say}
 use Rattle.outside_campaign.specs.Asked.{open_plans, open_cards, plan_verdicts, known_failures, lines_for}
 use Rattle.outside_campaign.specs.Campaigns.{plans as plans_of, code_name, report as report_by, report_in, shown, asks_text, first_failure, untried, untried_by, AsksFault}
 use Rattle.outside_campaign.specs.Forms.{text_in}
-use Rattle.outside_campaign.specs.ToldPlans.{AreOf, AreResults}
+use Rattle.outside_campaign.specs.inside.ToldPlans.{AreOf, AreResults}
 use Rattle.outside_campaign.specs.inside.Results.{IsFirst, AreWithVerdicts, facts_of}
 use Rattle.outside_campaign.specs.declared.forms.Form.{Form}
 use Rattle.campaign_core.specs.declared.ending.CampaignFault.TheVariants as campaign

@@ -4,5 +4,4 @@ pub mod Asked
 pub mod Forms
 pub mod Campaigns
 pub mod Results
-pub mod ToldPlans
 pub mod inside

@@ -107,7 +107,7 @@ pub fn asks<K: VerdictTable>(
 }
 
 /// The lines, each with its line feed. An error means that memory was refused.
-pub fn joined(alloc: Global, lines: &IndexSet<Text>) -> Result<String, AllocError>
+fn joined(alloc: Global, lines: &IndexSet<Text>) -> Result<String, AllocError>
     ensures { IfOk result (λ text. string_bytes text ≡ text_of lines.now.keys) }
 {
     let mut text = String::new(alloc);

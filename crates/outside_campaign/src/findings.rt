@@ -1,6 +1,6 @@
 //! What is told of failures, by what is known.
 ghost use Rattle.std.specs.Prelude.{◌≡◌, ◌<◌, All, length, IfOk, OnOk};
-ghost use Rattle.outside_campaign.specs.ToldPlans.{AreFindings};
+ghost use Rattle.outside_campaign.specs.inside.ToldPlans.{AreFindings};
 ghost use Rattle.outside_campaign.specs.inside.Told.{IsLook, IsGathered};
 
 use crate::reduction::{Reached, reduce_known};

@@ -15,10 +15,8 @@ mod table;
 mod telling;
 mod verdicts;
 
-pub use asking::{asks, joined};
 pub use driving::write_asks;
-pub use findings::{Findings, findings_known};
-pub use forms::{Form, Shown, text_in};
+pub use forms::Form;
 pub use laws::{
     nothing_is_asked_where_nothing_is_to_be_tried, reductions_come_to_what_is_asked,
     what_is_asked_is_unanswered,
@@ -26,7 +24,4 @@ pub use laws::{
 pub use planned::{borrowed, list_plans, planned as outside_plans};
 pub use refusal::OutsideFault;
 pub use reporting::write_report_in;
-pub use results::{Results, results_known};
 pub use table::VerdictTable;
-pub use telling::Words;
-pub use verdicts::plan_verdicts;

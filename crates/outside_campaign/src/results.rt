@@ -4,7 +4,7 @@ ghost use Rattle.std.specs.List.{AllByRecursion};
 ghost use Rattle.scenario_values.specs.Scenario.{IsScenario};
 ghost use Rattle.answer_text.specs.Known.{KnownVerdicts};
 ghost use Rattle.outside_campaign.specs.Asked.{plan_verdicts};
-ghost use Rattle.outside_campaign.specs.ToldPlans.{AreResults};
+ghost use Rattle.outside_campaign.specs.inside.ToldPlans.{AreResults};
 ghost use Rattle.outside_campaign.specs.inside.Results.{IsFirst, AreWithVerdicts};
 
 use crate::findings::{Findings, findings_known};

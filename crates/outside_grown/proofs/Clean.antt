@@ -1,7 +1,8 @@
 -- The run without faults, as answers tell it of each component that agrees with them.
-use Rattle.std.proofs.Common.{Bor, ◌≡◌, ℕ, ◌+◌, Bool, true, false, cond, List, [], ◌∷◌, length, refl, ap, sym, ◌∙◌, subst, arith}
+use Rattle.std.proofs.Common.{Bor, ◌≡◌, ℕ, ◌+◌, ◌<◌, ◌≤◌, ◌⊎◌, inl, inr, Bool, true, false, cond, List, [], ◌∷◌, length, refl, ap, sym, ◌∙◌, subst, arith}
 use Rattle.std.specs.Prelude.{Option, Some, None, IfSome, option_map, option_and_then, nat_le, ◌&&◌}
 use Rattle.std.specs.List.{list_all}
+use Rattle.std.specs.Option.{option_map_or}
 use Rattle.std.proofs.lemmas.List.{length-map}
 use Rattle.scenario_values.specs.Scenario.{Entries, IsScenario}
 use Rattle.scenario_values.specs.Tidied.{tidied}
@@ -15,7 +16,7 @@ use Rattle.action_eval.proofs.RunLaws.{tidied_means}
 use Rattle.target_trait.specs.Outcomes.{Told as Outcome, outcome}
 use Rattle.target_trait.proofs.Verdicts.{outcome_same}
 use Rattle.plan_gen.specs.Census.{counts_of}
-use Rattle.plan_gen.specs.PlanList.{Asked, further_list}
+use Rattle.plan_gen.specs.PlanList.{Asked, further_list, most_plans}
 use Rattle.grown_plans.specs.GrownPlans.{Subject}
 use Rattle.known_runs.specs.Known.{hits_of, hits_told}
 use Rattle.answer_text.specs.Hits.{most_hits, points_of}
@@ -24,7 +25,7 @@ use Rattle.answer_text.specs.declared.hits.Stretch.{Stretch}
 use Rattle.answer_text.specs.declared.runs.ToldRun.{ToldRun}
 use Rattle.answered_runs.specs.Answered.{Answered, hits_by, is_low, plan_runs, told_of}
 use Rattle.answered_runs.specs.Components.{AgreesWithRuns, IsComponent, IsTrueRun}
-use Rattle.outside_grown.specs.Further.{clean_hits, further_by, further_known, further_told}
+use Rattle.outside_grown.specs.Further.{AreTooMany, clean_hits, further_by, further_known, further_told}
 
 no_entries : (p : ℕ) (names : List (List ℕ)) → entries_from p names [] ≡ []
 no_entries p [] = refl
@@ -89,3 +90,17 @@ told_by_hits a asked names told hits plans same clean slice is =
     ∙ ap (λ (n : ℕ). further_list a.points (counts_of n hits) asked) many
     ∙ ap (λ (hs : List ℕ). further_by a.points asked (Some hs)) slice
     ∙ ap (further_by a.points asked) (sym clean)
+
+-- where they are refused
+pub many_by_hits : (a : Answered) (asked : Asked) (before : ℕ) (names : List (Bor (List ℕ))) (told hits : List ℕ) → texts names ≡ a.points → clean_hits a ≡ Some told → hits ≡ told
+    → (most_plans < before + length (further_list (texts names) (counts_of (length names) hits) asked)) ⊎ (most_plans ≤ length hits) → AreTooMany a asked before
+many_by_hits a asked before names told hits same clean slice many =
+    elim many [
+      | inl more ↦
+          let plans = ap length (told_by_hits a asked names told hits (further_list (texts names) (counts_of (length names) hits) asked) same clean slice refl) in
+          inl (omega (arith, more, plans))
+      | inr full ↦
+          let long = ap length slice in
+          let is = ap (λ (o : Option (List ℕ)). option_map_or length o 0) clean in
+          inr (omega (arith, full, long, is))
+    ]

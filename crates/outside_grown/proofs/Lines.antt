@@ -33,9 +33,8 @@ use Rattle.known_runs.specs.Known.{KnownRuns}
 use Rattle.known_runs.specs.KnownPart.{is_reached, is_reached_onward, known_part, to_run}
 use Rattle.known_runs.proofs.Ends.{filtered, runs_each_once}
 use Rattle.answered_runs.specs.Answered.{Answered, runs_in}
-use Rattle.answered_runs.specs.Asked.{plan_line}
 use Rattle.answered_runs.specs.Components.{IsComponent}
-use Rattle.outside_grown.specs.Asked.{AreApart, IsAskedOf, lines_behind, lines_of, lines_to_run, undecided, unrun}
+use Rattle.outside_grown.specs.Asked.{AreApart, IsAskedOf, lines_behind, lines_of, lines_to_run, plan_line, undecided, unrun}
 use Rattle.outside_grown.specs.Further.{clean_hits, further_known}
 use Rattle.outside_grown.proofs.SameRuns.{run_same}
 

@@ -2,9 +2,10 @@
 use Rattle.std.proofs.Common.{◌≡◌, ℕ, zero, suc, List, [], ◌∷◌, ◌++◌, cond, map, refl, ap, sym, ◌∙◌}
 use Rattle.std.proofs.lemmas.List.{append_cancel_right}
 use Rattle.scenario_values.specs.Scenario.{Entries}
-use Rattle.action_eval.specs.Answers.{Hit, Reply, Halt, Run, asked, given_of, hit, history_of, is_over, replies, reply_of, run_of}
+use Rattle.action_eval.specs.Answers.{Hit, Reply, Halt, Run, asked, cuts_short, given_of, hit, history_of, is_over, replies, reply_of, run_of}
 use Rattle.action_eval.specs.SameMeaning.{Meaning, meaning_of}
-use Rattle.target_trait.specs.Play.{Move, Ask, Done}
+use Rattle.target_trait.specs.Play.{Move, Ask, Done, move_in}
+use Rattle.target_trait.specs.declared.judgement.Judgement.TheVariants.{Kept}
 use Rattle.target_trait.specs.Outcomes.{moved, play}
 use Rattle.grown_plans.specs.Runs.{Met, met, met_after, run, site_after}
 use Rattle.grown_plans.proofs.PlayedRuns.{history_points}
@@ -55,8 +56,8 @@ played_same asks names seed stream limit s t same zero hits = ended_same s t nam
 played_same asks names seed stream limit s t same (suc n) hits =
     let r : Run = run_of s names seed stream limit hits in
     let q : Run = run_of t names seed stream limit hits in
-    ap (λ (m : Meaning). met_in (moved (asks m.replies) r (λ p. play n asks (hit r p)))) (same.at hits)
-    ∙ moved_same (asks (replies q)) r q (λ p. play n asks (hit r p)) (λ p. play n asks (hit q p)) (ended_same s t names seed stream limit hits (same.at hits))
+    ap (λ (m : Meaning). met_in (moved (cond (cuts_short m.stop) (Done Kept) (asks m.replies)) r (λ p. play n asks (hit r p)))) (same.at hits)
+    ∙ moved_same (move_in asks q) r q (λ p. play n asks (hit r p)) (λ p. play n asks (hit q p)) (ended_same s t names seed stream limit hits (same.at hits))
     (λ p. played_same asks names seed stream limit s t same n (hits ++ p ∷ []))
 
 pub run_same : (asks : List Reply → Move) (names : List (List ℕ)) (seed stream limit : ℕ) (s t : Entries)

@@ -8,15 +8,13 @@ use Rattle.scenario_values.specs.Tidied.{tidied}
 use Rattle.action_eval.specs.declared.rig.Rig.{Rig}
 use Rattle.plan_gen.specs.PlanList.{Asked}
 use Rattle.campaign_plans.specs.GrownScenarios.{grown_scenario}
-use Rattle.grown_plans.specs.GrownPlans.{Subject, usual_kinds}
+use Rattle.grown_plans.specs.GrownPlans.{Subject}
 use Rattle.grown_plans.specs.Promises.{EachTwo}
 use Rattle.known_runs.specs.Known.{KnownRuns}
 use Rattle.known_runs.specs.KnownPart.{to_run}
-use Rattle.known_runs.specs.ToldPart.{part_known}
 use Rattle.report.specs.ReportText.{scenario_text}
 use Rattle.answer_text.specs.Runs.{told_in}
-use Rattle.answered_runs.specs.Answered.{Answered, runs_in}
-use Rattle.answered_runs.specs.Asked.{plan_line}
+use Rattle.answered_runs.specs.Answered.{Answered, known_plans, runs_in}
 use Rattle.answered_runs.specs.Verdicts.{verdict_by}
 use Rattle.outside_grown.specs.Further.{clean_hits, further_known, further_told}
 
@@ -31,7 +29,7 @@ undecided a depth scenarios = map tidied (filter (λ s. is_none (verdict_by a.po
 -- what is to be tried: of the plans that grow and are known by now those of whose runs nothing is told, and then the undecided storms and
 -- listed scenarios
 abbrev pub to_try : Answered → ℕ → Asked → List Entries
-to_try a depth asked = unrun a (part_known usual_kinds (runs_in a) depth) ++ undecided a depth (further_told a asked)
+to_try a depth asked = unrun a (known_plans a depth) ++ undecided a depth (further_told a asked)
 
 -- the lines that ask for scenarios, behind others, each where it first stands
 abbrev pub lines_behind : List (List ℕ) → List Entries → List (List ℕ)
@@ -39,6 +37,10 @@ lines_behind lines scenarios = fold (insert_key bytes_eq) lines (map scenario_te
 
 abbrev pub lines_of : List Entries → List (List ℕ)
 lines_of scenarios = lines_behind [] scenarios
+
+-- the line that asks for a plan
+abbrev pub plan_line : List (List ℕ) → List Rig → List ℕ
+plan_line points plan = scenario_text (tidied (grown_scenario points plan))
 
 -- a line for each plan of a component's list to a depth that is known by now and is still to be run, in the order of the list
 abbrev pub lines_to_run : Subject → ℕ → KnownRuns → List (List ℕ)

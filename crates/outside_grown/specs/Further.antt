@@ -1,8 +1,9 @@
 -- The storms and listed scenarios that stand behind plans that grow, by what answers tell.
-use Rattle.std.specs.Prelude.{ℕ, List, [], Option, None, Some, length}
+use Rattle.std.specs.Prelude.{ℕ, ◌+◌, ◌<◌, ◌≤◌, ◌⊎◌, List, [], Option, None, Some, length}
+use Rattle.std.specs.Option.{option_map_or}
 use Rattle.scenario_values.specs.Scenario.{Entries}
 use Rattle.plan_gen.specs.Census.{census_of, counts_of}
-use Rattle.plan_gen.specs.PlanList.{Asked, further_list}
+use Rattle.plan_gen.specs.PlanList.{Asked, further_list, most_plans}
 use Rattle.grown_plans.specs.GrownPlans.{Subject}
 use Rattle.known_runs.specs.Known.{hits_of}
 use Rattle.answered_runs.specs.Answered.{Answered, runs_in}
@@ -18,6 +19,12 @@ clean_hits a = hits_of (runs_in a) []
 
 abbrev pub further_told : Answered → Asked → List Entries
 further_told a asked = further_by a.points asked (clean_hits a)
+
+-- so many plans and these behind them are more than a list may have; or there is no census, as the run without faults has as many hits as a
+-- list may have plans
+abbrev pub AreTooMany : Answered → Asked → ℕ → Type 0
+AreTooMany a asked before =
+    (most_plans < before + length (further_told a asked)) ⊎ (most_plans ≤ option_map_or length (clean_hits a) 0)
 
 -- those of a component, over its own census
 abbrev pub further_of : Subject → Asked → List Entries

@@ -1,5 +1,5 @@
 //! What is still to be tried.
-ghost use Rattle.std.specs.Prelude.{◌≡◌, ◌≤◌, ◌∷◌, ◌++◌, [], length, map, fold, string_bytes, IfOk, OnOk};
+ghost use Rattle.std.specs.Prelude.{◌≡◌, ◌≤◌, ◌∷◌, ◌++◌, [], length, map, fold, string_bytes, IfOk, IsErrOf, OnOk};
 ghost use Rattle.std.specs.List.{AllByRecursion};
 ghost use Rattle.std.specs.Str.{bytes_eq};
 ghost use Rattle.scenario_values.specs.Tidied.{tidied};
@@ -7,22 +7,21 @@ ghost use Rattle.indexmap.specs.IndexSet.{insert_key};
 ghost use Rattle.report.specs.ReportText.{scenario_text, text_of};
 ghost use Rattle.answer_text.specs.Runs.{told_in};
 ghost use Rattle.grown_plans.specs.GrownPlans.{Subject};
+ghost use Rattle.answered_runs.specs.Answered.{known_plans};
 ghost use Rattle.answered_runs.specs.Components.{AgreesWithRuns, IsComponent};
 ghost use Rattle.outside_grown.specs.Asked.{AreApart, IsAskedOf, lines_of, to_try, undecided, unrun};
+ghost use Rattle.outside_grown.specs.Further.{AreTooMany};
 
-use crate::further::further_plans;
+use crate::further::{MOST_PLANS, further_plans};
 use action_eval::Rig;
 use answered_runs::{AnsweredRuns, plan_scenario};
 use grown_plans::GrownPlans;
 use indexmap::IndexSet;
-use known_runs::{KnownFault, Look, RunTable, Workspace, known_plans};
+use known_runs::{KnownFault, Look, RunTable, Workspace};
 use plan_gen::{Plan, PlanList, PlanSettings};
 use report::write_scenario;
 use scenario_values::{Scenario, Text, tidy};
 use std::alloc::{AllocError, Global};
-
-/// A list has at most so many plans.
-const MOST_PLANS: usize = 65536;
 
 /// Adds the text of a scenario once it is tidied, unless it is there.
 fn add(alloc: Global, lines: &mut IndexSet<Text>, scenario: &Scenario) -> Result<(), AllocError>
@@ -112,7 +111,11 @@ fn add_all_further(
 /// run without faults is told, the storms and listed scenarios whose verdicts neither are told nor follow from runs that are. A plan is known
 /// once the hits of each plan that it grew from are told, so levels wait for nothing. What follows from runs that are told is never asked.
 ///
-/// Any of them may be tried in any order. More than 65536 known plans are refused.
+/// A run that is told without its hits isn't asked for again, and nothing grows from it: so there may be nothing left to be tried of a list that
+/// isn't whole, which [`grown_lists`](crate::grown_lists) tells by its gap.
+///
+/// Any of them may be tried in any order. `TooManyPlans` comes only where the known plans are more than 65536 with the storms and listed
+/// scenarios, or the run without faults has as many hits.
 pub fn asks(
     alloc: Global,
     runs: &AnsweredRuns<'_>,
@@ -125,8 +128,9 @@ pub fn asks(
     // For every component that agrees with the answers.
     ensures asked { IfOk result (λ lines. (t : Subject) → IsComponent runs.now.points t → AgreesWithRuns t (told_in runs.now.book)
         → IsAskedOf t runs.now depth settings.now lines.keys) }
+    ensures many { IsErrOf result KnownFault.TooManyPlans → AreTooMany runs.now settings.now (length (known_plans runs.now depth)) }
 {
-    let known = known_plans(alloc, runs, depth, MOST_PLANS)?;
+    let known = runs.known_plans(alloc, depth, MOST_PLANS)?;
     let further = further_plans(alloc, runs, settings, known.plans.len())?;
     let mut lines = IndexSet::new(alloc);
     add_all_grown(alloc, runs, &known.plans, &mut lines)?;

@@ -1,5 +1,5 @@
 //! The storms and listed scenarios that stand behind plans that grow.
-ghost use Rattle.std.specs.Prelude.{◌≡◌, ◌<◌, ◌≤◌, ◌+◌, ◌==◌, ◌^◌, [], length, option_map, count_by, IfOk, IfSome, OnOk};
+ghost use Rattle.std.specs.Prelude.{◌≡◌, ◌<◌, ◌≤◌, ◌⊎◌, ◌+◌, ◌==◌, ◌^◌, [], length, option_map, count_by, IfOk, IfSome, IsErrOf, OnOk};
 ghost use Rattle.action_eval.specs.Answers.{texts};
 ghost use Rattle.action_eval.specs.Catalogue.{IsCatalogue};
 ghost use Rattle.plan_gen.specs.Census.{counts_of};
@@ -7,7 +7,7 @@ ghost use Rattle.plan_gen.specs.PlanList.{further_list, most_plans};
 ghost use Rattle.grown_plans.specs.GrownPlans.{Subject};
 ghost use Rattle.answer_text.specs.Runs.{told_in};
 ghost use Rattle.answered_runs.specs.Components.{AgreesWithRuns, IsComponent};
-ghost use Rattle.outside_grown.specs.Further.{clean_hits, further_known, further_told};
+ghost use Rattle.outside_grown.specs.Further.{AreTooMany, clean_hits, further_known, further_told};
 
 use answered_runs::AnsweredRuns;
 use known_runs::{KnownFault, Look, RunTable};
@@ -15,7 +15,7 @@ use plan_gen::{Census, PlanFault, PlanList, PlanSettings};
 use std::alloc::{AllocError, Global};
 
 /// A list has at most so many plans.
-const MOST_PLANS: usize = 65536;
+pub(crate) const MOST_PLANS: usize = 65536;
 
 /// How often a point is asked.
 fn count_of(asked: &[u32], point: u32) -> u32
@@ -60,8 +60,11 @@ fn plans_over<'a>(
     requires lawful { IsCatalogue (texts points.now) }
     ensures over { IfOk result (λ plans. plans ≡ further_list (texts points.now) (counts_of (length points.now) hits.now) settings.now) }
     ensures few { OnOk result (before + length (further_list (texts points.now) (counts_of (length points.now) hits.now) settings.now) ≤ most_plans) }
+    ensures many { IsErrOf result KnownFault.TooManyPlans
+        → (most_plans < before + length (further_list (texts points.now) (counts_of (length points.now) hits.now) settings.now))
+        ⊎ (most_plans ≤ length hits.now) }
 {
-    // each of the hits would make plans that grow
+    // a census of fewer hits has fewer sites than a list may have plans
     if hits.len() >= MOST_PLANS {
         return Err(KnownFault::TooManyPlans);
     }
@@ -83,6 +86,7 @@ fn no_plans<'a>(
     requires lawful { IsCatalogue (texts points.now) }
     ensures none { IfOk result (λ plans. plans ≡ []) }
     ensures few { OnOk result (before ≤ most_plans) }
+    ensures many { IsErrOf result KnownFault.TooManyPlans → most_plans < before }
 {
     let settings = PlanSettings {
         pairs: false,
@@ -97,7 +101,7 @@ fn no_plans<'a>(
 /// The storms and listed scenarios that stand behind so many plans, as far as they are known by the answers: none before the run without
 /// faults is told. Storms are drawn over its census. They are those of every component that agrees with the answers.
 ///
-/// More than 65536 plans together are refused.
+/// `TooManyPlans` comes only where these are more than 65536 together, or the run without faults has as many hits.
 pub fn further_plans<'a>(
     alloc: Global,
     runs: &AnsweredRuns<'a>,
@@ -106,6 +110,7 @@ pub fn further_plans<'a>(
 ) -> Result<PlanList<'a>, KnownFault>
     ensures told { IfOk result (λ plans. plans ≡ further_told runs.now settings.now) }
     ensures few { OnOk result (before + length (further_told runs.now settings.now) ≤ most_plans) }
+    ensures many { IsErrOf result KnownFault.TooManyPlans → AreTooMany runs.now settings.now before }
     // For every component that agrees with the answers.
     ensures known { IfOk result (λ plans. (t : Subject) → IsComponent runs.now.points t → AgreesWithRuns t (told_in runs.now.book)
         → plans ≡ further_known t settings.now (clean_hits runs.now)) }

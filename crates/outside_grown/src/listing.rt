@@ -1,21 +1,19 @@
 //! The whole list of a campaign with a depth.
-ghost use Rattle.std.specs.Prelude.{◌≡◌, ◌≤◌, ◌+◌, length, IfOk};
+ghost use Rattle.std.specs.Prelude.{◌≡◌, ◌≤◌, ◌+◌, length, IfOk, IsErrOf};
 ghost use Rattle.plan_gen.specs.PlanList.{most_plans};
 ghost use Rattle.grown_plans.specs.GrownPlans.{Subject};
 ghost use Rattle.answer_text.specs.Runs.{told_in};
-ghost use Rattle.answered_runs.specs.Answered.{runs_in};
+ghost use Rattle.answered_runs.specs.Answered.{known_plans, runs_in};
 ghost use Rattle.answered_runs.specs.Components.{AgreesWithRuns, IsComponent};
 ghost use Rattle.answered_runs.specs.WholeList.{AreSeen};
+ghost use Rattle.outside_grown.specs.Further.{AreTooMany, further_told};
 ghost use Rattle.outside_grown.specs.Lists.{AreWholeSeen};
 
-use crate::further::further_plans;
+use crate::further::{MOST_PLANS, further_plans};
 use answered_runs::{AnsweredRuns, Listed, listed_plans};
 use known_runs::KnownFault;
 use plan_gen::{PlanList, PlanSettings};
 use std::alloc::Global;
-
-/// A list has at most so many plans.
-const MOST_PLANS: usize = 65536;
 
 /// The plans of a campaign with a depth, by what answers tell of their runs.
 #[derive(Debug, Drop)]
@@ -29,7 +27,8 @@ pub struct GrownLists<'a> {
 /// The plans of a campaign with a depth, up to 64, by what answers tell of their runs. Where the hits of each plan that grows are told, they
 /// are the whole list of every component that agrees with the answers, in its order, storms and listed scenarios at the end.
 ///
-/// More than 65536 known plans are refused.
+/// `TooManyPlans` comes only where the known plans are more than 65536 with the storms and listed scenarios, or the run without faults has as
+/// many hits.
 pub fn grown_lists<'a>(
     alloc: Global,
     runs: &AnsweredRuns<'a>,
@@ -37,11 +36,14 @@ pub fn grown_lists<'a>(
     settings: &PlanSettings<'a>,
 ) -> Result<GrownLists<'a>, KnownFault>
     requires { depth ≤ 64 }
+    ensures grown { IfOk result (λ lists. lists.listed.known.plans ≡ known_plans runs.now depth) }
+    ensures further { IfOk result (λ lists. lists.further ≡ further_told runs.now settings.now) }
     ensures seen { IfOk result (λ lists. AreSeen (runs_in runs.now) lists.listed.known.plans lists.listed.gap) }
     ensures few { IfOk result (λ lists. length lists.listed.known.plans + length lists.further ≤ most_plans) }
     // For every component that agrees with the answers.
     ensures whole { IfOk result (λ lists. (t : Subject) → IsComponent runs.now.points t → AgreesWithRuns t (told_in runs.now.book)
         → AreWholeSeen t depth settings.now runs.now.points lists) }
+    ensures many { IsErrOf result KnownFault.TooManyPlans → AreTooMany runs.now settings.now (length (known_plans runs.now depth)) }
 {
     let listed = listed_plans(alloc, runs, depth, MOST_PLANS)?;
     let further = further_plans(alloc, runs, settings, listed.known.plans.len())?;

@@ -10,8 +10,8 @@ use Rattle.scenario_values.specs.declared.term.Task.TheVariants as task
 use Rattle.scenario_values.specs.Scenario.{Entries, chain_of, is_name, is_off}
 use Rattle.action_eval.specs.Words.{word}
 use Rattle.action_eval.specs.Trial.{tried}
-use Rattle.action_eval.specs.Answers.{Given, Hit, given_of, run_of, replies, history_of, and_then, next, hit_by, acted, is_term, is_used_up, name_of, words_of}
-use Rattle.action_eval.specs.SameMeaning.{Meaning}
+use Rattle.action_eval.specs.Answers.{Given, Hit, given_of, run_of, history_of, and_then, next, hit_by, acted, is_term, is_used_up, name_of, words_of}
+use Rattle.action_eval.specs.SameMeaning.{meaning}
 use Rattle.action_eval.specs.FullShares.{IsFull, NoFaultActed}
 use Rattle.action_eval.proofs.Clean.{clean_meaning}
 use Rattle.action_eval.specs.Catalogue.{IsCatalogue, HasDistinct}
@@ -173,14 +173,14 @@ rig_is_one names c seed limit r h =
     }
 
 clean_one : (names : List (List ℕ)) → IsCatalogue names → (seed limit : ℕ) (r : Rig) → r.site.point < length names → 0 < r.site.hit → (hits : List ℕ) → times r.site.point (take limit hits) < r.site.hit
-    → replies (run_of ((slice_index_or names r.site.point [], rigged 0 r) ∷ []) names seed 0 limit hits) ≡ replies (run_of [] names seed 0 limit hits)
+    → meaning (run_of ((slice_index_or names r.site.point [], rigged 0 r) ∷ []) names seed 0 limit hits) ≡ meaning (run_of [] names seed 0 limit hits)
 clean_one names c seed limit r h some hits few =
     let s : Entries = (slice_index_or names r.site.point [], rigged 0 r) ∷ [] in
     let g : Given = given_of s names seed 0 limit in
     let none : NoFaultActed (history_of (run_of s names seed 0 limit hits)) = quiet g r.site.point (r.site.hit - 0 - 1) (term_of r.kind ∷ []) (rig_is_one names c seed limit r h) [] (take limit hits) tt (omega (arith, few, some)) in
-    ap (λ (m : Meaning). m.replies) (clean_meaning s names seed 0 limit hits (full_rigged r, tt) none)
+    clean_meaning s names seed 0 limit hits (full_rigged r, tt) none
 
 pub clean_before : (names : List (List ℕ)) → IsCatalogue names → (seed limit : ℕ) (kind : Kind) → IsCleanBefore names seed limit kind
 clean_before names c seed limit kind p k h some hits few =
     let r : Rig = rig (record { point = p; hit = k }) kind in
-    subst (λ (s : Entries). replies (run_of s names seed 0 limit hits) ≡ replies (run_of [] names seed 0 limit hits)) (sym (one_rig names r h)) (clean_one names c seed limit r h some hits few)
+    subst (λ (s : Entries). meaning (run_of s names seed 0 limit hits) ≡ meaning (run_of [] names seed 0 limit hits)) (sym (one_rig names r h)) (clean_one names c seed limit r h some hits few)

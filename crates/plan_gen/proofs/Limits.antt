@@ -3,8 +3,8 @@ use Rattle.std.proofs.Common.{◌≡◌, ℕ, zero, suc, ◌≤◌, ◌==◌, Li
 use Rattle.std.proofs.lemmas.List.{length-take}
 use Rattle.std.proofs.lemmas.List.Sums.{count_by-le-length}
 use Rattle.scenario_values.specs.Scenario.{Entries}
-use Rattle.action_eval.specs.Answers.{Given, Run, Reply, given_of, hit, start, replies}
-use Rattle.target_trait.specs.Play.{Move, Ask, Done}
+use Rattle.action_eval.specs.Answers.{Given, Run, Reply, given_of, hit, start}
+use Rattle.target_trait.specs.Play.{Move, Ask, Done, move_in}
 use Rattle.target_trait.specs.Outcomes.{play, moved}
 use Rattle.plan_gen.specs.LoopRuns.{times_of}
 
@@ -15,7 +15,7 @@ moved_given (Done j) r further h = refl
 pub play_given : (n : ℕ) (asks : List Reply → Move) (r : Run) → (play n asks r).given ≡ r.given
 unfolding play
 play_given zero asks r = refl
-play_given (suc n) asks r = moved_given (asks (replies r)) r (λ p. play n asks (hit r p)) (λ p. play_given n asks (hit r p))
+play_given (suc n) asks r = moved_given (move_in asks r) r (λ p. play n asks (hit r p)) (λ p. play_given n asks (hit r p))
 
 count_few : (p : ℕ) (xs : List ℕ) → count_by (λ q. q == p) xs ≤ length xs
 count_few p xs = count_by-le-length (λ q. q == p) xs

@@ -2,17 +2,19 @@
 use Rattle.std.proofs.Common.{◌≡◌, ℕ, zero, suc, ◌+◌, ◌<◌, ◌≤◌, ◌==◌, ◌⊎◌, inl, inr, nat_le, Bool, true, false, cond, List, [], ◌∷◌, ◌++◌, take, length, refl, ap, sym, ◌∙◌, subst, arith}
 use Rattle.std.proofs.lemmas.Bool.{cases_lt, le-leb}
 use Rattle.scenario_values.specs.Scenario.{Entries}
-use Rattle.action_eval.specs.Answers.{Given, Run, Reply, given_of, hit, replies, asked}
-use Rattle.target_trait.specs.Play.{Move, Ask, Done}
+use Rattle.action_eval.specs.Answers.{Given, Run, Reply, given_of, hit, asked, cuts_short}
+use Rattle.action_eval.specs.SameMeaning.{Meaning, meaning}
+use Rattle.target_trait.specs.declared.judgement.Judgement.TheVariants.{Kept}
+use Rattle.target_trait.specs.Play.{Move, Ask, Done, move_in}
 use Rattle.target_trait.specs.Outcomes.{play, moved}
 use Rattle.action_eval.specs.declared.rig.Kind.{Kind}
 use Rattle.plan_gen.specs.LoopRuns.{times_of, times, IsMetAlike}
 use Rattle.action_eval.specs.Rigging.{rigging, rig}
 use Rattle.plan_gen.proofs.Lists.{fold_append}
 
--- two runs of the same hits are answered alike, as long as point p is asked fewer than k times
+-- two runs of the same hits mean the same, as long as point p is asked fewer than k times
 abbrev pub RunsAlike : Given → Given → ℕ → ℕ → Type 0
-RunsAlike rigged clean p k = (hits : List ℕ) → times p (take clean.limit hits) < k → replies (record { given = rigged; hits = hits }) ≡ replies (record { given = clean; hits = hits })
+RunsAlike rigged clean p k = (hits : List ℕ) → times p (take clean.limit hits) < k → meaning (record { given = rigged; hits = hits }) ≡ meaning (record { given = clean; hits = hits })
 
 -- until the rigged hit, a run is the clean run
 abbrev pub IsCleanBefore : List (List ℕ) → ℕ → ℕ → Kind → Type 0
@@ -56,7 +58,7 @@ more_move p c (Done j) r further h k = h
 play_more : (n : ℕ) (asks : List Reply → Move) (p c : ℕ) (r : Run) → c ≤ times p (asked r) → c ≤ times p (asked (play n asks r))
 unfolding play
 play_more zero asks p c r h = h
-play_more (suc n) asks p c r h = more_move p c (asks (replies r)) r (λ q. play n asks (hit r q)) h (λ q. play_more n asks p c (hit r q) (trans _ _ _ h (asked_more p q r)))
+play_more (suc n) asks p c r h = more_move p c (move_in asks r) r (λ q. play n asks (hit r q)) h (λ q. play_more n asks p c (hit r q) (trans _ _ _ h (asked_more p q r)))
 
 alike_move : (p k : ℕ) (m : Move) (r s : Run) (f g : ℕ → Run) → asked r ≡ asked s → ((q : ℕ) → nat_le k (times p (asked (f q))) ≡ nat_le k (times p (asked (g q)))) → nat_le k (times p (asked (moved m r f))) ≡ nat_le k (times p (asked (moved m s g)))
 alike_move p k (Ask q) r s f g e h = h q
@@ -73,8 +75,8 @@ alike zero asks s names seed limit p k law hits few = refl
 alike (suc n) asks s names seed limit p k law hits few =
     let g = given_of s names seed 0 limit in
     let c = given_of [] names seed 0 limit in
-    ap (λ m. nat_le k (times p (asked (moved m (run_of g hits) (λ q. play n asks (hit (run_of g hits) q)))))) (ap asks (law hits few))
-    ∙ alike_move p k (asks (replies (run_of c hits))) (run_of g hits) (run_of c hits) (λ q. play n asks (hit (run_of g hits) q)) (λ q. play n asks (hit (run_of c hits) q)) refl
+    ap (λ m. nat_le k (times p (asked (moved m (run_of g hits) (λ q. play n asks (hit (run_of g hits) q)))))) (ap (λ (x : Meaning). cond (cuts_short x.stop) (Done Kept) (asks x.replies)) (law hits few))
+    ∙ alike_move p k (move_in asks (run_of c hits)) (run_of g hits) (run_of c hits) (λ q. play n asks (hit (run_of g hits) q)) (λ q. play n asks (hit (run_of c hits) q)) refl
     (λ q. elim (cases_lt (times p (take limit (hits ++ q ∷ []))) k) [
       | inl less ↦ alike n asks s names seed limit p k law (hits ++ q ∷ []) less
       | inr met ↦ le-leb k _ (play_more n asks p k (run_of g (hits ++ q ∷ [])) met) ∙ sym (le-leb k _ (play_more n asks p k (run_of c (hits ++ q ∷ [])) met))

@@ -34,6 +34,8 @@ impl<T: Target> Target for Counting<T> {
 
     ghost asks = { T.asks };
 
+    ghost has_cut = { T.has_cut };
+
     fn label(&self) -> &'static str {
         self.target.label()
     }

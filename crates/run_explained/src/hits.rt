@@ -92,17 +92,15 @@ pub fn write_hits(
     write_counted(out, catalogue, counts.as_mut_slice(), hits)
 }
 
-/// What the first hit that stops stops.
+/// What the last hit that stops stops: a power cut is asked after a panic too.
 fn stopped_by(hits: &[Answered<'_>]) -> Option<Stop>
     ensures { result ≡ stopped_by hits.now }
 {
+    let mut stopped = None;
     for hit in hits {
-        let stop = hit.stop();
-        if stop.is_some() {
-            return stop;
-        }
+        stopped = hit.stop().or(stopped);
     }
-    None
+    stopped
 }
 
 pub fn write_stop(

@@ -1,4 +1,4 @@
-//! Runs of the journal, on two transactions, of two records and of one.
+//! Runs of the journal, on two transactions, of two records and of one, and with power cuts that keep some of what is pending.
 
 use journal_target::{Journal, LOST, Records, TORN, Transactions, Variant};
 use scenario_grammar::print;
@@ -7,13 +7,15 @@ use std::alloc::{AllocError, Global};
 use std::process::Abort;
 use std::test::Fail;
 use target_checks::{first_failure, outcome_of};
-use target_trait::{ByTable, Target, Verdict};
+use target_trait::{ByTable, Target, Verdict, WithCut};
 
 const APPEND: u32 = 0;
 
-const APPEND_COMMIT: u32 = 1;
+const COMMIT: u32 = 1;
 
 const SYNC: u32 = 2;
+
+const KEEP: u32 = 3;
 
 fn records(alloc: Global, texts: &[&str]) -> Result<Records, AllocError> {
     let mut records = Vec::new(alloc);
@@ -27,6 +29,14 @@ fn two(alloc: Global) -> Result<Transactions, AllocError> {
     let mut transactions = Vec::new(alloc);
     transactions.push(records(alloc, &["a", "bc"])?)?;
     transactions.push(records(alloc, &["d"])?)?;
+    Ok(Transactions::new(transactions))
+}
+
+fn three(alloc: Global) -> Result<Transactions, AllocError> {
+    let mut transactions = Vec::new(alloc);
+    transactions.push(records(alloc, &["a", "bc"])?)?;
+    transactions.push(records(alloc, &["d"])?)?;
+    transactions.push(records(alloc, &["e", "f"])?)?;
     Ok(Transactions::new(transactions))
 }
 
@@ -48,13 +58,7 @@ fn asks(
 }
 
 const ALL: &[u32] = &[
-    APPEND,
-    APPEND,
-    APPEND_COMMIT,
-    SYNC,
-    APPEND,
-    APPEND_COMMIT,
-    SYNC,
+    APPEND, APPEND, SYNC, COMMIT, SYNC, APPEND, SYNC, COMMIT, SYNC,
 ];
 
 // The first transaction is given up at its second record, the second goes on.
@@ -62,24 +66,42 @@ const SECOND_FAILS: &str = "journal::append=1*off->1*return";
 
 const NO_SYNC: &str = "journal::sync=return";
 
+// Nothing lasts but the records of the first transaction.
+const ONE_SYNC_ALONE: &str = "journal::sync=1*off->return";
+
 // Without a commit record.
 const SHORT: &[u32] = &[APPEND, APPEND, SYNC, APPEND, SYNC];
 
+// With one sync for the records and the commit record.
+const ONE_SYNC_EACH: &[u32] = &[APPEND, APPEND, COMMIT, SYNC, APPEND, COMMIT, SYNC];
+
 // A variant and a scenario; the verdict, and the points that are asked. A later sync makes up for one that failed.
-const RUNS: [(Variant, &str, Verdict, &[u32]); 8] = [
+const RUNS: [(Variant, &str, Verdict, &[u32]); 12] = [
     (Variant::Sound, "", Verdict::Pass, ALL),
     (
         Variant::Sound,
         SECOND_FAILS,
         Verdict::Pass,
-        &[APPEND, APPEND, APPEND, APPEND_COMMIT, SYNC],
+        &[APPEND, APPEND, APPEND, SYNC, COMMIT, SYNC],
     ),
-    (Variant::Sound, NO_SYNC, Verdict::Pass, ALL),
+    (Variant::Sound, NO_SYNC, Verdict::Pass, SHORT),
+    (
+        Variant::Sound,
+        ONE_SYNC_ALONE,
+        Verdict::Pass,
+        &[APPEND, APPEND, SYNC, COMMIT, SYNC, APPEND, SYNC],
+    ),
     (Variant::EarlyAck, "", Verdict::Pass, ALL),
-    (Variant::EarlyAck, NO_SYNC, Verdict::Fail(LOST), ALL),
+    (Variant::EarlyAck, NO_SYNC, Verdict::Pass, SHORT),
     (
         Variant::EarlyAck,
-        "journal::sync=1*return",
+        ONE_SYNC_ALONE,
+        Verdict::Fail(LOST),
+        &[APPEND, APPEND, SYNC, COMMIT, SYNC, APPEND, SYNC],
+    ),
+    (
+        Variant::EarlyAck,
+        "journal::sync=1*off->1*return",
         Verdict::Pass,
         ALL,
     ),
@@ -90,6 +112,8 @@ const RUNS: [(Variant, &str, Verdict, &[u32]); 8] = [
         Verdict::Fail(TORN),
         &[APPEND, APPEND, APPEND, SYNC],
     ),
+    (Variant::OneSync, "", Verdict::Pass, ONE_SYNC_EACH),
+    (Variant::OneSync, NO_SYNC, Verdict::Pass, ONE_SYNC_EACH),
 ];
 
 #[test]
@@ -116,11 +140,144 @@ fn fails_first(
     Ok(())
 }
 
+// What is pending is lost here, so that one sync for both is as good as two.
 #[test]
-fn only_the_sound_variant_passes_each_single_fault(rt: HostRuntime) -> Result<(), Fail> {
+fn single_faults_show_two_of_the_flaws(rt: HostRuntime) -> Result<(), Fail> {
     fails_first(&rt, rt.alloc(), Variant::Sound, None)?;
-    fails_first(&rt, rt.alloc(), Variant::EarlyAck, Some(NO_SYNC))?;
-    fails_first(&rt, rt.alloc(), Variant::NoCommitRecord, Some(SECOND_FAILS))
+    fails_first(&rt, rt.alloc(), Variant::EarlyAck, Some(ONE_SYNC_ALONE))?;
+    fails_first(&rt, rt.alloc(), Variant::NoCommitRecord, Some(SECOND_FAILS))?;
+    fails_first(&rt, rt.alloc(), Variant::OneSync, None)
+}
+
+/// A run with its cut has this verdict, and the cut asks so often.
+fn comes_to(
+    rt: &impl Abort,
+    alloc: Global,
+    variant: Variant,
+    workload: &Transactions,
+    scenario: &str,
+    verdict: Verdict,
+) -> Result<usize, Fail> {
+    let mut journal = WithCut::new(ByTable::new(Journal::new(alloc, variant)));
+    let told = outcome_of(alloc, &mut journal, workload, scenario, 1000)?;
+    assert_eq!(rt; told.verdict, verdict, "at {scenario}");
+    Ok(told.asked.iter().filter(|point| **point == KEEP).count())
+}
+
+// Scenarios with what is pending at the end of their runs. First the two records and the commit record of the first transaction, where its only sync
+// halts; then the record and the commit record of the second one, where its only sync fails.
+const KEPT: [(&str, usize, Verdict); 8] = [
+    ("", 0, Verdict::Pass),
+    ("journal::sync=1*panic", 3, Verdict::Pass),
+    (
+        "journal::sync=1*panic;power::keep=2*off->1*return",
+        3,
+        Verdict::Fail(TORN),
+    ),
+    (
+        "journal::sync=1*panic;power::keep=1*off->2*return",
+        3,
+        Verdict::Fail(TORN),
+    ),
+    (
+        "journal::sync=1*panic;power::keep=2*return",
+        3,
+        Verdict::Pass,
+    ),
+    ("journal::sync=1*panic;power::keep=return", 3, Verdict::Pass),
+    (
+        "journal::sync=1*off->1*return;power::keep=1*off->1*return",
+        2,
+        Verdict::Fail(TORN),
+    ),
+    (
+        "journal::sync=1*off->1*return;power::keep=1*return",
+        2,
+        Verdict::Pass,
+    ),
+];
+
+#[test]
+fn one_sync_is_torn_where_the_commit_record_is_kept(rt: HostRuntime) -> Result<(), Fail> {
+    let workload = two(rt.alloc())?;
+    for (scenario, pending, verdict) in KEPT {
+        let asked = comes_to(
+            &rt,
+            rt.alloc(),
+            Variant::OneSync,
+            &workload,
+            scenario,
+            verdict,
+        )?;
+        assert_eq!(&rt; asked, pending, "at {scenario}");
+    }
+    Ok(())
+}
+
+// Scenarios with how many appends are pending at the end of the sound journal's runs. The records of the first transaction, where their sync halts,
+// and with them that of the second one, where each sync fails. Then the whole commit record of the first and the record of the second; and half of
+// the commit record and the record of the second.
+const PENDING: [(&str, usize); 5] = [
+    ("journal::sync=1*panic", 2),
+    ("journal::sync=return", 3),
+    ("journal::sync=1*off->1*panic", 1),
+    ("journal::sync=1*off->return", 2),
+    (
+        "journal::append_commit=1*return;journal::sync=1*off->return",
+        2,
+    ),
+];
+
+// Each set of at most three pending appends.
+const SETS: [&str; 8] = [
+    "off",
+    "1*return",
+    "1*off->1*return",
+    "2*return",
+    "2*off->1*return",
+    "1*return->1*off->1*return",
+    "1*off->2*return",
+    "return",
+];
+
+#[test]
+fn the_sound_variant_survives_each_cut(rt: HostRuntime) -> Result<(), Fail> {
+    let workload = two(rt.alloc())?;
+    for (faults, pending) in PENDING {
+        for set in SETS {
+            let scenario = format!(in rt.alloc(); "{faults};power::keep={set}")?;
+            let asked = comes_to(
+                &rt,
+                rt.alloc(),
+                Variant::Sound,
+                &workload,
+                &scenario,
+                Verdict::Pass,
+            )?;
+            assert_eq!(&rt; asked, pending, "at {scenario}");
+        }
+    }
+    Ok(())
+}
+
+// The first transaction is given up at its second record, which is written by half, and the second one at its commit record, of which the mark alone is
+// written. The mark is kept, the record behind it is lost, and the one behind that is kept: the mark is followed by zeros, which are the number of no
+// transaction. Were the first one numbered 0, it would be taken for committed.
+#[test]
+fn lost_bytes_commit_no_transaction(rt: HostRuntime) -> Result<(), Fail> {
+    let shown = "journal::append=1*off->1*return;journal::append_commit=1*return;\
+                 journal::sync=1*off->1*panic;power::keep=1*return->1*off->1*return";
+    let workload = three(rt.alloc())?;
+    let asked = comes_to(
+        &rt,
+        rt.alloc(),
+        Variant::Sound,
+        &workload,
+        shown,
+        Verdict::Pass,
+    )?;
+    assert_eq!(&rt; asked, 3);
+    Ok(())
 }
 
 #[test]

@@ -11,8 +11,18 @@ mod devices;
 #[cfg(test)]
 mod journals;
 #[cfg(test)]
+mod kept_mail;
+#[cfg(test)]
+mod kept_records;
+#[cfg(test)]
+mod kept_writes;
+#[cfg(test)]
+mod shelf;
+#[cfg(test)]
 mod sinks;
 #[cfg(test)]
 mod stores;
 #[cfg(test)]
 mod transfers;
+#[cfg(test)]
+mod with_cuts;

@@ -4,3 +4,6 @@ pub mod Never
 pub mod Running
 pub mod Machine
 pub mod Tables
+pub mod Halted
+pub mod CutPlays
+pub mod CutRuns

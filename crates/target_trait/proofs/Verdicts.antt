@@ -1,14 +1,15 @@
 -- Verdicts of plays, and plays of scenarios of the same meaning.
-use Rattle.std.proofs.Common.{◌≡◌, ℕ, zero, suc, ◌+◌, ◌≤◌, List, [], ◌∷◌, ◌++◌, length, refl, ap, sym, ◌∙◌, Option}
+use Rattle.std.proofs.Common.{◌≡◌, ℕ, zero, suc, ◌+◌, ◌≤◌, cond, List, [], ◌∷◌, ◌++◌, length, refl, ap, sym, ◌∙◌, Option}
 use Rattle.scenario_values.specs.Scenario.{Entries}
 use Rattle.action_eval.specs.declared.answer.Stop.{Stop}
-use Rattle.action_eval.specs.Answers.{Run, Reply, given_of, run_of, hit, replies, stopped}
+use Rattle.action_eval.specs.Answers.{Run, Reply, given_of, run_of, hit, replies, stopped, cuts_short}
 use Rattle.action_eval.specs.SameMeaning.{Meaning, MeansTheSame, meaning_of}
 use Rattle.target_trait.specs.declared.judgement.Judgement.{Judgement}
 use Rattle.target_trait.specs.declared.judgement.Verdict.{Verdict}
-use Rattle.target_trait.specs.Play.{Move, Ask, Done, IsPlay}
+use Rattle.target_trait.specs.declared.judgement.Judgement.TheVariants.{Kept}
+use Rattle.target_trait.specs.Play.{Move, Ask, Done, IsCutPlay, move_in}
 use Rattle.target_trait.specs.Outcomes.{play, moved, Told, told, outcome, verdict_of, verdict_with, SameVerdicts}
-use Rattle.target_trait.proofs.Plays.{told_is}
+use Rattle.target_trait.proofs.Plays.{told_is, judged_so}
 
 -- the verdict of a case is that of its outcome
 pub verdict_is : (asks : List Reply → Move) (names : List (List ℕ)) (seed limit stream : ℕ) (scenario : Entries)
@@ -18,10 +19,10 @@ verdict_is asks names seed limit stream scenario = refl
 
 -- what is judged of a whole run is the verdict of its case
 pub verdict_told : (asks : List Reply → Move) (names : List (List ℕ)) (seed limit stream : ℕ) (scenario : Entries) (r : Run) (j : Judgement) (stop : Option Stop) (v : Verdict)
-    → r.given ≡ given_of scenario names seed stream limit → IsPlay asks r j → length r.hits ≤ r.given.limit + 1 → v ≡ verdict_of stop (Done j) → stop ≡ stopped r
+    → r.given ≡ given_of scenario names seed stream limit → IsCutPlay asks r j → length r.hits ≤ r.given.limit + 1 → v ≡ verdict_of stop (Done j) → stop ≡ stopped r
     → v ≡ verdict_with asks names seed limit stream scenario
 verdict_told asks names seed limit stream scenario r j stop v given is few judged stops =
-    judged ∙ ap (λ s. verdict_of s (Done j)) stops ∙ ap (verdict_of (stopped r)) (sym is.ended)
+    judged ∙ ap (λ s. verdict_of s (Done j)) stops ∙ judged_so asks r j is
     ∙ ap (λ (t : Told). t.verdict) (told_is asks r j (given_of scenario names seed stream limit) given is few)
     ∙ sym (verdict_is asks names seed limit stream scenario)
 
@@ -45,8 +46,8 @@ played_same asks names seed stream limit s t same zero hits = ap (told_by asks) 
 played_same asks names seed stream limit s t same (suc n) hits =
     let r : Run = run_of s names seed stream limit hits in
     let q : Run = run_of t names seed stream limit hits in
-    ap (λ (m : Meaning). told asks (moved (asks m.replies) r (λ p. play n asks (hit r p)))) (same.at hits)
-    ∙ moved_same asks (asks (replies q)) r q (λ p. play n asks (hit r p)) (λ p. play n asks (hit q p)) (ap (told_by asks) (same.at hits))
+    ap (λ (m : Meaning). told asks (moved (cond (cuts_short m.stop) (Done Kept) (asks m.replies)) r (λ p. play n asks (hit r p)))) (same.at hits)
+    ∙ moved_same asks (move_in asks q) r q (λ p. play n asks (hit r p)) (λ p. play n asks (hit q p)) (ap (told_by asks) (same.at hits))
     (λ p. played_same asks names seed stream limit s t same n (hits ++ p ∷ []))
 
 -- scenarios of the same meaning have the same outcome

@@ -6,3 +6,5 @@ pub mod Outcomes
 pub mod Output
 pub mod Failing
 pub mod Verdicts
+pub mod Cuts
+pub mod CutLaws

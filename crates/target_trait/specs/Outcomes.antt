@@ -8,17 +8,18 @@ use Rattle.action_eval.specs.Answers.{Given, Run, Reply, given_of, hit, start, r
 use Rattle.target_trait.specs.declared.judgement.Judgement.TheVariants as judgement
 use Rattle.target_trait.specs.declared.judgement.Verdict.{Verdict}
 use Rattle.target_trait.specs.declared.judgement.Verdict.TheVariants as verdict
-use Rattle.target_trait.specs.Play.{Move, Ask, Done}
+use Rattle.target_trait.specs.Play.{Move, Ask, Done, move_in}
 
 -- the run after a move: what is asked is hit
 abbrev pub moved : Move → Run → (ℕ → Run) → Run
 moved (Ask p) r further = further p
 moved (Done j) r further = r
 
--- the play from a run on, of at most n more hits: while a point is asked after the answers so far, it is hit
+-- the play from a run on, of at most n more hits: while a point is asked after the answers so far, it is hit, unless a pause or the limit cut the
+-- run short
 unfoldable pub play : ℕ → (List Reply → Move) → Run → Run
 play zero asks r = r
-play (suc n) asks r = moved (asks (replies r)) r (λ p. play n asks (hit r p))
+play (suc n) asks r = moved (move_in asks r) r (λ p. play n asks (hit r p))
 
 -- the verdict of a judgement
 abbrev pub judged : Move → Verdict
@@ -51,8 +52,7 @@ told asks r = record {
   words = words_of (history_of r);
 }
 
--- the outcome: what is told of the whole play. The hit past the limit is answered by a halt, after which nothing is asked, so a play has at
--- most limit + 1 hits.
+-- the outcome: what is told of the whole play. The hit past the limit cuts the run short, so a play has at most limit + 1 hits.
 abbrev pub outcome : (List Reply → Move) → Given → Told
 outcome asks g = told asks (play (suc g.limit) asks (start g))
 

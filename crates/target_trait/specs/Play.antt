@@ -1,7 +1,8 @@
 -- What a target asks, and the runs that ask just that.
-use Rattle.std.specs.Prelude.{◌≡◌, ℕ, ◌<◌, List, [], ◌∷◌, ◌++◌, Option, Some, None}
+use Rattle.std.specs.Prelude.{◌≡◌, ℕ, ◌<◌, Bool, true, false, List, [], ◌∷◌, ◌++◌, Option, Some, None, if◌then◌else◌}
 use Rattle.target_trait.specs.declared.judgement.Judgement.{Judgement}
-use Rattle.action_eval.specs.Answers.{Given, Run, Reply, replies, stopped}
+use Rattle.target_trait.specs.declared.judgement.Judgement.TheVariants.{Kept}
+use Rattle.action_eval.specs.Answers.{Given, Run, Reply, replies, stopped, is_cut_short}
 
 -- what comes next: a question, or the end with a judgement
 pub data Move : Type 0 where
@@ -12,6 +13,11 @@ pub data Move : Type 0 where
 abbrev pub move_by : Judgement → Option ℕ → Move
 move_by j (Some p) = Ask p
 move_by j None = Done j
+
+-- what comes next in a run: what is asked after its answers. A run that a pause or the limit cut short is over, and whatever it is judged, it is
+-- unresolved
+abbrev pub move_in : (List Reply → Move) → Run → Move
+move_in asks r = if is_cut_short r then Done Kept else asks (replies r)
 
 -- nothing has stopped a run that has a question left
 abbrev pub IsRunning : Option ℕ → Run → Type 0
@@ -37,3 +43,30 @@ IsWithin points (Done j) = Unit {0}
 abbrev pub IsDone : Move → Type 0
 IsDone (Ask p) = ⊥
 IsDone (Done j) = Unit {0}
+
+-- ---- runs whose power cut is asked, also after a panic
+
+-- the same as `Follows`, of hits none of which comes after the run was cut short
+abbrev pub FollowsOn : (List Reply → Move) → Given → List ℕ → List ℕ → Type 0
+FollowsOn asks g done [] = Unit {0}
+FollowsOn asks g done (p ∷ ps) = (move_in asks (record { given = g; hits = done }) ≡ Ask p) × FollowsOn asks g (done ++ p ∷ []) ps
+
+-- a run is over with this judgement; one that was cut short with any
+abbrev pub EndsSo : Bool → Move → Judgement → Type 0
+EndsSo true move judgement = Unit {0}
+EndsSo false move judgement = move ≡ Done judgement
+
+-- a whole run, in which just the points that were asked were hit, up to the end or to where it was cut short
+pub record IsCutPlay (asks : List Reply → Move) (r : Run) (judgement : Judgement) : Type 0 where
+  pub asked : FollowsOn asks r.given [] r.hits
+  pub ended : EndsSo (is_cut_short r) (asks (replies r)) judgement
+
+-- a whole run, of what asks its power cut or of what doesn't
+abbrev pub IsWhole : Bool → (List Reply → Move) → Run → Judgement → Type 0
+IsWhole true asks r judgement = IsCutPlay asks r judgement
+IsWhole false asks r judgement = IsPlay asks r judgement
+
+-- what may come after a halt: no question, but those of a power cut
+abbrev pub MayFollowHalt : Bool → Move → Type 0
+MayFollowHalt true move = Unit {0}
+MayFollowHalt false move = IsDone move

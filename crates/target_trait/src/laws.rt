@@ -1,10 +1,11 @@
 //! Laws on outcomes, as contracts of functions that do nothing.
-ghost use Rattle.std.specs.Prelude.{◌≡◌, ℕ, List};
+ghost use Rattle.std.specs.Prelude.{◌≡◌, ◌++◌, ℕ, Bool, List, [], map, length};
 ghost use Rattle.scenario_values.specs.Scenario.{Entries};
 ghost use Rattle.action_eval.specs.Answers.{Reply, given_of};
 ghost use Rattle.action_eval.specs.SameMeaning.{MeansTheSame, meaning_of};
 ghost use Rattle.target_trait.specs.Outcomes.{outcome, verdict_with, SameVerdicts};
-ghost use Rattle.target_trait.specs.Play.{Move};
+ghost use Rattle.target_trait.specs.Play.{Move, Done, IsDone};
+ghost use Rattle.target_trait.specs.Cuts.{Cut, AsksAll, asks_with, cut_asks, answer_to, no_cut};
 
 /// The verdict of a case is that of its outcome.
 pub fn verdict_of_outcome()
@@ -19,4 +20,15 @@ pub fn same_meaning_same_outcome()
         → ((hits : List ℕ) → meaning_of s names seed stream limit hits ≡ meaning_of t names seed stream limit hits)
         → outcome asks (given_of s names seed stream limit) ≡ outcome asks (given_of t names seed stream limit) }
     ensures verdicts { (s t : Entries) → MeansTheSame s t → SameVerdicts s t }
+{}
+
+/// What the cut adds to what a target asks. After the target's own answers the cut asks, also after a halt; each set of pending writes is judged,
+/// by the answers that keep it; and where nothing is pending, what is asked is what the target asks.
+pub fn cut_asks_after_the_target()
+    ensures follows { (asks : List Reply → Move) (cut : Cut) (point : ℕ) (own answers : List Reply) → AsksAll asks [] own → IsDone (asks own)
+        → asks_with asks cut point (own ++ answers) ≡ cut_asks cut point own answers }
+    ensures each { (asks : List Reply → Move) (cut : Cut) (point : ℕ) (own : List Reply) (keep : List Bool) → AsksAll asks [] own → IsDone (asks own)
+        → length keep ≡ cut.pending own → asks_with asks cut point (own ++ map answer_to keep) ≡ Done (cut.judge own keep) }
+    ensures unchanged { (asks : List Reply → Move) (point : ℕ) (answers : List Reply) → AsksAll asks [] answers
+        → asks_with asks (no_cut asks) point answers ≡ asks answers }
 {}

@@ -2,6 +2,7 @@
 #![tactic(auto)]
 
 mod case;
+mod crash;
 mod judgement;
 mod laws;
 mod output;
@@ -11,8 +12,9 @@ mod telling;
 
 pub use action_eval::{Answer, Note, Session, Stop};
 pub use case::{Case, Outcome, run_case, run_session, run_verdict};
+pub use crash::{CrashProtocol, CrashTarget, WithCut, ask_cut};
 pub use judgement::{Judgement, Verdict};
-pub use laws::{same_meaning_same_outcome, verdict_of_outcome};
+pub use laws::{cut_asks_after_the_target, same_meaning_same_outcome, verdict_of_outcome};
 pub use output::{Out, Sink};
 pub use protocol::{ByTable, Protocol};
 pub use target::Target;

@@ -1,5 +1,5 @@
 //! Components that are told by a table of their steps.
-ghost use Rattle.std.specs.Prelude.{◌≡◌, ◌+◌, ◌-◌, ℕ, List, None, false, length, option_map, IfOk, OnOk};
+ghost use Rattle.std.specs.Prelude.{◌≡◌, ◌+◌, ◌-◌, ◌≤◌, ℕ, List, None, false, length, option_map, IfOk, OnOk};
 ghost use Rattle.std.proofs.Common.{rules};
 ghost use Rattle.action_eval.specs.Answers.{replies, start, texts};
 ghost use Rattle.action_eval.specs.Catalogue.{IsCatalogue};
@@ -86,14 +86,15 @@ pub trait Protocol: Sized + Drop {
     ghost lawful: { IsCatalogue names };
 }
 
-/// Plays a run by a table, from its first state on, and answers the state in which it is judged.
+/// Plays a run by a table, from its first state on, and answers the state in which it is judged. The session's points may be more than those of the
+/// table.
 pub fn play_out<P: Protocol>(
     protocol: &P,
     workload: &P::Workload,
     session: &mut Session<'_>,
 ) -> Result<P::State, AllocError>
     requires new { session.old ≡ start session.old.given }
-    requires points { session.old.given.catalogue ≡ P.names }
+    requires points { length P.names ≤ length session.old.given.catalogue }
     ensures play { IfOk result (λ state. IsPlay (asks_by (by_table (P.table protocol.now workload.now))) session.new
         ((P.table protocol.now workload.now).judge state)) }
     ensures state { IfOk result (λ state. state ≡ state_after (P.table protocol.now workload.now) (replies session.new)) }

@@ -1,8 +1,8 @@
 //! What is run under faults.
-ghost use Rattle.std.specs.Prelude.{◌≡◌, ℕ, List, [], ◌∷◌, ◌++◌, length, IfOk};
+ghost use Rattle.std.specs.Prelude.{◌≡◌, ℕ, Bool, false, List, [], ◌∷◌, ◌++◌, length, IfOk};
 ghost use Rattle.action_eval.specs.Answers.{Reply, Halt, start, texts};
 ghost use Rattle.action_eval.specs.Catalogue.{IsCatalogue};
-ghost use Rattle.target_trait.specs.Play.{Move, IsPlay, IsWithin, IsDone};
+ghost use Rattle.target_trait.specs.Play.{Move, IsWhole, IsWithin, MayFollowHalt};
 
 use crate::judgement::Judgement;
 use action_eval::Session;
@@ -54,6 +54,10 @@ pub trait Target: Sized + Drop {
     // What comes next, for a setup and a workload, after these answers.
     ghost asks: { Self → Self.Workload → List Reply → Move };
 
+    // Whether the power cut at the end of a run is among what is asked, also after a halt. A target of one's own leaves this out: `WithCut` makes
+    // one with its cut of it.
+    ghost has_cut: { Bool } = { false };
+
     /// A text for the setup, which stands in reports.
     fn label(&self) -> &'static str
         ensures { result.now ≡ label_of self.now };
@@ -80,7 +84,7 @@ pub trait Target: Sized + Drop {
     ) -> Result<Judgement, AllocError>
         requires new { session.old ≡ start session.old.given }
         requires points { session.old.given.catalogue ≡ names }
-        ensures play { IfOk result (IsPlay (asks self.old workload.now) session.new) }
+        ensures play { IfOk result (IsWhole has_cut (asks self.old workload.now) session.new) }
         ensures given { session.new.given ≡ session.old.given }
         ensures setup { self.new ≡ self.old };
 
@@ -88,9 +92,9 @@ pub trait Target: Sized + Drop {
     ghost within: { (setup : Self) (workload : Self.Workload) (answers : List Reply)
         → IsWithin (length names) (asks setup workload answers) };
 
-    // No question follows a halt.
+    // No question follows a halt, but those of a power cut.
     ghost halts: { (setup : Self) (workload : Self.Workload) (before after : List Reply)
-        → IsDone (asks setup workload (before ++ Halt ∷ after)) };
+        → MayFollowHalt has_cut (asks setup workload (before ++ Halt ∷ after)) };
 
     // The catalogue has 1 to 64 distinct lawful names of at most 200 bytes.
     ghost lawful: { IsCatalogue names };

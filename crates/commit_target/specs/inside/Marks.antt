@@ -6,8 +6,7 @@ use Rattle.commit_target.specs.declared.judge.Ends.{Ends}
 use Rattle.commit_target.specs.declared.records.Record.{Record}
 use Rattle.commit_target.specs.declared.records.Kind.{Kind}
 use Rattle.commit_target.specs.declared.records.Kind.TheVariants.{Prepare, Commit, Abort, End}
-use Rattle.commit_target.specs.Writes.{Event}
-use Rattle.commit_target.specs.Judgement.{has, some_ends, is_committed, known, own, was_told}
+use Rattle.commit_target.specs.Judgement.{has, some_ends, is_committed, was_told}
 
 -- whether the transaction at a place is in a set
 abbrev pub among : ℕ → ℕ → Bool
@@ -25,9 +24,9 @@ abbrev pub AreMarks : List ℕ → List Record → ℕ → Type 0
 AreMarks sets log first = (kind : Kind) (k : ℕ) → k < 64 → among (slice_index sets (place_of kind)) k ≡ has log (first + k) kind
 
 -- how 64 transactions from a first one on end: which a participant commits, which one aborts, and of which the client was told
-pub record EndsOf (participants : ℕ) (told : List ℕ) (es : List Event) (ends : Ends) : Type 0 where
-  pub committed : (k : ℕ) → k < 64 → among ends.committed k ≡ some_ends (λ n. is_committed (known es) (own es n) (ends.first + k)) true participants
-  pub aborted : (k : ℕ) → k < 64 → among ends.aborted k ≡ some_ends (λ n. is_committed (known es) (own es n) (ends.first + k)) false participants
+pub record EndsOf (participants : ℕ) (told : List ℕ) (known : List Record) (own : ℕ → List Record) (ends : Ends) : Type 0 where
+  pub committed : (k : ℕ) → k < 64 → among ends.committed k ≡ some_ends (λ n. is_committed known (own n) (ends.first + k)) true participants
+  pub aborted : (k : ℕ) → k < 64 → among ends.aborted k ≡ some_ends (λ n. is_committed known (own n) (ends.first + k)) false participants
   pub told_so : (k : ℕ) → k < 64 → among ends.told k ≡ was_told told (ends.first + k)
 
 -- a log that stands for some effects, with its sets, of the first 64 transactions

@@ -1,24 +1,24 @@
 -- What the values of a run say: how far it has come, and what of it stands in the logs.
 use Rattle.commit_target.specs.declared.work.Vote.{Vote}
 use Rattle.commit_target.specs.declared.work.Vote.TheVariants.{Yes, No}
-use Rattle.std.specs.Prelude.{◌<◌, ◌+◌, length, [], ◌∷◌, ℕ, ◌≡◌, Bool, true, false, List, Option, None, Result, Ok, Err, slice_index_or}
+use Rattle.std.specs.Prelude.{◌<◌, ◌≤◌, ◌+◌, length, [], ◌∷◌, ℕ, ◌≡◌, Bool, true, false, List, Option, None, Result, Ok, Err, slice_index_or}
 use Rattle.action_eval.specs.Answers.{Run, stopped}
 use Rattle.target_trait.specs.Machine.{Reached}
 use Rattle.commit_target.specs.declared.cut.Cut.{Cut}
-use Rattle.commit_target.specs.declared.cut.Cut.TheVariants.{Halted, Refused}
+use Rattle.commit_target.specs.declared.cut.Cut.TheVariants as cut
 use Rattle.commit_target.specs.declared.variant.Variant.{Variant}
 use Rattle.commit_target.specs.declared.records.Write.{Write}
-use Rattle.commit_target.specs.Words.{point_names, send_prepare_point, force_prepare_point, send_vote_point}
+use Rattle.commit_target.specs.Words.{send_prepare_point, force_prepare_point, send_vote_point}
 use Rattle.commit_target.specs.Words.{send_outcome_point, force_outcome_point, send_ack_point}
 use Rattle.commit_target.specs.Work.{Work, wish}
 use Rattle.commit_target.specs.Writes.{Event, AllLogs, LogsStandFor}
 use Rattle.commit_target.specs.Steps.{abort_to, commit_to, end_unless, one_of, prepare_to, Tally, State, machine}
-use Rattle.commit_target.specs.Steps.{on_go, on_return, go_write, return_write, with_write}
+use Rattle.commit_target.specs.Steps.{on_go, on_return, go_write, then_write, return_write, with_write}
 
--- what is so where a run was halted; where memory was refused, nothing is said
+-- what is so where a run is over; where memory was refused, nothing is said
 abbrev pub OnCut : Cut → Type 0 → Type 0
-OnCut Halted halted = halted
-OnCut Refused halted = Unit {0}
+OnCut cut.Over halted = halted
+OnCut cut.Refused halted = Unit {0}
 
 abbrev pub Leads : {X : Type 0} → Result X Cut → (X → Type 0) → Type 0 → Type 0
 Leads (Ok x) on halted = on x
@@ -26,15 +26,18 @@ Leads (Err cut) on halted = OnCut cut halted
 
 -- a run that nothing has stopped has come to this state
 pub record Here (v : Variant) (w : Work) (r : Run) (s : State) : Type 0 where
-  pub points : r.given.catalogue ≡ point_names
+  pub points : 7 ≤ length r.given.catalogue
   pub running : stopped r ≡ None
   pub reached : Reached (machine v w) r s
 
--- the steps have come this far, and the logs too, but for this write
-pub record Due (v : Variant) (w : Work) (r : Run) (t : Tally) (write : Option Write) (logs : AllLogs) : Type 0 where
+-- the steps have come this far, and the logs too, but for these writes
+pub record BothDue (v : Variant) (w : Work) (r : Run) (t : Tally) (first second : Option Write) (logs : AllLogs) : Type 0 where
   pub events : List Event
-  pub here : Here v w r (record { tally = t; events = with_write write events })
+  pub here : Here v w r (record { tally = t; events = with_write second (with_write first events) })
   pub written : LogsStandFor w.participants logs events
+
+abbrev pub Due : Variant → Work → Run → Tally → Option Write → AllLogs → Type 0
+Due v w r t write logs = BothDue v w r t write None logs
 
 abbrev pub Stands : Variant → Work → Run → Tally → AllLogs → Type 0
 Stands v w r t logs = Due v w r t None logs
@@ -47,7 +50,7 @@ pub record Ended (v : Variant) (w : Work) (r : Run) (t : Tally) (logs : AllLogs)
 
 -- what an answer leads to: to go on, or that what was asked fails
 abbrev pub Answered : Variant → Work → Run → Tally → AllLogs → Bool → Type 0
-Answered v w r t logs true = Due v w r (on_go w t t.step) (go_write v w t t.step) logs
+Answered v w r t logs true = BothDue v w r (on_go v w t t.step) (go_write v w t t.step) (then_write v t t.step) logs
 Answered v w r t logs false = Due v w r (on_return v w t t.step) (return_write v w t t.step) logs
 
 -- a participant is asked to prepare next, or the votes are in
@@ -69,7 +72,7 @@ vote_points = send_prepare_point ∷ force_prepare_point ∷ send_vote_point ∷
 -- a participant is told of the commit next, or the coordinator has ended it, but for its record
 abbrev pub at_commit : Variant → Work → Tally → ℕ → List Event → State
 at_commit v w t i es = record {
-  tally = commit_to w t (one_of i w.participants);
+  tally = commit_to v w t (one_of i w.participants);
   events = with_write (end_unless v t t.acknowledged (one_of i w.participants)) es;
 }
 

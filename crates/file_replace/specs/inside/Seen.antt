@@ -1,6 +1,5 @@
 -- What the values of a run say.
 use Rattle.std.specs.Prelude.{◌≡◌, ℕ, ◌+◌, List, ◌∷◌, map, take, drop}
-use Rattle.sim_device.specs.Disk.{Disk, StandsFor}
 use Rattle.sim_device.specs.FileEffects.{Effect}
 use Rattle.action_eval.specs.Answers.{Run}
 use Rattle.target_trait.specs.Play.{IsRunning}
@@ -11,7 +10,7 @@ use Rattle.file_replace.specs.declared.stage.Stage.{Stage}
 use Rattle.file_replace.specs.declared.stage.Stage.TheVariants as stage
 use Rattle.file_replace.specs.Work.{Work}
 use Rattle.file_replace.specs.Judgement.{Past}
-use Rattle.file_replace.specs.Steps.{Step, Clearing, Creating, Writing, WritingAgain, Syncing, Renaming, SyncingDir, SyncingLate, Cleaning, Over}
+use Rattle.file_replace.specs.Steps.{Step, Clearing, Creating, Writing, WritingAgain, Syncing, Renaming, SyncingRenamed, SyncingDir, SyncingLate, Cleaning, Over}
 use Rattle.file_replace.specs.Steps.{Tally, State, state, machine, point_at}
 use Rattle.file_replace.specs.inside.Left.{left}
 
@@ -22,6 +21,7 @@ step_of (stage.Writing chunk rest) = Writing chunk.now (left rest)
 step_of (stage.WritingAgain chunk rest) = WritingAgain chunk.now (left rest)
 step_of stage.Syncing = Syncing
 step_of stage.Renaming = Renaming
+step_of stage.SyncingRenamed = SyncingRenamed
 step_of stage.SyncingDir = SyncingDir
 step_of stage.SyncingLate = SyncingLate
 step_of stage.Cleaning = Cleaning
@@ -40,13 +40,13 @@ abbrev pub past_of : List (List ℕ) → ℕ → ℕ → Past
 past_of contents acknowledged begun = record { allowed = contents_between acknowledged begun contents; known = contents_between 0 begun contents }
 
 -- the code has come this far
-pub record Shows (s : State) (t : Tally) (d : Disk) : Type 0 where
+pub record Shows {D : Type 0} (stands : D → List Effect → Type 0) (s : State) (t : Tally) (d : D) : Type 0 where
   pub tally : t ≡ s.tally
-  pub device : StandsFor d s.effects
+  pub device : stands d s.effects
 
 -- a run has come this far, with a device that holds what the protocol says
-pub record Played (v : Variant) (w : Work) (r : Run) (t : Tally) (d : Disk) : Type 0 where
+pub record Played {D : Type 0} (stands : D → List Effect → Type 0) (v : Variant) (w : Work) (r : Run) (t : Tally) (d : D) : Type 0 where
   pub effects : List Effect
   pub reached : Reached (machine v w) r (state t effects)
-  pub device : StandsFor d effects
+  pub device : stands d effects
   pub running : IsRunning (point_at t.step) r

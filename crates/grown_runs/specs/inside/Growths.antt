@@ -1,9 +1,9 @@
 -- What a worker hands back of plans that it has run, one after another.
-use Rattle.std.specs.Prelude.{◌≡◌, ℕ, ◌+◌, ◌*◌, ◌≤◌, ◌^◌, List, [], map, length}
+use Rattle.std.specs.Prelude.{◌≡◌, ℕ, List, [], map, length}
 use Rattle.action_eval.specs.declared.rig.Rig.{Rig}
 use Rattle.grown_plans.specs.GrownPlans.{Subject}
 use Rattle.target_trait.specs.declared.target.Target.{Ghosts}
-use Rattle.grown_plans.specs.Kept.{Grew, GrewFrom, plan_of}
+use Rattle.grown_plans.specs.Kept.{GrewFrom, plan_of}
 use Rattle.grown_runs.specs.declared.course.Part.{Part}
 use Rattle.grown_runs.specs.declared.course.Place.{Place}
 use Rattle.grown_runs.specs.declared.course.Place.TheVariants.{Inner, Last, Onward}

@@ -1,17 +1,18 @@
 -- Plans as a list keeps them, grown from what is told of runs; the private contracts cite it.
 use Rattle.std.specs.Prelude.{ℕ, zero, suc, ◌+◌, Bool, false, List, [], ◌++◌, Option, None, Some, slice_index_or}
 use Rattle.action_eval.specs.declared.rig.Rig.{Rig}
+use Rattle.action_eval.specs.declared.rig.Kind.{Kind}
 use Rattle.grown_plans.specs.Kept.{Grew, kept_children}
 use Rattle.grown_plans.specs.AskedPoints.{is_asked_again}
 use Rattle.known_runs.specs.Known.{KnownRuns, hits_of}
 use Rattle.known_runs.specs.ToldPart.{onward_told}
 
-abbrev pub kept_told : ℕ → List Rig → Option (List ℕ) → List Grew
-kept_told n plan None = []
-kept_told n plan (Some hits) = kept_children n plan hits
+abbrev pub kept_told : (ℕ → List Kind) → ℕ → List Rig → Option (List ℕ) → List Grew
+kept_told kinds n plan None = []
+kept_told kinds n plan (Some hits) = kept_children kinds n plan hits
 
-abbrev pub kept_known : KnownRuns → List (List Rig) → ℕ → List Grew
-kept_known known plans n = kept_told n (slice_index_or plans n []) (hits_of known (slice_index_or plans n []))
+abbrev pub kept_known : (ℕ → List Kind) → KnownRuns → List (List Rig) → ℕ → List Grew
+kept_known kinds known plans n = kept_told kinds n (slice_index_or plans n []) (hits_of known (slice_index_or plans n []))
 
 -- whether a plan's hits, where they are told, have the last fault's point once more after that fault
 abbrev pub again_told : List Rig → Option (List ℕ) → Bool
@@ -22,9 +23,9 @@ abbrev pub again_known : KnownRuns → List (List Rig) → ℕ → Bool
 again_known known plans n = again_told (slice_index_or plans n []) (hits_of known (slice_index_or plans n []))
 
 -- the children of so many plans, from a number on
-abbrev pub kept_over : KnownRuns → List (List Rig) → ℕ → ℕ → List Grew
-kept_over known plans first zero = []
-kept_over known plans first (suc count) = kept_known known plans first ++ kept_over known plans (first + 1) count
+abbrev pub kept_over : (ℕ → List Kind) → KnownRuns → List (List Rig) → ℕ → ℕ → List Grew
+kept_over kinds known plans first zero = []
+kept_over kinds known plans first (suc count) = kept_known kinds known plans first ++ kept_over kinds known plans (first + 1) count
 
 -- and those of the plans that go onward, as plans
 abbrev pub onward_known : KnownRuns → List (List Rig) → ℕ → List (List Rig)

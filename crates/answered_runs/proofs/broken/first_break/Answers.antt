@@ -1,8 +1,7 @@
 use Rattle.std.proofs.Common.{◌<◌, ◌≤◌, ◌∙◌, List, length, arith, subst, sym}
 use Rattle.action_eval.specs.declared.rig.Rig.{Rig}
 use Rattle.answered_runs.specs.Answered.{runs_in}
-use Rattle.answered_runs.proofs.Breaks.{unbroken_more, unbroken_all}
-use Rattle.answered_runs.proofs.Lines.{short_at}
+use Rattle.answered_runs.proofs.Breaks.{short_at, unbroken_more, unbroken_all}
 use Rattle.answered_runs.proofs.broken.first_break.Goals as goal
 
 pub told_broken-requires : goal.told_broken-requires

@@ -26,7 +26,7 @@ acknowledges : (c : goal.In_ok-write) → Stands c.args.variant c.args.workload.
 acknowledges c =
     let t : Tally = at_step c.args.progress.now (SendCommit c.args.participant) in
     let u : Tally = at_step c.args.progress.now (ForceOutcome c.args.participant) in
-    written c.args.variant c.args.workload.now _ _ _ _ _
+    written c.args.variant c.args.workload.now _ _ _ _ _ _
     (goes_on _ _ _ u _ _ c.if-not-branch-2.false (c.in_ok-ask-2.ensures.answered _ _ u _ (goes_on _ _ _ t _ _ c.if-not-branch.false (c.in_ok-ask.ensures.answered _ _ t _ c.requires refl)) refl))
     _ (ap (λ (r : Record). Force (Participant c.args.participant) r) c.entry.ensures) c.in_ok-write.ensures.ok
 

@@ -1,16 +1,14 @@
-use Rattle.std.proofs.Common.{◌≡◌, [], false, None, rules, refl, ap, ◌∙◌, subst, List, ℕ}
+use Rattle.std.proofs.Common.{◌∷◌, sym, subst}
+use Rattle.sim_device.specs.FileEffects.{PowerCut}
 use Rattle.sim_device.specs.Disk.{StandsFor}
-use Rattle.action_eval.specs.Answers.{start, stopped, replies}
-use Rattle.file_replace.specs.Steps.{begun, prepared}
-use Rattle.file_replace.proofs.Playing.{played_first}
+use Rattle.file_replace.specs.Steps.{State}
+use Rattle.file_replace.proofs.Playing.{played_over}
 use Rattle.file_replace.proofs.play.play_through.Goals as goal
 
-pub loop-point-init : goal.loop-point-init
-loop-point-init c =
-    let runs : stopped c.args.session.now ≡ None = search rules in
-    let none : replies (start c.args.session.now.given) ≡ [] = search rules in
-    record {
-      given = refl;
-      played = played_first c.args.variant c.args.workload.now _ _ _ c.requires.new none runs
-          (c.begin.ensures ∙ ap (begun false) c.new-progress.ensures) (subst (λ (old : List ℕ). StandsFor c.prepare.new.device (prepared old)) c.old.ensures c.in_ok-prepare.ensures);
-    }
+pub returns-clause-play : goal.returns-clause-play
+returns-clause-play c = played_over _ _ _ _ _ c.in_ok-progress.ensures.played c.in_ok-progress.ensures.over _ c.judge.ensures.judged
+
+pub returns-clause-left : goal.returns-clause-left
+returns-clause-left c =
+    let k = c.in_ok-progress.ensures.played in
+    subst (λ (s : State). StandsFor c.judge.new.device (PowerCut ∷ s.effects)) (sym k.reached.here) (c.judge.ensures.cut k.effects k.device)

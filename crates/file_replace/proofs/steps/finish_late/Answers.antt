@@ -1,4 +1,4 @@
 use Rattle.file_replace.proofs.steps.finish_late.Goals as goal
 
 pub returns : goal.returns
-returns c = λ es h. c.finish.ensures _ (c.sync.ensures es h)
+returns g c = λ es h. c.finish.ensures _ (c.sync.ensures es h)

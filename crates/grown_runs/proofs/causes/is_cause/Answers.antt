@@ -1,4 +1,4 @@
-use Rattle.std.proofs.Common.{◌≡◌, ◌∙◌, ap, sym, subst, arith, not, true, false}
+use Rattle.std.proofs.Common.{◌∙◌, ap, sym, subst, not}
 use Rattle.action_eval.specs.Rigging.{CanBeRigged}
 use Rattle.grown_runs.specs.GrownRuns.{fails_with, told_of_rigs}
 use Rattle.grown_runs.specs.inside.Growths.{subject_on}

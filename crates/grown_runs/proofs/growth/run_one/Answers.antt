@@ -1,10 +1,10 @@
-use Rattle.std.proofs.Common.{◌≡◌, ◌++◌, ◌∷◌, ◌+◌, ◌*◌, ◌<◌, ◌&&◌, Bool, ℕ, List, [], length, map, max, get_or, sym, ◌∙◌, ap, subst, arith, refl}
+use Rattle.std.proofs.Common.{◌≡◌, ◌++◌, ◌∷◌, ◌+◌, ◌<◌, ◌&&◌, Bool, Option, ℕ, List, [], length, map, max, get_or, sym, ◌∙◌, ap, subst, arith, refl}
 use Rattle.std.proofs.lemmas.List.{length-append}
 use Rattle.std.proofs.lemmas.List.Elements.{recursion_from_All}
 use Rattle.action_eval.specs.declared.rig.Rig.{Rig}
 use Rattle.action_eval.specs.Rigging.{CanBeRigged}
 use Rattle.plan_gen.specs.LoopRuns.{times}
-use Rattle.grown_plans.specs.GrownPlans.{Subject, rigs_of}
+use Rattle.grown_plans.specs.GrownPlans.{Subject, kinds_at, rigs_of}
 use Rattle.grown_plans.specs.Kept.{kept_children, plan_of}
 use Rattle.grown_plans.specs.AskedPoints.{is_last_return, is_asked_again, onward_if}
 use Rattle.grown_runs.specs.GrownRuns.{told, told_of_rigs, children_at, cause_by}
@@ -67,7 +67,7 @@ grow_one-requires-clause-few g c =
 
 pub overflow_add-growth : goal.overflow_add-growth
 overflow_add-growth g c =
-    let few = kept_few c.args.number c.as_slice-2.result.now c.as_slice-asked.result.now in
+    let few = kept_few c.args.course.now.kinds c.args.number c.as_slice-2.result.now c.as_slice-asked.result.now in
     let asked = c.in_ok-verdict.ensures.few in
     let same = ap length c.as_slice-asked.ensures.value in
     let before = c.args.growth.now.bounded in
@@ -109,8 +109,10 @@ returns-clause-grown g c = λ first count at was.
     let asked_is : c.as_slice-asked.result.now ≡ (told t seed n plan).asked =
     c.as_slice-asked.ensures.value ∙ c.in_ok-verdict.ensures.asked ∙ ap (λ (rs : List Rig). (told_of_rigs t seed n rs).asked) rigs_is in
     let verdict_is : c.in_ok-verdict.verdict ≡ (told t seed n plan).verdict = c.in_ok-verdict.ensures.verdict ∙ ap (λ (rs : List Rig). (told_of_rigs t seed n rs).verdict) rigs_is in
-    let children_is : kept_children n c.as_slice-2.result.now c.as_slice-asked.result.now ≡ children_at t seed n plan =
-    ap (λ (p : List Rig). kept_children n p c.as_slice-asked.result.now) faults_too ∙ ap (kept_children n plan) asked_is in
+    let children_is : kept_children (kinds_at course.kinds) n c.as_slice-2.result.now c.as_slice-asked.result.now ≡ children_at t seed n plan =
+    ap (λ (p : List Rig). kept_children (kinds_at course.kinds) n p c.as_slice-asked.result.now) faults_too
+    ∙ ap (kept_children (kinds_at course.kinds) n plan) asked_is
+    ∙ ap (λ (cut : Option ℕ). kept_children (kinds_at cut) n plan (told t seed n plan).asked) course.of_target in
     growth_next t seed course.part course.plans.now first count n _ _ at was
     (c.in_ok-push.ensures.items ∙ ap (λ v. c.args.growth.now.verdicts.items ++ v ∷ []) verdict_is)
     (c.in_ok-growing.ensures.kept ∙ ap (λ l. c.args.growth.now.children.items ++ if_inner course.part.place l) children_is)
@@ -135,7 +137,7 @@ returns-clause-grown g c = λ first count at was.
 
 pub invariant_of-growth-in-Break-branch-6 : goal.invariant_of-growth-in-Break-branch-6
 invariant_of-growth-in-Break-branch-6 g c =
-    let few = kept_few c.args.number c.as_slice-2.result.now c.as_slice-asked.result.now in
+    let few = kept_few c.args.course.now.kinds c.args.number c.as_slice-2.result.now c.as_slice-asked.result.now in
     let asked = c.in_ok-verdict.ensures.few in
     let same = ap length c.as_slice-asked.ensures.value in
     let before = c.args.growth.now.bounded in
@@ -145,7 +147,7 @@ invariant_of-growth-in-Break-branch-6 g c =
 
 pub invariant_of-growth-in-Break-branch-7 : goal.invariant_of-growth-in-Break-branch-7
 invariant_of-growth-in-Break-branch-7 g c =
-    let few = kept_few c.args.number c.as_slice-2.result.now c.as_slice-asked.result.now in
+    let few = kept_few c.args.course.now.kinds c.args.number c.as_slice-2.result.now c.as_slice-asked.result.now in
     let asked = c.in_ok-verdict.ensures.few in
     let same = ap length c.as_slice-asked.ensures.value in
     let before = c.args.growth.now.bounded in
@@ -155,7 +157,7 @@ invariant_of-growth-in-Break-branch-7 g c =
 
 pub invariant_of-growth-2 : goal.invariant_of-growth-2
 invariant_of-growth-2 g c =
-    let few = kept_few c.args.number c.as_slice-2.result.now c.as_slice-asked.result.now in
+    let few = kept_few c.args.course.now.kinds c.args.number c.as_slice-2.result.now c.as_slice-asked.result.now in
     let asked = c.in_ok-verdict.ensures.few in
     let same = ap length c.as_slice-asked.ensures.value in
     let before = c.args.growth.now.bounded in

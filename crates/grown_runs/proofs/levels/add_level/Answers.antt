@@ -1,6 +1,6 @@
-use Rattle.std.proofs.Common.{◌≡◌, ◌+◌, ◌-◌, ◌≤◌, ◌∷◌, [], ◌++◌, ℕ, List, map, length, ap, sym, ◌∙◌, subst, arith}
+use Rattle.std.proofs.Common.{◌≡◌, ◌+◌, ◌-◌, ◌∷◌, [], ◌++◌, ℕ, List, map, length, ap, sym, ◌∙◌, subst, arith}
 use Rattle.action_eval.specs.declared.rig.Rig.{Rig}
-use Rattle.grown_plans.specs.Kept.{Grew, GrewFrom, plan_of}
+use Rattle.grown_plans.specs.Kept.{GrewFrom, plan_of}
 use Rattle.grown_plans.specs.GrownPlans.{Subject}
 use Rattle.grown_runs.specs.Grown.{subject_in}
 use Rattle.grown_runs.specs.declared.course.Place.TheVariants.{Inner}

@@ -1,4 +1,4 @@
-use Rattle.std.proofs.Common.{◌≡◌, ◌++◌, List, map, length, ap, sym, ◌∙◌, subst}
+use Rattle.std.proofs.Common.{◌++◌, List, map, length, ap, sym, ◌∙◌, subst}
 use Rattle.action_eval.specs.declared.rig.Rig.{Rig}
 use Rattle.grown_plans.specs.Kept.{GrewFrom, plan_of}
 use Rattle.grown_runs.proofs.levels.add_onward.Goals as goal

@@ -1,11 +1,10 @@
-use Rattle.std.proofs.Common.{rules, ◌≡◌, ◌+◌, ◌-◌, ◌≤◌, ◌<◌, ◌∷◌, [], ◌++◌, ◌⊎◌, inl, inr, ℕ, List, suc, map, length, get_or, replicate, refl, ap, sym, ◌∙◌, subst, arith}
+use Rattle.std.proofs.Common.{rules, ◌≡◌, ◌+◌, ◌-◌, ◌∷◌, [], inl, ℕ, List, length, get_or, ap, sym, ◌∙◌, subst, arith}
 use Rattle.std.proofs.lemmas.List.{length-replicate, length-map}
 use Rattle.action_eval.specs.declared.rig.Rig.{Rig}
-use Rattle.grown_plans.specs.GrownPlans.{Subject, level}
+use Rattle.grown_plans.specs.GrownPlans.{Subject}
 use Rattle.grown_plans.specs.Promises.{IsLawful}
-use Rattle.grown_runs.specs.Grown.{subject_in, level_sizes, begun, begun_from}
+use Rattle.grown_runs.specs.Grown.{subject_in, begun_from}
 use Rattle.grown_runs.specs.inside.Levels.{AreTold, LastLevel}
-use Rattle.grown_runs.specs.inside.Growths.{if_report}
 use Rattle.grown_runs.proofs.Growing.{zeros, report_nil}
 use Rattle.grown_runs.proofs.Begun.{begun_next, begun_least}
 use Rattle.grown_runs.proofs.LevelRuns.{levels_start, next_many, next_last, too_many, told_more, sizes_more, can_rig, ask_alike}

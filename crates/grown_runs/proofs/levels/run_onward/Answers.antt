@@ -1,4 +1,4 @@
-use Rattle.std.proofs.Common.{◌≡◌, ◌+◌, ◌-◌, ◌≤◌, ◌<◌, ◌∷◌, [], ◌++◌, ℕ, List, map, length, refl, ap, sym, ◌∙◌, subst, arith}
+use Rattle.std.proofs.Common.{◌≡◌, ◌+◌, ◌-◌, ◌++◌, ℕ, List, length, refl, ap, ◌∙◌, subst, arith}
 use Rattle.std.proofs.lemmas.List.{length-append}
 use Rattle.action_eval.specs.declared.rig.Rig.{Rig}
 use Rattle.grown_plans.specs.GrownPlans.{Subject}
@@ -7,7 +7,7 @@ use Rattle.grown_runs.specs.Grown.{subject_in}
 use Rattle.grown_runs.specs.inside.Growths.{IsGrowth}
 use Rattle.grown_runs.specs.declared.course.Place.TheVariants.{Last, Onward}
 use Rattle.grown_runs.specs.declared.course.Purpose.TheVariants.{Report}
-use Rattle.grown_runs.specs.inside.Levels.{AreTold, new_children, going_onward}
+use Rattle.grown_runs.specs.inside.Levels.{AreTold, going_onward}
 use Rattle.grown_runs.proofs.LevelRuns.{can_rig_more, each_more, told_more}
 use Rattle.grown_runs.proofs.levels.run_onward.Goals as goal
 

@@ -1,8 +1,8 @@
-use Rattle.std.proofs.Common.{◌≡◌, ◌≤◌, ◌+◌, ◌-◌, ◌∷◌, ◌++◌, [], ℕ, length, get_or, replicate, ap, sym, subst, ◌∙◌, arith, refl}
+use Rattle.std.proofs.Common.{◌≡◌, ◌≤◌, ◌-◌, ◌∷◌, ◌++◌, [], ℕ, length, get_or, ap, sym, subst, ◌∙◌, arith, refl}
 use Rattle.std.proofs.lemmas.List.{length-replicate, length-map, append_assoc}
 use Rattle.grown_plans.specs.GrownPlans.{Subject}
 use Rattle.grown_runs.specs.Grown.{subject_in}
-use Rattle.plan_rows.specs.Rows.{row_count, row_start}
+use Rattle.plan_rows.specs.Rows.{row_count}
 use Rattle.grown_runs.specs.inside.Growths.{IsGrowth}
 use Rattle.grown_runs.proofs.Growing.{growth_none, zeros}
 use Rattle.grown_runs.proofs.RowParts.{AreRows, row_begin, row_at, row_next, row_room, rows_whole, same_setup, none_left}
@@ -22,8 +22,8 @@ loop-growth-init g c =
       grown =
           subst (λ (k : ℕ). IsGrowth t on.limits.seed c.args.part c.args.plans.now c.args.first k c.in_ok-whole.whole) (sym (row_begin (c.len-end.result - c.args.first)))
           (growth_none t on.limits.seed c.args.part c.args.plans.now c.args.first c.in_ok-whole.whole none.verdicts none.children none.many none.onward none.causes
-          (ap length none.hits ∙ length-replicate (length c.catalogue.result.now) 0 ∙ sym (ap length (sym c.catalogue.ensures) ∙ length-map c.catalogue.result.now (λ n. n.now)))
-          (λ p. ap (λ hs. get_or hs p 0) none.hits ∙ zeros (length c.catalogue.result.now) p));
+          (ap length none.hits ∙ length-replicate (length c.catalogue-2.result.now) 0 ∙ sym (ap length (sym c.catalogue-2.ensures) ∙ length-map c.catalogue-2.result.now (λ n. n.now)))
+          (λ p. ap (λ hs. get_or hs p 0) none.hits ∙ zeros (length c.catalogue-2.result.now) p));
     }
 
 pub absorb-requires-clause-room : goal.absorb-requires-clause-room

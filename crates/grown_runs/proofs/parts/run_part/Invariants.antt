@@ -1,4 +1,4 @@
-use Rattle.std.proofs.Common.{◌≡◌, ◌++◌, length, ◌-◌}
+use Rattle.std.proofs.Common.{◌≡◌, ◌++◌, length}
 use Rattle.grown_runs.specs.Grown.{subject_in}
 use Rattle.plan_rows.specs.Rows.{row_start}
 use Rattle.grown_runs.specs.inside.Growths.{IsGrowth}

@@ -1,14 +1,23 @@
-use Rattle.std.proofs.Common.{map}
+use Rattle.std.proofs.Common.{◌&&◌, ◌++◌, ◌∙◌, List, ap, sym, get_or, [], map}
+use Rattle.action_eval.specs.declared.rig.Rig.{Rig}
+use Rattle.grown_plans.specs.AskedPoints.{is_last_return, onward_if}
 use Rattle.grown_plans.specs.Kept.{plan_of}
+use Rattle.known_runs.specs.Known.{hits_of}
 use Rattle.known_runs.proofs.Kept.{onward_step}
+use Rattle.known_runs.proofs.Steps.{told_onward}
 use Rattle.known_runs.proofs.growing.onward_from.Goals as goal
 
 pub loop-number-preserved : goal.loop-number-preserved
 loop-number-preserved g c =
-    let of = map (plan_of c.args.plans.now) in
+    let known = g.T.RunTable.known c.args.table.now in
+    let plans : List (List Rig) = c.args.plans.now in
+    let of = map (plan_of plans) in
+    let old = c.loop-number.onward.items in
+    let plan : List Rig = get_or plans c.loop-number.number [] in
     record {
       plans =
-          onward_step (g.T.RunTable.known c.args.table.now) c.args.plans.now c.args.first c.loop-number.number (of c.loop-number.onward.items) (of c.add_onward_of.new.onward.items) c.loop-number.auto.number
-          c.loop-number.invariant.plans c.in_ok-add_onward_of.ensures.plans;
-      parents = c.in_ok-add_onward_of.ensures.parents c.loop-number.invariant.parents;
+          onward_step known plans c.args.first c.loop-number.number (of old) (of c.push_onward.new.onward.items) c.loop-number.auto.number c.loop-number.invariant.plans
+          (c.in_ok-push_onward.ensures.plans ∙ ap (λ b. of old ++ onward_if (is_last_return plan && b) plan) c.in_ok-is_again.ensures.again
+          ∙ ap (λ (ps : List (List Rig)). of old ++ ps) (sym (told_onward plan (hits_of known plan))));
+      parents = c.in_ok-push_onward.ensures.parents c.loop-number.invariant.parents;
     }

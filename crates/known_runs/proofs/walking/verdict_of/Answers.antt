@@ -1,4 +1,4 @@
-use Rattle.std.proofs.Common.{◌≡◌, ◌-◌, ◌+◌, ◌∙◌, Some, suc, arith}
+use Rattle.std.proofs.Common.{◌≡◌, ◌-◌, ◌+◌, Some, suc, arith}
 use Rattle.known_runs.proofs.Steps.{step_ends, step_stops, step_acts, same_verdict, walk_ends}
 use Rattle.known_runs.proofs.walking.verdict_of.Goals as goal
 

@@ -4,17 +4,17 @@ use Rattle.maildir_target.proofs.Readying.{ready_now}
 use Rattle.maildir_target.proofs.attempt.create_file.Goals as goal
 
 pub create_by-requires : goal.create_by-requires
-create_by-requires c = record { named = c.requires.named; ready = ready_now _ _ _ _ _ c.requires.at }
+create_by-requires g c = record { named = c.requires.named; ready = ready_now g.D.Device.names g.met.D.Device.led _ _ _ _ _ c.requires.at }
 
 pub returns-in_ok-create_by-in-Go-clause-leads : goal.returns-in_ok-create_by-in-Go-clause-leads
-returns-in_ok-create_by-in-Go-clause-leads c =
+returns-in_ok-create_by-in-Go-clause-leads g c =
     played_go _ c.requires.at refl _ c.in_ok-hit.ensures.ok _ c.in-Go.is c.in_ok-hit.ensures.told c.in_ok-hit.ensures.goes_on _ _
     (λ es k. record { tally = refl; device = c.in_ok-create_by-in-Go.ensures es k })
 
 pub returns-in-Return-clause-leads : goal.returns-in-Return-clause-leads
-returns-in-Return-clause-leads c =
+returns-in-Return-clause-leads g c =
     played_fail _ c.requires.at refl _ c.in_ok-hit.ensures.ok _ _ c.in-Return.is c.in_ok-hit.ensures.told c.in_ok-hit.ensures.goes_on (λ es. refl)
 
 pub returns-in-Halt-clause-leads : goal.returns-in-Halt-clause-leads
-returns-in-Halt-clause-leads c =
+returns-in-Halt-clause-leads g c =
     played_halt _ c.requires.at refl _ c.in_ok-hit.ensures.ok _ c.in-Halt.is c.in_ok-hit.ensures.told

@@ -4,10 +4,10 @@ use Rattle.maildir_target.proofs.Readying.{ready_now}
 use Rattle.maildir_target.proofs.attempt.sync_file.Goals as goal
 
 pub sync-requires : goal.sync-requires
-sync-requires c = record { named = c.requires.named; there = ready_now _ _ _ _ _ c.requires.at }
+sync-requires g c = record { named = c.requires.named; there = ready_now g.D.Device.names g.met.D.Device.led _ _ _ _ _ c.requires.at }
 
 pub clean_up-requires : goal.clean_up-requires
-clean_up-requires c =
+clean_up-requires g c =
     record {
       named = c.requires.named;
       at = played_return _ c.requires.at refl _ c.in_ok-hit.ensures.ok _ _ c.in-Return.is c.in_ok-hit.ensures.told c.in_ok-hit.ensures.goes_on _ _
@@ -15,10 +15,10 @@ clean_up-requires c =
     }
 
 pub returns-in-Go-clause-leads : goal.returns-in-Go-clause-leads
-returns-in-Go-clause-leads c =
+returns-in-Go-clause-leads g c =
     played_go _ c.requires.at refl _ c.in_ok-hit.ensures.ok _ c.in-Go.is c.in_ok-hit.ensures.told c.in_ok-hit.ensures.goes_on _ _
     (λ es k. record { tally = refl; device = c.sync.ensures es k })
 
 pub returns-in-Halt-clause-leads : goal.returns-in-Halt-clause-leads
-returns-in-Halt-clause-leads c =
+returns-in-Halt-clause-leads g c =
     played_halt _ c.requires.at refl _ c.in_ok-hit.ensures.ok _ c.in-Halt.is c.in_ok-hit.ensures.told

@@ -1,8 +1,6 @@
-use Rattle.std.proofs.Common.{◌≡◌, List, drop}
-use Rattle.sim_device.specs.FileEffects.{Effect}
-use Rattle.sim_device.specs.Disk.{StandsFor}
-use Rattle.maildir_target.specs.Judgement.{has_lost}
+use Rattle.std.proofs.Common.{◌≡◌, drop}
+use Rattle.maildir_target.specs.Judgement.{Standing, has_lost}
 use Rattle.maildir_target.proofs.judge.has_lost.Given as goal
 
 abbrev pub invariant-loop-message : goal.invariant-loop-message
-invariant-loop-message l = (es : List Effect) → StandsFor l.device es → has_lost es l.messages ≡ has_lost es (drop l.message-index l.messages)
+invariant-loop-message g l = (s : Standing) → g.D.Device.shows l.device s → has_lost s l.messages ≡ has_lost s (drop l.message-index l.messages)

@@ -4,7 +4,7 @@ use Rattle.target_trait.specs.declared.judgement.Verdict.{Verdict}
 use Rattle.result_book.specs.FirstFailures.{first_failures}
 use Rattle.result_book.specs.Slots.{in_book}
 use Rattle.outside_campaign.specs.Asked.{plan_verdicts, known_failures}
-use Rattle.outside_campaign.specs.ToldPlans.{AreResults}
+use Rattle.outside_campaign.specs.inside.ToldPlans.{AreResults}
 use Rattle.outside_campaign.specs.inside.Results.{IsFirst}
 use Rattle.outside_campaign.proofs.ResultLemmas.{all_below, failures_are, open_first, told_all}
 use Rattle.outside_campaign.proofs.results.results_known.Goals as goal

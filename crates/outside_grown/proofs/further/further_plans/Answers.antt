@@ -1,8 +1,8 @@
-use Rattle.std.proofs.Common.{◌≡◌, ◌∙◌, sym}
+use Rattle.std.proofs.Common.{◌≡◌, ◌∙◌, arith, inl, sym}
 use Rattle.std.specs.Prelude.{Some}
 use Rattle.std.proofs.lemmas.Result.{IfOk-weaker}
 use Rattle.outside_grown.specs.Further.{clean_hits}
-use Rattle.outside_grown.proofs.Clean.{further_same, told_by_hits}
+use Rattle.outside_grown.proofs.Clean.{further_same, many_by_hits, told_by_hits}
 use Rattle.outside_grown.proofs.further.further_plans.Goals as goal
 
 pub returns-in-Some-clause-told : goal.returns-in-Some-clause-told
@@ -20,3 +20,12 @@ returns-in-Some-clause-known c =
     told_by_hits a c.args.settings.now c.points.result.now c.in-Some.hits.items c.as_slice.result.now _ c.points.ensures.names clean c.as_slice.ensures.value is
     ∙ further_same t a c.args.settings.now component agrees)
     c.plans_over.ensures.over
+
+pub returns-in-Some-clause-many : goal.returns-in-Some-clause-many
+returns-in-Some-clause-many c = λ is.
+    let a = c.args.runs.now in
+    let clean : clean_hits a ≡ Some c.in-Some.hits.items = sym (rw c.in-Some.is at c.in_ok-hits.ensures.hits) in
+    many_by_hits a c.args.settings.now c.args.before c.points.result.now c.in-Some.hits.items c.as_slice.result.now c.points.ensures.names clean c.as_slice.ensures.value (c.plans_over.ensures.many is)
+
+pub returns-in-None-clause-many : goal.returns-in-None-clause-many
+returns-in-None-clause-many c = λ is. let many = c.no_plans.ensures.many is in inl (omega (arith, many))

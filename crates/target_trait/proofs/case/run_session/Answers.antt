@@ -1,7 +1,8 @@
+use Rattle.target_trait.proofs.Halted.{whole}
 use Rattle.target_trait.proofs.Plays.{given_with}
 use Rattle.target_trait.proofs.Verdicts.{verdict_told}
 use Rattle.target_trait.proofs.case.run_session.Goals as goal
 
 pub returns-clause-ok : goal.returns-clause-ok
 returns-clause-ok g c =
-    verdict_told _ _ _ _ _ _ _ _ _ _ (given_with _ _ _ c.run.ensures.given c.requires.points) c.in_ok-judgement.ensures.play c.trace.ensures.within c.verdict_of.ensures c.stopped.ensures
+    verdict_told _ _ _ _ _ _ _ _ _ _ (given_with _ _ _ c.run.ensures.given c.requires.points) (whole _ _ (g.met.T.Target.halts _ _) _ _ c.in_ok-judgement.ensures.play) c.trace.ensures.within c.verdict_of.ensures c.stopped.ensures

@@ -1,4 +1,4 @@
-use Rattle.std.proofs.Common.{◌≡◌, ℕ, ◌<◌, true, false, length, Some, None, rules, refl, ap, sym, ◌∙◌, subst}
+use Rattle.std.proofs.Common.{◌≡◌, true, false, length, Some, None, rules, refl, ap, sym, ◌∙◌, subst, arith}
 use Rattle.action_eval.specs.Answers.{stopped}
 use Rattle.target_trait.specs.Play.{IsRunning}
 use Rattle.target_trait.proofs.Running.{running_at, runs_go, runs_return, nearer}
@@ -19,8 +19,8 @@ hit-requires-clause-known g c =
     let t = g.P.Protocol.table c.args.protocol.now c.args.workload.now in
     let asks : t.point c.loop-point.state ≡ Some c.in-Some.point = sym c.point.ensures ∙ c.in-Some.is in
     let within = asked_within t (length g.P.Protocol.names) c.loop-point.state c.in-Some.point (g.met.P.Protocol.within c.args.protocol.now c.args.workload.now c.loop-point.state) asks in
-    let points = ap (λ (x : _). x.catalogue) c.loop-point.invariant.given ∙ c.requires.points in
-    subst (λ (n : ℕ). c.in-Some.point < n) (sym (ap length points)) within
+    let points = ap (λ (x : _). length x.catalogue) c.loop-point.invariant.given in
+    omega (arith, within, points, c.requires.points)
 
 pub hit-requires-clause-running : goal.hit-requires-clause-running
 hit-requires-clause-running g c =

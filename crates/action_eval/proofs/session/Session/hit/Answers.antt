@@ -1,5 +1,5 @@
 use Rattle.std.proofs.Common.{refl, slice_set, ◌-◌, ap, ◌∙◌, arith}
-use Rattle.action_eval.specs.Answers.{stopped, reply_to}
+use Rattle.action_eval.specs.Answers.{reply_to}
 use Rattle.action_eval.proofs.Steps.{open_of, keeps_off, reply_found}
 use Rattle.action_eval.proofs.Heads.{known_head, value_at, nothing_by, off_by}
 use Rattle.action_eval.proofs.CallerLemmas.{told_by, goes_by}
@@ -14,7 +14,7 @@ pub invariant_of-self-in-Nothing-1 : goal.invariant_of-self-in-Nothing-1
 invariant_of-self-in-Nothing-1 c =
     let k = c.self.invariant.0 in
     let f = nothing_by _ _ _ _ _ _ _ _ k _ c.self.invariant.1 c.self.view_is c.args.point c.requires.known _ _ c.index.ensures c.in-Nothing.is in
-    (keeps_off _ c.args.point _ _ _ _ _ _ k (omega (arith, open_of _ _ _ _ _ _ _ _ c.self.invariant.0 _ _ _ c.self.invariant.3 c.self.view_is c.requires.running)) (ap stopped c.self.view_is ∙ c.requires.running) _ f _ c.in_ok-push-in-Nothing.ensures.items _ refl _ k.found_is, c.self.invariant.1, c.self.invariant.2, c.self.invariant.3)
+    (keeps_off _ c.args.point _ _ _ _ _ _ k (omega (arith, open_of _ _ _ _ _ _ _ _ c.self.invariant.0 _ _ _ c.self.invariant.3 c.self.view_is c.requires.running)) _ f _ c.in_ok-push-in-Nothing.ensures.items _ refl _ k.found_is, c.self.invariant.1, c.self.invariant.2, c.self.invariant.3)
 
 pub returns-in_ok-push-in-Nothing-clause-answer : goal.returns-in_ok-push-in-Nothing-clause-answer
 returns-in_ok-push-in-Nothing-clause-answer c =
@@ -53,7 +53,7 @@ invariant_of-self-then-index-gt0 c =
     let o = off_by _ _ _ _ _ _ _ _ k _ c.self.invariant.1 c.self.view_is c.args.point c.requires.known _ _ c.index.ensures c.in-Off.at c.in-Off.is in
     let read = value_at c.self.inside.left.items c.in-Off.at _ o.within _ c.index-in-Off-1.ensures in
     let value = value_at c.self.inside.left.items c.in-Off.at _ o.within _ c.index_mut.ensures.value in (
-      keeps_off _ c.args.point _ _ _ _ _ _ k (omega (arith, open_of _ _ _ _ _ _ _ _ c.self.invariant.0 _ _ _ c.self.invariant.3 c.self.view_is c.requires.running)) (ap stopped c.self.view_is ∙ c.requires.running) _ (o.finds (omega (arith, c.if-index-gt0.true, read))) _ c.in_ok-push-in-Off.ensures.items _
+      keeps_off _ c.args.point _ _ _ _ _ _ k (omega (arith, open_of _ _ _ _ _ _ _ _ c.self.invariant.0 _ _ _ c.self.invariant.3 c.self.view_is c.requires.running)) _ (o.finds (omega (arith, c.if-index-gt0.true, read))) _ c.in_ok-push-in-Off.ensures.items _
           (ap (λ v. slice_set c.self.inside.left.items c.in-Off.at (v - 1)) value) _ k.found_is,
       c.self.invariant.1,
       c.self.invariant.2,

@@ -1,22 +1,28 @@
-use Rattle.std.proofs.Common.{◌≡◌, ◌<◌, ◌≤◌, ◌+◌, ◌-◌, ◌^◌, ℕ, List, Option, length, map, Some, refl, ap, sym, ◌∙◌, arith, subst, slice_set}
+use Rattle.std.proofs.Common.{◌≡◌, ◌<◌, ◌≤◌, ◌+◌, ◌-◌, ◌^◌, ℕ, List, Option, length, map, Some, None, refl, ap, sym, ◌∙◌, arith, subst, slice_set}
 use Rattle.std.specs.List.{slice_range}
+use Rattle.std.specs.Option.{option_or}
 use Rattle.std.proofs.lemmas.List.{length-map}
 use Rattle.scenario_values.specs.declared.term.Term.{Term}
 use Rattle.action_eval.specs.declared.answer.Stop.{Stop}
 use Rattle.action_eval.specs.declared.answer.Note.{Note}
 use Rattle.action_eval.specs.declared.found.Head.{Head}
 use Rattle.action_eval.specs.declared.found.Span.{Span}
-use Rattle.action_eval.specs.Answers.{Run, given_of, texts, stopped, replies, GoesOn, reply_to, reply_of_answer, did, millis_of, name_of, history_of}
+use Rattle.action_eval.specs.Answers.{Run, given_of, texts, replies, GoesOn, reply_to, reply_of_answer, did, millis_of, name_of, history_of}
 use Rattle.action_eval.specs.Trial.{tried, is_spent}
 use Rattle.action_eval.specs.Words.{Drawn, word}
 use Rattle.action_eval.specs.inside.Layout.{faults_of}
 use Rattle.action_eval.specs.inside.Session.{IsRest, IsSpan, Keeps, Rest, found_of, left_counts, head_of, seen_in, terms_of}
-use Rattle.action_eval.proofs.Steps.{open_of, finds_some, keeps_found, keeps_hit, keeps_same, reply_found, found_within, room_of, limit_of, rest_of_point, span_of, known_found, known_by, keeps_rest}
+use Rattle.action_eval.proofs.Steps.{finds_some, keeps_found, keeps_hit, keeps_same, reply_found, found_within, room_of, limit_of, rest_of_point, span_of, known_found, known_by, keeps_rest}
 use Rattle.action_eval.proofs.Rests.{is_rest_stays, after_stays, length_after}
 use Rattle.action_eval.proofs.Heads.{known_head, heads_with}
 use Rattle.action_eval.proofs.Spans.{later, seen_set, slice_length, spans_set, span_length}
-use Rattle.action_eval.proofs.CallerLemmas.{told_by, goes_by}
+use Rattle.action_eval.proofs.CallerLemmas.{told_within, goes_by}
 use Rattle.action_eval.proofs.session.Session.hit_chain.Goals as goal
+
+-- where neither option has a value, the second has none
+none_after : {A : Type 0} (o p : Option A) → option_or o p ≡ None → p ≡ None
+none_after None p h = h
+none_after (Some x) p h = cc
 
 -- words taken leave seed and stream number
 drawn_on : (d e : Drawn) (n : ℕ) → e ≡ record d { taken = n } → (let f : Drawn = record d { taken = e.taken } in f) ≡ e
@@ -102,7 +108,7 @@ invariant_of-self-2 c =
     let small : millis_of (did c.task_at-task.result) < 2 ^ 32 = omega (arith, c.millis_of.ensures) in
     let rest : List Term × ℕ = (c.without_spent-rest.result.chain.now, c.without_spent-rest.result.start) in
     let span : Span = record { entry = c.args.span.entry; start = c.without_spent-rest.result.start; end = c.args.span.end } in
-    let kept = keeps_hit _ c.args.point _ _ _ _ _ _ k (room_of _ _ c.self.view_is c.requires.room) (ap stopped c.self.view_is ∙ c.requires.running) _ (did c.task_at-task.result) _ found small _ k.found_is in
+    let kept = keeps_hit _ c.args.point _ _ _ _ _ _ k (room_of _ _ c.self.view_is c.requires.room) _ (did c.task_at-task.result) _ found small _ k.found_is in
     let at_after = is_rest_stays _ _ _ _ (after_stays c.self.inside.left.items c.args.span.start c.try_terms-place.result) st.at in
     let kept_less = keeps_rest _ c.args.point _ _ _ _ _ _ kept (known_by _ _ c.args.point c.self.view_is c.requires.known) (c.chain-chain.result.now, c.args.span.start) rest at_after _ (c.deref-2.ensures.value ∙ c.spend.ensures) c.without_spent-rest.ensures.rest in
     let l = later s c.args.span span _ rest st.is (subst (λ (t : List Term). Rest c.deref-2.result.now (t, c.args.span.start) rest) c.chain-chain.ensures c.without_spent-rest.ensures.rest) refl refl refl in
@@ -110,10 +116,10 @@ invariant_of-self-2 c =
     let kept_spans = keeps_found _ _ _ _ _ _ _ _ (sym set) kept_less in
     let heads = ap (λ (h : Head). slice_set c.self.inside.heads.items c.args.point h) c.first_head.ensures ∙ heads_with (map (seen_in s) spans) c.self.inside.heads.items c.args.point (Some rest) c.self.invariant.1 ∙ ap (map head_of) (sym set) in (
       keeps_same _ _ _ _ _ _ _ _ (record { seed = c.self.inside.draws.seed; stream = c.self.inside.draws.stream; taken = c.try_terms-place.new.draws.taken }) c.try_terms-place.new.draws _ _ _ _ _ _
-          (sym c.in_default.ensures.ok_hits) (sym c.spend.ensures) (drawn_on c.self.inside.draws c.try_terms-place.new.draws _ c.try_terms-place.ensures.next) (sym c.in_default.ensures.ok_notes) (omega (arith, c.millis_of.ensures, c.from.ensures)) (sym c.stop_of-self-inside.ensures) kept_spans,
+          (sym c.in_default.ensures.ok_hits) (sym c.spend.ensures) (drawn_on c.self.inside.draws c.try_terms-place.new.draws _ c.try_terms-place.ensures.next) (sym c.in_default.ensures.ok_notes) (omega (arith, c.millis_of.ensures, c.from.ensures)) (sym (c.or-self-inside.ensures ∙ ap (λ o. option_or o c.self.inside.stopped) c.stop_of.ensures)) kept_spans,
       heads,
       spans_set s spans c.args.point (Some span) c.self.invariant.2 l.span,
-      record { answerable_is = λ s. c.answerable_after-self-inside.ensures s ∙ open_of _ _ _ _ _ _ _ _ c.self.invariant.0 _ _ _ c.self.invariant.3 c.self.view_is c.requires.running; never_late = c.self.invariant.3.never_late },
+      record { answerable_is = λ none. c.answerable_after-self-inside.ensures none ∙ c.self.invariant.3.answerable_is (none_after _ _ (sym c.or-self-inside.ensures ∙ none)); never_late = c.self.invariant.3.never_late },
     )
 
 pub returns-clause-answer : goal.returns-clause-answer
@@ -132,12 +138,12 @@ returns-clause-told c =
     let after : Drawn = c.try_terms-place.new.draws in
     let run : Drawn → Run = λ d. record { given = given_of (faults_of c.self.inside.faults) (texts c.self.inside.catalogue.now) d.seed d.stream c.self.inside.max_hits; hits = c.keep.new.hits.items } in
     ap (λ (d : Drawn). replies (run d)) (sym (drawn_on before after _ c.try_terms-place.ensures.next))
-    ∙ told_by _ _ c.args.point _ _ c.self.view_is c.requires.running c.in_default.ensures.ok_hits (returns-clause-answer c)
+    ∙ told_within _ _ c.args.point _ _ c.self.view_is c.requires.room c.in_default.ensures.ok_hits (returns-clause-answer c)
 
 pub returns-clause-goes_on : goal.returns-clause-goes_on
-returns-clause-goes_on c =
+returns-clause-goes_on c = λ running.
     let before : Drawn = c.self.inside.draws in
     let after : Drawn = c.try_terms-place.new.draws in
     let run : Drawn → Run = λ d. record { given = given_of (faults_of c.self.inside.faults) (texts c.self.inside.catalogue.now) d.seed d.stream c.self.inside.max_hits; hits = c.keep.new.hits.items } in
     subst (λ (d : Drawn). GoesOn (reply_of_answer c.answer_of.result) (run d)) (drawn_on before after _ c.try_terms-place.ensures.next)
-    (goes_by _ _ c.args.point _ _ c.self.view_is c.requires.running c.in_default.ensures.ok_hits (returns-clause-answer c))
+    (goes_by _ _ c.args.point _ _ c.self.view_is running c.in_default.ensures.ok_hits (returns-clause-answer c))

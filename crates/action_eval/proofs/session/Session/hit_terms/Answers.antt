@@ -1,12 +1,12 @@
 use Rattle.std.proofs.Common.{ap, ◌∙◌, arith, subst, Option, Some, IfSome}
 use Rattle.std.proofs.lemmas.List.{length-map}
-use Rattle.action_eval.specs.Answers.{stopped, reply_to}
+use Rattle.action_eval.specs.Answers.{reply_to}
 use Rattle.action_eval.specs.declared.found.Span.{Span}
 use Rattle.action_eval.specs.inside.Layout.{faults_of}
 use Rattle.action_eval.specs.inside.Session.{seen_in, IsSpan}
 use Rattle.action_eval.proofs.Spans.{seen_at, spans_at}
 use Rattle.action_eval.proofs.Steps.{point_none, point_some, known_found, rest_by_point, span_by, finds_none, keeps_idle, reply_found, room_of}
-use Rattle.action_eval.proofs.CallerLemmas.{told_by, goes_by}
+use Rattle.action_eval.proofs.CallerLemmas.{told_within, goes_by}
 use Rattle.action_eval.proofs.session.Session.hit_terms.Goals as goal
 
 pub index-requires : goal.index-requires
@@ -19,7 +19,7 @@ invariant_of-self-in_default c =
     let k = c.self.invariant.0 in
     let s = faults_of c.self.inside.faults in
     let at = point_none _ _ _ _ _ _ _ _ k c.self.view_is c.args.point c.requires.known (seen_in s c.index.result.now) (seen_in s c.index.result.now) (seen_at s c.self.inside.spans.items c.args.point c.index.result.now c.index.result.now c.index.ensures) (ap (seen_in s) c.in_default.is) in
-    (keeps_idle _ c.args.point _ _ _ _ _ _ k (room_of _ _ c.self.view_is c.requires.room) (ap stopped c.self.view_is ∙ c.requires.running) at _ c.in_ok-push.ensures.items, c.self.invariant.1, c.self.invariant.2, c.self.invariant.3)
+    (keeps_idle _ c.args.point _ _ _ _ _ _ k (room_of _ _ c.self.view_is c.requires.room) at _ c.in_ok-push.ensures.items, c.self.invariant.1, c.self.invariant.2, c.self.invariant.3)
 
 pub returns-in_default-clause-answer : goal.returns-in_default-clause-answer
 returns-in_default-clause-answer c =
@@ -29,10 +29,10 @@ returns-in_default-clause-answer c =
     reply_found _ c.args.point _ _ _ (finds_none _ c.args.point _ _ _ _ _ _ k at) (room_of _ _ c.self.view_is c.requires.room) ∙ ap (λ r. reply_to r c.args.point) c.self.view_is
 
 pub returns-in_default-clause-told : goal.returns-in_default-clause-told
-returns-in_default-clause-told c = told_by _ _ c.args.point _ _ c.self.view_is c.requires.running c.in_ok-push.ensures.items (returns-in_default-clause-answer c)
+returns-in_default-clause-told c = told_within _ _ c.args.point _ _ c.self.view_is c.requires.room c.in_ok-push.ensures.items (returns-in_default-clause-answer c)
 
 pub returns-in_default-clause-goes_on : goal.returns-in_default-clause-goes_on
-returns-in_default-clause-goes_on c = goes_by _ _ c.args.point _ _ c.self.view_is c.requires.running c.in_ok-push.ensures.items (returns-in_default-clause-answer c)
+returns-in_default-clause-goes_on c = λ running. goes_by _ _ c.args.point _ _ c.self.view_is running c.in_ok-push.ensures.items (returns-in_default-clause-answer c)
 
 -- ---- a point with one
 

@@ -1,4 +1,4 @@
-use Rattle.std.proofs.Common.{◌<◌, ◌-◌, ap, sym, length, arith, refl, [], ◌∷◌}
+use Rattle.std.proofs.Common.{◌<◌, ◌-◌, ap, length, arith, [], ◌∷◌}
 use Rattle.std.proofs.lemmas.List.{get_or_read}
 use Rattle.grown_plans.proofs.KeptPlans.{from_length, step_back, at_the_first}
 use Rattle.grown_plans.proofs.list.GrownPlans.faults_of.Goals as goal

@@ -1,5 +1,4 @@
-use Rattle.std.proofs.Common.{◌<◌, ◌-◌, ◌≡◌, ap, sym, ◌∙◌, length, arith, refl, [], ◌∷◌, get_or, false, true, inl, inr}
-use Rattle.grown_plans.specs.Kept.{Grew}
+use Rattle.std.proofs.Common.{ap, length, arith, [], ◌∷◌, inl, inr}
 use Rattle.grown_plans.specs.GrownPlans.{is_once_return}
 use Rattle.grown_plans.proofs.KeptPlans.{from_length, no_return_first, no_return_last, return_last}
 use Rattle.grown_plans.proofs.list.GrownPlans.from_then_on.Goals as goal

@@ -1,4 +1,4 @@
-use Rattle.std.proofs.Common.{[], ◌∷◌, ap, length, ◌∙◌, arith}
+use Rattle.std.proofs.Common.{[], ◌∷◌, ap, length, arith}
 use Rattle.grown_plans.proofs.KeptPlans.{from_length}
 use Rattle.grown_plans.proofs.list.GrownPlans.len.Goals as goal
 

@@ -1,4 +1,4 @@
-use Rattle.std.proofs.Common.{◌≡◌, ℕ, ◌+◌, ◌-◌, ◌≤◌, ◌<◌, length, replicate, get_or, ap, sym, subst, ◌∙◌, arith, refl, None, Some}
+use Rattle.std.proofs.Common.{◌≡◌, ℕ, ◌+◌, ◌-◌, length, get_or, ap, sym, subst, ◌∙◌, arith, refl, None, Some}
 use Rattle.std.proofs.lemmas.List.{length-replicate, length-map}
 use Rattle.grown_runs.specs.inside.Growths.{IsGrowth, IsGrowthOn, subject_on}
 use Rattle.grown_runs.specs.inside.Beginnings.{AskLikeParents, TellsParent}

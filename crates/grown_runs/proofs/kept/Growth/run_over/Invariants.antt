@@ -1,4 +1,4 @@
-use Rattle.std.proofs.Common.{◌≡◌, ◌-◌, ◌≤◌, length}
+use Rattle.std.proofs.Common.{◌≡◌, ◌-◌}
 use Rattle.grown_runs.specs.inside.Growths.{IsGrowthOn, subject_on}
 use Rattle.grown_runs.specs.inside.Beginnings.{TellsParent}
 use Rattle.grown_runs.proofs.kept.Growth.run_over.Given as goal

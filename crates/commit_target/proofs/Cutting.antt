@@ -1,0 +1,31 @@
+-- A run up to its power cut.
+use Rattle.std.proofs.Common.{◌≡◌, ℕ, Bool, List, length, Option, refl, ap, sym, ◌∙◌}
+use Rattle.action_eval.specs.Answers.{Run, replies}
+use Rattle.target_trait.specs.declared.judgement.Judgement.{Judgement}
+use Rattle.target_trait.specs.Play.{IsCutPlay}
+use Rattle.target_trait.specs.Machine.{after}
+use Rattle.target_trait.specs.Cuts.{CutEnded, asks_with}
+use Rattle.target_trait.proofs.Machine.{reached_end}
+use Rattle.target_trait.proofs.CutRuns.{with_cut, IsJudged}
+use Rattle.commit_target.specs.declared.variant.Variant.{Variant}
+use Rattle.commit_target.specs.Work.{Work}
+use Rattle.commit_target.specs.Writes.{AllLogs, pending}
+use Rattle.commit_target.specs.Steps.{Tally, State, Over, at_step, machine, judged_at, asks_of, asks-halts}
+use Rattle.commit_target.specs.Crash.{cut_of, judged_keeping}
+use Rattle.commit_target.specs.inside.Seen.{Ended}
+
+pub cut_run : (v : Variant) (w : Work) (old new : Run) (t : Tally) (l : AllLogs) → Ended v w old (at_step t Over) l → (count : ℕ) → count ≡ length l.pending
+    → (kept : Option (List Bool)) → CutEnded 7 count old new kept → (j : Judgement) → IsJudged (cut_of v w) (replies old) kept j
+    → IsCutPlay (asks_with (asks_of v w) (cut_of v w) 7) new j
+cut_run v w old new t l k count count_is kept ended j is_judged =
+    let s : State = record { tally = at_step t Over; events = k.events } in
+    let waiting : length (pending (after (machine v w) (replies old)).events) ≡ count =
+    ap (λ (x : State). length (pending x.events)) k.reached.here ∙ sym (count_is ∙ ap length k.written.pending) in
+    with_cut (asks_of v w) (asks-halts v w) (cut_of v w) 7 count old new (judged_at w s) j kept
+    (reached_end (machine v w) old s (judged_at w s) k.reached refl) waiting ended is_judged
+
+-- what is judged is what the answers of the run say
+pub kept_judged : (v : Variant) (w : Work) (r : Run) (t : Tally) (l : AllLogs) (k : Ended v w r (at_step t Over) l) (keep : List Bool) (j : Judgement)
+    → j ≡ judged_keeping w (record { tally = at_step t Over; events = k.events }) keep
+    → j ≡ judged_keeping w (after (machine v w) (replies r)) keep
+kept_judged v w r t l k keep j is = is ∙ ap (λ (s : State). judged_keeping w s keep) (sym k.reached.here)

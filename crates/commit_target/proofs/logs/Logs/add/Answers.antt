@@ -1,0 +1,25 @@
+use Rattle.std.proofs.Common.{List, refl, ap, sym, ◌∙◌, subst}
+use Rattle.commit_target.specs.declared.records.Party.{Party}
+use Rattle.commit_target.specs.Writes.{Written, AllLogs, AddsEvent}
+use Rattle.commit_target.specs.inside.Batches.{write_of}
+use Rattle.commit_target.specs.inside.Held.{noted}
+use Rattle.commit_target.proofs.Noting.{one_noted}
+use Rattle.commit_target.proofs.logs.Logs.add.Goals as goal
+
+pub returns-clause-ok : goal.returns-clause-ok
+returns-clause-ok c =
+    let old : AllLogs = record { coordinator = c.self.inside.coordinator; participants = c.self.inside.participants.items; pending = c.self.inside.order.items } in
+    let new : AllLogs = record { coordinator = c.add_to.new.coordinator; participants = c.add_to.new.participants.items; pending = c.note.new.order.items } in
+    let adds : AddsEvent old new (Written (write_of c.args.manner c.args.party c.args.entry)) = λ count es stands.
+    let k = c.in_ok-add_to.ensures.ok count es
+    (record { enough = stands.enough; coordinator = stands.coordinator; participants = stands.participants; pending = refl }) in
+    record {
+      enough = k.enough;
+      coordinator = k.coordinator;
+      participants = k.participants;
+      pending =
+          c.note.ensures
+          ∙ ap (λ (order : List Party). noted c.args.manner c.args.party order) (c.in_ok-reserve.ensures.items ∙ stands.pending)
+          ∙ sym (one_noted c.args.manner c.args.party c.args.entry es);
+    } in
+    subst (λ (logs : AllLogs). AddsEvent logs new (Written (write_of c.args.manner c.args.party c.args.entry))) c.self.view_is adds

@@ -1,0 +1,64 @@
+-- What a run leaves to the power cut at its end: how many records are pending, and what is judged where the cut keeps some of them. And scenarios in
+-- which only a kept record shows a flaw.
+use Rattle.std.specs.Prelude.{ℕ, if◌then◌else◌, Bool, List, [], ◌∷◌, length, Some, None, codes}
+use Rattle.scenario_values.specs.declared.term.Term.{Term}
+use Rattle.scenario_values.specs.declared.term.Task.TheVariants.{Panic}
+use Rattle.scenario_values.specs.Scenario.{Entries}
+use Rattle.sim_device.specs.LogEffects.{survivors}
+use Rattle.target_trait.specs.declared.judgement.Judgement.{Judgement}
+use Rattle.target_trait.specs.Machine.{after}
+use Rattle.target_trait.specs.Failing.{fails_once}
+use Rattle.target_trait.specs.Cuts.{Cut}
+use Rattle.commit_target.specs.declared.variant.Variant.{Variant}
+use Rattle.commit_target.specs.declared.records.Record.{Record}
+use Rattle.commit_target.specs.declared.records.Party.{Party}
+use Rattle.commit_target.specs.declared.records.Party.TheVariants.{Coordinator, Participant}
+use Rattle.commit_target.specs.Work.{Work}
+use Rattle.commit_target.specs.Writes.{Event, is_party, pending, on_coordinator, on_participant}
+use Rattle.commit_target.specs.Judgement.{judged_by}
+use Rattle.commit_target.specs.Steps.{State, machine}
+
+-- the answers for the pending records of one party, of those for the records of all. Records past the answers are lost
+abbrev pub answers_of : Party → List Party → List Bool → List Bool
+answers_of party [] keep = []
+answers_of party (other ∷ parties) [] = []
+answers_of party (other ∷ parties) (keeps ∷ keep) =
+    if is_party other party then keeps ∷ answers_of party parties keep else answers_of party parties keep
+
+-- the records in the logs after a cut that keeps these: what lasts, and in each log what is pending up to the last that is kept
+abbrev pub known_keeping : List Event → List Bool → List Record
+known_keeping events keep = survivors (on_coordinator events) (answers_of Coordinator (pending events) keep)
+
+abbrev pub own_keeping : List Event → List Bool → ℕ → List Record
+own_keeping events keep n = survivors (on_participant events n) (answers_of (Participant n) (pending events) keep)
+
+abbrev pub judged_keeping : Work → State → List Bool → Judgement
+judged_keeping w s keep = judged_by w.participants s.tally.told (known_keeping s.events keep) (own_keeping s.events keep) s.tally.begun
+
+-- by the answers of a run
+abbrev pub cut_of : Variant → Work → Cut
+cut_of v w = record {
+  pending = λ own. length (pending (after (machine v w) own).events);
+  judge = λ own keep. judged_keeping w (after (machine v w) own) keep;
+}
+
+-- ---- scenarios
+
+-- `power::keep=1*return`: the first pending record is kept, and no other
+abbrev pub keeps_first : List ℕ × List Term
+keeps_first = fails_once (codes "power::keep")
+
+-- the outcome is lost on its way to the first participant, and the cut keeps the end record
+abbrev pub outcome_lost_end_kept : Entries
+outcome_lost_end_kept = fails_once (codes "commit::send_outcome") ∷ keeps_first ∷ []
+
+-- `commit::send_outcome=1*panic`: the run panics before any participant is told
+abbrev pub panics_untold : List ℕ × List Term
+panics_untold = (codes "commit::send_outcome", record { share = 1000000; count = Some 1; task = Panic None } ∷ [])
+
+abbrev pub untold : Entries
+untold = panics_untold ∷ []
+
+-- the same, and the cut keeps the end record
+abbrev pub untold_end_kept : Entries
+untold_end_kept = panics_untold ∷ keeps_first ∷ []

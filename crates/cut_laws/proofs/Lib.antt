@@ -1,0 +1,11 @@
+mod Names
+mod OwnRuns
+mod CutHits
+mod CutPlays
+mod LostAll
+mod Chains
+mod Shorter
+mod SameRuns
+mod EachSet
+mod Lawful
+mod LosesAlike

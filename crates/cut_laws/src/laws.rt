@@ -1,0 +1,57 @@
+//! The laws, as contracts of functions that do nothing.
+ghost use Rattle.std.specs.Prelude.{◌≡◌, ℕ, ◌*◌, ◌^◌, ◌<◌, ◌≤◌, Bool, true, false, List, [], ◌∷◌, Some, None, length, replicate, count_by};
+ghost use Rattle.scenario_values.specs.Scenario.{Entries, IsScenario};
+ghost use Rattle.scenario_values.specs.declared.term.Task.TheVariants.{Off, Return};
+ghost use Rattle.action_eval.specs.Rigging.{full};
+ghost use Rattle.action_eval.specs.Answers.{Reply, replies, is_cut_short};
+ghost use Rattle.target_trait.specs.declared.judgement.Verdict.TheVariants.{Unresolved};
+ghost use Rattle.target_trait.specs.Cuts.{asks_with, with_keep, cut_by, no_cut};
+ghost use Rattle.target_trait.specs.Machine.{asks_by};
+ghost use Rattle.target_trait.specs.Outcomes.{verdict_with};
+ghost use Rattle.target_trait.specs.Play.{Move};
+ghost use Rattle.target_trait.specs.Protocol.{by_table};
+ghost use Rattle.cut_laws.specs.KeptSets.{run_of_case, LacksKeep, HasRoom, keep_chain, keeping, LeavesJust, CanTakeIn, LosesAlike};
+
+use target_trait::{CrashProtocol, CrashTarget};
+
+/// Each state: of each run of a target that has ended, by itself or by a panic, and for each set of the writes that it leaves pending, there is a
+/// scenario that leaves just these: the run's own, with one more entry of `power::keep`. The limit has to have room for a hit for each of the writes.
+///
+/// The entry has at most two terms for each write that is kept, however many are lost: of five writes the fourth is kept by `3*off->1*return`. Where a
+/// scenario has room for it by its limits, it makes one.
+pub fn each_kept_set_has_a_scenario<T: CrashTarget>()
+    ensures leaves { (setup : T) (workload : T.Workload) (seed stream limit : ℕ) (s : Entries) (keep : List Bool) → LacksKeep s
+        → is_cut_short (run_of_case (T.asks setup workload) T.names seed stream limit s) ≡ false
+        → HasRoom limit (T.cut setup workload) (run_of_case (T.asks setup workload) T.names seed stream limit s)
+        → length keep ≡ (T.cut setup workload).pending (replies (run_of_case (T.asks setup workload) T.names seed stream limit s))
+        → LeavesJust (T.asks setup workload) (T.cut setup workload) T.names seed stream limit s keep }
+    ensures row { keep_chain 0 (false ∷ false ∷ false ∷ true ∷ false ∷ []) ≡ full (Some 3) Off ∷ full (Some 1) (Return None) ∷ [] }
+    ensures terms { (keep : List Bool) → length (keep_chain 0 keep) ≤ 2 * count_by (λ kept. kept) keep }
+    ensures lawful { (s : Entries) (keep : List Bool) → IsScenario s → LacksKeep s → length keep < 2 ^ 32 → CanTakeIn s (length (keep_chain 0 keep))
+        → IsScenario (keeping keep s) }
+{}
+
+/// Nothing weaker: what fails without its power cut fails with it, with the same code, by the same scenario. So it is of each target whose cut judges
+/// as the run itself where it loses all, as far as the limit has room for a hit for each pending write; and of a pass, and of a run that nothing is
+/// known of. With less room nothing is known of the run with its cut.
+pub fn nothing_is_weaker<T: CrashTarget>()
+    ensures same { (setup : T) (workload : T.Workload) (seed stream limit : ℕ) (s : Entries) → LacksKeep s
+        → LosesAlike (T.asks setup workload) (T.cut setup workload)
+        → HasRoom limit (T.cut setup workload) (run_of_case (T.asks setup workload) T.names seed stream limit s)
+        → verdict_with (asks_with (T.asks setup workload) (T.cut setup workload) (length T.names)) (with_keep T.names) seed limit stream s
+        ≡ verdict_with (T.asks setup workload) T.names seed limit stream s }
+    ensures less_room { (setup : T) (workload : T.Workload) (seed stream limit : ℕ) (s : Entries) → LacksKeep s
+        → (HasRoom limit (T.cut setup workload) (run_of_case (T.asks setup workload) T.names seed stream limit s) → ⊥)
+        → verdict_with (asks_with (T.asks setup workload) (T.cut setup workload) (length T.names)) (with_keep T.names) seed limit stream s
+        ≡ Unresolved }
+{}
+
+/// Which cuts judge as the run itself where they lose all: those of a table, where each state is judged so when it loses all; and the cut of what leaves
+/// nothing pending.
+pub fn these_lose_alike<P: CrashProtocol>()
+    ensures by_table { (setup : P) (workload : P.Workload)
+        → ((state : P.State) → (P.cut_table setup workload).judge state (replicate ((P.cut_table setup workload).pending state) false)
+        ≡ (P.table setup workload).judge state)
+        → LosesAlike (asks_by (by_table (P.table setup workload))) (cut_by (P.table setup workload) (P.cut_table setup workload)) }
+    ensures nothing_pending { (asks : List Reply → Move) → LosesAlike asks (no_cut asks) }
+{}

@@ -1,0 +1,38 @@
+-- The sound variant never fails, whatever a power cut keeps.
+use Rattle.std.proofs.Common.{◌≡◌, ℕ, Bool, true, false, cond, List, [], ◌∷◌, ◌++◌, map, length, refl, ap, sym, ◌∙◌}
+use Rattle.std.specs.Prelude.{nat_lt}
+use Rattle.action_eval.specs.Answers.{Given, Reply}
+use Rattle.target_trait.specs.declared.judgement.Judgement.{Judgement}
+use Rattle.target_trait.specs.declared.judgement.Judgement.TheVariants.{Kept}
+use Rattle.target_trait.specs.declared.judgement.Verdict.TheVariants as verdict
+use Rattle.target_trait.specs.Play.{Move, Ask, Done}
+use Rattle.target_trait.specs.Outcomes.{outcome}
+use Rattle.target_trait.specs.Cuts.{Cut, asks_from, asks_with, by_own, cut_asks, keeps}
+use Rattle.target_trait.proofs.Never.{IsKept, never_fails}
+use Rattle.file_replace.specs.declared.variant.Variant.TheVariants.{Sound}
+use Rattle.file_replace.specs.Work.{Work}
+use Rattle.file_replace.specs.Steps.{asks_of}
+use Rattle.file_replace.specs.Crash.{cut_of}
+use Rattle.file_replace.proofs.Sturdy.{sound_keeps}
+
+same_kept : (m cut : Move) → IsKept cut → IsKept (by_own m m cut)
+same_kept (Ask p) cut k = λ j e. absurd cc
+same_kept (Done i) cut k = k
+
+own_kept : (m own cut : Move) → IsKept own → IsKept cut → IsKept (by_own m own cut)
+own_kept (Ask p) own cut a b = a
+own_kept (Done i) own cut a b = b
+
+cut_kept : (b : Bool) (p : ℕ) (i : Judgement) → i ≡ Kept → IsKept (cond b (Ask p) (Done i))
+cut_kept true p i k = λ j e. absurd cc
+cut_kept false p i k = λ j e. let same : i ≡ j = cc in sym same ∙ k
+
+from_kept : (asks : List Reply → Move) (cut : Cut) (n : ℕ) → ((own : List Reply) (keep : List Bool) → cut.judge own keep ≡ Kept) → (own rest : List Reply)
+    → IsKept (asks_from asks cut n own rest)
+from_kept asks cut n kept own [] = same_kept (asks own) (cut_asks cut n own []) (cut_kept (nat_lt 0 (cut.pending own)) n (cut.judge own []) (kept own []))
+from_kept asks cut n kept own (a ∷ rest) =
+    own_kept (asks own) (asks_from asks cut n (own ++ a ∷ []) rest) (cut_asks cut n own (a ∷ rest)) (from_kept asks cut n kept (own ++ a ∷ []) rest)
+    (cut_kept (nat_lt (length (a ∷ rest)) (cut.pending own)) n (cut.judge own (map keeps (a ∷ rest))) (kept own (map keeps (a ∷ rest))))
+
+pub sound_survives : (w : Work) (g : Given) (code : ℕ) → (outcome (asks_with (asks_of Sound w) (cut_of Sound w) 7) g).verdict ≡ verdict.Fail code → ⊥
+sound_survives w = never_fails (asks_with (asks_of Sound w) (cut_of Sound w) 7) (from_kept (asks_of Sound w) (cut_of Sound w) 7 (sound_keeps w) [])

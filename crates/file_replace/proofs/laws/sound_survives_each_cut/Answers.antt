@@ -1,0 +1,5 @@
+use Rattle.file_replace.proofs.Survives.{sound_survives}
+use Rattle.file_replace.proofs.laws.sound_survives_each_cut.Goals as goal
+
+pub returns : goal.returns
+returns c = sound_survives c.args.workload.now _

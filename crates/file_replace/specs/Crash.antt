@@ -1,0 +1,71 @@
+-- What a run leaves to the power cut at its end: how many writes are pending, and what is judged where the cut keeps some of them. And workloads and
+-- scenarios in which only a kept write shows a flaw.
+use Rattle.std.specs.Prelude.{ℕ, Bool, List, [], ◌∷◌, ◌++◌, length, Option, Some, None, option_map, codes}
+use Rattle.scenario_values.specs.declared.term.Term.{Term}
+use Rattle.scenario_values.specs.declared.term.Task.{Task}
+use Rattle.scenario_values.specs.declared.term.Task.TheVariants as task
+use Rattle.scenario_values.specs.Scenario.{Entries}
+use Rattle.action_eval.specs.Answers.{Reply}
+use Rattle.sim_device.specs.FileEffects.{Effect, Lasting, leads, contents}
+use Rattle.sim_device.specs.Pending.{Pending, pending, kept, leads_with, holds_with}
+use Rattle.target_trait.specs.declared.judgement.Judgement.{Judgement}
+use Rattle.target_trait.specs.Machine.{after}
+use Rattle.target_trait.specs.Failing.{fails_once}
+use Rattle.target_trait.specs.Cuts.{Cut}
+use Rattle.file_replace.specs.declared.variant.Variant.{Variant}
+use Rattle.file_replace.specs.Words.{target}
+use Rattle.file_replace.specs.Work.{Work}
+use Rattle.file_replace.specs.Judgement.{judged_by}
+use Rattle.file_replace.specs.Steps.{State, machine}
+
+-- what a name holds after a power cut that kept these writes
+abbrev pub held_keeping : List Pending → List Effect → ℕ → Option (List ℕ)
+held_keeping writes effects name = option_map (λ f. holds_with writes f (contents effects Lasting f)) (leads_with writes name (leads effects Lasting name))
+
+-- what stands under `target` after a cut of which these answers tell what it keeps
+abbrev pub judged_keeping : State → List Bool → Judgement
+judged_keeping s keep = judged_by s.tally.past (held_keeping (kept keep (pending s.effects)) s.effects target)
+
+-- by the answers of a run
+abbrev pub cut_of : Variant → Work → Cut
+cut_of v w = record {
+  pending = λ own. length (pending (after (machine v w) own).effects);
+  judge = λ own keep. judged_keeping (after (machine v w) own) keep;
+}
+
+-- ---- scenarios
+
+abbrev pub full_term : Option ℕ → Task → Term
+full_term count what = record { share = 1000000; count = count; task = what }
+
+-- `NAME=1*panic`
+abbrev pub panics_once : List ℕ → List ℕ × List Term
+panics_once name = (name, full_term (Some 1) (task.Panic None) ∷ [])
+
+-- `power::keep=N*off->COUNT*return`: the first N pending writes are lost, and so many after them kept, and without a count all
+abbrev pub keeps_after : ℕ → Option ℕ → List ℕ × List Term
+keeps_after lost count = (codes "power::keep", full_term (Some lost) task.Off ∷ full_term count (task.Return None) ∷ [])
+
+-- the directory's sync fails, and of the new file's name, its two chunks and the rename the cut keeps the rename
+abbrev pub renamed_alone : Entries
+renamed_alone = fails_once (codes "replace::sync_dir") ∷ keeps_after 3 (Some 1) ∷ []
+
+-- the run panics at the directory's sync, and the cut keeps the second chunk and the rename
+abbrev pub renamed_without_the_first_chunk : Entries
+renamed_without_the_first_chunk = panics_once (codes "replace::sync_dir") ∷ keeps_after 2 None ∷ []
+
+-- the file's sync fails, and of the new file's name, its two chunks and the rename the cut keeps the rename
+abbrev pub renamed_unsynced : Entries
+renamed_unsynced = fails_once (codes "replace::sync") ∷ keeps_after 3 (Some 1) ∷ []
+
+-- the new file can't be created
+abbrev pub create_fails : Entries
+create_fails = fails_once (codes "replace::create") ∷ []
+
+-- the same, and the cut keeps the one pending write, by which the old name is gone
+abbrev pub unlinked_alone : Entries
+unlinked_alone = fails_once (codes "replace::create") ∷ (codes "power::keep", full_term (Some 1) (task.Return None) ∷ []) ∷ []
+
+-- the directory's sync fails, and the cut keeps the rename, and not the name that is renamed
+abbrev pub renamed_unnamed : Entries
+renamed_unnamed = fails_once (codes "replace::sync_dir") ∷ keeps_after 1 None ∷ []

@@ -1,0 +1,40 @@
+-- A run on a device that tells what is pending, up to its power cut.
+use Rattle.std.proofs.Common.{◌≡◌, ℕ, Bool, List, length, Option, ap, sym, ◌∙◌}
+use Rattle.sim_device.specs.Pending.{Noted, Tells, pending, kept}
+use Rattle.action_eval.specs.Answers.{Run, replies}
+use Rattle.target_trait.specs.declared.judgement.Judgement.{Judgement}
+use Rattle.target_trait.specs.Play.{IsCutPlay, move_by}
+use Rattle.target_trait.specs.Machine.{after}
+use Rattle.target_trait.specs.Cuts.{CutEnded, asks_with}
+use Rattle.target_trait.proofs.Machine.{reached_end}
+use Rattle.target_trait.proofs.CutRuns.{with_cut, IsJudged}
+use Rattle.maildir_target.specs.declared.variant.Variant.{Variant}
+use Rattle.maildir_target.specs.declared.mailbox.Mailbox.{Mailbox}
+use Rattle.maildir_target.specs.Judgement.{judged, judged_now}
+use Rattle.maildir_target.specs.Steps.{State, state, machine, point_at, asks_of}
+use Rattle.maildir_target.specs.Crash.{cut_of, judged_keeping, standing_keeping}
+use Rattle.maildir_target.specs.Lawful.{asks-halts}
+use Rattle.maildir_target.specs.inside.Seen.{IsOver}
+
+pub cut_run : (v : Variant) (w : List (List (List ℕ))) (old new : Run) (box : Mailbox Noted) → IsOver Tells v w old box
+    → (count : ℕ) → count ≡ length box.device.pending → (kept : Option (List Bool)) → CutEnded 7 count old new kept → (j : Judgement)
+    → IsJudged (cut_of v w) (replies old) kept j
+    → IsCutPlay (asks_with (asks_of v w) (cut_of v w) 7) new j
+cut_run v w old new box k count count_is kept ended j is_judged =
+    let t = k.last in
+    let played = k.played in
+    let i : Judgement = judged w t.acknowledged played.effects in
+    let none = ap (λ x. move_by i (point_at x)) k.over in
+    let waiting : length (pending (after (machine v w) (replies old)).effects) ≡ count =
+    ap (λ (s : State). length (pending s.effects)) played.reached.here ∙ sym (count_is ∙ ap length played.device.pending) in
+    with_cut (asks_of v w) (asks-halts v w) (cut_of v w) 7 count old new i j kept
+    (reached_end (machine v w) old (state t played.effects) i played.reached none) waiting ended is_judged
+
+-- what is judged is what the answers of the run say
+pub kept_judged : (v : Variant) (w : List (List (List ℕ))) (r : Run) (box : Mailbox Noted) (k : IsOver Tells v w r box) (keep : List Bool) (j : Judgement)
+    → j ≡ judged_now w box.acknowledged.items (standing_keeping (kept keep (pending k.played.effects)) k.played.effects)
+    → j ≡ judged_keeping w (after (machine v w) (replies r)) keep
+kept_judged v w r box k keep j is =
+    is
+    ∙ ap (λ (l : List ℕ). judged_now w l (standing_keeping (kept keep (pending k.played.effects)) k.played.effects)) (sym k.acknowledged)
+    ∙ ap (λ (s : State). judged_keeping w s keep) (sym k.played.reached.here)
