@@ -8,7 +8,7 @@ ghost use Rattle.commit_target.specs.inside.Held.{Holds, StandFor};
 
 use crate::marked::{Manner, MarkedLog};
 use crate::order::{answer, note, note_each};
-use crate::records::{Party, Record, Write};
+use crate::records::{Party, PendingRecord, Record, Write};
 use std::alloc::{AllocError, Global};
 use std::marker::Model;
 
@@ -18,8 +18,8 @@ pub struct Logs {
     alloc: Global,
     coordinator: MarkedLog,
     participants: Vec<MarkedLog>,
-    // Whose records are pending, in the order in which these were made over all logs, which no log knows.
-    order: Vec<Party>,
+    // The pending records, in the order in which they were made over all logs, which no log knows.
+    order: Vec<PendingRecord>,
 }
 
 impl Model for Logs {
@@ -66,7 +66,7 @@ fn restart_each(logs: &mut [MarkedLog])
 /// Each participant's log keeps what lasts, and what these answers keep of its pending records.
 fn keep_each(
     logs: &mut [MarkedLog],
-    order: &[Party],
+    order: &[PendingRecord],
     keep: &[bool],
     answers: &mut Vec<bool>,
 ) -> Result<(), AllocError>
@@ -160,7 +160,7 @@ impl Logs {
             entry,
             manner,
         )?;
-        note(&mut self.order, party, manner);
+        note(&mut self.order, PendingRecord { party, entry }, manner);
         Ok(())
     }
 
@@ -194,7 +194,7 @@ impl Logs {
     {
         let end = self.participants.len().min(first + count);
         add_row(self.participants.as_mut_slice(), first, end, entry, manner)?;
-        note_each(&mut self.order, first, count, manner)?;
+        note_each(&mut self.order, first, count, entry, manner)?;
         Ok(())
     }
 
@@ -207,11 +207,11 @@ impl Logs {
         restart_each(self.participants.as_mut_slice());
     }
 
-    /// How many records are pending, over all logs.
-    pub(crate) fn pending(&self) -> usize
-        ensures { result ≡ length self.now.pending }
+    /// The pending records, in the order in which they were made over all logs.
+    pub(crate) fn pending(&self) -> &[PendingRecord]
+        ensures { result.now ≡ self.now.pending }
     {
-        self.order.len()
+        self.order.as_slice()
     }
 
     /// All parties restart. Each log keeps what lasts, and of what is pending those records for which these answers say so, in the order in which they

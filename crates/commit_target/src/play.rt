@@ -64,7 +64,7 @@ fn transactions(
 }
 
 /// Plays a run up to where it is judged.
-fn play_out(
+pub fn play_out(
     variant: Variant,
     workload: &Transactions,
     progress: &mut Progress,
@@ -135,7 +135,7 @@ pub fn play_to_cut(
     ensures given { session.new.given ≡ session.old.given }
 {
     play_out(variant, workload, progress, logs, session)?;
-    match ask_cut(alloc, session, KEEP, logs.pending())? {
+    match ask_cut(alloc, session, KEEP, logs.pending().len())? {
         Some(kept) => judge_keeping(logs, workload.participants(), progress, &kept),
         None => Ok(Judgement::Kept),
     }

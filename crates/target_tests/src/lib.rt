@@ -17,6 +17,8 @@ mod kept_records;
 #[cfg(test)]
 mod kept_writes;
 #[cfg(test)]
+mod pending_calls;
+#[cfg(test)]
 mod shelf;
 #[cfg(test)]
 mod sinks;

@@ -3,7 +3,7 @@ use Rattle.std.specs.Vec.{with_items}
 use Rattle.std.proofs.lemmas.List.{with_items_is}
 use Rattle.sim_device.specs.LogEffects.{LogEffect, Log}
 use Rattle.commit_target.specs.declared.records.Record.{Record}
-use Rattle.commit_target.specs.declared.records.Party.{Party}
+use Rattle.commit_target.specs.declared.records.PendingRecord.{PendingRecord}
 use Rattle.commit_target.specs.declared.records.Party.TheVariants.{Participant}
 use Rattle.commit_target.specs.declared.records.Write.{Write}
 use Rattle.commit_target.specs.Writes.{Event, AllLogs, pending}
@@ -23,7 +23,7 @@ returns c =
     let row : AddsRow old.participants new.participants effect c.args.first c.min-end.result =
     subst (λ (logs : List (Log Record)). AddsRow logs new.participants effect c.args.first c.min-end.result) c.as_mut_slice.ensures.value c.in_ok-add_row.ensures in
     let notes : (es : List Event) → old.pending ≡ pending es → new.pending ≡ pending (all_written each c.args.first c.args.count es) = λ es is.
-    c.in_ok-note_each.ensures ∙ ap (λ (x : List Party). noted_each c.args.manner c.args.first c.args.count x) is ∙ sym (row_noted c.args.manner c.args.entry c.args.first c.args.count es) in
+    c.in_ok-note_each.ensures ∙ ap (λ (x : List PendingRecord). noted_each c.args.manner c.args.entry c.args.first c.args.count x) is ∙ sym (row_noted c.args.manner c.args.entry c.args.first c.args.count es) in
     subst (λ (logs : AllLogs). AddsAll logs (record { coordinator = c.self.inside.coordinator; participants = (with_items c.self.inside.participants c.add_row.new.logs).items; pending = c.note_each.new.order.items }) each c.args.first c.args.count) c.self.view_is
     (subst (λ (logs : List (Log Record)). AddsAll old (record { coordinator = c.self.inside.coordinator; participants = logs; pending = c.note_each.new.order.items }) each c.args.first c.args.count) (sym whole)
     (row_added old new each effect (writes c.args.manner c.args.entry) c.args.first c.args.count c.min-end.result (omega arith) (λ n there before. omega arith) refl notes row))
