@@ -7,6 +7,7 @@ use Rattle.target_trait.specs.Machine.{after}
 use Rattle.commit_target.specs.declared.variant.Variant.{Variant}
 use Rattle.commit_target.specs.declared.records.Record.{Record}
 use Rattle.commit_target.specs.declared.records.Party.{Party}
+use Rattle.commit_target.specs.declared.records.PendingRecord.{PendingRecord}
 use Rattle.commit_target.specs.declared.records.Party.TheVariants.{Coordinator, Participant}
 use Rattle.commit_target.specs.Work.{Work}
 use Rattle.commit_target.specs.Writes.{Event, is_party, pending, on_coordinator, on_participant}
@@ -27,10 +28,11 @@ one_more : (mine : Bool) (rest : List Bool) → LosesAll rest → LosesAll (cond
 one_more true rest k = record { count = suc k.count; are = ap (λ (l : List Bool). false ∷ l) k.are }
 one_more false rest k = k
 
-lost_of : (party : Party) (parties : List Party) (count : ℕ) → LosesAll (answers_of party parties (replicate count false))
+lost_of : (party : Party) (order : List PendingRecord) (count : ℕ) → LosesAll (answers_of party order (replicate count false))
 lost_of party [] count = record { count = 0; are = refl }
-lost_of party (other ∷ parties) zero = record { count = 0; are = refl }
-lost_of party (other ∷ parties) (suc count) = one_more (is_party other party) (answers_of party parties (replicate count false)) (lost_of party parties count)
+lost_of party (other ∷ order) zero = record { count = 0; are = refl }
+lost_of party (other ∷ order) (suc count) =
+    one_more (is_party other.party party) (answers_of party order (replicate count false)) (lost_of party order count)
 
 lasts : (es : List (LogEffect Record)) (answers : List Bool) → LosesAll answers → survivors es answers ≡ records es Lasting
 lasts es answers k = ap (survivors es) k.are ∙ what_lasts es k.count

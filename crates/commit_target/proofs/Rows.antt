@@ -7,7 +7,7 @@ use Rattle.sim_device.specs.LogEffects as effect
 use Rattle.commit_target.specs.declared.marked.Manner.{Manner}
 use Rattle.commit_target.specs.declared.marked.Manner.TheVariants.{Append, Force}
 use Rattle.commit_target.specs.declared.records.Record.{Record}
-use Rattle.commit_target.specs.declared.records.Party.{Party}
+use Rattle.commit_target.specs.declared.records.PendingRecord.{PendingRecord}
 use Rattle.commit_target.specs.declared.records.Party.TheVariants.{Participant}
 use Rattle.commit_target.specs.declared.records.Write.{Write}
 use Rattle.commit_target.specs.Writes.{Event, Written, AllLogs, LogsStandFor, on_coordinator, on_participant, pending, log_at}
@@ -59,12 +59,12 @@ on_these w effect row n i (suc m) es from below = elim (cases_eq n i) [
       ∙ ap (λ (l : List (LogEffect Record)). effect ∷ l) (row.others i n es apart)
 ]
 
--- whose records are pending then
+-- which records are pending then
 pub row_noted : (m : Manner) (r : Record) (i count : ℕ) (es : List Event)
-    → pending (all_written (λ j. write_of m (Participant j) r) i count es) ≡ noted_each m i count (pending es)
+    → pending (all_written (λ j. write_of m (Participant j) r) i count es) ≡ noted_each m r i count (pending es)
 row_noted m r i zero es = refl
 row_noted m r i (suc n) es =
-    row_noted m r (i + 1) n (Written (write_of m (Participant i) r) ∷ es) ∙ ap (λ (x : List Party). noted_each m (i + 1) n x) (one_noted m (Participant i) r es)
+    row_noted m r (i + 1) n (Written (write_of m (Participant i) r) ∷ es) ∙ ap (λ (x : List PendingRecord). noted_each m r (i + 1) n x) (one_noted m (Participant i) r es)
 
 -- one log more
 pub one_written : (old now : List (Log Record)) (effect : LogEffect Record) (first i : ℕ) (l l' : Log Record) → i < length now → l ≡ log_at old i

@@ -1,29 +1,34 @@
--- What a run leaves to the power cut at its end: how many records are pending, and what is judged where the cut keeps some of them. And scenarios in
--- which only a kept record shows a flaw.
-use Rattle.std.specs.Prelude.{ℕ, if◌then◌else◌, Bool, List, [], ◌∷◌, length, Some, None, codes}
+-- What a run leaves to the power cut at its end: how many records are pending, which these are, and what is judged where the cut keeps some of them. And
+-- scenarios in which only a kept record shows a flaw.
+use Rattle.std.specs.Prelude.{ℕ, suc, ◌+◌, if◌then◌else◌, Bool, List, [], ◌∷◌, ◌++◌, map, length, Some, None, codes}
+use Rattle.std.specs.Fmt.{decimal}
 use Rattle.scenario_values.specs.declared.term.Term.{Term}
 use Rattle.scenario_values.specs.declared.term.Task.TheVariants.{Panic}
 use Rattle.scenario_values.specs.Scenario.{Entries}
+use Rattle.action_eval.specs.Answers.{Given, replies, start}
 use Rattle.sim_device.specs.LogEffects.{survivors}
 use Rattle.target_trait.specs.declared.judgement.Judgement.{Judgement}
 use Rattle.target_trait.specs.Machine.{after}
+use Rattle.target_trait.specs.Outcomes.{play}
 use Rattle.target_trait.specs.Failing.{fails_once}
 use Rattle.target_trait.specs.Cuts.{Cut}
 use Rattle.commit_target.specs.declared.variant.Variant.{Variant}
 use Rattle.commit_target.specs.declared.records.Record.{Record}
+use Rattle.commit_target.specs.declared.records.PendingRecord.{PendingRecord}
 use Rattle.commit_target.specs.declared.records.Party.{Party}
 use Rattle.commit_target.specs.declared.records.Party.TheVariants.{Coordinator, Participant}
+use Rattle.commit_target.specs.Words.{party_text, kind_text}
 use Rattle.commit_target.specs.Work.{Work}
 use Rattle.commit_target.specs.Writes.{Event, is_party, pending, on_coordinator, on_participant}
 use Rattle.commit_target.specs.Judgement.{judged_by}
-use Rattle.commit_target.specs.Steps.{State, machine}
+use Rattle.commit_target.specs.Steps.{State, machine, asks_of}
 
 -- the answers for the pending records of one party, of those for the records of all. Records past the answers are lost
-abbrev pub answers_of : Party → List Party → List Bool → List Bool
+abbrev pub answers_of : Party → List PendingRecord → List Bool → List Bool
 answers_of party [] keep = []
-answers_of party (other ∷ parties) [] = []
-answers_of party (other ∷ parties) (keeps ∷ keep) =
-    if is_party other party then keeps ∷ answers_of party parties keep else answers_of party parties keep
+answers_of party (p ∷ records) [] = []
+answers_of party (p ∷ records) (keeps ∷ keep) =
+    if is_party p.party party then keeps ∷ answers_of party records keep else answers_of party records keep
 
 -- the records in the logs after a cut that keeps these: what lasts, and in each log what is pending up to the last that is kept
 abbrev pub known_keeping : List Event → List Bool → List Record
@@ -41,6 +46,19 @@ cut_of v w = record {
   pending = λ own. length (pending (after (machine v w) own).events);
   judge = λ own keep. judged_keeping w (after (machine v w) own) keep;
 }
+
+-- ---- what is pending, in words
+
+-- `append coordinator end 1`: whose log it is, what the record says, and of which transaction, numbered from 1
+abbrev pub call_text : PendingRecord → List ℕ
+call_text p = codes "append " ++ party_text p.party ++ codes " " ++ kind_text p.entry.kind ++ codes " " ++ decimal (p.entry.transaction + 1)
+
+abbrev pub call_texts : List PendingRecord → List (List ℕ)
+call_texts records = map call_text records
+
+-- the records that are pending at the end of a run, in the order in which they were made over all logs
+abbrev pub calls_of : Variant → Work → Given → List (List ℕ)
+calls_of v w g = call_texts (pending (after (machine v w) (replies (play (suc g.limit) (asks_of v w) (start g)))).events)
 
 -- ---- scenarios
 

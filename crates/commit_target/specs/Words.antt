@@ -1,5 +1,10 @@
 -- Names and numbers of two-phase commit: points, labels, and codes of failures.
-use Rattle.std.specs.Prelude.{ℕ, ◌==◌, if◌then◌else◌, List, [], ◌∷◌, codes}
+use Rattle.std.specs.Prelude.{ℕ, ◌+◌, ◌==◌, if◌then◌else◌, List, [], ◌∷◌, ◌++◌, codes}
+use Rattle.std.specs.Fmt.{decimal}
+use Rattle.commit_target.specs.declared.records.Kind.{Kind}
+use Rattle.commit_target.specs.declared.records.Kind.TheVariants.{Prepare, Commit, Abort, End}
+use Rattle.commit_target.specs.declared.records.Party.{Party}
+use Rattle.commit_target.specs.declared.records.Party.TheVariants.{Coordinator, Participant}
 use Rattle.commit_target.specs.declared.variant.Variant.{Variant}
 use Rattle.commit_target.specs.declared.variant.Variant.TheVariants.{Sound, LazyPrepare, EarlyEnd, TwoTries, EndFirst}
 
@@ -50,3 +55,14 @@ phantom = 2
 
 abbrev pub code_text : ℕ → List ℕ
 code_text code = if code == split then codes "split" else (if code == lost then codes "lost" else codes "phantom")
+
+-- the texts of parties, whose participants are numbered from 1 there, and of what records say
+abbrev pub party_text : Party → List ℕ
+party_text Coordinator = codes "coordinator"
+party_text (Participant n) = codes "participant " ++ decimal (n + 1)
+
+abbrev pub kind_text : Kind → List ℕ
+kind_text Prepare = codes "prepare"
+kind_text Commit = codes "commit"
+kind_text Abort = codes "abort"
+kind_text End = codes "end"

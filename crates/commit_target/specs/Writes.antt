@@ -5,6 +5,7 @@ use Rattle.sim_device.specs.LogEffects.{LogEffect, Append, Force, Restart, Log, 
 use Rattle.commit_target.specs.declared.records.Record.{Record}
 use Rattle.commit_target.specs.declared.records.Party.{Party}
 use Rattle.commit_target.specs.declared.records.Party.TheVariants.{Coordinator, Participant}
+use Rattle.commit_target.specs.declared.records.PendingRecord.{PendingRecord}
 use Rattle.commit_target.specs.declared.records.Write.{Write}
 use Rattle.commit_target.specs.declared.records.Write.TheVariants as write
 
@@ -38,22 +39,22 @@ is_party (Participant m) Coordinator = false
 is_party (Participant m) (Participant n) = m == n
 
 -- a force of a party's log makes all of it last
-abbrev pub without : Party → List Party → List Party
-without party parties = filter (λ other. not (is_party other party)) parties
+abbrev pub without : Party → List PendingRecord → List PendingRecord
+without party pending = filter (λ p. not (is_party p.party party)) pending
 
--- the parties in whose logs the pending records are, in the order in which these were made over all logs
-abbrev pub pending : List Event → List Party
+-- the pending records, with the parties in whose logs they are, in the order in which they were made over all logs
+abbrev pub pending : List Event → List PendingRecord
 pending [] = []
-pending (Written (write.Append party r) ∷ before) = pending before ++ party ∷ []
+pending (Written (write.Append party r) ∷ before) = pending before ++ record { party = party; entry = r } ∷ []
 pending (Written (write.Force party r) ∷ before) = without party (pending before)
 pending (AllRestart ∷ before) = []
 
--- the logs of all parties, as contracts see them, whether they note whose records are pending, and what is noted of it
+-- the logs of all parties, as contracts see them, whether they note which records are pending, and what is noted of it
 pub record AllLogs : Type 0 where
   pub coordinator : Log Record
   pub participants : List (Log Record)
   pub notes : Bool
-  pub pending : List Party
+  pub pending : List PendingRecord
 
 abbrev pub log_at : List (Log Record) → ℕ → Log Record
 log_at logs n = slice_index_or logs n (record { live = []; lasting = [] })

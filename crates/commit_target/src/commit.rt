@@ -1,22 +1,23 @@
-ghost use Rattle.std.specs.Prelude.{◌≡◌, IfOk};
+ghost use Rattle.std.specs.Prelude.{◌≡◌, map, string_bytes, IfOk};
 ghost use Rattle.std.proofs.Common.{rules};
-ghost use Rattle.action_eval.specs.Answers.{start};
+ghost use Rattle.action_eval.specs.Answers.{start, given_of};
 ghost use Rattle.target_trait.specs.Play.{IsPlay};
 ghost use Rattle.target_trait.specs.declared.judgement.Judgement.TheVariants.{Kept};
 ghost use Rattle.commit_target.specs.declared.variant.Variant.TheVariants.{Sound};
 ghost use Rattle.commit_target.specs.Words.{label, code_text, point_names};
 ghost use Rattle.commit_target.specs.Steps.{asks_of, asks-within, asks-halts};
-ghost use Rattle.commit_target.specs.Crash.{cut_of};
+ghost use Rattle.commit_target.specs.Crash.{cut_of, calls_of};
 
 use crate::judge::{LOST, SPLIT};
 use crate::logs::Logs;
-use crate::play::{TO_CUT, play, play_to_cut};
+use crate::play::{TO_CUT, play, play_out, play_to_cut};
 use crate::progress::Progress;
+use crate::texts::call_texts;
 use crate::variant::Variant;
 use crate::work::Transactions;
 use std::alloc::{AllocError, Global};
 use std::marker::Model;
-use target_trait::{CrashTarget, Judgement, Session, Target};
+use target_trait::{Case, CrashTarget, Judgement, Session, Target};
 
 /// Two-phase commit with presumed abort, as a target. Its setup, which is all that contracts see of it, is the variant.
 ///
@@ -51,6 +52,42 @@ impl Commit {
             logs: Logs::new(alloc),
             progress: Progress::new(alloc),
         }
+    }
+
+    /// Plays a case up to its power cut, and tells each record that is pending then, in the order in which they were made over all logs: `append
+    /// coordinator end 1`, `append participant 2 abort 1`. Where the cut is asked, its hit K at `power::keep` stands for the K-th of them. Participants,
+    /// and the transaction at the end, are numbered from 1.
+    ///
+    /// An error means that memory was refused. The target keeps its setup, after an error too.
+    pub fn pending_calls(
+        &mut self,
+        alloc: Global,
+        workload: &Transactions,
+        case: &Case<'_>,
+    ) -> Result<Vec<String>, AllocError>
+        ensures calls { IfOk result (λ calls. map string_bytes calls.items ≡ calls_of self.old workload.now
+            (given_of case.now.scenario.now point_names case.now.seed case.now.stream case.now.max_hits)) }
+        ensures setup { self.new ≡ self.old }
+    {
+        let mut session = Session::new(
+            alloc,
+            case.scenario,
+            Commit::catalogue(),
+            case.seed,
+            case.stream,
+            case.max_hits,
+        )?;
+        self.logs.clear_to_note(workload.participants())?;
+        play_out(
+            self.variant,
+            workload,
+            &mut self.progress,
+            &mut self.logs,
+            &mut session,
+        )?;
+        // for its clause alone, that at most one hit is past the limit
+        let _ = session.trace();
+        call_texts(alloc, self.logs.pending())
     }
 }
 

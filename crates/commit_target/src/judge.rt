@@ -122,6 +122,7 @@ impl Ends {
 }
 
 /// Judges the transactions that were begun, the first to the last, by the records that are in the logs.
+#[inline(always)]
 fn judgement(logs: &Logs, participants: usize, told: &[usize], begun: usize) -> Judgement
     ensures { (known : List Record) (own : ℕ → List Record) → Holds participants logs.now known own
         → result ≡ judged_by participants told.now known own begun }

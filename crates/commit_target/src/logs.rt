@@ -8,7 +8,7 @@ ghost use Rattle.commit_target.specs.inside.Held.{Holds, StandFor};
 
 use crate::marked::{Manner, MarkedLog};
 use crate::order::{answer, note, note_each};
-use crate::records::{Party, Record, Write};
+use crate::records::{Party, PendingRecord, Record, Write};
 use std::alloc::{AllocError, Global};
 use std::marker::Model;
 
@@ -20,8 +20,8 @@ pub struct Logs {
     participants: Vec<MarkedLog>,
     // Whether the order is kept. A run without its cut asks for none of it.
     notes: bool,
-    // Whose records are pending, in the order in which these were made over all logs, which no log knows.
-    order: Vec<Party>,
+    // The pending records, in the order in which they were made over all logs, which no log knows.
+    order: Vec<PendingRecord>,
 }
 
 impl Model for Logs {
@@ -68,7 +68,7 @@ fn restart_each(logs: &mut [MarkedLog])
 /// Each participant's log keeps what lasts, and what these answers keep of its pending records.
 fn keep_each(
     logs: &mut [MarkedLog],
-    order: &[Party],
+    order: &[PendingRecord],
     keep: &[bool],
     answers: &mut Vec<bool>,
 ) -> Result<(), AllocError>
@@ -159,7 +159,7 @@ impl Logs {
         self.begin(participants, false)
     }
 
-    /// The same, of logs that note whose records are pending.
+    /// The same, of logs that note which records are pending.
     pub(crate) fn clear_to_note(&mut self, participants: usize) -> Result<(), AllocError>
         ensures notes { self.new.notes ≡ true }
         ensures ok { OnOk result (LogsStandFor participants self.new []) }
@@ -202,7 +202,7 @@ impl Logs {
             entry,
             manner,
         )?;
-        note(&mut self.order, party, manner);
+        note(&mut self.order, PendingRecord { party, entry }, manner);
         Ok(())
     }
 
@@ -241,7 +241,7 @@ impl Logs {
         if !self.notes {
             return Ok(());
         }
-        note_each(&mut self.order, first, count, manner)?;
+        note_each(&mut self.order, first, count, entry, manner)?;
         Ok(())
     }
 
@@ -254,11 +254,11 @@ impl Logs {
         restart_each(self.participants.as_mut_slice());
     }
 
-    /// How many records are noted as pending, over all logs.
-    pub(crate) fn pending(&self) -> usize
-        ensures { result ≡ length self.now.pending }
+    /// The records noted as pending, in the order in which they were made over all logs.
+    pub(crate) fn pending(&self) -> &[PendingRecord]
+        ensures { result.now ≡ self.now.pending }
     {
-        self.order.len()
+        self.order.as_slice()
     }
 
     /// All parties restart. Each log keeps what lasts, and of what is pending those records for which these answers say so, in the order in which they

@@ -1,43 +1,44 @@
-//! Whose records are pending, in the order in which these were made over all logs.
+//! Which records are pending, in the order in which they were made over all logs.
 ghost use Rattle.std.specs.Prelude.{◌≡◌, ◌<◌, ◌≤◌, ◌+◌, OnOk, vec_len, vec_capacity};
 ghost use Rattle.commit_target.specs.Writes.{without};
 ghost use Rattle.commit_target.specs.Crash.{answers_of};
 ghost use Rattle.commit_target.specs.inside.Held.{noted, noted_each};
 
 use crate::marked::Manner;
-use crate::records::Party;
+use crate::records::{Party, PendingRecord, Record};
 use std::alloc::AllocError;
 
 /// A force of a party's log makes all of it last.
-fn settle(order: &mut Vec<Party>, party: Party)
+fn settle(order: &mut Vec<PendingRecord>, party: Party)
     ensures { order.new.items ≡ without party order.old.items }
 {
     // Nearly every force finds nothing pending.
     if !order.is_empty() {
-        order.retain(|other| !other.is(party));
+        order.retain(|pending| !pending.party.is(party));
     }
 }
 
-/// Notes a record of a party, for which there is room.
-pub fn note(order: &mut Vec<Party>, party: Party, manner: Manner)
+/// Notes a record, for which there is room.
+pub fn note(order: &mut Vec<PendingRecord>, pending: PendingRecord, manner: Manner)
     requires { vec_len order.old < vec_capacity order.old }
-    ensures { order.new.items ≡ noted manner party order.old.items }
+    ensures { order.new.items ≡ noted manner pending order.old.items }
 {
     match manner {
-        Manner::Append => order.push_reserved(party),
-        Manner::Force => settle(order, party),
+        Manner::Append => order.push_reserved(pending),
+        Manner::Force => settle(order, pending.party),
     }
 }
 
-/// Notes a record of each of so many participants in a row, from one on.
+/// Notes the same record of each of so many participants in a row, from one on.
 pub fn note_each(
-    order: &mut Vec<Party>,
+    order: &mut Vec<PendingRecord>,
     first: usize,
     count: usize,
+    entry: Record,
     manner: Manner,
 ) -> Result<(), AllocError>
     requires { first + count ≤ usize.MAX }
-    ensures { OnOk result (order.new.items ≡ noted_each manner first count order.old.items) }
+    ensures { OnOk result (order.new.items ≡ noted_each manner entry first count order.old.items) }
 {
     match manner {
         // Nearly every force finds nothing pending.
@@ -46,7 +47,8 @@ pub fn note_each(
     }
     for number in first..first + count {
         order.reserve(1)?;
-        note(order, Party::Participant(number), manner);
+        let party = Party::Participant(number);
+        note(order, PendingRecord { party, entry }, manner);
     }
     Ok(())
 }
@@ -54,7 +56,7 @@ pub fn note_each(
 /// The answers for the pending records of one party, of those for all.
 pub fn answer(
     party: Party,
-    order: &[Party],
+    order: &[PendingRecord],
     keep: &[bool],
     answers: &mut Vec<bool>,
 ) -> Result<(), AllocError>
@@ -62,7 +64,7 @@ pub fn answer(
 {
     answers.clear();
     for place in 0..order.len().min(keep.len()) {
-        if order[place].is(party) {
+        if order[place].party.is(party) {
             answers.push(keep[place])?;
         }
     }

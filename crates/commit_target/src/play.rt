@@ -67,7 +67,7 @@ fn transactions(
 }
 
 /// Plays a run up to where it is judged, from empty logs on.
-fn play_out(
+pub fn play_out(
     variant: Variant,
     workload: &Transactions,
     progress: &mut Progress,
@@ -141,7 +141,7 @@ pub fn play_to_cut(
 {
     logs.clear_to_note(workload.participants())?;
     play_out(variant, workload, progress, logs, session)?;
-    match ask_cut(alloc, session, KEEP, logs.pending())? {
+    match ask_cut(alloc, session, KEEP, logs.pending().len())? {
         Some(kept) => judge_keeping(logs, workload.participants(), progress, &kept),
         None => Ok(Judgement::Kept),
     }

@@ -43,6 +43,13 @@ impl Party {
     }
 }
 
+/// A record that its log wasn't forced after, and whose log it is.
+#[derive(Clone, Copy, Debug, PartialEq, Eq)]
+pub struct PendingRecord {
+    pub party: Party,
+    pub entry: Record,
+}
+
 /// What is written to a party's log.
 #[derive(Clone, Copy, Debug, PartialEq, Eq)]
 pub enum Write {

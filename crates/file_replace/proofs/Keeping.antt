@@ -1,7 +1,7 @@
 -- What a device holds after a cut that kept some of what was pending.
-use Rattle.std.proofs.Common.{◌≡◌, ℕ, ◌<◌, ◌==◌, Bool, true, false, cond, List, [], ◌∷◌, Option, Some, None, option_map, IfSome, length, refl, ap, sym, ◌∙◌, subst}
+use Rattle.std.proofs.Common.{◌≡◌, ℕ, ◌<◌, ◌==◌, Bool, true, false, cond, List, [], ◌∷◌, Option, Some, None, option_map, IfSome, refl, ap, sym, ◌∙◌, subst}
 use Rattle.sim_device.specs.FileEffects.{Effect, Lasting, leads, contents, created}
-use Rattle.sim_device.specs.Disk.{Disk, entry_at, held_at, reads}
+use Rattle.sim_device.specs.Disk.{Disk, held_at, reads}
 use Rattle.sim_device.specs.declared.pending.Call.{Call}
 use Rattle.sim_device.specs.declared.pending.Call.TheVariants as call
 use Rattle.sim_device.specs.Pending.{Pending, IsLeft, pending, kept, led_by, leads_with, holds_with}

@@ -1,5 +1,5 @@
 -- A run, told as far as it has come.
-use Rattle.std.proofs.Common.{◌≡◌, ℕ, zero, suc, ◌<◌, ◌≤◌, false, List, [], ◌∷◌, ◌++◌, length, take, drop, replicate, Option, None, Some, Bor, refl, ap, sym, ◌∙◌, subst, arith, length-append, Result, Ok, Err, OnOk}
+use Rattle.std.proofs.Common.{◌≡◌, ℕ, zero, suc, ◌<◌, ◌≤◌, List, [], ◌∷◌, ◌++◌, length, take, drop, replicate, Option, None, Some, Bor, refl, ap, sym, ◌∙◌, subst, arith, length-append, Result, Ok, Err, OnOk}
 use Rattle.sim_device.specs.FileEffects.{Effect, Append}
 use Rattle.sim_device.specs.Disk.{Disk, StandsFor, AddsEffect}
 use Rattle.sim_device.proofs.Appends.{appended, stands_appended}

@@ -1,11 +1,9 @@
 -- The sound variant: whatever part of what is pending a power cut keeps, `target` holds whole contents that are allowed.
-use Rattle.std.proofs.Common.{◌≡◌, ℕ, suc, ◌+◌, ◌<◌, Bool, true, false, not, ◌&&◌, cond, List, [], ◌∷◌, ◌++◌, filter, option_map, Option, Some, None, refl, ap, sym, ◌∙◌, subst, arith, nat_eq}
-use Rattle.std.proofs.lemmas.Bool.{cases_Bool, ne_eqb}
-use Rattle.std.proofs.Common.{inl, inr}
+use Rattle.std.proofs.Common.{◌≡◌, ℕ, ◌<◌, Bool, true, false, not, ◌&&◌, cond, List, [], ◌∷◌, ◌++◌, filter, option_map, Option, Some, None, refl, ap, sym, ◌∙◌, subst, arith, nat_eq}
 use Rattle.sim_device.specs.FileEffects.{Effect, Create, Append, Sync, Rename, Unlink, SyncDir, Live, Lasting, leads, contents, created, is_file}
 use Rattle.sim_device.specs.declared.pending.Call.{Call}
 use Rattle.sim_device.specs.declared.pending.Call.TheVariants as call
-use Rattle.sim_device.specs.Pending.{Pending, pending, kept, is_to, is_of_contents, led_by, leads_with, held_by, held_with, holds_with, renames, further, written, long}
+use Rattle.sim_device.specs.Pending.{Pending, pending, kept, is_to, is_of_contents, led_by, leads_with, held_by, holds_with, renames, further, written, long}
 use Rattle.sim_device.proofs.EffectLaws.{leads_created}
 use Rattle.action_eval.specs.Answers.{Reply, Go, Return, Halt}
 use Rattle.target_trait.specs.declared.judgement.Judgement.TheVariants.{Kept, Broken}

@@ -1,5 +1,5 @@
 -- The sound variant never fails, whatever a power cut keeps.
-use Rattle.std.proofs.Common.{◌≡◌, ℕ, Bool, true, false, cond, List, [], ◌∷◌, ◌++◌, map, length, refl, ap, sym, ◌∙◌}
+use Rattle.std.proofs.Common.{◌≡◌, ℕ, Bool, true, false, cond, List, [], ◌∷◌, ◌++◌, map, length, sym, ◌∙◌}
 use Rattle.std.specs.Prelude.{nat_lt}
 use Rattle.action_eval.specs.Answers.{Given, Reply}
 use Rattle.target_trait.specs.declared.judgement.Judgement.{Judgement}

@@ -57,6 +57,9 @@ target = 0
 abbrev pub tmp : ℕ
 tmp = 1
 
+abbrev pub name_text : ℕ → List ℕ
+name_text name = if name == target then codes "target" else codes "tmp"
+
 -- the name that the new contents are written under: in_place has no other than that of the old ones
 abbrev pub written_name : Variant → ℕ
 written_name Sound = tmp

@@ -18,6 +18,7 @@ pub const TORN: u32 = 0;
 pub const STALE: u32 = 1;
 
 /// The judgement of what `target` holds.
+#[inline(always)]
 fn judgement(progress: &Progress<'_>, bytes: &[u8]) -> Judgement
     ensures { result ≡ judged_by progress.now.past (Some bytes.now) }
 {

@@ -11,6 +11,7 @@ mod replace;
 mod rest;
 mod stage;
 mod steps;
+mod texts;
 mod variant;
 mod work;
 

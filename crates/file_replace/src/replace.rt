@@ -1,22 +1,23 @@
-ghost use Rattle.std.specs.Prelude.{◌≡◌, IfOk};
+ghost use Rattle.std.specs.Prelude.{◌≡◌, map, string_bytes, IfOk};
 ghost use Rattle.std.proofs.Common.{rules};
-ghost use Rattle.action_eval.specs.Answers.{start};
+ghost use Rattle.action_eval.specs.Answers.{start, given_of};
 ghost use Rattle.target_trait.specs.Play.{IsPlay};
 ghost use Rattle.target_trait.specs.declared.judgement.Judgement.TheVariants.{Kept};
 ghost use Rattle.file_replace.specs.declared.variant.Variant.TheVariants.{Sound};
 ghost use Rattle.file_replace.specs.Words.{label, code_text, point_names};
 ghost use Rattle.file_replace.specs.Steps.{asks_of};
-ghost use Rattle.file_replace.specs.Crash.{cut_of};
+ghost use Rattle.file_replace.specs.Crash.{cut_of, calls_of};
 ghost use Rattle.file_replace.specs.Lawful.{asks-within, asks-halts};
 
 use crate::judge::TORN;
-use crate::play::{TO_CUT, play, play_to_cut};
+use crate::play::{TO_CUT, play, play_out, play_to_cut};
+use crate::texts::call_texts;
 use crate::variant::Variant;
 use crate::work::Replacements;
 use sim_device::{CrashDevice, FileDevice};
 use std::alloc::{AllocError, Global};
 use std::marker::Model;
-use target_trait::{CrashTarget, Judgement, Session, Target};
+use target_trait::{Case, CrashTarget, Judgement, Session, Target};
 
 /// Atomic replacement of a file, as a target. Its setup, which is all that contracts see of it, is the variant.
 ///
@@ -52,6 +53,35 @@ impl Replace {
             device: FileDevice::new(alloc),
             crash_device: CrashDevice::new(alloc),
         }
+    }
+
+    /// Plays a case up to its power cut, and tells what each write did that is pending then, in the order in which they were made: `create tmp`,
+    /// `append tmp 2`, `rename tmp target`, `unlink tmp`. Where the cut is asked, its hit K at `power::keep` stands for the K-th of them. The number
+    /// behind an append is the place of its first byte in the file, and the file's own first byte has place 0.
+    ///
+    /// An error means that memory was refused. The target keeps its setup, after an error too.
+    pub fn pending_calls(
+        &mut self,
+        alloc: Global,
+        workload: &Replacements,
+        case: &Case<'_>,
+    ) -> Result<Vec<String>, AllocError>
+        ensures calls { IfOk result (λ calls. map string_bytes calls.items ≡ calls_of self.old workload.now
+            (given_of case.now.scenario.now point_names case.now.seed case.now.stream case.now.max_hits)) }
+        ensures setup { self.new ≡ self.old }
+    {
+        let mut session = Session::new(
+            alloc,
+            case.scenario,
+            Replace::catalogue(),
+            case.seed,
+            case.stream,
+            case.max_hits,
+        )?;
+        play_out(self.variant, workload, &mut self.crash_device, &mut session)?;
+        // for its clause alone, that at most one hit is past the limit
+        let _ = session.trace();
+        call_texts(alloc, self.crash_device.pending())
     }
 }
 

@@ -225,6 +225,7 @@ pub fn go<D: Device>(
 }
 
 /// Does what follows where the step that was asked for fails.
+#[inline(always)]
 pub fn fail<D: Device>(
     variant: Variant,
     progress: &mut Progress<'_>,

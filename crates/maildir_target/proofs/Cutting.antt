@@ -1,18 +1,20 @@
 -- A run on a device that tells what is pending, up to its power cut.
-use Rattle.std.proofs.Common.{◌≡◌, ℕ, Bool, List, length, Option, ap, sym, ◌∙◌}
+use Rattle.std.proofs.Common.{◌≡◌, ℕ, ◌+◌, ◌≤◌, Bool, List, length, Option, ap, sym, ◌∙◌}
 use Rattle.sim_device.specs.Pending.{Noted, Tells, pending, kept}
-use Rattle.action_eval.specs.Answers.{Run, replies}
+use Rattle.action_eval.specs.Answers.{Given, Run, Reply, replies}
 use Rattle.target_trait.specs.declared.judgement.Judgement.{Judgement}
 use Rattle.target_trait.specs.Play.{IsCutPlay, move_by}
 use Rattle.target_trait.specs.Machine.{after}
 use Rattle.target_trait.specs.Cuts.{CutEnded, asks_with}
 use Rattle.target_trait.proofs.Machine.{reached_end}
+use Rattle.target_trait.proofs.Halted.{halting}
+use Rattle.target_trait.proofs.Plays.{replies_are}
 use Rattle.target_trait.proofs.CutRuns.{with_cut, IsJudged}
 use Rattle.maildir_target.specs.declared.variant.Variant.{Variant}
 use Rattle.maildir_target.specs.declared.mailbox.Mailbox.{Mailbox}
 use Rattle.maildir_target.specs.Judgement.{judged, judged_now}
 use Rattle.maildir_target.specs.Steps.{State, state, machine, point_at, asks_of}
-use Rattle.maildir_target.specs.Crash.{cut_of, judged_keeping, standing_keeping}
+use Rattle.maildir_target.specs.Crash.{cut_of, judged_keeping, standing_keeping, call_texts, calls_of}
 use Rattle.maildir_target.specs.Lawful.{asks-halts}
 use Rattle.maildir_target.specs.inside.Seen.{IsOver}
 
@@ -38,3 +40,15 @@ kept_judged v w r box k keep j is =
     is
     ∙ ap (λ (l : List ℕ). judged_now w l (standing_keeping (kept keep (pending k.played.effects)) k.played.effects)) (sym k.acknowledged)
     ∙ ap (λ (s : State). judged_keeping w s keep) (sym k.played.reached.here)
+
+-- what a device tells at the end of a run is pending after the play of what the run is given
+pub calls_told : (v : Variant) (w : List (List (List ℕ))) (r : Run) (box : Mailbox Noted) → IsOver Tells v w r box
+    → (g : Given) → r.given ≡ g → length r.hits ≤ r.given.limit + 1 → call_texts box.device.pending ≡ calls_of v w g
+calls_told v w r box k g given few =
+    let t = k.last in
+    let played = k.played in
+    let j : Judgement = judged w t.acknowledged played.effects in
+    let is = reached_end (machine v w) r (state t played.effects) j played.reached (ap (λ x. move_by j (point_at x)) k.over) in
+    ap call_texts
+    (played.device.pending ∙ ap (λ (s : State). pending s.effects) (sym played.reached.here)
+    ∙ ap (λ (a : List Reply). pending (after (machine v w) a).effects) (replies_are (asks_of v w) r j g given (halting (asks_of v w) (asks-halts v w) r j is) few))

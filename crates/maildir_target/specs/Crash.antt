@@ -1,18 +1,24 @@
--- What a run leaves to the power cut at its end: how many writes are pending, and what is judged where the cut keeps some of them. And scenarios
--- in which only a kept write shows a flaw.
-use Rattle.std.specs.Prelude.{ℕ, Bool, List, [], ◌∷◌, ◌++◌, length, Some, None, codes}
+-- What a run leaves to the power cut at its end: how many writes are pending, what each of them did, and what is judged where the cut keeps some of
+-- them. And scenarios in which only a kept write shows a flaw.
+use Rattle.std.specs.Prelude.{ℕ, suc, Bool, List, [], ◌∷◌, ◌++◌, map, length, Some, None, codes}
+use Rattle.std.specs.Fmt.{decimal}
 use Rattle.scenario_values.specs.declared.term.Term.{Term}
 use Rattle.scenario_values.specs.declared.term.Task.{Task}
 use Rattle.scenario_values.specs.declared.term.Task.TheVariants as task
 use Rattle.scenario_values.specs.Scenario.{Entries}
+use Rattle.action_eval.specs.Answers.{Given, replies, start}
+use Rattle.sim_device.specs.declared.pending.Call.{Call}
+use Rattle.sim_device.specs.declared.pending.Call.TheVariants as call
 use Rattle.sim_device.specs.FileEffects.{Effect, Lasting, leads, contents}
 use Rattle.sim_device.specs.Pending.{Pending, pending, kept, leads_with, holds_with}
 use Rattle.target_trait.specs.declared.judgement.Judgement.{Judgement}
 use Rattle.target_trait.specs.Machine.{after}
+use Rattle.target_trait.specs.Outcomes.{play}
 use Rattle.target_trait.specs.Cuts.{Cut}
 use Rattle.maildir_target.specs.declared.variant.Variant.{Variant}
+use Rattle.maildir_target.specs.Words.{name_text}
 use Rattle.maildir_target.specs.Judgement.{Standing, judged_now}
-use Rattle.maildir_target.specs.Steps.{State, machine}
+use Rattle.maildir_target.specs.Steps.{State, machine, asks_of}
 use Rattle.maildir_target.specs.Flaws.{sync_and_unlink_fail}
 
 -- what stands after a power cut that kept these writes
@@ -32,6 +38,25 @@ cut_of v messages = record {
   pending = λ own. length (pending (after (machine v messages) own).effects);
   judge = λ own keep. judged_keeping messages (after (machine v messages) own) keep;
 }
+
+-- ---- what is pending, in words
+
+-- what a call did. Places and counts are of bytes, and the first byte's place is 0
+abbrev pub call_text : Call → List ℕ
+call_text (call.Create m) = codes "create " ++ name_text m
+call_text (call.Append m place) = codes "append " ++ name_text m ++ codes " " ++ decimal place
+call_text (call.WriteAt m place) = codes "write " ++ name_text m ++ codes " " ++ decimal place
+call_text (call.Truncate m count) = codes "truncate " ++ name_text m ++ codes " " ++ decimal count
+call_text (call.Rename a b) = codes "rename " ++ name_text a ++ codes " " ++ name_text b
+call_text (call.Link a b) = codes "link " ++ name_text a ++ codes " " ++ name_text b
+call_text (call.Unlink m) = codes "unlink " ++ name_text m
+
+abbrev pub call_texts : List Pending → List (List ℕ)
+call_texts writes = map (λ p. call_text p.call) writes
+
+-- the writes that are pending at the end of a run, in the order in which they were made
+abbrev pub calls_of : Variant → List (List (List ℕ)) → Given → List (List ℕ)
+calls_of v messages g = call_texts (pending (after (machine v messages) (replies (play (suc g.limit) (asks_of v messages) (start g)))).effects)
 
 -- ---- scenarios
 

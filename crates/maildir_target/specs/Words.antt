@@ -1,5 +1,6 @@
 -- Names and numbers of the delivery: points, labels, codes of failures, and the names on the device.
-use Rattle.std.specs.Prelude.{ℕ, ◌+◌, ◌*◌, ◌==◌, if◌then◌else◌, List, [], ◌∷◌, codes}
+use Rattle.std.specs.Prelude.{ℕ, ◌+◌, ◌*◌, ◌/◌, ◌%◌, ◌==◌, if◌then◌else◌, List, [], ◌∷◌, ◌++◌, codes}
+use Rattle.std.specs.Fmt.{decimal}
 use Rattle.maildir_target.specs.declared.variant.Variant.{Variant}
 use Rattle.maildir_target.specs.declared.variant.Variant.TheVariants.{Sound, LinkFirst, IgnoreWrite, AppendTmp, DeliverInNew}
 use Rattle.maildir_target.specs.declared.name.Folder.{Folder}
@@ -70,6 +71,23 @@ tmp_name message attempt = number_of (record { folder = folder.Tmp; message = me
 
 abbrev pub new_name : ℕ → Attempt → ℕ
 new_name message attempt = number_of (record { folder = folder.New; message = message; attempt = attempt })
+
+-- the text of a name, `tmp/i.a` or `new/i.a` of message i and attempt a, both numbered from 1
+abbrev pub folder_text : Folder → List ℕ
+folder_text folder.Tmp = codes "tmp"
+folder_text folder.New = codes "new"
+
+abbrev pub attempt_number : Attempt → ℕ
+attempt_number First = 1
+attempt_number Second = 2
+
+abbrev pub text_of : Name → List ℕ
+text_of name = folder_text name.folder ++ codes "/" ++ decimal name.message ++ codes "." ++ decimal (attempt_number name.attempt)
+
+-- that of the name of this number
+abbrev pub name_text : ℕ → List ℕ
+name_text number =
+    (if number % 2 == 0 then codes "tmp" else codes "new") ++ codes "/" ++ decimal (number / 4) ++ codes "." ++ decimal (number / 2 % 2 + 1)
 
 -- the folder of the name that a message is written under: deliver_in_new has no other than the one that it is delivered in
 abbrev pub written_folder : Variant → Folder

@@ -173,6 +173,7 @@ fn link_new<D: Device>(
 }
 
 /// Removes the name under `tmp/`. Where that fails the name stays, and the delivery goes on.
+#[inline(always)]
 fn remove<D: Device>(
     delivery: &Delivery<'_>,
     mailbox: &mut Mailbox<D>,

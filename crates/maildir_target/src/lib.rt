@@ -14,6 +14,7 @@ mod messages;
 mod name;
 mod play;
 mod points;
+mod texts;
 mod variant;
 mod write;
 
@@ -24,5 +25,5 @@ pub use laws::{
 };
 pub use maildir::Maildir;
 pub use messages::Messages;
-pub use name::names_are_apart;
+pub use name::{names_are_apart, names_are_told};
 pub use variant::Variant;

@@ -1,5 +1,5 @@
 ghost use Rattle.std.specs.Prelude.{◌≡◌, ◌≤◌};
-ghost use Rattle.maildir_target.specs.Words.{number_of, folder_part, attempt_part, new_name};
+ghost use Rattle.maildir_target.specs.Words.{number_of, folder_part, attempt_part, new_name, name_text, text_of};
 ghost use Rattle.maildir_target.specs.declared.name.Name.{Name};
 
 /// A folder of the mail box.
@@ -70,6 +70,11 @@ pub fn new_name(message: u16, attempt: Attempt) -> u32
     };
     name.number()
 }
+
+/// The text that is told of a name's number is the name's: `tmp/i.a` or `new/i.a` of message i and attempt a, both numbered from 1.
+pub fn names_are_told()
+    ensures { (name : Name) → name_text (number_of name) ≡ text_of name }
+{}
 
 /// No two names have the same number.
 pub fn names_are_apart()

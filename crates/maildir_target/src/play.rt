@@ -84,7 +84,7 @@ fn deliver_all<D: Device>(
 }
 
 /// Delivers the messages of a run on a device, which is cleared first, up to where it is judged.
-fn play_out<D: Device>(
+pub fn play_out<D: Device>(
     variant: Variant,
     messages: &Messages,
     mailbox: &mut Mailbox<D>,

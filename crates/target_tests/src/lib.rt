@@ -16,6 +16,8 @@ mod kept_mail;
 mod kept_records;
 #[cfg(test)]
 mod kept_writes;
+#[cfg(test)]
+mod pending_calls;
 mod shelf;
 #[cfg(test)]
 mod sinks;

@@ -3,7 +3,7 @@ use Rattle.std.specs.Prelude.{◌≡◌, ℕ, zero, suc, ◌+◌, ◌<◌, ◌�
 use Rattle.commit_target.specs.declared.marked.Manner.{Manner}
 use Rattle.commit_target.specs.declared.marked.Manner.TheVariants.{Append, Force}
 use Rattle.commit_target.specs.declared.records.Record.{Record}
-use Rattle.commit_target.specs.declared.records.Party.{Party}
+use Rattle.commit_target.specs.declared.records.PendingRecord.{PendingRecord}
 use Rattle.commit_target.specs.declared.records.Party.TheVariants.{Participant}
 use Rattle.commit_target.specs.Writes.{Event, AllLogs, LogsStandFor, log_at, pending, without}
 use Rattle.sim_device.specs.LogEffects.{Log}
@@ -19,12 +19,12 @@ abbrev pub StandFor : ℕ → Log Record → List (Log Record) → List Event �
 StandFor count coordinator participants es =
     LogsStandFor count (record { coordinator = coordinator; participants = participants; notes = true; pending = pending es }) es
 
--- whose records are pending after a record of this party that is added so
-abbrev pub noted : Manner → Party → List Party → List Party
-noted Append party order = order ++ party ∷ []
-noted Force party order = without party order
+-- which records are pending after this one that is added so
+abbrev pub noted : Manner → PendingRecord → List PendingRecord → List PendingRecord
+noted Append p order = order ++ p ∷ []
+noted Force p order = without p.party order
 
--- after one of each of so many participants in a row, from one on
-abbrev pub noted_each : Manner → ℕ → ℕ → List Party → List Party
-noted_each manner i zero order = order
-noted_each manner i (suc n) order = noted_each manner (i + 1) n (noted manner (Participant i) order)
+-- after the same record of each of so many participants in a row, from one on
+abbrev pub noted_each : Manner → Record → ℕ → ℕ → List PendingRecord → List PendingRecord
+noted_each manner r i zero order = order
+noted_each manner r i (suc n) order = noted_each manner r (i + 1) n (noted manner (record { party = Participant i; entry = r }) order)

@@ -1,6 +1,6 @@
 use Rattle.std.proofs.Common.{true, ◌⊎◌, ◌≤◌, ◌<◌, ◌+◌, ◌++◌, ◌∙◌, ℕ, List, Bool, Vec, Global, length, drop, ap, sym, inl, inr, arith}
 use Rattle.std.proofs.lemmas.Bool.{cases_lt}
-use Rattle.commit_target.specs.declared.records.Party.{Party}
+use Rattle.commit_target.specs.declared.records.PendingRecord.{PendingRecord}
 use Rattle.commit_target.specs.Crash.{answers_of}
 use Rattle.commit_target.proofs.Noting.{one_answered, one_passed, all_answered}
 use Rattle.commit_target.proofs.order.answer.Goals as goal
@@ -8,7 +8,7 @@ use Rattle.commit_target.proofs.order.answer.Goals.{then-is+in_ok-push, else-is}
 
 pub loop-place-preserved : goal.loop-place-preserved
 loop-place-preserved c =
-    let order : List Party = c.args.order.now in
+    let order : List PendingRecord = c.args.order.now in
     let keep : List Bool = c.args.keep.now in
     let i : ℕ = c.loop-place.place in
     let there : i < length order = omega (arith, c.min-place-end.ensures, c.loop-place-test.true) in
@@ -26,7 +26,7 @@ loop-place-preserved c =
 
 pub returns : goal.returns
 returns c =
-    let order : List Party = c.args.order.now in
+    let order : List PendingRecord = c.args.order.now in
     let keep : List Bool = c.args.keep.now in
     let i : ℕ = c.loop-place.place in
     let past : (length order ≤ i) ⊎ (length keep ≤ i) =

@@ -1,7 +1,7 @@
 use Rattle.std.proofs.Common.{rules, refl, ◌∷◌}
 use Rattle.sim_device.specs.FileEffects.{SyncDir}
 use Rattle.file_replace.specs.declared.variant.Variant.{Variant}
-use Rattle.file_replace.specs.Steps.{State, done, after_sync_dir}
+use Rattle.file_replace.specs.Steps.{done, after_sync_dir}
 use Rattle.file_replace.proofs.Playing.{shows_as}
 use Rattle.file_replace.proofs.steps.sync_dir.Goals as goal
 

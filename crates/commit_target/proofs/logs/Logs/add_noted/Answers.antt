@@ -1,5 +1,5 @@
 use Rattle.std.proofs.Common.{List, refl, ap, sym, ◌∙◌, subst}
-use Rattle.commit_target.specs.declared.records.Party.{Party}
+use Rattle.commit_target.specs.declared.records.PendingRecord.{PendingRecord}
 use Rattle.commit_target.specs.Writes.{Written, AllLogs, AddsEvent}
 use Rattle.commit_target.specs.inside.Batches.{write_of}
 use Rattle.commit_target.specs.inside.Held.{noted}
@@ -19,7 +19,7 @@ returns-clause-ok c =
       participants = k.participants;
       pending = λ on.
           c.note.ensures
-          ∙ ap (λ (order : List Party). noted c.args.manner c.args.party order) (c.in_ok-reserve.ensures.items ∙ stands.pending on)
+          ∙ ap (λ (order : List PendingRecord). noted c.args.manner (record { party = c.args.party; entry = c.args.entry }) order) (c.in_ok-reserve.ensures.items ∙ stands.pending on)
           ∙ sym (one_noted c.args.manner c.args.party c.args.entry es);
     } in
     subst (λ (logs : AllLogs). AddsEvent logs new (Written (write_of c.args.manner c.args.party c.args.entry))) c.self.view_is adds
