@@ -170,10 +170,18 @@ A scenario keeps what it says: nothing, where it doesn't speak of `power::keep`;
   $ paklour try --scenario 'replace::sync=1*return;power::keep=return' first.toml | head -n 1
   verdict pass
 
-The cut asks after a panic of the target, and not after a pause.
+The cut asks after a panic of the target, and not after a pause. An explained run tells which write each of the cut's hits stands for.
 
   $ paklour explain --scenario 'replace::sync=1*panic;power::keep=1*return' first.toml | grep -c 'power::keep'
   4
+  $ paklour explain --scenario 'replace::sync=1*panic;power::keep=1*return' first.toml | grep '^keep'
+  keep 1 create tmp
+  keep 2 append tmp 0
+  keep 3 append tmp 2
+  keep 4 rename tmp target
+  $ paklour explain --scenario 'replace::sync=1*panic;power::keep=1*off->1*pause' first.toml | grep '^keep'
+  keep 1 create tmp
+  keep 2 append tmp 0
   $ paklour explain --scenario 'replace::sync=1*pause;power::keep=1*return' first.toml
   verdict unresolved
   hit 1 replace::create 1 go

@@ -7,3 +7,4 @@ pub mod ToldLemmas
 mod TextLemmas
 mod StrictLemmas
 pub mod TellingLemmas
+pub mod KeepLemmas

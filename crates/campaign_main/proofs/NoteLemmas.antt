@@ -3,6 +3,7 @@ use Rattle.std.proofs.Common.{◌≡◌, [], ◌∷◌, ℕ, Bool, true, false, 
 use Rattle.std.specs.Prelude.{nat_lt}
 use Rattle.scenario_values.specs.Scenario.{Entries}
 use Rattle.plan_gen.specs.PlanList.{most_plans}
+use Rattle.action_eval.specs.Answers.{Given as Run}
 use Rattle.campaign_core.specs.Headline.{Campaign}
 use Rattle.campaign_settings.specs.Own.{own_settings_of}
 use Rattle.campaign_given.specs.Given.{Given}
@@ -17,7 +18,7 @@ use Rattle.command_words.specs.declared.words.Which.{Which}
 use Rattle.campaign_main.specs.declared.exit.Exit.{Exit}
 use Rattle.campaign_main.specs.declared.exit.Exit.TheVariants as exit
 use Rattle.campaign_main.specs.declared.fault.CommandFault.{CommandFault}
-use Rattle.campaign_main.specs.Commands.{Answer, Refusal, choice_answer, explain_answer, given_answer, map_answer, of_few_plans, order_answer, outside_answer, plans_answer, reduce_answer, run_answer, taken, taken_answer, text_answer, too_many_plans, try_answer}
+use Rattle.campaign_main.specs.Commands.{Answer, Refusal, bundled_answer, choice_answer, cut_answer, cut_explain_answer, explain_answer, given_answer, map_answer, of_few_plans, order_answer, outside_answer, plans_answer, reduce_answer, run_answer, taken, taken_answer, text_answer, too_many_plans, try_answer}
 use Rattle.campaign_main.specs.Ends.{IsNoted, IsTold, Noted, OnWhole, TellsANote, TellsARefusal, TellsAs, TellsNotes, TellsRefusal, Tells}
 use Rattle.campaign_main.specs.declared.exit.Conclusion.{Conclusion}
 use Rattle.campaign_main.specs.declared.exit.Conclusion.TheVariants.{Clean, Failed, Doubtful}
@@ -86,6 +87,26 @@ module _ (c : Campaign) where
   may-order (order.Reduce which) = may-reduce which (taken c which)
   may-order (order.Explain which) = may-explain which (taken c which)
 
+module _ (calls : Run → List (List ℕ)) (points : List (List ℕ)) where
+  may-explain-cut : (c : Campaign) (which : Which) (read : Result (ℕ × Entries) Refusal) → NotesFor (order.Explain which) (taken_answer (cut_explain_answer calls points c) read)
+  unfolding cut_explain_answer
+  may-explain-cut c which (Ok t) = (c.points, (t.1, refl))
+  may-explain-cut c which (Err refusal) = tt
+
+  may-cut : (c : Campaign) (o : Order) → NotesFor o (cut_answer calls points o c)
+  may-cut c (order.Explain which) = may-explain-cut c which (taken c which)
+  may-cut c (order.Run form strict recheck) = may-order c (order.Run form strict recheck)
+  may-cut c order.Map = may-order c order.Map
+  may-cut c order.Plans = may-order c order.Plans
+  may-cut c (order.Try which) = may-order c (order.Try which)
+  may-cut c (order.Reduce which) = may-order c (order.Reduce which)
+
+  may-bundled : (given : Given) (c : Campaign) (o : Order) → NotesFor o (bundled_answer calls points given o c)
+  may-bundled given c o = elim given.crash_states as (λ b. NotesFor o (if b then cut_answer calls points o c else order_answer o c)) [
+    | true ↦ may-cut c o
+    | false ↦ may-order c o
+  ]
+
 may-outside : (o : Order) (plans : List Entries) (points : List (List ℕ)) (listed : List Entries) → NotesFor o (outside_answer o plans (listed_notes points listed))
 unfolding outside_answer
 may-outside (order.Run form strict recheck) plans points listed = tt
@@ -96,9 +117,9 @@ may-outside (order.Reduce which) plans points listed = tt
 may-outside (order.Explain which) plans points listed = tt
 
 may-choice : (o : Order) (given : Given) (chosen : Choice) → NotesFor o (choice_answer o given chosen)
-may-choice o given (choice.Replace variant work) = may-order _ o
-may-choice o given (choice.Maildir variant messages) = may-order _ o
-may-choice o given (choice.Commit variant work) = may-order _ o
+may-choice o given (choice.Replace variant work) = may-bundled _ _ given _ o
+may-choice o given (choice.Maildir variant messages) = may-bundled _ _ given _ o
+may-choice o given (choice.Commit variant work) = may-bundled _ _ given _ o
 may-choice o given (choice.Outside outside) = may-outside o _ outside.points given.plans.listed
 
 may-given : (o : Order) (read : Read Settings) → NotesFor o (given_answer o read)

@@ -1,25 +1,27 @@
 -- What a command answers to the bytes of its settings: its text and its end, or why it is refused.
-use Rattle.std.specs.Prelude.{ℕ, Bool, false, List, codes, length, Option, Some, None, is_some, Result, Ok, Err, nat_lt, if◌then◌else◌, slice_get, string_bytes}
+use Rattle.std.specs.Prelude.{ℕ, ◌+◌, ◌==◌, Bool, false, List, [], ◌∷◌, ◌++◌, codes, count_by, length, take, Option, Some, None, is_some, Result, Ok, Err, nat_lt}
+use Rattle.std.specs.Prelude.{if◌then◌else◌, slice_get, string_bytes}
+use Rattle.std.specs.Fmt.{decimal}
 use Rattle.std.specs.Str.{is_utf8}
 use Rattle.scenario_values.specs.Scenario.{Entries}
 use Rattle.scenario_grammar.specs.FirstFault.{Fault, reading}
 use Rattle.target_trait.specs.declared.judgement.Verdict.{Verdict}
-use Rattle.action_eval.specs.Answers.{Reply}
+use Rattle.action_eval.specs.Answers.{Given as Run, Reply, given_of}
 use Rattle.target_trait.specs.Play.{Move}
 use Rattle.target_trait.specs.declared.target.Target.{Ghosts}
 use Rattle.target_trait.specs.Cuts.{Cut, asks_with, with_keep}
 use Rattle.file_replace.specs.declared.variant.Variant.{Variant as ReplaceVariant}
 use Rattle.file_replace.specs.Work.{Work as Replacing}
-use Rattle.file_replace.specs.Crash.{cut_of as replace_cut}
+use Rattle.file_replace.specs.Crash.{cut_of as replace_cut, calls_of as replace_calls}
 use Rattle.file_replace.specs.Steps.{asks_of as replacing}
 use Rattle.file_replace.specs.Words.{point_names as replace_points, code_text as replace_codes, label as replace_label}
 use Rattle.maildir_target.specs.declared.variant.Variant.{Variant as MaildirVariant}
-use Rattle.maildir_target.specs.Crash.{cut_of as maildir_cut}
+use Rattle.maildir_target.specs.Crash.{cut_of as maildir_cut, calls_of as maildir_calls}
 use Rattle.maildir_target.specs.Steps.{asks_of as delivering}
 use Rattle.maildir_target.specs.Words.{point_names as maildir_points, code_text as maildir_codes, label as maildir_label}
 use Rattle.commit_target.specs.declared.variant.Variant.{Variant as CommitVariant}
 use Rattle.commit_target.specs.Work.{Work as Committing}
-use Rattle.commit_target.specs.Crash.{cut_of as commit_cut}
+use Rattle.commit_target.specs.Crash.{cut_of as commit_cut, calls_of as commit_calls}
 use Rattle.commit_target.specs.Steps.{asks_of as committing}
 use Rattle.commit_target.specs.Words.{point_names as commit_points, code_text as commit_codes, label as commit_label}
 use Rattle.plan_gen.specs.PlanList.{most_plans, plan_list}
@@ -148,6 +150,46 @@ order_answer (order.Try which) c = taken_answer (try_answer c) (taken c which)
 order_answer (order.Reduce which) c = taken_answer (reduce_answer c) (taken c which)
 order_answer (order.Explain which) c = taken_answer (explain_answer c) (taken c which)
 
+-- ---- a command on a target whose runs end with the power cut: by what each write did that is pending at the end of its own run, which is given the
+-- same over the target's own points, and by these points, behind which that of the cut stands
+
+abbrev pub keep_line : ℕ → List ℕ → List ℕ
+keep_line number call = codes "keep " ++ decimal number ++ codes " " ++ call
+
+-- a line for each of the calls, numbered from k
+abbrev pub keep_lines_from : ℕ → List (List ℕ) → List (List ℕ)
+keep_lines_from k [] = []
+keep_lines_from k (call ∷ calls) = keep_line k call ∷ keep_lines_from (k + 1) calls
+
+abbrev pub keep_lines : List (List ℕ) → List (List ℕ)
+keep_lines calls = keep_lines_from 1 calls
+
+-- how often a run asks the cut's point
+abbrev pub keeps_asked : List (List ℕ) → List ℕ → ℕ
+keeps_asked points asked = count_by (λ p. p == length points) asked
+
+-- the calls that a run's hits of the cut stand for
+abbrev pub calls_met : (Run → List (List ℕ)) → List (List ℕ) → Campaign → ℕ → Entries → List (List ℕ)
+calls_met calls points c stream scenario =
+    take (keeps_asked points (tried c stream scenario).asked) (calls (given_of scenario points c.plans.seed stream c.max_hits))
+
+-- a scenario's run under a stream number, told hit by hit, and which write each hit of the cut stands for
+unfoldable pub cut_explain_answer : (Run → List (List ℕ)) → List (List ℕ) → Campaign → ℕ → Entries → Answer
+cut_explain_answer calls points c stream scenario = Ok (
+  explained c stream scenario ++ text_of (keep_lines (calls_met calls points c stream scenario)),
+  of_verdict (tried c stream scenario).verdict,
+  notes_of c.points scenario,
+)
+
+-- the answer to an order: that of any target, but for explained runs
+abbrev pub cut_answer : (Run → List (List ℕ)) → List (List ℕ) → Order → Campaign → Answer
+cut_answer calls points (order.Explain which) c = taken_answer (cut_explain_answer calls points c) (taken c which)
+cut_answer calls points (order.Run form strict recheck) c = order_answer (order.Run form strict recheck) c
+cut_answer calls points order.Map c = order_answer order.Map c
+cut_answer calls points order.Plans c = order_answer order.Plans c
+cut_answer calls points (order.Try which) c = order_answer (order.Try which) c
+cut_answer calls points (order.Reduce which) c = order_answer (order.Reduce which) c
+
 -- ---- a command on a component that somebody else runs
 
 -- its plans can be listed, with these notes; what runs it is refused
@@ -161,13 +203,21 @@ outside_answer (order.Explain which) plans notes = Err outside_target
 
 -- ---- by the settings
 
--- what a campaign is given by what its target asks; with crash states each run ends with its power cut, which asks as well
+-- what a campaign is given by what its target asks, where each run ends with its power cut, which asks as well
+abbrev pub campaign_with_cut : (List Reply → Move) → Cut → List (List ℕ) → (ℕ → List ℕ) → List ℕ → Given → Campaign
+campaign_with_cut asks cut points codes label given = campaign_of (asks_with asks cut (length points)) (with_keep points) codes label given
+
+-- the same by whether the settings ask for crash states
 abbrev pub campaign_to_cut : (List Reply → Move) → Cut → List (List ℕ) → (ℕ → List ℕ) → List ℕ → Given → Campaign
 campaign_to_cut asks cut points codes label given =
-    if given.crash_states then campaign_of (asks_with asks cut (length points)) (with_keep points) codes label given
-    else campaign_of asks points codes label given
+    if given.crash_states then campaign_with_cut asks cut points codes label given else campaign_of asks points codes label given
 
--- the same by what is tried
+-- the same two by what is tried
+abbrev pub campaign_with_cut_in : {T W : Type 0} → Ghosts T W → (T → W → Cut) → Subject T W → Campaign
+campaign_with_cut_in target cut tried =
+    campaign_with_cut (target.asks tried.target.now tried.workload.now) (cut tried.target.now tried.workload.now) target.names target.code_text
+    (target.label_of tried.target.now) tried.settings.now
+
 abbrev pub campaign_to_cut_in : {T W : Type 0} → Ghosts T W → (T → W → Cut) → Subject T W → Campaign
 campaign_to_cut_in target cut tried =
     campaign_to_cut (target.asks tried.target.now tried.workload.now) (cut tried.target.now tried.workload.now) target.names target.code_text
@@ -197,10 +247,17 @@ campaign_for given (choice.Outside outside) = None
 abbrev pub outside_plans : Given → Description → List Entries
 outside_plans given outside = plan_list outside.points outside.hits given.plans
 
+-- the answer on a bundled target, which tells what is pending
+abbrev pub bundled_answer : (Run → List (List ℕ)) → List (List ℕ) → Given → Order → Campaign → Answer
+bundled_answer calls points given order c = if given.crash_states then cut_answer calls points order c else order_answer order c
+
 abbrev pub choice_answer : Order → Given → Choice → Answer
-choice_answer order given (choice.Replace variant work) = order_answer order (replacing_in given variant work)
-choice_answer order given (choice.Maildir variant messages) = order_answer order (delivering_in given variant messages)
-choice_answer order given (choice.Commit variant work) = order_answer order (committing_in given variant work)
+choice_answer order given (choice.Replace variant work) =
+    bundled_answer (replace_calls variant work) replace_points given order (replacing_in given variant work)
+choice_answer order given (choice.Maildir variant messages) =
+    bundled_answer (maildir_calls variant messages) maildir_points given order (delivering_in given variant messages)
+choice_answer order given (choice.Commit variant work) =
+    bundled_answer (commit_calls variant work) commit_points given order (committing_in given variant work)
 choice_answer order given (choice.Outside outside) =
     outside_answer order (outside_plans given outside) (listed_notes outside.points given.plans.listed)
 

@@ -1,13 +1,15 @@
 //! A command over the target that the settings choose.
 ghost use Rattle.std.specs.Prelude.{◌≡◌, false, IfSome, OnOk};
-ghost use Rattle.campaign_main.specs.Commands.{campaign_for, campaign_to_cut_in, choice_answer, order_answer};
+ghost use Rattle.campaign_main.specs.Commands.{bundled_answer, campaign_for, campaign_to_cut_in, campaign_with_cut_in, choice_answer, cut_answer};
 ghost use Rattle.campaign_main.specs.Ends.{ComesTo, Noted};
 ghost use Rattle.campaign_main.specs.Promises.{KeepsPromises};
 
 use crate::command::command;
 use crate::exit::Conclusion;
+use crate::explaining::explain_to_cut;
 use crate::fault::CommandFault;
 use crate::outside::outside_command;
+use crate::pending::TellsWrites;
 use campaign_core::{Host, Subject};
 use campaign_given::CampaignSettings;
 use campaign_settings::Choice;
@@ -17,11 +19,11 @@ use file_replace::Replace;
 use maildir_target::Maildir;
 use std::sync::Wait;
 use std::thread::Threads;
-use target_trait::{CrashTarget, Sink, Target, WithCut};
+use target_trait::{Sink, Target, WithCut};
 use work_gate::Gate;
 
-/// Does what is ordered with a bundled target; with crash states each of its runs ends with the power cut.
-fn bundled_command<T: CrashTarget + Send, W: Sink, E: Sink, H: Threads + Wait + Sync, G: Gate>(
+/// Does what is ordered with a bundled target, each of whose runs ends with the power cut. An explained run tells what the cut's hits stand for.
+fn command_to_cut<T: TellsWrites + Send, W: Sink, E: Sink, H: Threads + Wait + Sync, G: Gate>(
     host: &Host<'_, G, H>,
     subject: &Subject<'_, T>,
     order: &Order,
@@ -32,23 +34,54 @@ where
     T::Workload: Sync,
     requires output { W.has_failed output.old ≡ false }
     requires faults { E.has_failed faults.old ≡ false }
-    ensures text { ComesTo (order_answer order.now (campaign_to_cut_in T.Target T.cut subject.now)) (W.told output.old)
-        (W.told output.new) (W.has_failed output.new) result }
-    ensures noted { Noted (order_answer order.now (campaign_to_cut_in T.Target T.cut subject.now))
+    ensures text { let s = subject.now in
+        ComesTo (cut_answer (T.calls s.target.now s.workload.now) T.names order.now (campaign_with_cut_in T.Target T.cut s))
+        (W.told output.old) (W.told output.new) (W.has_failed output.new) result }
+    ensures noted { let s = subject.now in
+        Noted (cut_answer (T.calls s.target.now s.workload.now) T.names order.now (campaign_with_cut_in T.Target T.cut s))
+        (E.told faults.old) (E.told faults.new) (E.has_failed faults.new) result }
+    ensures promises { OnOk result (KeepsPromises order.now (campaign_with_cut_in T.Target T.cut subject.now)) }
+{
+    let target = WithCut::new(subject.target.twin()?);
+    let to_cut = Subject {
+        target: &target,
+        workload: subject.workload,
+        settings: subject.settings,
+    };
+    match order {
+        Order::Explain(which) => {
+            explain_to_cut(host, &to_cut, subject.target, which, output, faults)
+        }
+        _ => command(host, &to_cut, order, output, faults),
+    }
+}
+
+/// Does what is ordered with a bundled target; with crash states each of its runs ends with the power cut.
+fn bundled_command<T: TellsWrites + Send, W: Sink, E: Sink, H: Threads + Wait + Sync, G: Gate>(
+    host: &Host<'_, G, H>,
+    subject: &Subject<'_, T>,
+    order: &Order,
+    output: &mut W,
+    faults: &mut E,
+) -> Result<Conclusion, CommandFault>
+where
+    T::Workload: Sync,
+    requires output { W.has_failed output.old ≡ false }
+    requires faults { E.has_failed faults.old ≡ false }
+    ensures text { let s = subject.now in
+        ComesTo (bundled_answer (T.calls s.target.now s.workload.now) T.names s.settings.now order.now (campaign_to_cut_in T.Target T.cut s))
+        (W.told output.old) (W.told output.new) (W.has_failed output.new) result }
+    ensures noted { let s = subject.now in
+        Noted (bundled_answer (T.calls s.target.now s.workload.now) T.names s.settings.now order.now (campaign_to_cut_in T.Target T.cut s))
         (E.told faults.old) (E.told faults.new) (E.has_failed faults.new) result }
     ensures promises { OnOk result (KeepsPromises order.now (campaign_to_cut_in T.Target T.cut subject.now)) }
 {
     let settings = subject.settings;
-    if !settings.crash_states {
-        return command(host, subject, order, output, faults);
+    if settings.crash_states {
+        command_to_cut(host, subject, order, output, faults)
+    } else {
+        command(host, subject, order, output, faults)
     }
-    let target = WithCut::new(subject.target.twin()?);
-    let subject = Subject {
-        target: &target,
-        workload: subject.workload,
-        settings,
-    };
-    command(host, &subject, order, output, faults)
 }
 
 /// Does what is ordered with a bundled target and its workload, or with a component from outside.

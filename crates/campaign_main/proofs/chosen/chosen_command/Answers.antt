@@ -1,6 +1,12 @@
 use Rattle.std.proofs.Common.{sym, subst}
 use Rattle.std.specs.Prelude.{IfSome, OnOk}
-use Rattle.campaign_main.specs.Commands.{campaign_for, choice_answer, committing_in, delivering_in, order_answer, replacing_in}
+use Rattle.commit_target.specs.Crash.{calls_of as commit_calls}
+use Rattle.commit_target.specs.Words.{point_names as commit_points}
+use Rattle.file_replace.specs.Crash.{calls_of as replace_calls}
+use Rattle.file_replace.specs.Words.{point_names as replace_points}
+use Rattle.maildir_target.specs.Crash.{calls_of as maildir_calls}
+use Rattle.maildir_target.specs.Words.{point_names as maildir_points}
+use Rattle.campaign_main.specs.Commands.{bundled_answer, campaign_for, choice_answer, committing_in, delivering_in, replacing_in}
 use Rattle.campaign_main.specs.Ends.{ComesTo, Noted}
 use Rattle.campaign_main.specs.Promises.{KeepsPromises}
 use Rattle.campaign_main.proofs.chosen.chosen_command.Goals as goal
@@ -11,7 +17,7 @@ returns-in-Replace-clause-text g c =
     let order = c.args.order.now in
     let settings = c.args.settings.now in
     subst (λ chosen. ComesTo (choice_answer order settings chosen) (W.told c.args.output.now) (W.told c.bundled_command.new.output) (W.has_failed c.bundled_command.new.output) c.bundled_command.result) (sym c.in-Replace.is)
-    (subst (λ variant. ComesTo (order_answer order (replacing_in settings variant c.in-Replace.work)) (W.told c.args.output.now) (W.told c.bundled_command.new.output) (W.has_failed c.bundled_command.new.output) c.bundled_command.result)
+    (subst (λ variant. ComesTo (bundled_answer (replace_calls variant c.in-Replace.work) replace_points settings order (replacing_in settings variant c.in-Replace.work)) (W.told c.args.output.now) (W.told c.bundled_command.new.output) (W.has_failed c.bundled_command.new.output) c.bundled_command.result)
     c.new.ensures c.bundled_command.ensures.text)
 
 pub returns-in-Replace-clause-noted : goal.returns-in-Replace-clause-noted
@@ -20,7 +26,7 @@ returns-in-Replace-clause-noted g c =
     let order = c.args.order.now in
     let settings = c.args.settings.now in
     subst (λ chosen. Noted (choice_answer order settings chosen) (E.told c.args.faults.now) (E.told c.bundled_command.new.faults) (E.has_failed c.bundled_command.new.faults) c.bundled_command.result) (sym c.in-Replace.is)
-    (subst (λ variant. Noted (order_answer order (replacing_in settings variant c.in-Replace.work)) (E.told c.args.faults.now) (E.told c.bundled_command.new.faults) (E.has_failed c.bundled_command.new.faults) c.bundled_command.result)
+    (subst (λ variant. Noted (bundled_answer (replace_calls variant c.in-Replace.work) replace_points settings order (replacing_in settings variant c.in-Replace.work)) (E.told c.args.faults.now) (E.told c.bundled_command.new.faults) (E.has_failed c.bundled_command.new.faults) c.bundled_command.result)
     c.new.ensures c.bundled_command.ensures.noted)
 
 pub returns-in-Replace-clause-promises : goal.returns-in-Replace-clause-promises
@@ -36,7 +42,7 @@ returns-in-Maildir-clause-text g c =
     let order = c.args.order.now in
     let settings = c.args.settings.now in
     subst (λ chosen. ComesTo (choice_answer order settings chosen) (W.told c.args.output.now) (W.told c.bundled_command-in-Maildir.new.output) (W.has_failed c.bundled_command-in-Maildir.new.output) c.bundled_command-in-Maildir.result) (sym c.in-Maildir.is)
-    (subst (λ variant. ComesTo (order_answer order (delivering_in settings variant c.in-Maildir.work)) (W.told c.args.output.now) (W.told c.bundled_command-in-Maildir.new.output) (W.has_failed c.bundled_command-in-Maildir.new.output) c.bundled_command-in-Maildir.result)
+    (subst (λ variant. ComesTo (bundled_answer (maildir_calls variant c.in-Maildir.work) maildir_points settings order (delivering_in settings variant c.in-Maildir.work)) (W.told c.args.output.now) (W.told c.bundled_command-in-Maildir.new.output) (W.has_failed c.bundled_command-in-Maildir.new.output) c.bundled_command-in-Maildir.result)
     c.new-in-Maildir.ensures c.bundled_command-in-Maildir.ensures.text)
 
 pub returns-in-Maildir-clause-noted : goal.returns-in-Maildir-clause-noted
@@ -45,7 +51,7 @@ returns-in-Maildir-clause-noted g c =
     let order = c.args.order.now in
     let settings = c.args.settings.now in
     subst (λ chosen. Noted (choice_answer order settings chosen) (E.told c.args.faults.now) (E.told c.bundled_command-in-Maildir.new.faults) (E.has_failed c.bundled_command-in-Maildir.new.faults) c.bundled_command-in-Maildir.result) (sym c.in-Maildir.is)
-    (subst (λ variant. Noted (order_answer order (delivering_in settings variant c.in-Maildir.work)) (E.told c.args.faults.now) (E.told c.bundled_command-in-Maildir.new.faults) (E.has_failed c.bundled_command-in-Maildir.new.faults) c.bundled_command-in-Maildir.result)
+    (subst (λ variant. Noted (bundled_answer (maildir_calls variant c.in-Maildir.work) maildir_points settings order (delivering_in settings variant c.in-Maildir.work)) (E.told c.args.faults.now) (E.told c.bundled_command-in-Maildir.new.faults) (E.has_failed c.bundled_command-in-Maildir.new.faults) c.bundled_command-in-Maildir.result)
     c.new-in-Maildir.ensures c.bundled_command-in-Maildir.ensures.noted)
 
 pub returns-in-Maildir-clause-promises : goal.returns-in-Maildir-clause-promises
@@ -61,7 +67,7 @@ returns-in-Commit-clause-text g c =
     let order = c.args.order.now in
     let settings = c.args.settings.now in
     subst (λ chosen. ComesTo (choice_answer order settings chosen) (W.told c.args.output.now) (W.told c.bundled_command-in-Commit.new.output) (W.has_failed c.bundled_command-in-Commit.new.output) c.bundled_command-in-Commit.result) (sym c.in-Commit.is)
-    (subst (λ variant. ComesTo (order_answer order (committing_in settings variant c.in-Commit.work)) (W.told c.args.output.now) (W.told c.bundled_command-in-Commit.new.output) (W.has_failed c.bundled_command-in-Commit.new.output) c.bundled_command-in-Commit.result)
+    (subst (λ variant. ComesTo (bundled_answer (commit_calls variant c.in-Commit.work) commit_points settings order (committing_in settings variant c.in-Commit.work)) (W.told c.args.output.now) (W.told c.bundled_command-in-Commit.new.output) (W.has_failed c.bundled_command-in-Commit.new.output) c.bundled_command-in-Commit.result)
     c.new-in-Commit.ensures c.bundled_command-in-Commit.ensures.text)
 
 pub returns-in-Commit-clause-noted : goal.returns-in-Commit-clause-noted
@@ -70,7 +76,7 @@ returns-in-Commit-clause-noted g c =
     let order = c.args.order.now in
     let settings = c.args.settings.now in
     subst (λ chosen. Noted (choice_answer order settings chosen) (E.told c.args.faults.now) (E.told c.bundled_command-in-Commit.new.faults) (E.has_failed c.bundled_command-in-Commit.new.faults) c.bundled_command-in-Commit.result) (sym c.in-Commit.is)
-    (subst (λ variant. Noted (order_answer order (committing_in settings variant c.in-Commit.work)) (E.told c.args.faults.now) (E.told c.bundled_command-in-Commit.new.faults) (E.has_failed c.bundled_command-in-Commit.new.faults) c.bundled_command-in-Commit.result)
+    (subst (λ variant. Noted (bundled_answer (commit_calls variant c.in-Commit.work) commit_points settings order (committing_in settings variant c.in-Commit.work)) (E.told c.args.faults.now) (E.told c.bundled_command-in-Commit.new.faults) (E.has_failed c.bundled_command-in-Commit.new.faults) c.bundled_command-in-Commit.result)
     c.new-in-Commit.ensures c.bundled_command-in-Commit.ensures.noted)
 
 pub returns-in-Commit-clause-promises : goal.returns-in-Commit-clause-promises
