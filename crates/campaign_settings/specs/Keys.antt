@@ -52,10 +52,10 @@ is_shared_key name = list_any (bytes_eq name) (codes "target" ∷ codes "seed" �
 abbrev pub is_bundled_key : Text → Bool
 is_bundled_key name = list_any (bytes_eq name) (codes "variant" ∷ codes "workers" ∷ codes "max_hits" ∷ codes "crash_states" ∷ [])
 
--- the keys of a program with a target of its own
+-- the keys of a program with a target of its own, which says itself whether runs end with their power cut
 abbrev pub is_own_key : Text → Bool
 is_own_key name = list_any (bytes_eq name) (codes "seed" ∷ codes "workers" ∷ codes "max_hits" ∷ codes "pairs" ∷ codes "storms"
-    ∷ codes "rate" ∷ codes "depth" ∷ codes "crash_states" ∷ codes "scenarios" ∷ [])
+    ∷ codes "rate" ∷ codes "depth" ∷ codes "scenarios" ∷ [])
 
 -- those of one whose target takes words
 abbrev pub is_word_key : Text → Bool

@@ -181,7 +181,6 @@ fn is_own_key(name: &str) -> bool
             "storms",
             "rate",
             "depth",
-            "crash_states",
             "scenarios",
         ],
     )

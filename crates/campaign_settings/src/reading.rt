@@ -35,8 +35,9 @@ impl Settings {
     }
 
     /// The settings that a text of TOML gives to a program that brings its own target: the keys are those of a bundled target but `target`,
-    /// `variant` and the target's table. `Err` is the first fault of the text, in this order: too long, no TOML, an unknown key, each key as
-    /// [`Key`] lists them, where pairs beside a depth are out of range, after the depth's own fault; or that memory ran out.
+    /// `variant`, `crash_states` and the target's table. Whether runs end with their power cut the program says itself, by `WithCut`. `Err` is the
+    /// first fault of the text, in this order: too long, no TOML, an unknown key, each key as [`Key`] lists them, where pairs beside a depth are
+    /// out of range, after the depth's own fault; or that memory ran out.
     pub fn read_own(alloc: Global, text: &str) -> Result<CampaignSettings, SettingsFault>
         ensures ok { IfOk result (λ settings. own_settings_of text.now ≡ Ok settings) }
         ensures refused { IfErr result (RefusedBy (own_settings_of text.now)) }

@@ -82,6 +82,10 @@ fn a_target_without_words_knows_none(rt: HostRuntime) -> Result<(), Fail> {
     for (text, line) in [
         ("variant = 'early_ack'\n", "settings: unknown key variant"),
         ("[own]\n", "settings: unknown key own"),
+        (
+            "crash_states = true\n",
+            "settings: unknown key crash_states",
+        ),
     ] {
         refuses(&rt, alloc, Settings::read_own(alloc, text), line)?;
     }
