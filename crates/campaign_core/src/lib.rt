@@ -34,6 +34,7 @@ pub use paging::{PageNotes, page_campaign};
 pub use planned::{Planned, plan_campaign, plans_of};
 pub use probe::{fails_with, fault_count};
 pub use reducing::reduce_one;
+pub use reporting::causes_of;
 pub use running::campaign;
 pub use subject::{Host, Subject};
 pub use trying::try_one;

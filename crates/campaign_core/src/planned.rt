@@ -246,7 +246,8 @@ pub fn plans_with<'p, T: Target>(
     ensures { result ≡ plans (campaign_in T.Target subject.now) }
 {
     let _ = subject;
-    CampaignPlans::grown(grown, T::catalogue(), listed)
+    let catalogue: &'p [&'p str] = T::catalogue();
+    CampaignPlans::grown(grown, catalogue, &*listed)
 }
 
 /// The plans of a campaign, by what they are kept in.
@@ -259,7 +260,8 @@ pub fn plans_of<'p, T: Target>(
 {
     let _ = subject;
     let grown = grown_plans(&planned.grown);
-    CampaignPlans::grown(grown, T::catalogue(), &planned.listed)
+    let catalogue: &'p [&'p str] = T::catalogue();
+    CampaignPlans::grown(grown, catalogue, &planned.listed)
 }
 
 /// The verdicts of those plans that have run already: the ones that grew.

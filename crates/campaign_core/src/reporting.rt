@@ -77,7 +77,7 @@ where
 }
 
 /// The causes among these plans, by their numbers and codes, with their scenarios. An error means that memory was refused.
-fn causes_of(
+pub fn causes_of(
     alloc: Global,
     plans: &CampaignPlans<'_>,
     causes: &[(u32, u32)],

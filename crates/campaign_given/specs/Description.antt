@@ -8,7 +8,7 @@ use Rattle.scenario_values.specs.Scenario.{is_name}
 use Rattle.action_eval.specs.Catalogue.{HasDistinct, IsCatalogue}
 
 -- its label; the names of its failures' codes, whose numbers are their places; the names of its points; and how often each point is hit
--- in a run without faults
+-- in a run without faults, which settings say without a depth: with one answers tell it, and they give 0 for each point
 pub record Description : Type 0 where
   pub label : List ℕ
   pub codes : List (List ℕ)

@@ -12,7 +12,7 @@ pub struct Outside {
     pub codes: Vec<Text>,
     /// The names of its points, 1 to 64, distinct, each lawful in a scenario and of up to 200 bytes.
     pub points: Vec<Text>,
-    /// How often each point is hit in a run without faults, 0 to 100000.
+    /// How often each point is hit in a run without faults, 0 to 100000. With a depth answers tell that: settings give 0 for each point then.
     pub hits: Vec<u32>,
 }
 

@@ -20,7 +20,7 @@ use std::marker::Model;
 #[derive(Debug, Drop)]
 pub struct GrownPart<'a> {
     plans: &'a GrownPlans,
-    catalogue: &'static [&'static str],
+    catalogue: &'a [&'a str],
 }
 
 impl<'a> Model for GrownPart<'a> {
@@ -39,7 +39,7 @@ impl<'a> Model for GrownPart<'a> {
 }
 
 impl<'a> GrownPart<'a> {
-    pub fn new(plans: &'a GrownPlans, catalogue: &'static [&'static str]) -> Self
+    pub fn new(plans: &'a GrownPlans, catalogue: &'a [&'a str]) -> Self
         requires lawful { IsCatalogue (texts catalogue.now) }
         requires rigs { AllByRecursion (λ plan. CanBeRigged (rigs_of plan)) plans.now }
         ensures { result ≡ over (texts catalogue.now) plans.now }

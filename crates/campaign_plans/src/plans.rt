@@ -56,7 +56,7 @@ impl<'a> CampaignPlans<'a> {
     /// that grew to a depth of at most 64 can be rigged, as a law of them says.
     pub fn grown(
         plans: Option<&'a GrownPlans>,
-        catalogue: &'static [&'static str],
+        catalogue: &'a [&'a str],
         further: &'a PlanList<'a>,
     ) -> Self
         requires lawful { IsCatalogue (texts catalogue.now) }
