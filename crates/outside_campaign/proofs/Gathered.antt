@@ -16,7 +16,7 @@ use Rattle.report.specs.Reports.{FindingFacts}
 use Rattle.answer_text.specs.Known.{KnownVerdicts, Agrees}
 use Rattle.campaign_core.specs.FaultTest.{fault_test}
 use Rattle.campaign_core.specs.Findings.{reduction, plan_at, finding}
-use Rattle.outside_campaign.specs.Outside.{Component, say}
+use Rattle.outside_campaign.specs.Outside.{Component, Components, say_each, EachAgrees}
 use Rattle.outside_campaign.specs.Reached.{known_tests, place_of, open_sets, open_candidates}
 use Rattle.outside_campaign.specs.Asked.{open_cards}
 use Rattle.outside_campaign.specs.inside.Told.{told_of, IsLook, IsGathered}
@@ -28,9 +28,17 @@ use Rattle.outside_campaign.proofs.Running.{reduced_is}
 pub by_known : KnownVerdicts → Component
 by_known known t = unwrap_or (known t) verdict.Unresolved
 
+-- the same under each stream number
+pub each_by_known : KnownVerdicts → Components
+each_by_known known stream = by_known known
+
 pub by_known_agrees : (known : KnownVerdicts) → Agrees (by_known known) known
 unfolding by_known
 by_known_agrees known s v ok is = rw is refl
+
+pub each_by_known_agrees : (known : KnownVerdicts) → EachAgrees (each_by_known known) known
+unfolding each_by_known
+each_by_known_agrees known stream = by_known_agrees known
 
 ascend : (low n : ℕ) (xs : List ℕ) → AllByRecursion (λ y. low ≤ y) xs → Ascends xs → AllByRecursion (λ y. y < n) xs → ascend_from low n xs ≡ true
 ascend low n [] l a h = refl
@@ -43,18 +51,18 @@ all_low (x ∷ xs) = (omega arith, all_low xs)
 -- what a reduction keeps are faults
 pub kept_faults : (known : KnownVerdicts) (code : ℕ) (s : Entries) (r : Reduced) → IsScenario s → place_of known code s ≡ End r → are_faults (all_faults s) r.kept ≡ true
 kept_faults known code s r ok is =
-    let test : List ℕ → _ = fault_test (say (by_known known) 0) code s in
+    let test : List ℕ → _ = fault_test (say_each (each_by_known known) 0) code s in
     let a = kept_are_faults test (all_faults s) in
-    let kept_of : List ℕ = (reduction (say (by_known known)) 0 code s).kept in
+    let kept_of : List ℕ = (reduction (say_each (each_by_known known)) 0 code s).kept in
     let faults : are_faults (all_faults s) kept_of ≡ true = ascend 0 (all_faults s) kept_of (all_low kept_of) a.0 a.1 in
     let P : Reduced → Type 0 = λ x. are_faults (all_faults s) x.kept ≡ true in
-    subst P (sym (reduced_is known code s r ok is (by_known known) (by_known_agrees known) 0)) faults
+    subst P (sym (reduced_is known code s r ok is (each_by_known known) (each_by_known_agrees known) 0)) faults
 
 -- ---- the loop
 
 pub record Gathering (known : KnownVerdicts) (plans : List Entries) (failures : List (ℕ × ℕ)) (i : ℕ) (findings : List FindingFacts) (cards : List Entries) : Type 0 where
   pub cards_are : cards ≡ open_cards known plans (take i failures)
-  pub told : cards ≡ [] → (component : Component) → Agrees component known → findings ≡ map (finding (say component) plans) (take i failures)
+  pub told : cards ≡ [] → (components : Components) → EachAgrees components known → findings ≡ map (finding (say_each components) plans) (take i failures)
 
 map_push : (f : ℕ × ℕ → FindingFacts) (xs : List (ℕ × ℕ)) (x : ℕ × ℕ) → map f (xs ++ x ∷ []) ≡ map f xs ++ f x ∷ []
 map_push f [] x = refl
@@ -82,13 +90,13 @@ gathers known plans failures i d s findings after cards cards' (look.Told x) les
   cards_are =
       h.1 ∙ g.cards_are ∙ sym (append-nil (open_cards known plans (take i failures))) ∙ ap (λ (r : List Entries). open_cards known plans (take i failures) ++ r) (sym told.0)
       ∙ sym (cards_more known plans failures i d s less plan);
-  told = λ none component agrees.
+  told = λ none components agrees.
       let f : ℕ × ℕ = get_or failures i d in
-      let before = g.told (sym h.1 ∙ none) component agrees in
-      let this : x ≡ finding (say component) plans f = told.1 component agrees ∙ ap (λ (t : Entries). told_of component f.0 f.1 t) plan in
+      let before = g.told (sym h.1 ∙ none) components agrees in
+      let this : x ≡ finding (say_each components) plans f = told.1 components agrees ∙ ap (λ (t : Entries). told_of components f.0 f.1 t) plan in
       let more : take (i + 1) failures ≡ take i failures ++ f ∷ [] = take_more failures i d less in
-      h.0 ∙ ap (λ (xs : List FindingFacts). xs ++ x ∷ []) before ∙ ap (λ (y : FindingFacts). map (finding (say component) plans) (take i failures) ++ y ∷ []) this
-      ∙ sym (map_push (finding (say component) plans) (take i failures) f) ∙ ap (map (finding (say component) plans)) (sym more);
+      h.0 ∙ ap (λ (xs : List FindingFacts). xs ++ x ∷ []) before ∙ ap (λ (y : FindingFacts). map (finding (say_each components) plans) (take i failures) ++ y ∷ []) this
+      ∙ sym (map_push (finding (say_each components) plans) (take i failures) f) ∙ ap (map (finding (say_each components) plans)) (sym more);
 }
 gathers known plans failures i d s findings after cards cards' (look.Open more) less plan g opens h = record {
   cards_are =
@@ -98,7 +106,7 @@ gathers known plans failures i d s findings after cards cards' (look.Open more) 
 }
 
 pub starts : (known : KnownVerdicts) (plans : List Entries) (failures : List (ℕ × ℕ)) → Gathering known plans failures 0 [] []
-starts known plans failures = record { cards_are = refl; told = λ none component agrees. refl }
+starts known plans failures = record { cards_are = refl; told = λ none components agrees. refl }
 
 pub none_left : (cards : List Entries) → length cards ≡ 0 → cards ≡ []
 none_left [] h = refl
@@ -109,10 +117,10 @@ pub cards_all : (known : KnownVerdicts) (plans : List Entries) (failures : List 
 cards_all known plans failures i findings cards g end = g.cards_are ∙ ap (open_cards known plans) (take_all i failures end)
 
 pub all_told : (known : KnownVerdicts) (plans : List Entries) (failures : List (ℕ × ℕ)) (i : ℕ) (findings : List FindingFacts) (cards : List Entries) → Gathering known plans failures i findings cards → length failures ≤ i → length cards ≡ 0
-    → (open_cards known plans failures ≡ []) × ((component : Component) → Agrees component known → findings ≡ map (finding (say component) plans) failures)
+    → (open_cards known plans failures ≡ []) × ((components : Components) → EachAgrees components known → findings ≡ map (finding (say_each components) plans) failures)
 all_told known plans failures i findings cards g end none =
     let clear = none_left cards none in
-    (sym (cards_all known plans failures i findings cards g end) ∙ clear, λ component agrees. g.told clear component agrees ∙ ap (map (finding (say component) plans)) (take_all i failures end))
+    (sym (cards_all known plans failures i findings cards g end) ∙ clear, λ components agrees. g.told clear components agrees ∙ ap (map (finding (say_each components) plans)) (take_all i failures end))
 
 -- ---- one failure
 
@@ -121,13 +129,13 @@ facts number code s t tests = record { number = number; code = code; scenario = 
 
 pub look_tells : (known : KnownVerdicts) (number code : ℕ) (s : Entries) (r : Reduced) (set : List ℕ) (k t : Entries) (tests : ℕ) → set ≡ r.kept → k ≡ kept set s → t ≡ tidied k → tests ≡ r.tests
     → IsScenario s → place_of known code s ≡ End r
-    → (open_candidates known code s ≡ []) × ((component : Component) → Agrees component known → facts number code s t tests ≡ told_of component number code s)
+    → (open_candidates known code s ≡ []) × ((components : Components) → EachAgrees components known → facts number code s t tests ≡ told_of components number code s)
 look_tells known number code s r set k t tests set_is k_is t_is tests_is ok is =
     let open_at : Position → List Entries = λ p. map (λ x. tidied (kept x s)) (open_sets (known_tests known code s) (round_at p)) in (
       ap open_at is,
-      λ component agrees.
-          let e = reduced_is known code s r ok is component agrees number in
-          let red : Reduced = reduction (say component) number code s in
+      λ components agrees.
+          let e = reduced_is known code s r ok is components agrees number in
+          let red : Reduced = reduction (say_each components) number code s in
           let first : t ≡ tidied (kept red.kept s) = t_is ∙ ap tidied k_is ∙ ap (λ (x : List ℕ). tidied (kept x s)) set_is ∙ ap (λ (x : Reduced). tidied (kept x.kept s)) e in
           let second : tests ≡ red.tests = tests_is ∙ ap (λ (x : Reduced). x.tests) e in
           ap (λ (x : Entries). facts number code s x tests) first ∙ ap (λ (x : ℕ). facts number code s (tidied (kept red.kept s)) x) second,

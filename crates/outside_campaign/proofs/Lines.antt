@@ -11,8 +11,8 @@ use Rattle.scenario_values.specs.Tidied.{tidied}
 use Rattle.target_trait.specs.declared.judgement.Verdict.{Verdict}
 use Rattle.result_book.specs.Verdicts.{verdicts_from}
 use Rattle.report.specs.ReportText.{scenario_text}
-use Rattle.answer_text.specs.Known.{KnownVerdicts, Agrees}
-use Rattle.outside_campaign.specs.Outside.{Component, say}
+use Rattle.answer_text.specs.Known.{KnownVerdicts}
+use Rattle.outside_campaign.specs.Outside.{Components, say_each, EachAgrees}
 use Rattle.outside_campaign.specs.Asked.{open_plans, plan_verdicts, lines_for}
 
 abbrev put_all : List (List ℕ) → List Entries → List (List ℕ)
@@ -108,25 +108,41 @@ some_is v w e = cc
 
 -- each plan is answered
 pub all_answered : (known : KnownVerdicts) (plans : List Entries) (all : List Verdict) (n : ℕ) → AllByRecursion (λ s. IsScenario s) plans → map (λ v. Some v) all ≡ plan_verdicts known plans
-    → (open_plans known plans ≡ []) × ((component : Component) → Agrees component known → all ≡ verdicts_from (say component) n plans)
-all_answered known [] [] n lawful e = (refl, λ component agrees. refl)
+    → (open_plans known plans ≡ []) × ((components : Components) → EachAgrees components known → all ≡ verdicts_from (say_each components) n plans)
+all_answered known [] [] n lawful e = (refl, λ components agrees. refl)
 all_answered known [] (v ∷ all) n lawful e = absurd cc
 all_answered known (p ∷ plans) [] n lawful e = absurd cc
 all_answered known (p ∷ plans) (v ∷ all) n lawful e =
     let here : known (tidied p) ≡ Some v = cc in
     let later = all_answered known plans all (n + 1) lawful.1 (cc) in (
       ap (λ (o : Option Verdict). cond (is_none o) (tidied p ∷ open_plans known plans) (open_plans known plans)) here ∙ later.0,
-      λ component agrees.
-          let mine : component (tidied p) ≡ v = agrees (tidied p) v (tidied_scenario p lawful.0) here in
-          ap (λ (w : Verdict). w ∷ all) (sym mine) ∙ ap (λ (vs : List Verdict). component (tidied p) ∷ vs) (later.1 component agrees),
+      λ components agrees.
+          let mine : components n (tidied p) ≡ v = agrees n (tidied p) v (tidied_scenario p lawful.0) here in
+          ap (λ (w : Verdict). w ∷ all) (sym mine) ∙ ap (λ (vs : List Verdict). components n (tidied p) ∷ vs) (later.1 components agrees),
     )
 
 pub verdicts_all : (known : KnownVerdicts) (plans : List Entries) (i : ℕ) (verdicts : List (Option Verdict)) (all : List Verdict) → length verdicts ≤ i → map (λ v. Some v) all ≡ take i verdicts → verdicts ≡ plan_verdicts known plans → AllByRecursion (λ s. IsScenario s) plans
-    → (map (λ v. Some v) all ≡ plan_verdicts known plans) × (open_plans known plans ≡ []) × ((component : Component) → Agrees component known → all ≡ verdicts_from (say component) 0 plans)
+    → (map (λ v. Some v) all ≡ plan_verdicts known plans) × (open_plans known plans ≡ []) × ((components : Components) → EachAgrees components known → all ≡ verdicts_from (say_each components) 0 plans)
 verdicts_all known plans i verdicts all end e is lawful =
     let same : map (λ v. Some v) all ≡ plan_verdicts known plans = e ∙ take_all i verdicts end ∙ is in
     let a = all_answered known plans all 0 lawful same in
     (same, a.0, a.1)
+
+-- Where no plan is open, what is known of the plans are the verdicts that a family of components which agrees with it gives them.
+pub verdicts_known_are : (known : KnownVerdicts) (components : Components) (plans : List Entries) (n : ℕ) → AllByRecursion (λ s. IsScenario s) plans → EachAgrees components known → open_plans known plans ≡ []
+    → plan_verdicts known plans ≡ map (λ v. Some v) (verdicts_from (say_each components) n plans)
+verdicts_known_are known components [] n lawful agrees none = refl
+verdicts_known_are known components (p ∷ plans) n lawful agrees none = at (known (tidied p)) refl (verdicts_known_are known components plans (n + 1) lawful.1 agrees) none
+  where
+    at : (o : Option Verdict) → known (tidied p) ≡ o
+        → (open_plans known plans ≡ [] → plan_verdicts known plans ≡ map (λ v. Some v) (verdicts_from (say_each components) (n + 1) plans))
+        → cond (is_none o) (tidied p ∷ open_plans known plans) (open_plans known plans) ≡ []
+        → known (tidied p) ∷ plan_verdicts known plans ≡ Some (components n (tidied p)) ∷ map (λ v. Some v) (verdicts_from (say_each components) (n + 1) plans)
+    at None e later h = absurd cc
+    at (Some v) e later h =
+        let mine : components n (tidied p) ≡ v = agrees n (tidied p) v (tidied_scenario p lawful.0) e in
+        ap (λ (o : Option Verdict). o ∷ plan_verdicts known plans) (e ∙ ap (λ (w : Verdict). Some w) (sym mine))
+        ∙ ap (λ (r : List (Option Verdict)). Some (components n (tidied p)) ∷ r) (later h)
 
 map_push : (all : List Verdict) (v : Verdict) → map (λ w. Some w) (all ++ v ∷ []) ≡ map (λ w. Some w) all ++ Some v ∷ []
 map_push [] v = refl

@@ -1,9 +1,10 @@
 -- What answers come to.
 use Rattle.std.proofs.Common.{◌≡◌, ℕ, zero, suc, ◌<◌, List, [], ◌∷◌, ◌++◌, Bool, true, Option, Some, None, Result, Ok, Err, length, take, get_or, map, All, refl, ap, sym, ◌∙◌, arith, subst, option_map}
 use Rattle.std.specs.Prelude.{◌≤◌, slice_get, IfErr, IsErrAnd}
+use Rattle.std.specs.List.{AllByRecursion}
 use Rattle.std.proofs.lemmas.List.{length-map}
 use Rattle.std.specs.Io.KnownBytes.{Appends}
-use Rattle.scenario_values.specs.Scenario.{Entries}
+use Rattle.scenario_values.specs.Scenario.{Entries, IsScenario}
 use Rattle.scenario_values.specs.Tidied.{tidied}
 use Rattle.target_trait.specs.declared.judgement.Verdict.{Verdict}
 use Rattle.target_trait.specs.declared.judgement.Verdict.TheVariants as verdict
@@ -21,7 +22,7 @@ use Rattle.answer_text.proofs.Agreement.{agrees_by, some_agrees}
 use Rattle.campaign_given.specs.Description.{Description}
 use Rattle.campaign_given.specs.Given.{Given}
 use Rattle.campaign_core.specs.Findings.{finding}
-use Rattle.outside_campaign.specs.Outside.{Component, say}
+use Rattle.outside_campaign.specs.Outside.{Component, Components, say, say_each, EachAgrees}
 use Rattle.outside_campaign.specs.Asked.{open_plans, open_cards, plan_verdicts, known_failures, lines_for}
 use Rattle.outside_campaign.specs.Campaigns.{plans as plans_of, code_name, report as report_by, report_in, shown, asks_text, first_failure, untried, untried_by, AsksFault}
 use Rattle.outside_campaign.specs.Forms.{text_in}
@@ -31,7 +32,8 @@ use Rattle.outside_campaign.specs.declared.forms.Form.{Form}
 use Rattle.campaign_core.specs.declared.ending.CampaignFault.TheVariants as campaign
 use Rattle.outside_campaign.specs.declared.refusal.OutsideFault.{OutsideFault}
 use Rattle.outside_campaign.specs.declared.refusal.OutsideFault.TheVariants as refusal
-use Rattle.outside_campaign.proofs.Gathered.{by_known, by_known_agrees}
+use Rattle.outside_campaign.proofs.Gathered.{each_by_known, each_by_known_agrees}
+use Rattle.outside_campaign.proofs.Lines.{verdicts_known_are}
 use Rattle.outside_campaign.specs.declared.results.Results.{Results}
 use Rattle.outside_campaign.specs.declared.results.Results.TheVariants.{Told, NotAnswered}
 
@@ -53,6 +55,14 @@ all_below known plans verdicts firsts is e =
 pub failures_are : (known : KnownVerdicts) (plans : List Entries) (verdicts : List (Option Verdict)) (firsts : List (ℕ × ℕ)) → verdicts ≡ plan_verdicts known plans → firsts ≡ first_failures (in_book verdicts) → firsts ≡ known_failures known plans
 failures_are known plans verdicts firsts is e = e ∙ ap (λ (slots : List (Option Verdict)). first_failures (in_book slots)) is
 
+-- Where no plan is open, the failures that are known are the first failures, whichever family of components that agrees with what is known
+-- the plans are run on.
+pub failures_are_first : (known : KnownVerdicts) (plans : List Entries) (components : Components) → AllByRecursion (λ s. IsScenario s) plans → EachAgrees components known → open_plans known plans ≡ []
+    → first_failures (numbered (verdicts_from (say_each components) 0 plans)) ≡ known_failures known plans
+failures_are_first known plans components lawful agrees none =
+    sym (firsts_full (verdicts_from (say_each components) 0 plans))
+    ∙ ap (λ (slots : List (Option Verdict)). first_failures (in_book slots)) (sym (verdicts_known_are known components plans 0 lawful agrees none))
+
 -- ---- results
 
 pub open_first : (known : KnownVerdicts) (plans : List Entries) (failures : List (ℕ × ℕ)) (cards : List Entries) (r : Results) → failures ≡ known_failures known plans → cards ≡ open_cards known plans failures → IsFirst cards r → AreResults known plans r
@@ -64,16 +74,16 @@ none_open : (known : KnownVerdicts) (plans : List Entries) (failures : List (ℕ
 none_open known plans failures fe none = ap (λ (fs : List (ℕ × ℕ)). open_cards known plans fs ++ open_plans known plans) (sym fe) ∙ ap (λ (cs : List Entries). cs ++ open_plans known plans) none
 
 pub told_all : (known : KnownVerdicts) (plans : List Entries) (failures : List (ℕ × ℕ)) (findings : List FindingFacts) (r : Results) → failures ≡ known_failures known plans
-    → (open_cards known plans failures ≡ []) × ((component : Component) → Agrees component known → findings ≡ map (finding (say component) plans) failures)
+    → (open_cards known plans failures ≡ []) × ((components : Components) → EachAgrees components known → findings ≡ map (finding (say_each components) plans) failures)
     → AreWithVerdicts known plans findings r → AreResults known plans r
 told_all known plans failures findings (Told verdicts told) fe h w = (
   none_open known plans failures fe h.0 ∙ w.1.1,
-  λ component agrees.
-      let vs : List Verdict = verdicts_from (say component) 0 plans in
-      let mine : verdicts.items ≡ vs = w.1.2 component agrees in
+  λ components agrees.
+      let vs : List Verdict = verdicts_from (say_each components) 0 plans in
+      let mine : verdicts.items ≡ vs = w.1.2 components agrees in
       let firsts : failures ≡ first_failures (numbered vs) =
       fe ∙ ap (λ (slots : List (Option Verdict)). first_failures (in_book slots)) (sym w.1.0) ∙ firsts_full verdicts.items ∙ ap (λ (x : List Verdict). first_failures (numbered x)) mine in
-      record { verdicts_are = mine; findings_are = w.0 ∙ h.1 component agrees ∙ ap (map (finding (say component) plans)) firsts },
+      record { verdicts_are = mine; findings_are = w.0 ∙ h.1 components agrees ∙ ap (map (finding (say_each components) plans)) firsts },
 )
 told_all known plans failures findings (NotAnswered t) fe h w = (w.0, none_open known plans failures fe h.0 ∙ w.1)
 
@@ -82,8 +92,12 @@ told_all known plans failures findings (NotAnswered t) fe h w = (w.0, none_open 
 pub agrees_with_known : (names : List (List ℕ)) (text : List ℕ) (known : KnownVerdicts) (component : Component) → known ≡ known_by names text → AgreesWithText names text component → Agrees component known
 agrees_with_known names text known component is agrees = subst (Agrees component) (sym is) (agrees_by names text component agrees)
 
+-- the component under each stream number
+abbrev each : Component → Components
+each component stream = component
+
 -- by the verdicts and findings of a component the report is its own
-pub report_is : (outside : Description) (settings : Given) (component : Component) (plans : List Entries) (verdicts : List Verdict) (findings : List FindingFacts) → plans ≡ plans_of outside settings → AreOf component plans verdicts findings
+pub report_is : (outside : Description) (settings : Given) (component : Component) (plans : List Entries) (verdicts : List Verdict) (findings : List FindingFacts) → plans ≡ plans_of outside settings → AreOf (each component) plans verdicts findings
     → facts_of outside settings.plans.seed verdicts findings ≡ report_by outside settings component
 report_is outside settings component plans verdicts findings is of =
     let facts : List Verdict → List FindingFacts → ReportFacts = facts_of outside settings.plans.seed in
@@ -96,7 +110,7 @@ first_of : (f : ℕ × ℕ → FindingFacts) (fs : List (ℕ × ℕ)) → ((x : 
 first_of f [] own = refl
 first_of f (x ∷ fs) own = ap (λ (n : ℕ). Some n) (own x)
 
-pub first_is : (outside : Description) (settings : Given) (component : Component) (plans : List Entries) (verdicts : List Verdict) (findings : List FindingFacts) → plans ≡ plans_of outside settings → AreOf component plans verdicts findings
+pub first_is : (outside : Description) (settings : Given) (component : Component) (plans : List Entries) (verdicts : List Verdict) (findings : List FindingFacts) → plans ≡ plans_of outside settings → AreOf (each component) plans verdicts findings
     → option_map (λ f. f.number) (slice_get findings 0) ≡ first_failure outside settings component
 first_is outside settings component plans verdicts findings is of =
     ap (λ (fs : List FindingFacts). option_map (λ f. f.number) (slice_get fs 0)) of.findings_are
@@ -121,24 +135,24 @@ asks_cut outside settings answers old new failed known plans bytes n (Err f) is 
 
 -- what is told is the report of each component that agrees
 pub report_told : (form : Form) (outside : Description) (settings : Given) (answers : List ℕ) (known : KnownVerdicts) (plans : List Entries) (verdicts : List Verdict) (findings : List FindingFacts) (report : ReportFacts) (bytes : List ℕ)
-    → known ≡ known_by outside.codes answers → plans ≡ plans_of outside settings → ((component : Component) → Agrees component known → AreOf component plans verdicts findings)
+    → known ≡ known_by outside.codes answers → plans ≡ plans_of outside settings → ((components : Components) → EachAgrees components known → AreOf components plans verdicts findings)
     → report ≡ facts_of outside settings.plans.seed verdicts findings → bytes ≡ text_in form outside.points (code_name outside.codes) report (shown outside settings)
     → (component : Component) → AgreesWithText outside.codes answers component → bytes ≡ report_in form outside settings component
 report_told form outside settings answers known plans verdicts findings report bytes k p own r b component agrees =
     b ∙ ap (λ (facts : ReportFacts). text_in form outside.points (code_name outside.codes) facts (shown outside settings))
-    (r ∙ report_is outside settings component plans verdicts findings p (own component (agrees_with_known outside.codes answers known component k agrees)))
+    (r ∙ report_is outside settings component plans verdicts findings p (own (each component) (λ stream. agrees_with_known outside.codes answers known component k agrees)))
 
 pub first_told : (outside : Description) (settings : Given) (answers : List ℕ) (known : KnownVerdicts) (plans : List Entries) (verdicts : List Verdict) (findings : List FindingFacts) (first : Option ℕ)
-    → known ≡ known_by outside.codes answers → plans ≡ plans_of outside settings → ((component : Component) → Agrees component known → AreOf component plans verdicts findings)
+    → known ≡ known_by outside.codes answers → plans ≡ plans_of outside settings → ((components : Components) → EachAgrees components known → AreOf components plans verdicts findings)
     → first ≡ option_map (λ f. f.number) (slice_get findings 0) → (component : Component) → AgreesWithText outside.codes answers component → first ≡ first_failure outside settings component
 first_told outside settings answers known plans verdicts findings first k p own is component agrees =
-    is ∙ first_is outside settings component plans verdicts findings p (own component (agrees_with_known outside.codes answers known component k agrees))
+    is ∙ first_is outside settings component plans verdicts findings p (own (each component) (λ stream. agrees_with_known outside.codes answers known component k agrees))
 
 -- there is a verdict for each plan
-pub verdicts_each : (known : KnownVerdicts) (plans : List Entries) (verdicts : List Verdict) (findings : List FindingFacts) → ((component : Component) → Agrees component known → AreOf component plans verdicts findings) → length verdicts ≡ length plans
+pub verdicts_each : (known : KnownVerdicts) (plans : List Entries) (verdicts : List Verdict) (findings : List FindingFacts) → ((components : Components) → EachAgrees components known → AreOf components plans verdicts findings) → length verdicts ≡ length plans
 verdicts_each known plans verdicts findings own =
-    let of = own (by_known known) (by_known_agrees known) in
-    ap length of.verdicts_are ∙ length_verdicts (say (by_known known)) 0 plans
+    let of = own (each_by_known known) (each_by_known_agrees known) in
+    ap length of.verdicts_are ∙ length_verdicts (say_each (each_by_known known)) 0 plans
 
 pub some_component : (outside : Description) (text : List ℕ) (codes : List (List ℕ)) → codes ≡ outside.codes → (answers : List Answer) → Says codes text answers → (component : Component) × AgreesWithText outside.codes text component
 some_component outside text codes is answers says =

@@ -21,7 +21,7 @@ use Rattle.ddmin_parallel.proofs.Walk.{decided_more, furthest_more, furthest_sto
 use Rattle.answer_text.specs.Known.{KnownVerdicts, Agrees}
 use Rattle.campaign_core.specs.FaultTest.{fails_with, fault_test}
 use Rattle.campaign_core.specs.Findings.{reduction}
-use Rattle.outside_campaign.specs.Outside.{Component, say}
+use Rattle.outside_campaign.specs.Outside.{Component, Components, say, say_each, EachAgrees}
 use Rattle.outside_campaign.specs.Reached.{known_tests, place_of, unknown_sets, open_sets, open_candidates, ComesTo, IsReached}
 use Rattle.outside_campaign.specs.inside.Tests.{IsTested, IsSettled, IsEnded}
 use Rattle.outside_campaign.specs.declared.reduction.Test.{Test}
@@ -374,8 +374,9 @@ tests_agree known code s component ok agrees set fails = by_faults (are_faults (
     by_faults true h = by_verdict (known (tidied (kept set s))) refl h
     by_faults false h = sure_is false fails h
 
-pub reduced_is : (known : KnownVerdicts) (code : ℕ) (s : Entries) (r : Reduced) → IsScenario s → place_of known code s ≡ End r → (component : Component) → Agrees component known → (stream : ℕ) → r ≡ reduction (say component) stream code s
-reduced_is known code s r ok is component agrees stream = ends (tests_of known code s) (fault_test (say component 0) code s) (all_faults s) r (tests_agree known code s component ok agrees) is
+pub reduced_is : (known : KnownVerdicts) (code : ℕ) (s : Entries) (r : Reduced) → IsScenario s → place_of known code s ≡ End r → (components : Components) → EachAgrees components known → (stream : ℕ) → r ≡ reduction (say_each components) stream code s
+reduced_is known code s r ok is components agrees stream =
+    ends (tests_of known code s) (fault_test (say_each components stream) code s) (all_faults s) r (tests_agree known code s (components stream) ok (agrees stream)) is
 
 pub comes_to : (known : KnownVerdicts) (code : ℕ) (s : Entries) → IsScenario s → (component : Component) → Agrees component known → ComesTo component code s (place_of known code s)
 comes_to known code s ok component agrees = passes_through (tests_of known code s) (fault_test (say component 0) code s) (all_faults s) (tests_agree known code s component ok agrees)

@@ -4,4 +4,5 @@ pub mod Asked
 pub mod Forms
 pub mod Campaigns
 pub mod Results
+pub mod Told
 pub mod inside

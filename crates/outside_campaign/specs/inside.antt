@@ -2,5 +2,4 @@
 pub mod Results
 pub mod Tests
 pub mod Told
-pub mod Verdicts
 pub mod ToldPlans

@@ -1,6 +1,6 @@
 //! What is told of failures, by what is known.
 ghost use Rattle.std.specs.Prelude.{◌≡◌, ◌<◌, All, length, IfOk, OnOk};
-ghost use Rattle.outside_campaign.specs.inside.ToldPlans.{AreFindings};
+ghost use Rattle.outside_campaign.specs.Told.{AreFindings};
 ghost use Rattle.outside_campaign.specs.inside.Told.{IsLook, IsGathered};
 
 use crate::reduction::{Reached, reduce_known};
@@ -75,8 +75,9 @@ fn gather(
     }
 }
 
-/// What is told of these failures, each the number of a plan and its code, by what is known: what each is reduced to, for each component
-/// that agrees with what is known; or the open candidates of their reductions.
+/// What is told of these failures, each the number of a plan and its code, by what is known: what each is reduced to, for each family of
+/// components that agrees with what is known, one for each stream number, which is here a plan's number; or the open candidates of their
+/// reductions.
 ///
 /// An error means that memory was refused.
 pub fn findings_known<K: VerdictTable>(

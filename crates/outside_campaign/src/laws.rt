@@ -2,10 +2,12 @@
 ghost use Rattle.std.specs.Prelude.{◌≡◌, ◌↔◌, ℕ, List, []};
 ghost use Rattle.std.specs.List.{AllByRecursion};
 ghost use Rattle.scenario_values.specs.Scenario.{Entries, IsScenario};
+ghost use Rattle.result_book.specs.Verdicts.{verdicts_from, numbered};
+ghost use Rattle.result_book.specs.FirstFailures.{first_failures};
 ghost use Rattle.answer_text.specs.Known.{KnownVerdicts, Agrees};
-ghost use Rattle.outside_campaign.specs.Outside.{Component};
+ghost use Rattle.outside_campaign.specs.Outside.{Component, Components, say_each, EachAgrees};
 ghost use Rattle.outside_campaign.specs.Reached.{place_of, ComesTo};
-ghost use Rattle.outside_campaign.specs.Asked.{lines_for, IsUntried};
+ghost use Rattle.outside_campaign.specs.Asked.{lines_for, open_plans, known_failures, IsUntried};
 ghost use Rattle.outside_campaign.specs.Campaigns.{untried};
 
 /// No line is written just where nothing is still to be tried, which is where no report is refused for want of answers.
@@ -23,4 +25,12 @@ pub fn what_is_asked_is_unanswered()
 pub fn reductions_come_to_what_is_asked()
     ensures { (known : KnownVerdicts) (code : ℕ) (scenario : Entries) (component : Component) → IsScenario scenario → Agrees component known
         → ComesTo component code scenario (place_of known code scenario) }
+{}
+
+/// Where no plan is open, the failures that are known are the first failures: those of each family of components that agrees with what is
+/// known, one for each stream number, where each plan is run under its own number.
+pub fn known_failures_are_first()
+    ensures { (known : KnownVerdicts) (plans : List Entries) (components : Components) → AllByRecursion (λ s. IsScenario s) plans
+        → EachAgrees components known → open_plans known plans ≡ []
+        → first_failures (numbered (verdicts_from (say_each components) 0 plans)) ≡ known_failures known plans }
 {}

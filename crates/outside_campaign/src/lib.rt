@@ -16,12 +16,15 @@ mod telling;
 mod verdicts;
 
 pub use driving::write_asks;
-pub use forms::Form;
+pub use findings::{Findings, findings_known};
+pub use forms::{Form, Shown, text_in};
 pub use laws::{
-    nothing_is_asked_where_nothing_is_to_be_tried, reductions_come_to_what_is_asked,
-    what_is_asked_is_unanswered,
+    known_failures_are_first, nothing_is_asked_where_nothing_is_to_be_tried,
+    reductions_come_to_what_is_asked, what_is_asked_is_unanswered,
 };
 pub use planned::{borrowed, list_plans, planned as outside_plans};
 pub use refusal::OutsideFault;
 pub use reporting::write_report_in;
 pub use table::VerdictTable;
+pub use telling::{Words, first_number};
+pub use verdicts::{Verdicts, plan_verdicts, verdicts_known};

@@ -16,6 +16,7 @@ use target_trait::Verdict;
 /// The names of the points and codes of a component that somebody else runs. A code that there isn't has the empty name.
 #[derive(Drop)]
 pub struct Words<'a> {
+    /// The description of the component, by its settings.
     pub outside: &'a Outside,
 }
 

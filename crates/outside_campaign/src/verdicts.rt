@@ -5,7 +5,7 @@ ghost use Rattle.scenario_values.specs.Scenario.{IsScenario};
 ghost use Rattle.plan_gen.specs.PlanList.{most_plans};
 ghost use Rattle.answer_text.specs.Known.{KnownVerdicts};
 ghost use Rattle.outside_campaign.specs.Asked.{plan_verdicts};
-ghost use Rattle.outside_campaign.specs.inside.Verdicts.{AreVerdicts};
+ghost use Rattle.outside_campaign.specs.Told.{AreVerdicts};
 
 use crate::table::VerdictTable;
 use campaign_plans::CampaignPlans;
@@ -42,8 +42,8 @@ pub fn plan_verdicts<K: VerdictTable>(
     Ok(verdicts)
 }
 
-/// The verdicts of plans where each is known: those that each component that agrees with what is known gives them; or the first plan that
-/// isn't answered. An error means that memory was refused.
+/// The verdicts of plans where each is known: those that each family of components that agrees with what is known gives them, one for each
+/// stream number, which is here a plan's number; or the first plan that isn't answered. An error means that memory was refused.
 pub fn verdicts_known(
     alloc: Global,
     plans: &CampaignPlans<'_>,

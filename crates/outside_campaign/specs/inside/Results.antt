@@ -6,7 +6,7 @@ use Rattle.target_trait.specs.declared.judgement.Verdict.TheVariants as verdict
 use Rattle.report.specs.Reports.{FindingFacts, ReportFacts}
 use Rattle.answer_text.specs.Known.{KnownVerdicts}
 use Rattle.campaign_given.specs.Description.{Description}
-use Rattle.outside_campaign.specs.inside.Verdicts.{AreVerdicts}
+use Rattle.outside_campaign.specs.Told.{AreVerdicts}
 use Rattle.plan_gen.specs.PlanList.{most_plans}
 use Rattle.answer_text.specs.FirstFault.{reading_of}
 use Rattle.campaign_given.specs.Given.{Given}
@@ -23,7 +23,7 @@ abbrev pub IsFirst : List Entries → Results → Type 0
 IsFirst cards (Told verdicts findings) = ⊥
 IsFirst cards (NotAnswered t) = (more : List Entries) × (cards ≡ t ∷ more)
 
--- no plan is open, and these are the verdicts of each component that agrees with what is known, with these findings; or the first open plan
+-- no plan is open, and these are the verdicts of each family of components that agrees with what is known, with these findings; or the first open plan
 abbrev pub AreWithVerdicts : KnownVerdicts → List Entries → List FindingFacts → Results → Type 0
 AreWithVerdicts known plans findings (Told all told) =
     (told.items ≡ findings) × AreVerdicts known plans (verdicts.All all)

@@ -2,27 +2,28 @@
 use Rattle.std.specs.Prelude.{◌≡◌, ℕ, ◌<◌, List, [], ◌∷◌, ◌++◌, length}
 use Rattle.scenario_values.specs.Scenario.{Entries}
 use Rattle.report.specs.Reports.{FindingFacts}
-use Rattle.answer_text.specs.Known.{KnownVerdicts, Agrees}
+use Rattle.answer_text.specs.Known.{KnownVerdicts}
 use Rattle.campaign_core.specs.Findings.{reduction, reduced}
-use Rattle.outside_campaign.specs.Outside.{Component, say}
+use Rattle.outside_campaign.specs.Outside.{Components, say_each, EachAgrees}
 use Rattle.outside_campaign.specs.Reached.{open_candidates}
 use Rattle.outside_campaign.specs.declared.findings.Look.{Look}
 use Rattle.outside_campaign.specs.declared.findings.Look.TheVariants as look
 
 -- what is told of a scenario that is plan `number` and fails with this code
-abbrev pub told_of : Component → ℕ → ℕ → Entries → FindingFacts
-told_of component number code s = record {
+abbrev pub told_of : Components → ℕ → ℕ → Entries → FindingFacts
+told_of components number code s = record {
   number = number;
   code = code;
   scenario = s;
-  reduced = reduced (say component) number code s;
-  tests = (reduction (say component) number code s).tests;
+  reduced = reduced (say_each components) number code s;
+  tests = (reduction (say_each components) number code s).tests;
 }
 
--- the same of each component that agrees with what is known, which leaves nothing open; or the open candidates of its reduction
+-- the same of each family of components that agrees with what is known, which leaves nothing open; or the open candidates of its reduction
 abbrev pub IsLook : KnownVerdicts → ℕ → ℕ → Entries → Look → Type 0
 IsLook known number code s (look.Told f) =
-    (open_candidates known code s ≡ []) × ((component : Component) → Agrees component known → f ≡ told_of component number code s)
+    (open_candidates known code s ≡ [])
+    × ((components : Components) → EachAgrees components known → f ≡ told_of components number code s)
 IsLook known number code s (look.Open cards) = (0 < length cards.items) × (cards.items ≡ open_candidates known code s)
 
 -- what a look adds to what was gathered
