@@ -3,3 +3,4 @@ pub mod Known
 pub mod Found
 pub mod Breaks
 pub mod WholeLists
+pub mod Within

@@ -10,7 +10,7 @@ mod table;
 mod verdicts;
 mod whole;
 
-pub use broken::broken_run;
+pub use broken::{BrokenRun, broken_run};
 pub use laws::{answers_tell_plans, answers_tell_verdicts};
 pub use rigged::rigs_of_scenario;
 pub use scenarios::{plan_scenario, rigged_scenario};

@@ -2,7 +2,8 @@
 ghost use Rattle.std.specs.Prelude.{◌≡◌, ◌≤◌, ◌<◌, length, IfOk, IsErrOf};
 ghost use Rattle.std.specs.List.{AllByRecursion};
 ghost use Rattle.answer_text.specs.Runs.{told_in};
-ghost use Rattle.grown_plans.specs.GrownPlans.{Subject};
+ghost use Rattle.action_eval.specs.Rigging.{CanBeRigged};
+ghost use Rattle.grown_plans.specs.GrownPlans.{Subject, rigs_of};
 ghost use Rattle.known_runs.specs.KnownPlans.{AreKnown};
 ghost use Rattle.answered_runs.specs.Answered.{known_plans, runs_in};
 ghost use Rattle.answered_runs.specs.Components.{AgreesWithRuns, IsComponent};
@@ -30,6 +31,8 @@ impl<'a> AnsweredRuns<'a> {
         ensures known { IfOk result (λ known. (t : Subject) → IsComponent self.now.points t → AgreesWithRuns t (told_in self.now.book)
             → AreKnown t depth (runs_in self.now) known) }
         ensures short { IfOk result (λ known. AllByRecursion (λ plan. length plan ≤ depth) known.plans) }
+        // Of each of them a scenario can be made.
+        ensures rigs { IfOk result (λ known. AllByRecursion (λ plan. CanBeRigged (rigs_of plan)) known.plans) }
         ensures few { IfOk result (λ known. length known.plans ≤ most) }
         ensures many { IsErrOf result KnownFault.TooManyPlans → most < length (known_plans self.now depth) }
     {

@@ -2,7 +2,8 @@
 ghost use Rattle.std.specs.Prelude.{◌≡◌, ◌≤◌, ◌<◌, length, IfOk, IsErrOf};
 ghost use Rattle.std.specs.List.{AllByRecursion};
 ghost use Rattle.answer_text.specs.Runs.{told_in};
-ghost use Rattle.grown_plans.specs.GrownPlans.{Subject};
+ghost use Rattle.action_eval.specs.Rigging.{CanBeRigged};
+ghost use Rattle.grown_plans.specs.GrownPlans.{Subject, rigs_of};
 ghost use Rattle.answered_runs.specs.Answered.{known_plans, runs_in};
 ghost use Rattle.answered_runs.specs.Components.{AgreesWithRuns, IsComponent};
 ghost use Rattle.answered_runs.specs.WholeList.{AreListed, AreSeen};
@@ -68,6 +69,8 @@ pub fn listed_plans(
     ensures whole { IfOk result (λ listed. (t : Subject) → IsComponent runs.now.points t → AgreesWithRuns t (told_in runs.now.book)
         → AreListed t depth listed) }
     ensures short { IfOk result (λ listed. AllByRecursion (λ plan. length plan ≤ depth) listed.known.plans) }
+    // Of each plan a scenario can be made.
+    ensures rigs { IfOk result (λ listed. AllByRecursion (λ plan. CanBeRigged (rigs_of plan)) listed.known.plans) }
     ensures few { IfOk result (λ listed. length listed.known.plans ≤ most) }
     ensures many { IsErrOf result KnownFault.TooManyPlans → most < length (known_plans runs.now depth) }
 {

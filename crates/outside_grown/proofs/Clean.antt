@@ -15,7 +15,7 @@ use Rattle.action_eval.proofs.Rigged.{rigging_keeps}
 use Rattle.action_eval.proofs.RunLaws.{tidied_means}
 use Rattle.target_trait.specs.Outcomes.{Told as Outcome, outcome}
 use Rattle.target_trait.proofs.Verdicts.{outcome_same}
-use Rattle.plan_gen.specs.Census.{counts_of}
+use Rattle.plan_gen.specs.Census.{census_of, counts_of}
 use Rattle.plan_gen.specs.PlanList.{Asked, further_list, most_plans}
 use Rattle.grown_plans.specs.GrownPlans.{Subject}
 use Rattle.known_runs.specs.Known.{hits_of, hits_told}
@@ -69,6 +69,18 @@ clean_asked t points told seed hits is agrees e = by_told (told (tidied s)) (agr
     by_told : (o : Option ToldRun) → IfSome o (IsTrueRun t (tidied s)) → hits_told (option_map told_of o) ≡ Some hits → asked_of t seed [] ≡ hits
     by_told None h f = absurd cc
     by_told (Some r) h f = by_hits r.hits (h.hits seed 0) f
+
+-- ---- the census of the run without faults
+
+census_is : (a : Answered) (told hits counts : List ℕ) (n : ℕ) → clean_hits a ≡ Some told → hits ≡ told → n ≡ length a.points → counts ≡ counts_of n hits → counts ≡ counts_of (length a.points) told
+census_is a told hits counts n clean same many is = is ∙ ap (λ (k : ℕ). counts_of k hits) many ∙ ap (counts_of (length a.points)) same
+
+pub census_same : (a : Answered) (told hits counts : List ℕ) (n : ℕ) → clean_hits a ≡ Some told → hits ≡ told → n ≡ length a.points → counts ≡ counts_of n hits
+    → (t : Subject) → IsComponent a.points t → AgreesWithRuns t (told_in a.book) → (seed : ℕ) → counts ≡ census_of t.asks t.names seed t.limit
+census_same a told hits counts n clean same many is t component agrees seed =
+    census_is a told hits counts n clean same many is
+    ∙ ap (counts_of (length a.points)) (sym (clean_asked t a.points (told_in a.book) seed told component agrees clean))
+    ∙ ap (λ (names : List (List ℕ)). counts_of (length names) (asked_of t seed [])) (sym component.names)
 
 -- the storms and listed scenarios are those of each component that agrees
 pub further_same : (t : Subject) (a : Answered) (asked : Asked) → IsComponent a.points t → AgreesWithRuns t (told_in a.book) → further_told a asked ≡ further_known t asked (clean_hits a)

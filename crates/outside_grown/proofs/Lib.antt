@@ -4,3 +4,5 @@ pub mod Lines
 pub mod Whole
 pub mod SameRuns
 pub mod Most
+pub mod Caused
+pub mod Open

@@ -1,5 +1,5 @@
 -- The storms and listed scenarios that stand behind plans that grow, by what answers tell.
-use Rattle.std.specs.Prelude.{ℕ, ◌+◌, ◌<◌, ◌≤◌, ◌⊎◌, List, [], Option, None, Some, length}
+use Rattle.std.specs.Prelude.{ℕ, ◌+◌, ◌<◌, ◌≤◌, ◌⊎◌, List, [], Option, None, Some, length, option_map}
 use Rattle.std.specs.Option.{option_map_or}
 use Rattle.scenario_values.specs.Scenario.{Entries}
 use Rattle.plan_gen.specs.Census.{census_of, counts_of}
@@ -17,8 +17,16 @@ further_by points asked (Some hits) = further_list points (counts_of (length poi
 abbrev pub clean_hits : Answered → Option (List ℕ)
 clean_hits a = hits_of (runs_in a) []
 
+-- and its census, where they are told
+abbrev pub census_told : Answered → Option (List ℕ)
+census_told a = option_map (counts_of (length a.points)) (clean_hits a)
+
 abbrev pub further_told : Answered → Asked → List Entries
 further_told a asked = further_by a.points asked (clean_hits a)
+
+-- the run without faults, where it is told, has fewer hits than a list may have plans
+abbrev pub HasFewHits : Answered → Type 0
+HasFewHits a = option_map_or length (clean_hits a) 0 < most_plans
 
 -- so many plans and these behind them are more than a list may have; or there is no census, as the run without faults has as many hits as a
 -- list may have plans

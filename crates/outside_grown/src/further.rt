@@ -1,13 +1,13 @@
 //! The storms and listed scenarios that stand behind plans that grow.
-ghost use Rattle.std.specs.Prelude.{◌≡◌, ◌<◌, ◌≤◌, ◌⊎◌, ◌+◌, ◌==◌, ◌^◌, [], length, option_map, count_by, IfOk, IfSome, IsErrOf, OnOk};
+ghost use Rattle.std.specs.Prelude.{◌≡◌, ◌<◌, ◌≤◌, ◌⊎◌, ◌+◌, ◌==◌, ◌^◌, ℕ, [], length, option_map, count_by, IfOk, IfSome, IsErrOf, OnOk};
 ghost use Rattle.action_eval.specs.Answers.{texts};
 ghost use Rattle.action_eval.specs.Catalogue.{IsCatalogue};
-ghost use Rattle.plan_gen.specs.Census.{counts_of};
+ghost use Rattle.plan_gen.specs.Census.{census_of, counts_of};
 ghost use Rattle.plan_gen.specs.PlanList.{further_list, most_plans};
 ghost use Rattle.grown_plans.specs.GrownPlans.{Subject};
 ghost use Rattle.answer_text.specs.Runs.{told_in};
 ghost use Rattle.answered_runs.specs.Components.{AgreesWithRuns, IsComponent};
-ghost use Rattle.outside_grown.specs.Further.{AreTooMany, clean_hits, further_known, further_told};
+ghost use Rattle.outside_grown.specs.Further.{AreTooMany, HasFewHits, census_told, clean_hits, further_known, further_told};
 
 use answered_runs::AnsweredRuns;
 use known_runs::{KnownFault, Look, RunTable};
@@ -15,7 +15,7 @@ use plan_gen::{Census, PlanFault, PlanList, PlanSettings};
 use std::alloc::{AllocError, Global};
 
 /// A list has at most so many plans.
-pub(crate) const MOST_PLANS: usize = 65536;
+pub const MOST_PLANS: usize = 65536;
 
 /// How often a point is asked.
 fn count_of(asked: &[u32], point: u32) -> u32
@@ -49,6 +49,23 @@ fn clean_hits(alloc: Global, runs: &AnsweredRuns<'_>) -> Result<Option<Vec<u32>>
     }
 }
 
+/// The census, where the hits of the run without faults are told: how often it hits each point, in the catalogue's order. It is that of every
+/// component that agrees with the answers, under each seed. An error means that memory was refused.
+pub fn census(alloc: Global, runs: &AnsweredRuns<'_>) -> Result<Option<Vec<u32>>, AllocError>
+    ensures told { IfOk result (λ counts. option_map (λ c. c.items) counts ≡ census_told runs.now) }
+    // For every component that agrees with the answers.
+    ensures known { IfOk result (λ counts. IfSome counts (λ c. (t : Subject) → IsComponent runs.now.points t → AgreesWithRuns t (told_in runs.now.book)
+        → (seed : ℕ) → c.items ≡ census_of t.asks t.names seed t.limit)) }
+{
+    match clean_hits(alloc, runs)? {
+        Some(hits) => {
+            let points = runs.points().len() as u32;
+            Ok(Some(counts_of(alloc, points, hits.as_slice())?))
+        }
+        None => Ok(None),
+    }
+}
+
 /// The storms and listed scenarios over the census of these hits, behind so many plans.
 fn plans_over<'a>(
     alloc: Global,
@@ -60,6 +77,7 @@ fn plans_over<'a>(
     requires lawful { IsCatalogue (texts points.now) }
     ensures over { IfOk result (λ plans. plans ≡ further_list (texts points.now) (counts_of (length points.now) hits.now) settings.now) }
     ensures few { OnOk result (before + length (further_list (texts points.now) (counts_of (length points.now) hits.now) settings.now) ≤ most_plans) }
+    ensures low { OnOk result (length hits.now < most_plans) }
     ensures many { IsErrOf result KnownFault.TooManyPlans
         → (most_plans < before + length (further_list (texts points.now) (counts_of (length points.now) hits.now) settings.now))
         ⊎ (most_plans ≤ length hits.now) }
@@ -110,6 +128,7 @@ pub fn further_plans<'a>(
 ) -> Result<PlanList<'a>, KnownFault>
     ensures told { IfOk result (λ plans. plans ≡ further_told runs.now settings.now) }
     ensures few { OnOk result (before + length (further_told runs.now settings.now) ≤ most_plans) }
+    ensures clean { OnOk result (HasFewHits runs.now) }
     ensures many { IsErrOf result KnownFault.TooManyPlans → AreTooMany runs.now settings.now before }
     // For every component that agrees with the answers.
     ensures known { IfOk result (λ plans. (t : Subject) → IsComponent runs.now.points t → AgreesWithRuns t (told_in runs.now.book)

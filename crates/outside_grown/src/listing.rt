@@ -1,12 +1,14 @@
 //! The whole list of a campaign with a depth.
-ghost use Rattle.std.specs.Prelude.{◌≡◌, ◌≤◌, ◌+◌, length, IfOk, IsErrOf};
+ghost use Rattle.std.specs.Prelude.{◌≡◌, ◌≤◌, ◌+◌, length, IfOk, IsErrOf, OnOk};
+ghost use Rattle.std.specs.List.{AllByRecursion};
+ghost use Rattle.action_eval.specs.Rigging.{CanBeRigged};
 ghost use Rattle.plan_gen.specs.PlanList.{most_plans};
-ghost use Rattle.grown_plans.specs.GrownPlans.{Subject};
+ghost use Rattle.grown_plans.specs.GrownPlans.{Subject, rigs_of};
 ghost use Rattle.answer_text.specs.Runs.{told_in};
 ghost use Rattle.answered_runs.specs.Answered.{known_plans, runs_in};
 ghost use Rattle.answered_runs.specs.Components.{AgreesWithRuns, IsComponent};
 ghost use Rattle.answered_runs.specs.WholeList.{AreSeen};
-ghost use Rattle.outside_grown.specs.Further.{AreTooMany, further_told};
+ghost use Rattle.outside_grown.specs.Further.{AreTooMany, HasFewHits, further_told};
 ghost use Rattle.outside_grown.specs.Lists.{AreWholeSeen};
 
 use crate::further::{MOST_PLANS, further_plans};
@@ -39,7 +41,10 @@ pub fn grown_lists<'a>(
     ensures grown { IfOk result (λ lists. lists.listed.known.plans ≡ known_plans runs.now depth) }
     ensures further { IfOk result (λ lists. lists.further ≡ further_told runs.now settings.now) }
     ensures seen { IfOk result (λ lists. AreSeen (runs_in runs.now) lists.listed.known.plans lists.listed.gap) }
+    // Of each plan a scenario can be made.
+    ensures rigs { IfOk result (λ lists. AllByRecursion (λ plan. CanBeRigged (rigs_of plan)) lists.listed.known.plans) }
     ensures few { IfOk result (λ lists. length lists.listed.known.plans + length lists.further ≤ most_plans) }
+    ensures clean { OnOk result (HasFewHits runs.now) }
     // For every component that agrees with the answers.
     ensures whole { IfOk result (λ lists. (t : Subject) → IsComponent runs.now.points t → AgreesWithRuns t (told_in runs.now.book)
         → AreWholeSeen t depth settings.now runs.now.points lists) }

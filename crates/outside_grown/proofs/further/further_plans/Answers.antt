@@ -1,6 +1,8 @@
-use Rattle.std.proofs.Common.{◌≡◌, ◌∙◌, arith, inl, sym}
+use Rattle.std.proofs.Common.{◌≡◌, ◌<◌, ◌∙◌, ℕ, List, Option, length, arith, inl, subst, sym}
+use Rattle.std.specs.Option.{option_map_or}
 use Rattle.std.specs.Prelude.{Some}
-use Rattle.std.proofs.lemmas.Result.{IfOk-weaker}
+use Rattle.plan_gen.specs.PlanList.{most_plans}
+use Rattle.std.proofs.lemmas.Result.{IfOk-weaker, on_ok_weaker}
 use Rattle.outside_grown.specs.Further.{clean_hits}
 use Rattle.outside_grown.proofs.Clean.{further_same, many_by_hits, told_by_hits}
 use Rattle.outside_grown.proofs.further.further_plans.Goals as goal
@@ -29,3 +31,10 @@ returns-in-Some-clause-many c = λ is.
 
 pub returns-in-None-clause-many : goal.returns-in-None-clause-many
 returns-in-None-clause-many c = λ is. let many = c.no_plans.ensures.many is in inl (omega (arith, many))
+
+pub returns-in-Some-clause-clean : goal.returns-in-Some-clause-clean
+returns-in-Some-clause-clean c =
+    let clean : clean_hits c.args.runs.now ≡ Some c.in-Some.hits.items = sym (rw c.in-Some.is at c.in_ok-hits.ensures.hits) in
+    on_ok_weaker c.plans_over.result
+    (λ low. subst (λ (o : Option (List ℕ)). option_map_or length o 0 < most_plans) (sym clean) (subst (λ (l : List ℕ). length l < most_plans) c.as_slice.ensures.value low))
+    c.plans_over.ensures.low
