@@ -1,0 +1,7 @@
+pub mod Asking
+pub mod Gaps
+pub mod Census
+pub mod Refused
+pub mod Told
+pub mod Reports
+pub mod Read

@@ -1,0 +1,19 @@
+use Rattle.std.proofs.Common.{◌≡◌, ◌∙◌, ℕ, List, ap}
+use Rattle.action_eval.specs.Answers.{texts}
+use Rattle.answer_text.specs.Runs.{told_in}
+use Rattle.answered_runs.specs.Answered.{Answered}
+use Rattle.campaign_given.specs.Description.{Description}
+use Rattle.answered_campaigns.proofs.Read.{reported, tells}
+use Rattle.answered_campaigns.proofs.depth.reported.Goals as goal
+
+pub returns-clause-report : goal.returns-clause-report
+returns-clause-report c =
+    let outside = c.args.outside.now in
+    let codes = c.as_slice.ensures.value ∙ ap (λ (d : Description). d.codes) c.outside.view_is in
+    let points = c.as_slice-2.ensures.value ∙ ap (λ (d : Description). d.points) c.outside.view_is in
+    let same = ap (λ (x : Answered). x.points) c.new-runs.ensures ∙ ap texts c.as_slice-4.ensures.value ∙ c.in_ok-points.ensures ∙ c.as_slice-3.ensures.value
+    ∙ ap (λ (d : Description). d.points) c.outside.view_is in
+    let told = ap (λ (x : Answered). told_in x.book) c.new-runs.ensures ∙ c.in_ok-told.ensures.known in
+    reported c.args.form.now outside c.args.settings.now c.new-runs.result c.args.depth c.args.answers.now (λ r. r.0.items) (λ r. r.1) c.grown_report.result
+    (tells outside c.args.answers.now c.new-runs.result c.as_slice.result.now c.as_slice-2.result.now codes points same told c.in_ok-told.ensures.read)
+    c.grown_report.ensures.report c.grown_report.ensures.unbroken c.grown_report.ensures.seen c.grown_report.ensures.all

@@ -1,0 +1,22 @@
+use Rattle.answered_campaigns.specs.inside.Outcomes.{RefusesAsks}
+use Rattle.answered_campaigns.proofs.Asking.{err_is, none_to_try, others_asked}
+use Rattle.answered_campaigns.proofs.grown_asks.grown_asks_text.Goals as goal
+
+pub returns-in_err-refuse_broken-clause-fault : goal.returns-in_err-refuse_broken-clause-fault
+returns-in_err-refuse_broken-clause-fault c =
+    err_is c.from_residual.result c.in_err-refuse_broken.field-0.0 (RefusesAsks c.args.known.now.0 c.args.known.now.1 c.args.settings.now.plans) c.from_residual.ensures.1
+    (c.in_err-refuse_broken.ensures.fault c.args.settings.now.plans)
+
+pub candidates-requires-clause-answered : goal.candidates-requires-clause-answered
+candidates-requires-clause-answered c =
+    none_to_try c.args.known.now _ _ c.args.settings.now.plans c.plan_settings.result c.in_ok-plans.plans.keys c.known.view_is c.plan_settings.ensures.asked c.in_ok-plans.ensures.lines
+    (c.is_empty.ensures.0 c.if-not-is_empty.false)
+
+pub returns-clause-text : goal.returns-clause-text
+returns-clause-text c =
+    let k = c.args.known.now in
+    let asked = c.args.settings.now.plans in
+    others_asked k.0 k.1 asked c.in_ok-lines.lines.keys _
+    (none_to_try k _ _ asked c.plan_settings.result c.in_ok-plans.plans.keys c.known.view_is c.plan_settings.ensures.asked c.in_ok-plans.ensures.lines
+    (c.is_empty.ensures.0 c.if-not-is_empty.false))
+    c.in_ok-lines.ensures.lines c.in_ok-joined-2.ensures

@@ -1,0 +1,82 @@
+-- A campaign with a depth on a component that somebody else runs: its report, for each component that agrees with the answers, and what is still
+-- to be tried, by the answers.
+use Rattle.std.specs.Prelude.{◌++◌, ℕ, List, [], ◌∷◌, Option, Some, option_map}
+use Rattle.scenario_values.specs.Scenario.{Entries}
+use Rattle.plan_gen.specs.PlanList.{Asked}
+use Rattle.campaign_plans.specs.GrownScenarios.{grown_scenarios}
+use Rattle.grown_plans.specs.GrownPlans.{Subject}
+use Rattle.answer_text.specs.Known.{KnownVerdicts}
+use Rattle.answer_text.specs.Runs.{known_runs, told_in}
+use Rattle.answered_runs.specs.Answered.{Answered, known_plans}
+use Rattle.answered_runs.specs.Components.{AgreesWithRuns, IsComponent}
+use Rattle.answered_runs.specs.Verdicts.{verdict_by}
+use Rattle.campaign_given.specs.Description.{Description}
+use Rattle.campaign_given.specs.Given.{Given}
+use Rattle.campaign_core.specs.Headline.{Campaign, first_failure, grown_to, onward_to, plans, report}
+use Rattle.outside_campaign.specs.Asked.{known_failures, open_cards}
+use Rattle.outside_campaign.specs.Campaigns.{code_name}
+use Rattle.outside_campaign.specs.Forms.{ShownFacts, text_in}
+use Rattle.outside_campaign.specs.declared.forms.Form.{Form}
+use Rattle.outside_grown.specs.Asked.{to_try}
+use Rattle.outside_grown.specs.Causes.{open_scenarios}
+use Rattle.outside_grown.specs.Further.{further_told}
+
+-- ---- the report
+
+-- a component that keeps a target's laws and agrees with each line of the answers
+pub record AgreesWithAnswers (outside : Description) (answers : List ℕ) (t : Subject) : Type 0 where
+  pub component : IsComponent outside.points t
+  pub agrees : AgreesWithRuns t (known_runs outside.codes outside.points answers)
+
+-- its campaign, as that of a target which the program runs itself
+abbrev pub campaign : Description → Given → ℕ → Subject → Campaign
+campaign outside given depth t = record {
+  asks = t.asks;
+  points = outside.points;
+  codes = code_name outside.codes;
+  label = outside.label;
+  max_hits = t.limit;
+  depth = Some depth;
+  plans = given.plans;
+  source = given.source;
+}
+
+-- what is shown of it beside its report
+abbrev pub shown : Campaign → ShownFacts
+shown c = record {
+  plans = plans c;
+  pairs = c.plans.pairs;
+  grown = grown_to c c.depth;
+  onward = onward_to c c.depth;
+  settings = c.source;
+}
+
+abbrev pub report_in : Form → Campaign → List ℕ
+report_in form c = text_in form c.points c.codes (report c) (shown c)
+
+-- the least number of a plan that fails
+abbrev pub first_number : Campaign → Option ℕ
+first_number c = option_map (λ first. first.0) (first_failure c)
+
+-- ---- what is still to be tried
+
+-- what is known of scenarios: what is told of them, and what follows from runs that are told
+abbrev pub known : Answered → ℕ → KnownVerdicts
+known a depth = verdict_by a.points (told_in a.book) depth
+
+-- the plans that are known by now
+abbrev pub listed : Answered → ℕ → Asked → List Entries
+listed a depth asked = grown_scenarios a.points (known_plans a depth) ++ further_told a asked
+
+-- on what it depends what plans come to whose runs are all known: what the first failures are reduced to, and which plans are causes
+abbrev pub candidates : Answered → ℕ → Asked → List Entries
+candidates a depth asked =
+    open_cards (known a depth) (listed a depth asked) (known_failures (known a depth) (listed a depth asked)) ++ open_scenarios a depth (known_plans a depth)
+
+abbrev pub or_else : List Entries → List Entries → List Entries
+or_else [] others = others
+or_else (s ∷ more) others = s ∷ more
+
+-- the plans that aren't answered, and where each is, those candidates
+abbrev pub untried : Answered → ℕ → Asked → List Entries
+untried a depth asked = or_else (to_try a depth asked) (candidates a depth asked)

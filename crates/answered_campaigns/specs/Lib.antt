@@ -1,0 +1,4 @@
+pub mod Grown
+pub mod Faults
+pub mod Questions
+pub mod inside

@@ -1,0 +1,174 @@
+-- Questions on components that somebody else runs, of a campaign with or without a depth, by the settings and a text of answers. A sink held `old`
+-- and holds `new`, where it tells its bytes, and says whether it failed.
+use Rattle.std.specs.Prelude.{◌≡◌, ◌≤◌, ◌<◌, ℕ, Bool, true, false, List, [], ◌∷◌, Option, None, Some, Ok, Err, length, slice_index_or, Contains}
+use Rattle.std.specs.Io.KnownBytes.{Appends}
+use Rattle.scenario_values.specs.Scenario.{Entries}
+use Rattle.plan_gen.specs.PlanList.{Asked, most_plans}
+use Rattle.report.specs.ReportText.{text_of}
+use Rattle.answer_text.specs.Answers.{Answer, Says}
+use Rattle.answer_text.specs.FirstFault.{reading_of}
+use Rattle.answer_text.specs.Known.{AgreesWithText}
+use Rattle.answer_text.specs.Runs.{known_runs, runs_of, told_in}
+use Rattle.answer_text.specs.declared.runs.RunLine.{RunLine}
+use Rattle.answered_runs.specs.Answered.{Answered, known_plans, runs_in}
+use Rattle.answered_runs.specs.Broken.{AreBroken, IsFirstBreak, line_told}
+use Rattle.answered_runs.specs.WholeList.{AreSeen, IsGap}
+use Rattle.answered_runs.specs.declared.whole.Gap.TheVariants as gap
+use Rattle.campaign_given.specs.Description.{Description}
+use Rattle.campaign_given.specs.Given.{Given}
+use Rattle.campaign_core.specs.declared.ending.CampaignFault.TheVariants as campaign
+use Rattle.grown_plans.specs.GrownPlans.{Subject}
+use Rattle.outside_campaign.specs.Asked.{lines_for}
+use Rattle.outside_campaign.specs.Campaigns.{IsCut, asks_text, first_failure, plans, report_in, untried_by}
+use Rattle.outside_campaign.specs.Outside.{Component}
+use Rattle.outside_campaign.specs.declared.forms.Form.{Form}
+use Rattle.outside_campaign.specs.declared.refusal.OutsideFault.TheVariants as refusal
+use Rattle.outside_grown.specs.Further.{AreTooMany}
+use Rattle.answered_campaigns.specs.Grown as grown
+use Rattle.answered_campaigns.specs.declared.fault.QuestionFault.{QuestionFault}
+use Rattle.answered_campaigns.specs.declared.fault.QuestionFault.TheVariants as fault
+
+-- ---- of a campaign with a depth
+
+-- what a text of answers without a fault tells of runs
+pub record Tells (outside : Description) (answers : List ℕ) (a : Answered) : Type 0 where
+  pub points : a.points ≡ outside.points
+  pub told : told_in a.book ≡ known_runs outside.codes outside.points answers
+  pub lines : List RunLine
+  pub read : runs_of outside.codes outside.points answers ≡ Ok lines
+
+-- the lines that ask for what is still to be tried
+abbrev pub grown_asks_text : Given → ℕ → Answered → List ℕ
+grown_asks_text given depth a = text_of (lines_for (grown.untried a depth given.plans))
+
+-- no run that is told breaks with that of the plan which its own grew from
+abbrev pub AreUnbroken : Answered → ℕ → Type 0
+AreUnbroken a depth = AreBroken a (known_plans a depth) None
+
+-- a text asks for what is still to be tried
+pub record IsAskedText (outside : Description) (given : Given) (depth : ℕ) (answers text : List ℕ) : Type 0 where
+  pub runs : Answered
+  pub tells : Tells outside answers runs
+  pub unbroken : AreUnbroken runs depth
+  pub text_is : text ≡ grown_asks_text given depth runs
+
+-- a text is the report of every component that agrees with the answers, and this the number of its first plan that fails: each plan is answered whole,
+-- and nothing is still to be tried
+pub record IsReportedText (form : Form) (outside : Description) (given : Given) (depth : ℕ) (answers text : List ℕ) (first : Option ℕ) : Type 0 where
+  pub text_is : (t : Subject) → grown.AgreesWithAnswers outside answers t → text ≡ grown.report_in form (grown.campaign outside given depth t)
+  pub first_is : (t : Subject) → grown.AgreesWithAnswers outside answers t → first ≡ grown.first_number (grown.campaign outside given depth t)
+  pub runs : Answered
+  pub tells : Tells outside answers runs
+  pub unbroken : AreUnbroken runs depth
+  pub seen : AreSeen (runs_in runs) (known_plans runs depth) None
+  pub all : grown.untried runs depth given.plans ≡ []
+
+-- why such a question is refused, by what the answers tell: a run breaks; the first plan that isn't answered whole is answered without hits, on this
+-- line; something is still to be tried, this among it; or too many plans are known
+abbrev pub RefusesBy : Answered → ℕ → Asked → QuestionFault → Type 0
+RefusesBy a depth asked (fault.Broken b) = IsFirstBreak a (known_plans a depth) b
+RefusesBy a depth asked (fault.Unseen line) =
+    (n : ℕ) × IsGap (runs_in a) (known_plans a depth) (gap.Unseen n) × (line ≡ line_told a (slice_index_or (known_plans a depth) n []))
+RefusesBy a depth asked (fault.Outside (refusal.NotAnswered t)) = Contains (grown.untried a depth asked) t
+RefusesBy a depth asked (fault.Outside (refusal.Campaign campaign.TooManyPlans)) = AreTooMany a asked (length (known_plans a depth))
+RefusesBy a depth asked (fault.Outside (refusal.Campaign campaign.Memory)) = Unit {0}
+RefusesBy a depth asked (fault.Outside (refusal.Campaign (campaign.Write n))) = ⊥
+RefusesBy a depth asked (fault.Outside (refusal.Answers f)) = ⊥
+
+-- the same by the text of answers, whose first fault comes before all
+abbrev pub RefusesGrown : Description → Given → ℕ → List ℕ → QuestionFault → Type 0
+RefusesGrown outside given depth answers (fault.Outside (refusal.Answers f)) = runs_of outside.codes outside.points answers ≡ Err f
+RefusesGrown outside given depth answers (fault.Outside (refusal.Campaign campaign.Memory)) = Unit {0}
+RefusesGrown outside given depth answers why = (a : Answered) × Tells outside answers a × RefusesBy a depth given.plans why
+
+-- the same of what is asked, which waits for nothing
+abbrev pub RefusesAsked : Description → Given → ℕ → List ℕ → QuestionFault → Type 0
+RefusesAsked outside given depth answers (fault.Outside (refusal.NotAnswered t)) = ⊥
+RefusesAsked outside given depth answers why = RefusesGrown outside given depth answers why
+
+-- such a text was written whole
+abbrev pub IsWritten : (List ℕ → Type 0) → Option (List ℕ) → Option (List ℕ) → Bool → Type 0
+IsWritten IsText old new failed = (text : List ℕ) × IsText text × Appends old new text × (failed ≡ false)
+
+-- or some of its first bytes, never all, before the sink failed
+abbrev pub IsWrittenInPart : (List ℕ → Type 0) → Option (List ℕ) → Option (List ℕ) → Bool → ℕ → Type 0
+IsWrittenInPart IsText old new failed n = ((text : List ℕ) × IsText text × IsCut old new text n) × (failed ≡ true)
+
+-- ---- with or without one
+
+-- what is still to be tried was written, of answers without a fault
+pub record IsAskedByCensus (outside : Description) (given : Given) (answers : List ℕ) (old new : Option (List ℕ)) (failed : Bool) : Type 0 where
+  pub text : Appends old new (asks_text outside given answers)
+  pub few : length (plans outside given) ≤ most_plans
+  pub said : (all : List Answer) × Says outside.codes answers all
+  pub sound : failed ≡ false
+
+-- the report was written that each component has which agrees with the answers, and some component does; nothing is still to be tried
+pub record IsReportedByCensus (form : Form) (outside : Description) (given : Given) (answers : List ℕ) (old new : Option (List ℕ)) (failed : Bool)
+    (first : Option ℕ) : Type 0 where
+  pub text : (component : Component) → AgreesWithText outside.codes answers component → Appends old new (report_in form outside given component)
+  pub first_is : (component : Component) → AgreesWithText outside.codes answers component → first ≡ first_failure outside given component
+  pub some : (component : Component) × AgreesWithText outside.codes answers component
+  pub all : untried_by outside given answers ≡ []
+  pub few : length (plans outside given) ≤ most_plans
+  pub sound : failed ≡ false
+
+abbrev pub IsAskedTo : Option ℕ → Description → Given → List ℕ → Option (List ℕ) → Option (List ℕ) → Bool → Type 0
+IsAskedTo None outside given answers old new failed = IsAskedByCensus outside given answers old new failed
+IsAskedTo (Some depth) outside given answers old new failed = IsWritten (IsAskedText outside given depth answers) old new failed
+
+abbrev pub IsAsked : Description → Given → List ℕ → Option (List ℕ) → Option (List ℕ) → Bool → Type 0
+IsAsked outside given answers old new failed = IsAskedTo given.depth outside given answers old new failed
+
+abbrev pub IsReportedTo : Option ℕ → Form → Description → Given → List ℕ → Option (List ℕ) → Option (List ℕ) → Bool → Option ℕ → Type 0
+IsReportedTo None form outside given answers old new failed first = IsReportedByCensus form outside given answers old new failed first
+IsReportedTo (Some depth) form outside given answers old new failed first =
+    IsWritten (λ text. IsReportedText form outside given depth answers text first) old new failed
+
+abbrev pub IsReported : Form → Description → Given → List ℕ → Option (List ℕ) → Option (List ℕ) → Bool → Option ℕ → Type 0
+IsReported form outside given answers old new failed first = IsReportedTo given.depth form outside given answers old new failed first
+
+-- ---- faults
+
+abbrev pub IsUntouched : Option (List ℕ) → Option (List ℕ) → Bool → Type 0
+IsUntouched old new failed = (new ≡ old) × (failed ≡ false)
+
+-- some of the first bytes of what is asked were written, never all, before the sink failed
+abbrev pub IsAskedInPart : Option ℕ → Description → Given → List ℕ → Option (List ℕ) → Option (List ℕ) → Bool → ℕ → Type 0
+IsAskedInPart None outside given answers old new failed n = IsCut old new (asks_text outside given answers) n × (failed ≡ true)
+IsAskedInPart (Some depth) outside given answers old new failed n = IsWrittenInPart (IsAskedText outside given depth answers) old new failed n
+
+-- or of the report of each component that agrees
+abbrev pub IsReportedInPart : Option ℕ → Form → Description → Given → List ℕ → Option (List ℕ) → Option (List ℕ) → Bool → ℕ → Type 0
+IsReportedInPart None form outside given answers old new failed n =
+    ((component : Component) → AgreesWithText outside.codes answers component → IsCut old new (report_in form outside given component) n)
+    × (failed ≡ true)
+IsReportedInPart (Some depth) form outside given answers old new failed n =
+    IsWrittenInPart (λ text. (first : Option ℕ) × IsReportedText form outside given depth answers text first) old new failed n
+
+-- why a question is refused, where that is no want of memory
+abbrev pub RefusesByCensus : Description → Given → List ℕ → QuestionFault → Type 0
+RefusesByCensus outside given answers (fault.Outside (refusal.Answers f)) = reading_of outside.codes answers ≡ Err f
+RefusesByCensus outside given answers (fault.Outside (refusal.NotAnswered t)) = (more : List Entries) × (untried_by outside given answers ≡ t ∷ more)
+RefusesByCensus outside given answers (fault.Outside (refusal.Campaign campaign.TooManyPlans)) = most_plans < length (plans outside given)
+RefusesByCensus outside given answers (fault.Outside (refusal.Campaign campaign.Memory)) = Unit {0}
+RefusesByCensus outside given answers (fault.Outside (refusal.Campaign (campaign.Write n))) = ⊥
+RefusesByCensus outside given answers (fault.Broken b) = ⊥
+RefusesByCensus outside given answers (fault.Unseen line) = ⊥
+
+abbrev pub Refuses : Option ℕ → Description → Given → List ℕ → QuestionFault → Type 0
+Refuses None outside given answers why = RefusesByCensus outside given answers why
+Refuses (Some depth) outside given answers why = RefusesGrown outside given depth answers why
+
+-- why what is to be tried wasn't written, and what was written: it waits for nothing
+abbrev pub AsksRefused : Description → Given → List ℕ → Option (List ℕ) → Option (List ℕ) → Bool → QuestionFault → Type 0
+AsksRefused outside given answers old new failed (fault.Outside (refusal.Campaign (campaign.Write n))) =
+    IsAskedInPart given.depth outside given answers old new failed n
+AsksRefused outside given answers old new failed (fault.Outside (refusal.NotAnswered t)) = ⊥
+AsksRefused outside given answers old new failed why = IsUntouched old new failed × Refuses given.depth outside given answers why
+
+-- and why the report wasn't
+abbrev pub ReportRefused : Form → Description → Given → List ℕ → Option (List ℕ) → Option (List ℕ) → Bool → QuestionFault → Type 0
+ReportRefused form outside given answers old new failed (fault.Outside (refusal.Campaign (campaign.Write n))) =
+    IsReportedInPart given.depth form outside given answers old new failed n
+ReportRefused form outside given answers old new failed why = IsUntouched old new failed × Refuses given.depth outside given answers why

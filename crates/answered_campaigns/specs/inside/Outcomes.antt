@@ -1,0 +1,134 @@
+-- What plans come to whose verdicts are known; the private contracts cite it.
+use Rattle.std.specs.Prelude.{◌≡◌, ◌≤◌, ◌<◌, ◌++◌, ℕ, All, List, [], ◌∷◌, None, length, map, slice_index_or, Contains, Option}
+use Rattle.std.specs.List.{AllByRecursion}
+use Rattle.scenario_values.specs.Scenario.{Entries, IsScenario}
+use Rattle.action_eval.specs.declared.rig.Rig.{Rig}
+use Rattle.plan_gen.specs.Census.{census_of, sites_of}
+use Rattle.plan_gen.specs.PlanList.{Asked, most_plans}
+use Rattle.scenario_values.specs.Tidied.{tidied}
+use Rattle.campaign_plans.specs.GrownScenarios.{grown_scenario, grown_scenarios}
+use Rattle.grown_plans.specs.GrownPlans.{Subject, grown}
+use Rattle.target_trait.specs.declared.judgement.Verdict.{Verdict}
+use Rattle.result_book.specs.Verdicts.{verdicts_from}
+use Rattle.answer_text.specs.Known.{KnownVerdicts}
+use Rattle.answer_text.specs.Runs.{told_in}
+use Rattle.answered_runs.specs.Answered.{Answered, known_plans}
+use Rattle.answered_runs.specs.Components.{AgreesWithRuns, IsComponent}
+use Rattle.campaign_core.specs.Findings.{finding}
+use Rattle.outside_campaign.specs.Asked.{known_failures, open_cards, open_plans}
+use Rattle.outside_campaign.specs.Outside.{Components, EachAgrees, say_each}
+use Rattle.grown_runs.specs.GrownRuns.{cause_at, over}
+use Rattle.outside_grown.specs.Causes.{open_scenarios}
+use Rattle.outside_grown.specs.Further.{HasFewHits, further_told}
+use Rattle.outside_grown.specs.Lists.{AreWholeSeen}
+use Rattle.outside_grown.specs.declared.listing.GrownLists.{GrownLists}
+use Rattle.answered_runs.specs.Answered.{runs_in}
+use Rattle.answered_runs.specs.Broken.{line_told}
+use Rattle.answered_runs.specs.WholeList.{AreAllSeen, IsGap}
+use Rattle.answered_runs.specs.declared.whole.Gap.{Gap}
+use Rattle.answered_runs.specs.declared.whole.Gap.TheVariants as gap
+use Rattle.campaign_core.specs.declared.ending.CampaignFault.TheVariants as campaign
+use Rattle.campaign_given.specs.Description.{Description}
+use Rattle.campaign_given.specs.Given.{Given}
+use Rattle.outside_campaign.specs.declared.forms.Form.{Form}
+use Rattle.outside_campaign.specs.declared.refusal.OutsideFault.TheVariants as refusal
+use Rattle.outside_grown.specs.Asked.{unrun}
+use Rattle.answered_campaigns.specs.Grown.{first_number, known, report_in}
+use Rattle.answered_campaigns.specs.Grown.{campaign as campaign_of}
+use Rattle.answered_campaigns.specs.Questions.{RefusesBy}
+use Rattle.answered_campaigns.specs.declared.fault.QuestionFault.{QuestionFault}
+use Rattle.answered_campaigns.specs.declared.fault.QuestionFault.TheVariants as fault
+use Rattle.answered_campaigns.specs.declared.candidates.Told.{Told}
+use Rattle.answered_campaigns.specs.declared.candidates.Outcome.{Outcome}
+use Rattle.answered_campaigns.specs.declared.candidates.Outcome.TheVariants as outcome
+
+-- the open candidates of the reductions of the first failures known
+abbrev pub open_candidates : Answered → ℕ → List Entries → List Entries
+open_candidates a depth plans = open_cards (known a depth) plans (known_failures (known a depth) plans)
+
+-- what is told where nothing is open: the first failures as each family of components tells them that agrees with what is known, and the causes
+pub record IsTold (a : Answered) (depth : ℕ) (plans : List Entries) (grew : List (List Rig)) (told : Told) : Type 0 where
+  pub none_open : open_candidates a depth plans ≡ []
+  pub none_lesser : open_scenarios a depth grew ≡ []
+  pub findings : (components : Components) → EachAgrees components (known a depth)
+      → told.findings.items ≡ map (finding (say_each components) plans) (known_failures (known a depth) plans)
+  pub causes : (t : Subject) → IsComponent a.points t → depth ≤ 64 → AgreesWithRuns t (told_in a.book) → grew ≡ grown t depth
+      → (seed : ℕ) → told.causes.items ≡ over (cause_at t seed) (grown t depth) 0 (length (grown t depth))
+  pub among : All (λ cause. cause.0 < length grew) told.causes.items
+
+abbrev pub IsOutcome : Answered → ℕ → List Entries → List (List Rig) → Outcome → Type 0
+IsOutcome a depth plans grew (outcome.Told told) = IsTold a depth plans grew told
+IsOutcome a depth plans grew (outcome.Open cards) =
+    (0 < length cards.items) × (cards.items ≡ open_candidates a depth plans ++ open_scenarios a depth grew)
+
+-- the lists of a campaign with a depth, of whose plans that grew each is answered whole
+pub record AreSeenLists (a : Answered) (depth : ℕ) (asked : Asked) (lists : GrownLists) : Type 0 where
+  pub grown : lists.listed.known.plans ≡ known_plans a depth
+  pub further : lists.further ≡ further_told a asked
+  pub seen : lists.listed.gap ≡ None
+  pub all_seen : AreAllSeen (runs_in a) lists.listed.known.plans
+  pub whole : (t : Subject) → IsComponent a.points t → AgreesWithRuns t (told_in a.book) → AreWholeSeen t depth asked a.points lists
+
+-- the number of the plan at a gap
+abbrev pub gap_number : Gap → ℕ
+gap_number (gap.ToRun n) = n
+gap_number (gap.Unseen n) = n
+
+-- why a plan isn't answered whole
+abbrev pub IsLacking : Answered → List Rig → QuestionFault → Type 0
+IsLacking a plan (fault.Unseen line) = line ≡ line_told a plan
+IsLacking a plan (fault.Outside (refusal.NotAnswered t)) = (t ≡ tidied (grown_scenario a.points plan)) × (runs_in a plan ≡ None)
+IsLacking a plan why = ⊥
+
+-- why a list of plans isn't answered whole: memory, or a plan of it
+abbrev pub IsGapFault : Answered → List (List Rig) → QuestionFault → Type 0
+IsGapFault a plans (fault.Outside (refusal.Campaign campaign.Memory)) = Unit {0}
+IsGapFault a plans (fault.Outside (refusal.NotAnswered t)) = Contains (unrun a plans) t
+IsGapFault a plans (fault.Unseen line) = (n : ℕ) × IsGap (runs_in a) plans (gap.Unseen n) × (line ≡ line_told a (slice_index_or plans n []))
+IsGapFault a plans why = ⊥
+
+-- why it isn't answered which scenarios are still to be tried
+abbrev pub RefusesAsks : Answered → ℕ → Asked → QuestionFault → Type 0
+RefusesAsks a depth asked (fault.Outside (refusal.NotAnswered t)) = ⊥
+RefusesAsks a depth asked why = RefusesBy a depth asked why
+
+-- a text and a number are those of the report of each component that agrees
+pub record IsReportOf (form : Form) (outside : Description) (given : Given) (a : Answered) (depth : ℕ) (text : List ℕ) (first : Option ℕ) : Type 0 where
+  pub text_is : (t : Subject) → IsComponent a.points t → AgreesWithRuns t (told_in a.book) → text ≡ report_in form (campaign_of outside given depth t)
+  pub first_is : (t : Subject) → IsComponent a.points t → AgreesWithRuns t (told_in a.book) → first ≡ first_number (campaign_of outside given depth t)
+
+-- the first open plan, or want of memory
+abbrev pub IsOpenPlan : KnownVerdicts → List Entries → QuestionFault → Type 0
+IsOpenPlan known plans (fault.Outside (refusal.NotAnswered t)) = (rest : List Entries) × (open_plans known plans ≡ t ∷ rest)
+IsOpenPlan known plans (fault.Outside (refusal.Campaign campaign.Memory)) = Unit {0}
+IsOpenPlan known plans why = ⊥
+
+-- one of these, of which there are some
+abbrev pub IsFirstOf : List Entries → QuestionFault → Type 0
+IsFirstOf cards (fault.Outside (refusal.NotAnswered t)) = Contains cards t
+IsFirstOf cards (fault.Outside (refusal.Campaign campaign.Memory)) = cards ≡ []
+IsFirstOf cards why = ⊥
+
+-- the counts of the run without faults, of each component that agrees
+pub record IsCleanCensus (a : Answered) (counts : List ℕ) : Type 0 where
+  pub each : (t : Subject) → IsComponent a.points t → AgreesWithRuns t (told_in a.book) → (seed : ℕ) → counts ≡ census_of t.asks t.names seed t.limit
+  pub many : length counts ≡ length a.points
+  pub few : length (sites_of counts) ≤ most_plans
+
+-- a campaign of whose plans all is known
+pub record IsDecided (outside : Description) (given : Given) (a : Answered) (depth : ℕ) (lists : GrownLists) (plans : List Entries) (all : List Verdict)
+    (told : Told) : Type 0 where
+  pub points : a.points ≡ outside.points
+  pub low : depth ≤ 64
+  pub clean : HasFewHits a
+  pub lists_are : AreSeenLists a depth given.plans lists
+  pub plans_are : plans ≡ grown_scenarios a.points lists.listed.known.plans ++ lists.further
+  pub lawful : AllByRecursion (λ s. IsScenario s) plans
+  pub none_open : open_plans (known a depth) plans ≡ []
+  pub verdicts : (components : Components) → EachAgrees components (known a depth) → all ≡ verdicts_from (say_each components) 0 plans
+  pub many : length all ≡ length plans
+  pub told_is : IsTold a depth plans lists.listed.known.plans told
+
+abbrev pub IsTextOf : Form → Description → Given → Answered → ℕ → List ℕ → Type 0
+IsTextOf form outside given a depth text =
+    (t : Subject) → IsComponent a.points t → AgreesWithRuns t (told_in a.book) → text ≡ report_in form (campaign_of outside given depth t)

@@ -1,0 +1,72 @@
+//! What has to be tried once each plan's run is known: on what it depends which plans are causes, and what first failures are reduced to.
+ghost use Rattle.std.specs.Prelude.{◌≡◌, ◌≤◌, ◌<◌, ◌^◌, ◌++◌, length, IfOk};
+ghost use Rattle.std.specs.List.{AllByRecursion};
+ghost use Rattle.action_eval.specs.Rigging.{CanBeRigged};
+ghost use Rattle.grown_plans.specs.GrownPlans.{rigs_of};
+ghost use Rattle.answered_campaigns.specs.inside.Outcomes.{IsOutcome};
+
+use crate::table::KnownByRuns;
+use answered_runs::AnsweredRuns;
+use campaign_plans::CampaignPlans;
+use grown_plans::GrownPlans;
+use outside_campaign::{Findings, findings_known, plan_verdicts};
+use outside_grown::{Causes, known_causes};
+use report::Finding;
+use result_book::first_failures_of;
+use scenario_values::Scenario;
+use std::alloc::{AllocError, Global};
+
+/// What plans come to whose verdicts are known.
+#[derive(Drop)]
+pub struct Told {
+    /// The first failure of each code, reduced.
+    pub findings: Vec<Finding>,
+    /// The causes, by the numbers of their plans and their codes.
+    pub causes: Vec<(u32, u32)>,
+}
+
+/// What is told of plans whose verdicts are known.
+#[derive(Drop)]
+pub enum Outcome {
+    Told(Told),
+    /// What is still to be tried, tidied, at least one. Two of them may be equal.
+    Open(Vec<Scenario>),
+}
+
+/// The first of these, and then the others.
+fn joined(first: Vec<Scenario>, others: Vec<Scenario>) -> Result<Vec<Scenario>, AllocError>
+    ensures { IfOk result (λ all. all.items ≡ first.items ++ others.items) }
+{
+    let mut all = first;
+    let mut others = others;
+    all.append(&mut others)?;
+    Ok(all)
+}
+
+/// What is told of plans, those that grew among them, by what is known: or what is still to be tried for it, first for the reductions of the
+/// first failures known and then for causes. An error means that memory was refused.
+pub fn outcome_known(
+    alloc: Global,
+    known: &KnownByRuns<'_>,
+    plans: &CampaignPlans<'_>,
+    grown: &GrownPlans,
+) -> Result<Outcome, AllocError>
+    requires rigs { AllByRecursion (λ plan. CanBeRigged (rigs_of plan)) grown.now }
+    requires many { length grown.now < 2 ^ 32 }
+    ensures { IfOk result (IsOutcome known.now.0 known.now.1 plans.now grown.now) }
+{
+    let verdicts = plan_verdicts(alloc, known, plans)?;
+    let failures = first_failures_of(alloc, verdicts.as_slice())?;
+    let findings = findings_known(alloc, known, plans, failures.as_slice())?;
+    let causes = known_causes(alloc, known.runs, known.depth, grown)?;
+    match findings {
+        Findings::Told(findings) => match causes {
+            Causes::Told(causes) => Ok(Outcome::Told(Told { findings, causes })),
+            Causes::Open(open) => Ok(Outcome::Open(open)),
+        },
+        Findings::Open(open) => match causes {
+            Causes::Told(_told) => Ok(Outcome::Open(open)),
+            Causes::Open(more) => Ok(Outcome::Open(joined(open, more)?)),
+        },
+    }
+}

@@ -1,0 +1,133 @@
+//! The questions, of a campaign with or without a depth.
+ghost use Rattle.std.specs.Prelude.{◌≡◌, ◌≤◌, false, Some, string_bytes, IfErr, IfOk, OnOk};
+ghost use Rattle.answered_campaigns.specs.Questions.{AsksRefused, IsAsked, IsAskedText, IsReported, IsReportedText, RefusesAsked, RefusesGrown, ReportRefused};
+
+use crate::fault::QuestionFault;
+use crate::grown_asks::grown_asks_text;
+use crate::grown_report::grown_report;
+use crate::table::KnownByRuns;
+use answer_text::read_runs;
+use answered_runs::AnsweredRuns;
+use campaign_core::Ending;
+use campaign_given::{CampaignSettings, Outside};
+use outside_campaign::{Form, borrowed};
+use report::write_report;
+use std::alloc::Global;
+use target_trait::Sink;
+
+/// What is still to be tried of a campaign with this depth.
+fn asked_text(
+    alloc: Global,
+    outside: &Outside,
+    settings: &CampaignSettings,
+    depth: u32,
+    answers: &[u8],
+) -> Result<String, QuestionFault>
+    requires { depth ≤ 64 }
+    ensures text { IfOk result (λ text. IsAskedText outside.now settings.now depth answers.now (string_bytes text)) }
+    ensures fault { IfErr result (RefusesAsked outside.now settings.now depth answers.now) }
+{
+    let told = read_runs(
+        alloc,
+        outside.codes.as_slice(),
+        outside.points.as_slice(),
+        answers,
+    )?;
+    let points = borrowed(alloc, outside.points.as_slice())?;
+    let runs = AnsweredRuns::new(alloc, points.as_slice(), &told);
+    let known = KnownByRuns { runs: &runs, depth };
+    grown_asks_text(alloc, &known, settings)
+}
+
+/// The text of the report of a campaign with this depth, in a form, and the number of the first plan that fails.
+fn reported(
+    alloc: Global,
+    form: &Form<'_>,
+    outside: &Outside,
+    settings: &CampaignSettings,
+    depth: u32,
+    answers: &[u8],
+) -> Result<(Vec<u8>, Option<u32>), QuestionFault>
+    requires { depth ≤ 64 }
+    ensures report { IfOk result (λ r. IsReportedText form.now outside.now settings.now depth answers.now r.0.items r.1) }
+    ensures fault { IfErr result (RefusesGrown outside.now settings.now depth answers.now) }
+{
+    let told = read_runs(
+        alloc,
+        outside.codes.as_slice(),
+        outside.points.as_slice(),
+        answers,
+    )?;
+    let points = borrowed(alloc, outside.points.as_slice())?;
+    let runs = AnsweredRuns::new(alloc, points.as_slice(), &told);
+    let known = KnownByRuns { runs: &runs, depth };
+    grown_report(alloc, form, outside, settings, &known)
+}
+
+/// Writes what is still to be tried of a campaign on a component that somebody else runs, by the answers so far: a line for each scenario,
+/// tidied, `none` for the one without entries, and each once. Nothing is written where all is known, and only then. Any of the lines may be
+/// tried, in any order.
+///
+/// Without a depth it is what [`outside_campaign::write_asks`] writes. With one the answers tell the hits of runs, and the lines are the plans
+/// that are known by now and aren't answered: those that grow, in the order of the list, each known once the hits of those that it grew from
+/// are told; then the storms and the listed scenarios. Where each plan is answered they are those on which it depends what the first failures
+/// are reduced to, and which plans are causes. What follows from runs that are told is never asked.
+///
+/// Nothing is written before the whole text stands. Without a depth the faults are those of `outside_campaign`. With one the answers' first
+/// fault comes first; then `Broken`, where what the component asks next doesn't follow from the answers so far; `TooManyPlans` comes only
+/// where more than 65536 plans are known, or the run without faults has as many hits; and `Unseen`, where nothing is left to be asked and a
+/// plan's run is told without its hits. After each of these, and where memory was refused, the sink is as it was and hasn't failed; `Write` tells
+/// how many bytes of the text, fewer than all, went out before the sink failed.
+pub fn write_asks<W: Sink>(
+    alloc: Global,
+    outside: &Outside,
+    settings: &CampaignSettings,
+    answers: &[u8],
+    sink: &mut W,
+) -> Result<(), QuestionFault>
+    requires { W.has_failed sink.old ≡ false }
+    ensures asked { OnOk result (IsAsked outside.now settings.now answers.now (W.told sink.old) (W.told sink.new) (W.has_failed sink.new)) }
+    ensures fault { IfErr result (AsksRefused outside.now settings.now answers.now (W.told sink.old) (W.told sink.new) (W.has_failed sink.new)) }
+{
+    let Some(depth) = settings.depth else {
+        outside_campaign::write_asks(alloc, outside, settings, answers, sink)?;
+        return Ok(());
+    };
+    let text = asked_text(alloc, outside, settings, depth, answers)?;
+    write_report(text.as_bytes(), sink)?;
+    Ok(())
+}
+
+/// Writes the report of a campaign on a component that somebody else runs, in a form, by the answers.
+///
+/// Without a depth it is what [`outside_campaign::write_report_in`] writes. With one it is, for every component that agrees with the answers and
+/// whose next hit is a function of the answers so far, the report of its campaign with this depth, as that of a target which the program runs
+/// itself. It is written only where nothing is still to be tried: of each plan that grows the run and its hits are told, and all that its causes
+/// and reductions ask is known.
+///
+/// The faults are those of [`write_asks`]; `NotAnswered` is a scenario that is still to be tried, where one is, and `Unseen` comes where the
+/// first plan that isn't answered whole is told without its hits.
+pub fn write_report_in<W: Sink>(
+    alloc: Global,
+    form: &Form<'_>,
+    outside: &Outside,
+    settings: &CampaignSettings,
+    answers: &[u8],
+    sink: &mut W,
+) -> Result<Ending, QuestionFault>
+    requires { W.has_failed sink.old ≡ false }
+    ensures reported { IfOk result (λ ending. IsReported form.now outside.now settings.now answers.now (W.told sink.old) (W.told sink.new)
+        (W.has_failed sink.new) ending.first) }
+    ensures fault { IfErr result (ReportRefused form.now outside.now settings.now answers.now (W.told sink.old) (W.told sink.new)
+        (W.has_failed sink.new)) }
+{
+    let Some(depth) = settings.depth else {
+        let ending = outside_campaign::write_report_in(
+            alloc, form, outside, settings, answers, sink,
+        )?;
+        return Ok(ending);
+    };
+    let (text, first) = reported(alloc, form, outside, settings, depth, answers)?;
+    write_report(text.as_slice(), sink)?;
+    Ok(Ending { first })
+}

@@ -1,0 +1,82 @@
+//! Why a question isn't answered.
+ghost use Rattle.std.specs.Prelude.{◌≡◌};
+ghost use Rattle.campaign_core.specs.CommandTexts.{plan_fault};
+ghost use Rattle.campaign_core.specs.declared.ending.CampaignFault.TheVariants.{Memory, Write};
+ghost use Rattle.outside_campaign.specs.Results.{answers_fault};
+ghost use Rattle.outside_campaign.specs.declared.refusal.OutsideFault.TheVariants.{Campaign};
+ghost use Rattle.answered_campaigns.specs.Faults.{known_fault};
+ghost use Rattle.answered_campaigns.specs.declared.fault.QuestionFault.TheVariants.{Outside};
+
+use answer_text::AnswersFault;
+use answered_runs::BrokenRun;
+use campaign_core::CampaignFault;
+use known_runs::KnownFault;
+use outside_campaign::OutsideFault;
+use plan_gen::PlanFault;
+use report::WriteFault;
+use std::alloc::AllocError;
+
+/// Why a question on a component that somebody else runs isn't answered.
+#[derive(Debug, Drop)]
+pub enum QuestionFault {
+    /// As without a depth.
+    Outside(OutsideFault),
+    /// A run breaks with that of the plan which its own grew from: what the component asks next doesn't follow from the answers so far, or the
+    /// answers are those of two. Nothing was written.
+    Broken(BrokenRun),
+    /// The line of this number answers the first plan that isn't answered whole: as unresolved, without hits that plans could grow from. Nothing
+    /// was written.
+    Unseen(u32),
+}
+
+impl From<AllocError> for QuestionFault {
+    ghost from_gives = { λ _ fault. fault ≡ Outside (Campaign Memory) };
+
+    fn from(_: AllocError) -> QuestionFault {
+        QuestionFault::Outside(OutsideFault::Campaign(CampaignFault::Memory))
+    }
+}
+
+impl From<OutsideFault> for QuestionFault {
+    ghost from_gives = { λ cause fault. fault ≡ Outside cause };
+
+    fn from(cause: OutsideFault) -> QuestionFault {
+        QuestionFault::Outside(cause)
+    }
+}
+
+impl From<AnswersFault> for QuestionFault {
+    ghost from_gives = { λ cause fault. fault ≡ Outside (answers_fault cause) };
+
+    fn from(cause: AnswersFault) -> QuestionFault {
+        QuestionFault::Outside(OutsideFault::from(cause))
+    }
+}
+
+impl From<KnownFault> for QuestionFault {
+    ghost from_gives = { λ cause fault. fault ≡ Outside (Campaign (known_fault cause)) };
+
+    fn from(cause: KnownFault) -> QuestionFault {
+        let cause = match cause {
+            KnownFault::TooManyPlans => CampaignFault::TooManyPlans,
+            KnownFault::Memory => CampaignFault::Memory,
+        };
+        QuestionFault::Outside(OutsideFault::Campaign(cause))
+    }
+}
+
+impl From<PlanFault> for QuestionFault {
+    ghost from_gives = { λ cause fault. fault ≡ Outside (Campaign (plan_fault cause)) };
+
+    fn from(cause: PlanFault) -> QuestionFault {
+        QuestionFault::Outside(OutsideFault::from(cause))
+    }
+}
+
+impl From<WriteFault> for QuestionFault {
+    ghost from_gives = { λ cause fault. fault ≡ Outside (Campaign (Write cause.written)) };
+
+    fn from(cause: WriteFault) -> QuestionFault {
+        QuestionFault::Outside(OutsideFault::from(cause))
+    }
+}

@@ -1,0 +1,178 @@
+//! The report of a campaign with a depth.
+ghost use Rattle.std.specs.Prelude.{◌≡◌, ◌≤◌, ◌<◌, [], None, Some, length, option_map, slice_get, slice_index_or, IfErr, IfOk, OnOk};
+ghost use Rattle.std.specs.List.{AllByRecursion};
+ghost use Rattle.scenario_values.specs.Scenario.{IsScenario};
+ghost use Rattle.target_trait.specs.declared.judgement.Verdict.TheVariants.{Unresolved};
+ghost use Rattle.answered_runs.specs.Answered.{known_plans, runs_in};
+ghost use Rattle.answered_runs.specs.WholeList.{AreSeen};
+ghost use Rattle.outside_campaign.specs.Asked.{open_plans};
+ghost use Rattle.outside_campaign.specs.Told.{AreVerdicts};
+ghost use Rattle.outside_grown.specs.Further.{HasFewHits};
+ghost use Rattle.outside_campaign.specs.declared.verdicts.Verdicts.TheVariants.{All};
+ghost use Rattle.answered_campaigns.specs.Grown.{known as known_verdicts, untried};
+ghost use Rattle.answered_campaigns.specs.Questions.{AreUnbroken, RefusesBy};
+ghost use Rattle.answered_campaigns.specs.inside.Outcomes.{IsCleanCensus, IsDecided, IsFirstOf, IsOpenPlan, IsReportOf, IsTextOf};
+
+use crate::candidates::{Outcome, Told, outcome_known};
+use crate::fault::QuestionFault;
+use crate::grown::{refuse_broken, refuse_gap};
+use crate::table::KnownByRuns;
+use campaign_core::causes_of;
+use campaign_given::{CampaignSettings, Outside};
+use campaign_plans::CampaignPlans;
+use outside_campaign::{
+    Form, OutsideFault, Shown, Verdicts, Words, first_number, plan_verdicts, text_in,
+    verdicts_known,
+};
+use outside_grown::{GrownLists, census, grown_lists, reached};
+use report::{Growth, Report};
+use scenario_values::Scenario;
+use std::alloc::{AllocError, Global};
+use target_trait::Verdict;
+
+/// A campaign with a depth, of whose plans each run is known.
+#[derive(Drop)]
+struct Campaign<'a> {
+    outside: &'a Outside,
+    settings: &'a CampaignSettings,
+    known: &'a KnownByRuns<'a>,
+    lists: &'a GrownLists<'a>,
+    plans: &'a CampaignPlans<'a>,
+}
+
+/// The verdict of each plan; or the first one that isn't known is still to be tried.
+fn all_verdicts(
+    alloc: Global,
+    known: &KnownByRuns<'_>,
+    plans: &CampaignPlans<'_>,
+) -> Result<Vec<Verdict>, QuestionFault>
+    ensures all { IfOk result (λ all. AreVerdicts (known_verdicts known.now.0 known.now.1) plans.now (All all)) }
+    ensures lawful { OnOk result (AllByRecursion (λ s. IsScenario s) plans.now) }
+    ensures fault { IfErr result (IsOpenPlan (known_verdicts known.now.0 known.now.1) plans.now) }
+{
+    let verdicts = plan_verdicts(alloc, known, plans)?;
+    match verdicts_known(alloc, plans, verdicts.as_slice())? {
+        Verdicts::All(all) => Ok(all),
+        Verdicts::NotAnswered(scenario) => {
+            Err(QuestionFault::Outside(OutsideFault::NotAnswered(scenario)))
+        }
+    }
+}
+
+/// The first of what is still to be tried.
+fn first_of(cards: Vec<Scenario>) -> QuestionFault
+    ensures { IsFirstOf cards.items result }
+{
+    match cards.into_iter().next() {
+        Some(card) => QuestionFault::Outside(OutsideFault::NotAnswered(card)),
+        None => QuestionFault::from(AllocError),
+    }
+}
+
+/// How often each point is hit in the run without faults.
+fn clean_census(alloc: Global, known: &KnownByRuns<'_>) -> Result<Vec<u32>, AllocError>
+    requires { HasFewHits known.now.0 }
+    ensures { IfOk result (λ counts. IsCleanCensus known.now.0 counts.items) }
+{
+    match census(alloc, known.runs)? {
+        Some(counts) => Ok(counts),
+        None => Err(AllocError),
+    }
+}
+
+/// The verdict of the run without faults.
+fn clean_of(verdicts: &[Verdict]) -> Verdict
+    requires { 0 < length verdicts.now }
+    ensures { result ≡ slice_index_or verdicts.now 0 Unresolved }
+{
+    verdicts[0]
+}
+
+/// The text of the report in a form.
+fn told_text<'a>(
+    alloc: Global,
+    form: &Form<'_>,
+    campaign: &'a Campaign<'a>,
+    verdicts: &'a [Verdict],
+    told: Told,
+) -> Result<Vec<u8>, AllocError>
+    requires some { 0 < length verdicts.now }
+    requires decided { let k = campaign.now in
+        IsDecided k.outside.now k.settings.now k.known.now.0 k.known.now.1 k.lists.now k.plans.now verdicts.now told }
+    ensures { let k = campaign.now in
+        IfOk result (λ text. IsTextOf form.now k.outside.now k.settings.now k.known.now.0 k.known.now.1 text.items) }
+{
+    let outside = campaign.outside;
+    let settings = campaign.settings;
+    let known = campaign.known;
+    let lists = campaign.lists;
+    let grown = &lists.listed.known;
+    let census = clean_census(alloc, known)?;
+    let reached = reached(alloc, known.runs, &grown.plans)?;
+    let causes = causes_of(alloc, campaign.plans, told.causes.as_slice())?;
+    let growth = Growth {
+        depth: known.depth,
+        levels: grown.levels.as_slice(),
+        onward: grown.onward,
+        beyond: grown.beyond,
+        reached: reached.as_slice(),
+        causes,
+    };
+    let report = Report {
+        label: outside.label.as_str(),
+        seed: settings.seed,
+        clean: clean_of(verdicts),
+        census: census.as_slice(),
+        verdicts,
+        findings: told.findings,
+        growth: Some(growth),
+    };
+    let words = Words { outside };
+    let shown = Shown {
+        plans: campaign.plans,
+        pairs: settings.pairs,
+        grown: Some(&grown.plans),
+        onward: grown.onward as usize,
+        settings: settings.source.as_str(),
+    };
+    text_in(alloc, form, &words, &report, &shown)
+}
+
+/// The text of the report in a form, and the number of the first plan that fails.
+pub fn grown_report<'a>(
+    alloc: Global,
+    form: &Form<'_>,
+    outside: &'a Outside,
+    settings: &'a CampaignSettings,
+    known: &'a KnownByRuns<'a>,
+) -> Result<(Vec<u8>, Option<u32>), QuestionFault>
+    requires depth { known.now.1 ≤ 64 }
+    requires points { known.now.0.points ≡ outside.now.points }
+    ensures report { IfOk result (λ r. IsReportOf form.now outside.now settings.now known.now.0 known.now.1 r.0.items r.1) }
+    ensures unbroken { OnOk result (AreUnbroken known.now.0 known.now.1) }
+    ensures seen { OnOk result (AreSeen (runs_in known.now.0) (known_plans known.now.0 known.now.1) None) }
+    ensures all { OnOk result (untried known.now.0 known.now.1 settings.now.plans ≡ []) }
+    ensures fault { IfErr result (RefusesBy known.now.0 known.now.1 settings.now.plans) }
+{
+    refuse_broken(alloc, known)?;
+    let lists = grown_lists(alloc, known.runs, known.depth, &settings.plan_settings())?;
+    refuse_gap(alloc, known, &lists.listed)?;
+    let grown = &lists.listed.known.plans;
+    let plans = CampaignPlans::grown(Some(grown), known.runs.points(), &lists.further);
+    let verdicts = all_verdicts(alloc, known, &plans)?;
+    match outcome_known(alloc, known, &plans, grown)? {
+        Outcome::Open(cards) => Err(first_of(cards)),
+        Outcome::Told(told) => {
+            let first = first_number(&told.findings);
+            let campaign = Campaign {
+                outside: &*outside,
+                settings: &*settings,
+                known: &*known,
+                lists: &lists,
+                plans: &plans,
+            };
+            let text = told_text(alloc, form, &campaign, verdicts.as_slice(), told)?;
+            Ok((text, first))
+        }
+    }
+}
