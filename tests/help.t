@@ -107,9 +107,10 @@ statuses.
       label         what the component is, a text of up to 200 bytes
       codes         what may follow `fail` in an answer, up to 64 texts of up to 200 bytes
       points        the names of its points, 1 to 64 texts of up to 200 bytes
-      hits          how often each point is hit without faults, as many numbers from 0 to 100000
+      hits          how often each point is hit without faults, as many numbers from 0 to 100000; with a
+                    depth the answers tell that, and this key is out of range
   With "outside" somebody else runs the component: only plans, asks and report take such settings, in
-  which variant, workers, max_hits and crash_states are unknown keys, and depth is out of range.
+  which variant, workers, max_hits and crash_states are unknown keys. With a depth plans takes none.
   A chunk is a text of up to 4096 bytes. `paklour help try` says what a scenario may hold.
   
   Example:

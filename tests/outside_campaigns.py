@@ -6,6 +6,7 @@ report is that of `run`, in each form; before that each scenario that is asked h
 
 `paklour` has to be on the PATH. Prints each difference, and fails where there is one.
 """
+import itertools
 import os
 import random
 import re
@@ -46,8 +47,8 @@ class Campaigns:
             print(f"  {name} {str(value)[:600]}", file=sys.stderr)
 
 
-def outside_settings(report, own):
-    """Settings of a component from outside whose report is this, with the campaign's own numbers and scenarios."""
+def outside_settings(report, own, depth=None):
+    """Settings of a component from outside whose report is this, with the campaign's own numbers and scenarios. With a depth nobody tells a census."""
     text = report.decode()
     census = re.findall(r"^census (\S+) (\d+)$", text, re.M)
     label = re.search(r"^target (.*)$", text, re.M)[1]
@@ -57,7 +58,9 @@ def outside_settings(report, own):
     names = ", ".join(f'"{name}"' for name, _ in census)
     hits = ", ".join(count for _, count in census)
     codes = ", ".join(f'"{code}"' for code in codes_of(text, target))
-    return "\n".join(['target = "outside"', *kept, "[outside]", f'label = "{label}"', f"codes = [{codes}]", f"points = [{names}]", f"hits = [{hits}]", ""])
+    told = [f"hits = [{hits}]"] if depth is None else []
+    grows = [] if depth is None else [f"depth = {depth}"]
+    return "\n".join(['target = "outside"', *kept, *grows, "[outside]", f'label = "{label}"', f"codes = [{codes}]", f"points = [{names}]", *told, ""])
 
 
 def codes_of(text, target):
@@ -74,6 +77,18 @@ def answer(campaigns, own, scenario, known):
     return known[scenario]
 
 
+def answer_with_hits(campaigns, own, scenario, known):
+    """One run of the bundled target with its hits, hits of one point in a row as their number and the point."""
+    if scenario not in known:
+        text = "" if scenario == b"none" else scenario.decode()
+        _, said, _ = campaigns.run(["explain", f"--scenario={text}", own])
+        points = re.findall(rb"^hit \d+ (\S+) ", said, re.M)
+        rows = [(point, len(list(row))) for point, row in itertools.groupby(points)]
+        hits = b";".join(point if count == 1 else b"%d*%s" % (count, point) for point, count in rows)
+        known[scenario] = re.match(rb"verdict (.*)\n", said)[1] + b"\t" + scenario + b"\t" + hits + b"\n"
+    return known[scenario]
+
+
 NOBODY = b"nobody::asked=return"
 
 
@@ -85,7 +100,42 @@ def uncoloured(picture):
 def told(given):
     """What the commands note of these answers: the lines whose scenario names a point that nobody has."""
     lines = enumerate(given.splitlines(), 1)
-    return b"".join(b"answers: line %d: no point is named nobody::asked\n" % number for number, line in lines if line.endswith(NOBODY))
+    return b"".join(b"answers: line %d: no point is named nobody::asked\n" % number for number, line in lines if line.split(b"\t")[1] == NOBODY)
+
+
+def grown(campaigns, name, depth, more=""):
+    """The same with a depth: answers tell the hits of runs, and no line of the settings tells a census."""
+    with open(os.path.join(EXAMPLES, name), encoding="utf-8") as file:
+        own_text = f"{more}depth = {depth}\n" + re.sub(r"^(depth|pairs) = .*\n", "", file.read(), flags=re.M)
+    own = campaigns.file("own.toml", own_text)
+    status, wanted, _ = campaigns.run(["run", own])
+    settings = campaigns.file("outside.toml", outside_settings(wanted, own_text, depth))
+    draw, known, answers, asked_before = random.Random(depth), {}, [], set()
+    answers.append(answer_with_hits(campaigns, own, NOBODY, known))
+    while True:
+        given = b"".join(answers)
+        asked = campaigns.run(["asks", settings], given)
+        campaigns.expect(f"{name} to {depth}: asks", (0, told(given)), (asked[0], asked[2]))
+        lines = asked[1].splitlines()
+        campaigns.expect(f"{name} to {depth}: each once", len(lines), len(set(lines)))
+        campaigns.expect(f"{name} to {depth}: none that is answered", set(), set(lines) & set(known) - {NOBODY})
+        asked_before |= set(lines)
+        if not lines or asked[0] != 0:
+            break
+        refused = campaigns.run(["report", settings], given)
+        campaigns.expect(f"{name} to {depth}: report waits", (2, b""), refused[:2])
+        waits = refused[2].removeprefix(b"not answered ").removesuffix(b"\n")
+        campaigns.expect(f"{name} to {depth}: it waits for what is asked", True, waits in lines)
+        part = draw.sample(lines, max(1, len(lines) // 2))
+        answers += [answer_with_hits(campaigns, own, line, known) for line in part]
+        answers += draw.sample(answers, 1)
+        draw.shuffle(answers)
+    given = b"".join(answers)
+    campaigns.expect(f"{name} to {depth}: report", (status, wanted, told(given)), campaigns.run(["report", settings], given))
+    for form, words in FORMS.items():
+        status, wanted, _ = campaigns.run([*words, own])
+        found = campaigns.run(["report", form, settings], given)
+        campaigns.expect(f"{name} to {depth}: {form}", (status, uncoloured(wanted), told(given)), (found[0], uncoloured(found[1]), found[2]))
 
 
 def bundled(campaigns, name, more=""):
@@ -142,6 +192,10 @@ def main():
         for name in ("replace_late_sync.toml", "replace_retry_write.toml", "maildir_append_tmp.toml", "commit_early_end.toml"):
             bundled(campaigns, name)
         bundled(campaigns, "replace_ignore_sync.toml", "pairs = true\nstorms = 20\nrate = 300\n")
+        for name in ("replace_late_sync.toml", "replace_ignore_sync.toml", "maildir_append_tmp.toml", "commit_two_tries.toml"):
+            for depth in (1, 2, 3):
+                grown(campaigns, name, depth)
+        grown(campaigns, "replace_ignore_sync.toml", 2, "storms = 20\nrate = 300\n")
         size(campaigns)
         print(f"{campaigns.failed} checks failed")
     return 1 if campaigns.failed else 0

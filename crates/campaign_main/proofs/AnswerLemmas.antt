@@ -269,12 +269,13 @@ untaken-short answer read old failed (faults.Campaign campaign.Memory) sound h =
 untaken-short answer read old failed (faults.Campaign (campaign.Write n)) sound h = absurd h
 untaken-short answer read old failed (faults.Unsteady line) sound h = absurd h
 untaken-short answer read old failed faults.Outside sound h = absurd h
+untaken-short answer read old failed faults.OutsideWithDepth sound h = absurd h
 
 -- ---- the plans of a component that somebody else runs
 
 module _ (plans : List Entries) (notes : List ℕ) where
   abbrev outside : Answer
-  outside = outside_answer order.Plans plans notes
+  outside = outside_answer order.Plans None plans notes
 
   module _ (old new : Option (List ℕ)) where
     pub outside-written : (failed : Bool) → length plans ≤ most_plans → Appends old new (text_of (plan_lines 0 plans)) → failed ≡ false → IsWritten outside old new failed Clean

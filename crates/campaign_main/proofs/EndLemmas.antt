@@ -118,6 +118,7 @@ module _ (answer : Answer) (old new : Option (List ℕ)) (failed : Bool) where
     fault-ends (command.Campaign (campaign.Write n)) end short is = let P : Exit → Type 0 = λ e. EndsAs e answer old new failed in subst P (sym is.0) short
     fault-ends (command.Unsteady told) end short is = absurd short
     fault-ends command.Outside end short is = let P : Exit → Type 0 = λ e. EndsAs e answer old new failed in subst P (sym is.0) short.0
+    fault-ends command.OutsideWithDepth end short is = let P : Exit → Type 0 = λ e. EndsAs e answer old new failed in subst P (sym is.0) short.0
 
     pub fault-tells : (fault : CommandFault) (end : Exit) → FallsShort answer old new failed fault → IsEndOf fault end line line' broken → TellsAs end answer line line' broken
     fault-tells (command.Scenario scenario.Memory) end short is = let P : Exit → Type 0 = λ e. TellsAs e answer line line' broken in subst P (sym is.0) is.1
@@ -135,6 +136,10 @@ module _ (answer : Answer) (old new : Option (List ℕ)) (failed : Bool) where
     fault-tells (command.Campaign (campaign.Write n)) end short is = let P : Exit → Type 0 = λ e. TellsAs e answer line line' broken in subst P (sym is.0) is.1
     fault-tells (command.Unsteady told) end short is = absurd short
     fault-tells command.Outside end short is =
+        let P : Exit → Type 0 = λ e. TellsAs e answer line line' broken in
+        let Q : Answer → Type 0 = λ a. TellsRefusal a line line' broken in
+        subst P (sym is.0) (subst Q (sym short.1) is.1)
+    fault-tells command.OutsideWithDepth end short is =
         let P : Exit → Type 0 = λ e. TellsAs e answer line line' broken in
         let Q : Answer → Type 0 = λ a. TellsRefusal a line line' broken in
         subst P (sym is.0) (subst Q (sym short.1) is.1)
@@ -156,6 +161,7 @@ fault-whole line line' broken claim (command.Campaign campaign.Memory) end is = 
 fault-whole line line' broken claim (command.Campaign (campaign.Write n)) end is = let P : Exit → Type 0 = λ e. OnWhole e claim in subst P (sym is.0) tt
 fault-whole line line' broken claim (command.Unsteady told) end is = let P : Exit → Type 0 = λ e. OnWhole e claim in subst P (sym is.0) tt
 fault-whole line line' broken claim command.Outside end is = let P : Exit → Type 0 = λ e. OnWhole e claim in subst P (sym is.0) tt
+fault-whole line line' broken claim command.OutsideWithDepth end is = let P : Exit → Type 0 = λ e. OnWhole e claim in subst P (sym is.0) tt
 
 -- what holds of a text that was written whole
 pub found-whole : (found : Conclusion) (claim : Type 0) → claim → OnWhole (exit_of found) claim

@@ -107,20 +107,21 @@ module _ (calls : Run → List (List ℕ)) (points : List (List ℕ)) where
     | false ↦ may-order c o
   ]
 
-may-outside : (o : Order) (plans : List Entries) (points : List (List ℕ)) (listed : List Entries) → NotesFor o (outside_answer o plans (listed_notes points listed))
+may-outside : (o : Order) (depth : Option ℕ) (plans : List Entries) (points : List (List ℕ)) (listed : List Entries) → NotesFor o (outside_answer o depth plans (listed_notes points listed))
 unfolding outside_answer
-may-outside (order.Run form strict recheck) plans points listed = tt
-may-outside order.Map plans points listed = tt
-may-outside order.Plans plans points listed = of-few (MayNote order.Plans) plans _ (points, (listed, refl))
-may-outside (order.Try which) plans points listed = tt
-may-outside (order.Reduce which) plans points listed = tt
-may-outside (order.Explain which) plans points listed = tt
+may-outside (order.Run form strict recheck) depth plans points listed = tt
+may-outside order.Map depth plans points listed = tt
+may-outside order.Plans None plans points listed = of-few (MayNote order.Plans) plans _ (points, (listed, refl))
+may-outside order.Plans (Some depth) plans points listed = tt
+may-outside (order.Try which) depth plans points listed = tt
+may-outside (order.Reduce which) depth plans points listed = tt
+may-outside (order.Explain which) depth plans points listed = tt
 
 may-choice : (o : Order) (given : Given) (chosen : Choice) → NotesFor o (choice_answer o given chosen)
 may-choice o given (choice.Replace variant work) = may-bundled _ _ given _ o
 may-choice o given (choice.Maildir variant messages) = may-bundled _ _ given _ o
 may-choice o given (choice.Commit variant work) = may-bundled _ _ given _ o
-may-choice o given (choice.Outside outside) = may-outside o _ outside.points given.plans.listed
+may-choice o given (choice.Outside outside) = may-outside o given.depth _ outside.points given.plans.listed
 
 may-given : (o : Order) (read : Read Settings) → NotesFor o (given_answer o read)
 may-given o (Ok s) = may-choice o s.campaign s.choice

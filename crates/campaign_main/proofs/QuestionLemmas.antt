@@ -17,8 +17,13 @@ use Rattle.campaign_core.specs.declared.ending.CampaignFault.TheVariants as camp
 use Rattle.command_words.specs.declared.words.Question.{Question}
 use Rattle.command_words.specs.declared.words.Question.TheVariants.{Asks, Report}
 use Rattle.command_words.specs.declared.words.ToldForm.{ToldForm}
-use Rattle.outside_campaign.specs.Campaigns.{AsksFault, TextFault}
-use Rattle.outside_campaign.specs.declared.refusal.OutsideFault.{OutsideFault}
+use Rattle.answer_text.specs.Runs.{runs_of}
+use Rattle.answer_text.specs.Runs.{pieces_from as run_pieces_from}
+use Rattle.answer_text.specs.declared.runs.RunLine.{RunLine}
+use Rattle.answered_campaigns.specs.Questions.{AsksRefused, IsAskedInPart, IsAskedTo, IsReportedInPart, IsReportedTo, Refuses, ReportRefused}
+use Rattle.answered_campaigns.specs.declared.fault.QuestionFault.{QuestionFault}
+use Rattle.answered_campaigns.specs.declared.fault.QuestionFault.TheVariants as fault
+use Rattle.outside_campaign.specs.declared.forms.Form.{Form}
 use Rattle.outside_campaign.specs.declared.refusal.OutsideFault.TheVariants as outside
 use Rattle.campaign_main.specs.declared.exit.Conclusion.{Conclusion}
 use Rattle.campaign_main.specs.declared.exit.Conclusion.TheVariants.{Clean, Failed, Doubtful}
@@ -26,64 +31,76 @@ use Rattle.campaign_main.specs.declared.exit.Exit.{Exit}
 use Rattle.campaign_main.specs.declared.exit.Exit.TheVariants as exit
 use Rattle.campaign_main.specs.declared.input.ReadFault.{ReadFault}
 use Rattle.campaign_main.specs.declared.input.ReadFault.TheVariants as read
-use Rattle.campaign_main.specs.Commands.{Refusal, bad_answers, bad_settings, not_answered, not_text, too_many_plans}
+use Rattle.campaign_main.specs.Commands.{Refusal, bad_answers, bad_settings, broken_run, not_answered, not_text, too_many_plans, unseen_hits}
 use Rattle.campaign_main.specs.Ends.{IsNoted, IsUntouched, Leaves, OnWhole, RefusesWith, TellsOf}
 use Rattle.campaign_main.specs.Exit.{concluded, exit_of}
 use Rattle.campaign_main.specs.FaultLines.{answers_read_line, read_fault_line, refusal_line, settings_line, unreadable_answers_line, unreadable_line}
 use Rattle.campaign_main.specs.QuestionNotes.{is_question_doubted, question_notes}
-use Rattle.campaign_main.specs.Questions.{ComesToText, ConcludesText, EndsAnswered, EndsQuestion, FallsShortOf, IsAnswered, IsConcluded, IsEndOfQuestion, IsNotAnswered, IsPart, IsUnnoted, NotesText, RefusesQuestion, Subject, TellsOfQuestion, TellsWhy, chosen_subject, given_subject, subject_of, text_subject, told_text}
+use Rattle.campaign_main.specs.Questions.{ComesToText, ConcludesText, EndsAnswered, EndsQuestion, FallsShortOf, IsAnswered, IsConcluded, IsEndOfQuestion, IsNotAnswered, IsPart, IsUnnoted, NotesText, RefusesQuestion, Subject, TellsOfQuestion, TellsWhy, chosen_subject, given_subject, subject_of, text_subject, written}
 use Rattle.campaign_main.proofs.EndLemmas.{broken-meaning, if_some, long-meaning, memory-apart, read-meaning, tells-of, text-meaning, unset-cause}
 
 -- ---- by what the lower crate came to
 
 module _ (s : Given) (d : Description) (answers : List ℕ) (old new : Option (List ℕ)) (failed : Bool) where
-  asks-short : (f : OutsideFault) → AsksFault d s answers old new failed f → FallsShortOf Asks (s, d) answers old new failed f
-  asks-short (outside.Answers f) h = ((h.0, h.1), h.2)
-  asks-short (outside.NotAnswered t) h = absurd h
-  asks-short (outside.Campaign campaign.TooManyPlans) h = ((h.0, h.1), h.2)
-  asks-short (outside.Campaign campaign.Memory) h = h
-  asks-short (outside.Campaign (campaign.Write n)) h = (h.0, h.1)
+  asks-short : (f : QuestionFault) → AsksRefused d s answers old new failed f → FallsShortOf Asks (s, d) answers old new failed f
+  asks-short (fault.Outside (outside.Answers f)) h = h
+  asks-short (fault.Outside (outside.NotAnswered t)) h = absurd h
+  asks-short (fault.Outside (outside.Campaign campaign.TooManyPlans)) h = h
+  asks-short (fault.Outside (outside.Campaign campaign.Memory)) h = h.0
+  asks-short (fault.Outside (outside.Campaign (campaign.Write n))) h = h
+  asks-short (fault.Broken b) h = h
+  asks-short (fault.Unseen line) h = h
 
-  report-short : (form : ToldForm) (f : OutsideFault) → TextFault (told_text form (s, d)) d s answers old new failed f → FallsShortOf (Report form false) (s, d) answers old new failed f
-  report-short form (outside.Answers f) h = ((h.0, h.1), h.2)
-  report-short form (outside.NotAnswered t) h = ((h.0, h.1), h.2)
-  report-short form (outside.Campaign campaign.TooManyPlans) h = ((h.0, h.1), h.2)
-  report-short form (outside.Campaign campaign.Memory) h = h
-  report-short form (outside.Campaign (campaign.Write n)) h = (h.0, h.1)
+  report-short : (form : ToldForm) (f : QuestionFault) → ReportRefused (written form) d s answers old new failed f → FallsShortOf (Report form false) (s, d) answers old new failed f
+  report-short form (fault.Outside (outside.Answers f)) h = h
+  report-short form (fault.Outside (outside.NotAnswered t)) h = h
+  report-short form (fault.Outside (outside.Campaign campaign.TooManyPlans)) h = h
+  report-short form (fault.Outside (outside.Campaign campaign.Memory)) h = h.0
+  report-short form (fault.Outside (outside.Campaign (campaign.Write n))) h = h
+  report-short form (fault.Broken b) h = h
+  report-short form (fault.Unseen line) h = h
 
   -- a fault that is passed up
-  short-of-up : (question : Question) (result : Result Bool OutsideFault) (f : OutsideFault) → IsErrAnd result (λ e. e ≡ f)
+  short-of-up : (question : Question) (result : Result Bool QuestionFault) (f : QuestionFault) → IsErrAnd result (λ e. e ≡ f)
       → FallsShortOf question (s, d) answers old new failed f → ComesToText question (s, d) answers old new failed result
   short-of-up question (Ok found) f is short = absurd is
-  short-of-up question (Err e) f is short = let P : OutsideFault → Type 0 = λ x. FallsShortOf question (s, d) answers old new failed x in subst P (sym is) short
+  short-of-up question (Err e) f is short = let P : QuestionFault → Type 0 = λ x. FallsShortOf question (s, d) answers old new failed x in subst P (sym is) short
 
-  pub asks-up : (result : Result Bool OutsideFault) (f : OutsideFault) → IsErrAnd result (λ e. e ≡ f) → AsksFault d s answers old new failed f → ComesToText Asks (s, d) answers old new failed result
+  pub asks-up : (result : Result Bool QuestionFault) (f : QuestionFault) → IsErrAnd result (λ e. e ≡ f) → AsksRefused d s answers old new failed f → ComesToText Asks (s, d) answers old new failed result
   asks-up result f is h = short-of-up Asks result f is (asks-short f h)
 
-  pub report-up : (form : ToldForm) (result : Result Bool OutsideFault) (f : OutsideFault) → IsErrAnd result (λ e. e ≡ f) → TextFault (told_text form (s, d)) d s answers old new failed f → ComesToText (Report form false) (s, d) answers old new failed result
+  pub report-up : (form : ToldForm) (result : Result Bool QuestionFault) (f : QuestionFault) → IsErrAnd result (λ e. e ≡ f) → ReportRefused (written form) d s answers old new failed f
+      → ComesToText (Report form false) (s, d) answers old new failed result
   report-up form result f is h = short-of-up (Report form false) result f is (report-short form f h)
 
 -- ---- by what is noted
 
 module _ (question : Question) (s : Subject) (answers : List ℕ) where
-  -- a fault that is passed up, before anything is written
-  unnoted-short : (f : OutsideFault) (old : Option (List ℕ)) (failed : Bool) → failed ≡ false → IsUnnoted s answers f → FallsShortOf question s answers old old failed f
-  unnoted-short (outside.Answers f) old failed sound h = ((refl, sound), h)
-  unnoted-short (outside.NotAnswered t) old failed sound h = absurd h
-  unnoted-short (outside.Campaign campaign.TooManyPlans) old failed sound h = ((refl, sound), h)
-  unnoted-short (outside.Campaign campaign.Memory) old failed sound h = (refl, sound)
-  unnoted-short (outside.Campaign (campaign.Write n)) old failed sound h = absurd h
+  -- nothing is written before notes stand
+  never-cut : {A : Type 0} (depth : Option ℕ) (n : ℕ) → Refuses depth s.1 s.0 answers (fault.Outside (outside.Campaign (campaign.Write n))) → A
+  never-cut None n h = absurd h
+  never-cut (Some depth) n h = absurd h.2
 
-  pub fault-up : (result : Result Conclusion OutsideFault) (f : OutsideFault) (old new : Option (List ℕ)) (failed : Bool) → IsErrAnd result (λ e. e ≡ f)
+  -- a fault that is passed up, before anything is written
+  unnoted-short : (f : QuestionFault) (old : Option (List ℕ)) (failed : Bool) → failed ≡ false → IsUnnoted s answers f → FallsShortOf question s answers old old failed f
+  unnoted-short (fault.Outside (outside.Answers f)) old failed sound h = ((refl, sound), h)
+  unnoted-short (fault.Outside (outside.NotAnswered t)) old failed sound h = absurd h
+  unnoted-short (fault.Outside (outside.Campaign campaign.TooManyPlans)) old failed sound h = ((refl, sound), h)
+  unnoted-short (fault.Outside (outside.Campaign campaign.Memory)) old failed sound h = (refl, sound)
+  unnoted-short (fault.Outside (outside.Campaign (campaign.Write n))) old failed sound h = never-cut s.0.depth n h
+  unnoted-short (fault.Broken b) old failed sound h = ((refl, sound), h)
+  unnoted-short (fault.Unseen line) old failed sound h = ((refl, sound), h)
+
+  pub fault-up : (result : Result Conclusion QuestionFault) (f : QuestionFault) (old new : Option (List ℕ)) (failed : Bool) → IsErrAnd result (λ e. e ≡ f)
       → FallsShortOf question s answers old new failed f → ConcludesText question s answers old new failed result
   fault-up (Ok c) f old new failed is short = absurd is
-  fault-up (Err e) f old new failed is short = let P : OutsideFault → Type 0 = λ x. FallsShortOf question s answers old new failed x in subst P (sym is) short
+  fault-up (Err e) f old new failed is short = let P : QuestionFault → Type 0 = λ x. FallsShortOf question s answers old new failed x in subst P (sym is) short
 
-  pub unnoted-up : (result : Result Conclusion OutsideFault) (f : OutsideFault) (old : Option (List ℕ)) (failed : Bool) → IsErrAnd result (λ e. e ≡ f)
+  pub unnoted-up : (result : Result Conclusion QuestionFault) (f : QuestionFault) (old : Option (List ℕ)) (failed : Bool) → IsErrAnd result (λ e. e ≡ f)
       → failed ≡ false → IsUnnoted s answers f → ConcludesText question s answers old old failed result
   unnoted-up result f old failed is sound h = fault-up result f old old failed is (unnoted-short f old failed sound h)
 
-  pub up-notes : (result : Result Conclusion OutsideFault) (f : OutsideFault) (old : Option (List ℕ)) (failed : Bool) → IsErrAnd result (λ e. e ≡ f) → failed ≡ false
+  pub up-notes : (result : Result Conclusion QuestionFault) (f : QuestionFault) (old : Option (List ℕ)) (failed : Bool) → IsErrAnd result (λ e. e ≡ f) → failed ≡ false
       → NotesText question s answers old old failed result
   up-notes (Ok c) f old failed is sound = absurd is
   up-notes (Err e) f old failed is sound = (refl, sound)
@@ -104,13 +121,29 @@ module _ (question : Question) (s : Subject) (answers : List ℕ) where
     concluded-ends Failed h = h
     concluded-ends Doubtful h = h
 
+    asked-sound : (depth : Option ℕ) → IsAskedTo depth s.1 s.0 answers old new failed → failed ≡ false
+    asked-sound None h = h.sound
+    asked-sound (Some depth) h = h.3
+
+    reported-sound : (depth : Option ℕ) (form : Form) (first : Option ℕ) → IsReportedTo depth form s.1 s.0 answers old new failed first → failed ≡ false
+    reported-sound None form first h = h.sound
+    reported-sound (Some depth) form first h = h.3
+
+    asked-broken : (depth : Option ℕ) (n : ℕ) → IsAskedInPart depth s.1 s.0 answers old new failed n → failed ≡ true
+    asked-broken None n h = h.1
+    asked-broken (Some depth) n h = h.1
+
+    reported-broken : (depth : Option ℕ) (form : Form) (n : ℕ) → IsReportedInPart depth form s.1 s.0 answers old new failed n → failed ≡ true
+    reported-broken None form n h = h.1
+    reported-broken (Some depth) form n h = h.1
+
     answered-sound : (q : Question) (found : Bool) → IsAnswered q s answers old new failed found → failed ≡ false
-    answered-sound Asks found h = h.sound
-    answered-sound (Report form strict) found h = h.sound
+    answered-sound Asks found h = asked-sound s.0.depth h.0
+    answered-sound (Report form strict) found h = reported-sound s.0.depth (written form) h.0 h.1
 
     part-broken : (q : Question) (n : ℕ) → IsPart q s answers old new failed n → failed ≡ true
-    part-broken Asks n h = h.1
-    part-broken (Report form strict) n h = h.1
+    part-broken Asks n h = asked-broken s.0.depth n h
+    part-broken (Report form strict) n h = reported-broken s.0.depth (written form) n h
 
     pub answered-leaves : (end : Exit) → EndsAnswered question s answers end old new failed → Leaves end old new failed
     answered-leaves exit.Kept h = answered-sound question h.0 h.1
@@ -129,12 +162,14 @@ module _ (question : Question) (s : Subject) (answers : List ℕ) where
       refused-ends text exit.Memory h is = h
       refused-ends text (exit.Write n) h is = absurd is
 
-      pub short-ends : (f : OutsideFault) (end : Exit) → FallsShortOf question s answers old new failed f → IsEndOfQuestion f end line line' broken → EndsAnswered question s answers end old new failed
-      short-ends (outside.Answers f) end short is = refused-ends _ end short.0 is
-      short-ends (outside.NotAnswered t) end short is = refused-ends _ end short.0 is
-      short-ends (outside.Campaign campaign.TooManyPlans) end short is = let P : Exit → Type 0 = λ e. EndsAnswered question s answers e old new failed in subst P (sym is.0) short.0
-      short-ends (outside.Campaign campaign.Memory) end short is = let P : Exit → Type 0 = λ e. EndsAnswered question s answers e old new failed in subst P (sym is.0) short
-      short-ends (outside.Campaign (campaign.Write n)) end short is = let P : Exit → Type 0 = λ e. EndsAnswered question s answers e old new failed in subst P (sym is.0) short
+      pub short-ends : (f : QuestionFault) (end : Exit) → FallsShortOf question s answers old new failed f → IsEndOfQuestion f end line line' broken → EndsAnswered question s answers end old new failed
+      short-ends (fault.Outside (outside.Answers f)) end short is = refused-ends _ end short.0 is
+      short-ends (fault.Outside (outside.NotAnswered t)) end short is = refused-ends _ end short.0 is
+      short-ends (fault.Outside (outside.Campaign campaign.TooManyPlans)) end short is = let P : Exit → Type 0 = λ e. EndsAnswered question s answers e old new failed in subst P (sym is.0) short.0
+      short-ends (fault.Outside (outside.Campaign campaign.Memory)) end short is = let P : Exit → Type 0 = λ e. EndsAnswered question s answers e old new failed in subst P (sym is.0) short
+      short-ends (fault.Outside (outside.Campaign (campaign.Write n))) end short is = let P : Exit → Type 0 = λ e. EndsAnswered question s answers e old new failed in subst P (sym is.0) short
+      short-ends (fault.Broken b) end short is = refused-ends _ end short.0 is
+      short-ends (fault.Unseen line) end short is = refused-ends _ end short.0 is
 
       -- a refusal whose line is told
       why : (refusal : Refusal) (end : Exit) → RefusesQuestion question (Ok s) answers refusal → RefusesWith (refusal_line refusal) end line line' broken → end ≡ exit.Refused → TellsWhy question (Ok s) answers line line' broken
@@ -145,15 +180,17 @@ module _ (question : Question) (s : Subject) (answers : List ℕ) where
         abbrev tells : Exit → Type 0
         tells e = TellsOf noted (TellsWhy question (Ok s) answers line line' broken) e line line' broken
 
-        pub short-tells : (f : OutsideFault) (end : Exit) → FallsShortOf question s answers old new failed f → IsEndOfQuestion f end line line' broken → tells end
-        short-tells (outside.Answers f) end short is = tells-of _ _ _ end line line' broken is (why (bad_answers f) end short.1 is)
-        short-tells (outside.NotAnswered t) end short is = tells-of _ _ _ end line line' broken is (why (not_answered t) end short.1 is)
-        short-tells (outside.Campaign campaign.TooManyPlans) end short is = subst tells (sym is.0) (too_many_plans, short.1, is.1)
-        short-tells (outside.Campaign campaign.Memory) end short is = subst tells (sym is.0) is.1
-        short-tells (outside.Campaign (campaign.Write n)) end short is = subst tells (sym is.0) is.1
+        pub short-tells : (f : QuestionFault) (end : Exit) → FallsShortOf question s answers old new failed f → IsEndOfQuestion f end line line' broken → tells end
+        short-tells (fault.Outside (outside.Answers f)) end short is = tells-of _ _ _ end line line' broken is (why (bad_answers f) end short.1 is)
+        short-tells (fault.Outside (outside.NotAnswered t)) end short is = tells-of _ _ _ end line line' broken is (why (not_answered t) end short.1 is)
+        short-tells (fault.Outside (outside.Campaign campaign.TooManyPlans)) end short is = subst tells (sym is.0) (too_many_plans, short.1, is.1)
+        short-tells (fault.Outside (outside.Campaign campaign.Memory)) end short is = subst tells (sym is.0) is.1
+        short-tells (fault.Outside (outside.Campaign (campaign.Write n))) end short is = subst tells (sym is.0) is.1
+        short-tells (fault.Broken b) end short is = tells-of _ _ _ end line line' broken is (why (broken_run b) end short.1 is)
+        short-tells (fault.Unseen number) end short is = tells-of _ _ _ end line line' broken is (why (unseen_hits number) end short.1 is)
 
   -- the same where nothing was told before
-  pub short-told : (old new : Option (List ℕ)) (failed : Bool) (line mid line' : Option (List ℕ)) (sound broken : Bool) (f : OutsideFault) (end : Exit)
+  pub short-told : (old new : Option (List ℕ)) (failed : Bool) (line mid line' : Option (List ℕ)) (sound broken : Bool) (f : QuestionFault) (end : Exit)
       → IsUntouched line mid sound → FallsShortOf question s answers old new failed f → IsEndOfQuestion f end mid line' broken
       → TellsOf (IsNoted (question_notes question s.0 s.1 answers) line line' broken) (TellsWhy question (Ok s) answers line line' broken) end line line' broken
   short-told old new failed line mid line' sound broken f end untouched short is =
@@ -209,6 +246,17 @@ long-answers names text many =
     let f : Bool → Result (List Told) AnswersFault = λ b. if b then Err answers.TooLong else rest in
     ap f (lt-ltb most_bytes (length text) many)
 
+long-runs : (names points : List (List ℕ)) (text : List ℕ) → most_bytes < length text → runs_of names points text ≡ Err answers.TooLong
+unfolding runs_of
+long-runs names points text many =
+    let rest : Result (List RunLine) AnswersFault = run_pieces_from names points [] (slice_split (λ b. b == 10) text) in
+    let f : Bool → Result (List RunLine) AnswersFault = λ b. if b then Err answers.TooLong else rest in
+    ap f (lt-ltb most_bytes (length text) many)
+
+too-long : (depth : Option ℕ) (s : Subject) (text : List ℕ) → most_bytes < length text → Refuses depth s.1 s.0 text (fault.Outside (outside.Answers answers.TooLong))
+too-long None s text many = long-answers s.1.codes text many
+too-long (Some depth) s text many = long-runs s.1.codes s.1.points text many
+
 -- ---- by the answers that a reader gave
 
 module _ (question : Question) (s : Subject) (known : Option (List ℕ)) where
@@ -223,7 +271,7 @@ module _ (question : Question) (s : Subject) (known : Option (List ℕ)) where
   cause-unread-answers read.TooLong end old new failed long told memory refused =
       let P : Exit → Type 0 = λ e. RefusesWith (answers_read_line read.TooLong) e old new failed in
       if_some known _ (λ bytes. IsNotAnswered question (Ok s) bytes old new failed)
-      (λ bytes h. inl (bad_answers _, long-answers s.1.codes bytes h, subst P refused told)) (long refl)
+      (λ bytes h. inl (bad_answers _, too-long s.0.depth s bytes h, subst P refused told)) (long refl)
   cause-unread-answers read.NotUtf8 end old new failed long told memory refused =
       let P : Exit → Type 0 = λ e. RefusesWith unreadable_answers_line e old new failed in
       elim known as (λ k. IfSome k (λ bytes. IsNotAnswered question (Ok s) bytes old new failed)) [ None ↦ tt | Some bytes ↦ inr (inr (subst P refused told)) ]

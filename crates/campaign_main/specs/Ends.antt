@@ -12,8 +12,8 @@ use Rattle.campaign_main.specs.declared.exit.Exit.TheVariants.{Kept, Found, Refu
 use Rattle.campaign_main.specs.declared.exit.Conclusion.{Conclusion}
 use Rattle.campaign_main.specs.declared.exit.Conclusion.TheVariants.{Clean, Failed, Doubtful}
 use Rattle.campaign_main.specs.declared.fault.CommandFault.{CommandFault}
-use Rattle.campaign_main.specs.declared.fault.CommandFault.TheVariants.{Scenario, Plan, Campaign, Unsteady, Outside}
-use Rattle.campaign_main.specs.Commands.{Answer, Refusal, bad_scenario, no_plan, outside_target, too_many_plans}
+use Rattle.campaign_main.specs.declared.fault.CommandFault.TheVariants.{Scenario, Plan, Campaign, Unsteady, Outside, OutsideWithDepth}
+use Rattle.campaign_main.specs.Commands.{Answer, Refusal, bad_scenario, no_plan, outside_target, outside_with_depth, too_many_plans}
 use Rattle.campaign_main.specs.Notes.{MayNote}
 use Rattle.campaign_main.specs.FaultLines.{cut_off_line, memory_line, refusal_line, scenario_line, unreadable_line}
 
@@ -70,6 +70,7 @@ FallsShort answer old new failed (Campaign campaign.Memory) = IsUntouched old ne
 FallsShort answer old new failed (Campaign (campaign.Write written)) = IsCutOff answer old new failed written
 FallsShort answer old new failed (Unsteady line) = ⊥
 FallsShort answer old new failed Outside = IsUntouched old new failed × (answer ≡ Err outside_target)
+FallsShort answer old new failed OutsideWithDepth = IsUntouched old new failed × (answer ≡ Err outside_with_depth)
 
 -- why a command takes no scenario
 abbrev pub IsUntaken : Result (ℕ × Entries) Refusal → CommandFault → Type 0
@@ -81,6 +82,7 @@ IsUntaken taken (Campaign campaign.Memory) = Unit {0}
 IsUntaken taken (Campaign (campaign.Write written)) = ⊥
 IsUntaken taken (Unsteady line) = ⊥
 IsUntaken taken Outside = ⊥
+IsUntaken taken OutsideWithDepth = ⊥
 
 -- what a command came to: what its text comes to, or a fault
 abbrev pub ComesTo : Answer → Option (List ℕ) → Option (List ℕ) → Bool → Result Conclusion CommandFault → Type 0
@@ -162,6 +164,7 @@ IsEndOf (Campaign campaign.Memory) end old new failed = (end ≡ Memory) × IsTo
 IsEndOf (Campaign (campaign.Write written)) end old new failed = (end ≡ Write written) × IsTold (cut_off_line written) old new failed
 IsEndOf (Unsteady line) end old new failed = (end ≡ Refused) × IsTold (string_bytes line) old new failed
 IsEndOf Outside end old new failed = (end ≡ Refused) × IsTold (refusal_line outside_target) old new failed
+IsEndOf OutsideWithDepth end old new failed = (end ≡ Refused) × IsTold (refusal_line outside_with_depth) old new failed
 
 -- ---- words
 

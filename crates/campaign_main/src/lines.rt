@@ -1,7 +1,7 @@
 //! The ends of a command that failed, and the line that says why. A line that can't be written changes no end.
 ghost use Rattle.std.specs.Prelude.{◌≡◌, ℕ, List, false, IfOk, string_bytes};
 ghost use Rattle.campaign_settings.specs.declared.fault.SettingsFault.TheVariants as settings;
-ghost use Rattle.campaign_main.specs.Commands.{bad_answers, bundled_target, no_plan, not_answered};
+ghost use Rattle.campaign_main.specs.Commands.{bad_answers, broken_run, bundled_target, no_plan, not_answered, unseen_hits};
 ghost use Rattle.campaign_main.specs.Ends.{IsEndOf, IsNoted, IsTold, RefusesWith};
 ghost use Rattle.campaign_main.specs.FaultLines.{answers_read_line, cut_off_line, memory_line, read_fault_line, refusal_line, scenario_line, settings_line};
 ghost use Rattle.campaign_main.specs.Questions.{IsEndOfQuestion};
@@ -10,9 +10,11 @@ use crate::exit::Exit;
 use crate::fault::CommandFault;
 use crate::input::ReadFault;
 use answer_text::AnswersFault;
+use answered_runs::BrokenRun;
 use campaign_core::CampaignFault;
 use campaign_settings::SettingsFault;
 use itoa::Buffer;
+use answered_campaigns::QuestionFault;
 use outside_campaign::OutsideFault;
 use report::{WriteFault, write_report, write_scenario};
 use scenario_grammar::{Scenario, ScenarioFault};
@@ -182,6 +184,10 @@ pub fn unanswered<E: Sink>(alloc: Global, fault: &CommandFault, faults: &mut E) 
             "settings: target outside: only plans, asks and report\n",
             faults,
         ),
+        CommandFault::OutsideWithDepth => refused(
+            "settings: target outside with a depth: only asks and report\n",
+            faults,
+        ),
     }
 }
 
@@ -228,14 +234,34 @@ fn waiting_line(alloc: Global, scenario: &Scenario) -> Result<String, AllocError
     Ok(line)
 }
 
+/// The line for a run that breaks with that of the plan which its own grew from.
+fn broken_line(alloc: Global, broken: &BrokenRun) -> Result<String, AllocError>
+    ensures { IfOk result (λ line. string_bytes line ≡ refusal_line (broken_run broken.now)) }
+{
+    format!(in alloc; "{broken}\n")
+}
+
+/// The line for an answer without the hits that plans grow from.
+fn unseen_line(alloc: Global, line: u32) -> Result<String, AllocError>
+    ensures { IfOk result (λ text. string_bytes text ≡ refusal_line (unseen_hits line)) }
+{
+    format!(in alloc; "answers: line {line}: hits unknown\n")
+}
+
 /// Ends where a question came to no whole text.
-pub fn untold<E: Sink>(alloc: Global, fault: &OutsideFault, faults: &mut E) -> Exit
+pub fn untold<E: Sink>(alloc: Global, fault: &QuestionFault, faults: &mut E) -> Exit
     requires { E.has_failed faults.old ≡ false }
     ensures { IsEndOfQuestion fault.now result (E.told faults.old) (E.told faults.new) (E.has_failed faults.new) }
 {
     match fault {
-        OutsideFault::Answers(cause) => refused_by(answers_line(alloc, cause), faults),
-        OutsideFault::NotAnswered(scenario) => refused_by(waiting_line(alloc, scenario), faults),
-        OutsideFault::Campaign(cause) => unwritten(*cause, faults),
+        QuestionFault::Outside(OutsideFault::Answers(cause)) => {
+            refused_by(answers_line(alloc, cause), faults)
+        }
+        QuestionFault::Outside(OutsideFault::NotAnswered(scenario)) => {
+            refused_by(waiting_line(alloc, scenario), faults)
+        }
+        QuestionFault::Outside(OutsideFault::Campaign(cause)) => unwritten(*cause, faults),
+        QuestionFault::Broken(broken) => refused_by(broken_line(alloc, broken), faults),
+        QuestionFault::Unseen(line) => refused_by(unseen_line(alloc, *line), faults),
     }
 }

@@ -1,5 +1,5 @@
 //! A command on a component that somebody else runs.
-ghost use Rattle.std.specs.Prelude.{◌≡◌, false};
+ghost use Rattle.std.specs.Prelude.{◌≡◌, None, false};
 ghost use Rattle.campaign_main.specs.Commands.{outside_answer, outside_plans};
 ghost use Rattle.campaign_main.specs.Notes.{listed_notes};
 ghost use Rattle.campaign_main.specs.Ends.{ComesTo, Noted};
@@ -24,9 +24,9 @@ fn list<W: Sink, E: Sink>(
 ) -> Result<Conclusion, CommandFault>
     requires output { W.has_failed output.old ≡ false }
     requires faults { E.has_failed faults.old ≡ false }
-    ensures text { ComesTo (outside_answer Order.Plans (outside_plans settings.now outside.now)
+    ensures text { ComesTo (outside_answer Order.Plans None (outside_plans settings.now outside.now)
         (listed_notes outside.now.points settings.now.plans.listed)) (W.told output.old) (W.told output.new) (W.has_failed output.new) result }
-    ensures noted { Noted (outside_answer Order.Plans (outside_plans settings.now outside.now)
+    ensures noted { Noted (outside_answer Order.Plans None (outside_plans settings.now outside.now)
         (listed_notes outside.now.points settings.now.plans.listed)) (E.told faults.old) (E.told faults.new) (E.has_failed faults.new) result }
 {
     let notes = listed_outside(alloc, outside, settings)?;
@@ -35,7 +35,7 @@ fn list<W: Sink, E: Sink>(
     Ok(Conclusion::Clean)
 }
 
-/// Lists the plans of a component that somebody else runs, and refuses any other order.
+/// Lists the plans of a component that somebody else runs, where they don't grow from what answers tell, and refuses any other order.
 #[tactic(auto, unfolding(crate::specs::Commands::outside_answer))]
 pub fn outside_command<W: Sink, E: Sink>(
     alloc: Global,
@@ -47,13 +47,16 @@ pub fn outside_command<W: Sink, E: Sink>(
 ) -> Result<Conclusion, CommandFault>
     requires output { W.has_failed output.old ≡ false }
     requires faults { E.has_failed faults.old ≡ false }
-    ensures text { ComesTo (outside_answer order.now (outside_plans settings.now outside.now)
+    ensures text { ComesTo (outside_answer order.now settings.now.depth (outside_plans settings.now outside.now)
         (listed_notes outside.now.points settings.now.plans.listed)) (W.told output.old) (W.told output.new) (W.has_failed output.new) result }
-    ensures noted { Noted (outside_answer order.now (outside_plans settings.now outside.now)
+    ensures noted { Noted (outside_answer order.now settings.now.depth (outside_plans settings.now outside.now)
         (listed_notes outside.now.points settings.now.plans.listed)) (E.told faults.old) (E.told faults.new) (E.has_failed faults.new) result }
 {
     match order {
-        Order::Plans => list(alloc, outside, settings, output, faults),
+        Order::Plans => match settings.depth {
+            None => list(alloc, outside, settings, output, faults),
+            Some(_) => Err(CommandFault::OutsideWithDepth),
+        },
         Order::Run { .. } | Order::Map | Order::Try(_) | Order::Reduce(_) | Order::Explain(_) =>
             Err(CommandFault::Outside),
     }

@@ -13,7 +13,8 @@ use campaign_core::PageNotes;
 use campaign_given::{CampaignSettings, Outside};
 use campaign_settings::{Choice, Settings};
 use command_words::{Question, ToldForm, VERSION};
-use outside_campaign::{Form, OutsideFault, write_asks, write_report_in};
+use answered_campaigns::{QuestionFault, write_asks, write_report_in};
+use outside_campaign::Form;
 use std::alloc::Global;
 use std::io::Read;
 use target_trait::Sink;
@@ -25,7 +26,7 @@ fn write_asked<W: Sink>(
     settings: &CampaignSettings,
     answers: &[u8],
     output: &mut W,
-) -> Result<bool, OutsideFault>
+) -> Result<bool, QuestionFault>
     requires { W.has_failed output.old ≡ false }
     ensures { ComesToText Question.Asks (settings.now, outside.now) answers.now (W.told output.old) (W.told output.new)
         (W.has_failed output.new) result }
@@ -59,7 +60,7 @@ fn write_reported<W: Sink>(
     settings: &CampaignSettings,
     answers: &[u8],
     output: &mut W,
-) -> Result<bool, OutsideFault>
+) -> Result<bool, QuestionFault>
     requires { W.has_failed output.old ≡ false }
     ensures { ComesToText (Question.Report form false) (settings.now, outside.now) answers.now (W.told output.old) (W.told output.new)
         (W.has_failed output.new) result }
@@ -77,7 +78,7 @@ fn write_answer<W: Sink>(
     settings: &CampaignSettings,
     answers: &[u8],
     output: &mut W,
-) -> Result<bool, OutsideFault>
+) -> Result<bool, QuestionFault>
     requires { W.has_failed output.old ≡ false }
     ensures { ComesToText question.now (settings.now, outside.now) answers.now (W.told output.old) (W.told output.new)
         (W.has_failed output.new) result }
@@ -99,7 +100,7 @@ fn write_noted<W: Sink, E: Sink>(
     answers: &[u8],
     output: &mut W,
     faults: &mut E,
-) -> Result<Conclusion, OutsideFault>
+) -> Result<Conclusion, QuestionFault>
     requires output { W.has_failed output.old ≡ false }
     requires faults { E.has_failed faults.old ≡ false }
     ensures text { ConcludesText question.now (settings.now, outside.now) answers.now (W.told output.old) (W.told output.new)
@@ -245,15 +246,17 @@ fn answer_text<A: Read, W: Sink, E: Sink>(
 /// It answers Kept, Found where the report tells a failure, or Doubted where it tells none, is to be strict and something was told beside
 /// it, where the whole text stands in the output. Else one line on the sink of faults says why there is none: Refused for settings that
 /// can't be read or have a fault, that choose a bundled target, or that have more than 65536 plans; for answers that can't be read or have
-/// a fault, of which the first is named; and for a report where something is still to be tried. Memory is for memory that was refused, and
-/// both leave the output unchanged. Write tells how many bytes of the text, fewer than all, went out before the output failed. Where that
-/// line can't be written whole the answer stays. Where settings are refused, no answers are read.
+/// a fault, of which the first is named; and for a report where something is still to be tried. Of a campaign with a depth also where a run
+/// that answers tell breaks with that of the plan which its own grew from, and where a plan is answered without hits that plans grow from.
+/// Memory is for memory that was refused, and both leave the output unchanged. Write tells how many bytes of the text, fewer than all, went
+/// out before the output failed. Where that line can't be written whole the answer stays. Where settings are refused, no answers are read.
 ///
 /// Beside the text, once it stands there whole, the sink of faults has a line for each name that no point of the component has, of the
 /// scenarios that the settings list and of those that are answered: `answers: line 3: no point is named NAME`. A report that is strict adds
 /// what makes it say less than it seems to. A line that can't be written changes no end.
 ///
-/// The report is that of every component that agrees with the answers, a function from tidied scenarios to verdicts.
+/// The report is that of every component that agrees with the answers: a function from tidied scenarios to verdicts, or with a depth one whose
+/// next hit is a function of the answers so far.
 ///
 /// Which text and which fault, the contract says for readers that tell their bytes, as slices do, and for sinks that tell theirs, as
 /// [`target_trait::Out`] over a `Vec` does; of others, as [`crate::perform`] does.

@@ -1,7 +1,7 @@
-use Rattle.std.proofs.Common.{◌≡◌, Err, Result, ap, inl, inr}
+use Rattle.std.proofs.Common.{◌≡◌, Err, IfSome, Result, ap, inl, inr, subst, sym}
 use Rattle.campaign_settings.specs.declared.choice.Choice.{Choice}
 use Rattle.campaign_main.specs.Commands.{Refusal, bundled_target}
-use Rattle.campaign_main.specs.Questions.{Subject, chosen_subject}
+use Rattle.campaign_main.specs.Questions.{IsNotAnswered, Subject, chosen_subject}
 use Rattle.campaign_main.proofs.EndLemmas.{refuses-whole}
 use Rattle.campaign_main.proofs.QuestionLemmas.{settings-why, tells-question}
 use Rattle.campaign_main.proofs.ToldLemmas.{refuses-with}
@@ -23,3 +23,14 @@ returns-in-Replace-clause-cause g c =
     ] in
     settings-why c.args.question.now (f c.args.choice.now) bundled_target is (g.A.Read.remaining c.args.answers.now) c.bundled.result _ _ _
     (refuses-with _ _ _ _ _ c.bundled.ensures.end c.bundled.ensures.told) refused
+
+pub returns-in-Outside-clause-cause : goal.returns-in-Outside-clause-cause
+returns-in-Outside-clause-cause g c =
+    λ refused.
+    let E = g.E.Sink in
+    let A = g.A.Read in
+    let new = c.answer_on.new.faults in
+    let P : Choice → Type 0 =
+    λ ch. IfSome (A.remaining c.args.answers.now)
+    (λ b. IsNotAnswered c.args.question.now (chosen_subject c.args.settings.now ch) b (E.told c.args.faults.now) (E.told new) (E.has_failed new)) in
+    subst P (sym c.in-Outside.is) (c.answer_on.ensures.cause refused)
