@@ -3,19 +3,18 @@ use Rattle.std.proofs.Common.{◌≡◌, ℕ, zero, suc, ◌+◌, ◌<◌, ◌�
 use Rattle.std.specs.Prelude.{slice_get}
 use Rattle.std.specs.List.{AllByRecursion}
 use Rattle.std.proofs.lemmas.List.{length-map, map-append}
-use Rattle.std.proofs.lemmas.Option.{slice_get_past}
 use Rattle.scenario_values.specs.Scenario.{Entries}
 use Rattle.action_eval.specs.declared.rig.Rig.{Rig}
 use Rattle.action_eval.specs.Rigging.{CanBeRigged}
-use Rattle.plan_gen.specs.PlanList.{most_plans, further_list}
-use Rattle.grown_plans.specs.GrownPlans.{Subject, rigs_of, scenario_of, grown}
+use Rattle.plan_gen.specs.PlanList.{further_list}
+use Rattle.grown_plans.specs.GrownPlans.{Subject, rigs_of, grown}
 use Rattle.grown_plans.proofs.Members.{all_left}
 use Rattle.campaign_plans.specs.GrownScenarios.{grown_among, grown_scenario, grown_scenarios}
 use Rattle.grown_runs.specs.Grown.{begun}
 use Rattle.grown_runs.proofs.Begun.{begun_front, begun_most, begun_all}
 use Rattle.campaign_core.specs.CommandTexts.{counted_to, with_rest}
 use Rattle.campaign_core.specs.Headline.{Campaign, census, grower, plans_to}
-use Rattle.campaign_core.specs.Planned.{AreBegun, AreGrown, IsAll, IsBegun, listed_to}
+use Rattle.campaign_core.specs.Planned.{AreBegun, AreGrown, listed_to}
 use Rattle.plan_gen.specs.Census.{sites_of}
 use Rattle.plan_gen.specs.PlanList.{Asked, plan_list}
 use Rattle.grown_plans.specs.Promises.{IsLawful}

@@ -1,5 +1,5 @@
 -- Each cause that a report lists is one.
-use Rattle.std.proofs.Common.{◌≡◌, ◌≢◌, ℕ, zero, suc, ◌+◌, ◌<◌, ◌≤◌, ◌&&◌, ◌==◌, not, Bool, true, false, cond, Option, None, Some, IfSome, All, List, [], ◌∷◌, ◌++◌, map, length, get_or, refl, ap, sym, ◌∙◌, subst, arith, eq-eqb}
+use Rattle.std.proofs.Common.{◌≡◌, ◌≢◌, ℕ, zero, suc, ◌+◌, ◌<◌, ◌≤◌, ◌&&◌, not, Bool, true, false, cond, Option, None, Some, IfSome, All, List, [], ◌∷◌, map, length, get_or, refl, ap, sym, ◌∙◌, subst, arith, eq-eqb}
 use Rattle.std.specs.List.{AllByRecursion, list_all}
 use Rattle.std.proofs.lemmas.List.{get_or_append_left, get_or-map, length-map, map-append}
 use Rattle.std.proofs.lemmas.List.Elements.{All-from_recursion}
@@ -8,13 +8,12 @@ use Rattle.action_eval.specs.declared.rig.Rig.{Rig}
 use Rattle.target_trait.specs.Outcomes.{verdict_with}
 use Rattle.target_trait.specs.declared.judgement.Verdict.{Verdict}
 use Rattle.target_trait.specs.declared.judgement.Verdict.TheVariants as verdict
-use Rattle.plan_gen.specs.Census.{sites_of}
 use Rattle.plan_gen.specs.PlanList.{further_list}
-use Rattle.grown_plans.specs.GrownPlans.{Subject, rigs_of, scenario_of, grown, grown_list}
-use Rattle.grown_plans.specs.Promises.{IsCause, verdict_of_plan, verdict_of_rigs, lesser}
+use Rattle.grown_plans.specs.GrownPlans.{Subject, rigs_of, scenario_of, grown}
+use Rattle.grown_plans.specs.Promises.{verdict_of_plan, verdict_of_rigs, lesser}
 use Rattle.grown_plans.proofs.Members.{all_append}
 use Rattle.grown_runs.specs.GrownRuns.{over, told, told_of_rigs, fails_with, is_least, cause_by, cause_at}
-use Rattle.report.specs.Reports.{CauseFacts, GrowthFacts}
+use Rattle.report.specs.Reports.{GrowthFacts}
 use Rattle.campaign_core.specs.Findings.{cause_of, growth_of, IsCauseAmong}
 use Rattle.campaign_core.specs.Headline.{Campaign, census, grower, plans, plans_to}
 use Rattle.campaign_core.proofs.Grown.{list_is}

@@ -1,6 +1,6 @@
 -- Where plans grow, a census has few sites: each is a fault of the first level.
-use Rattle.std.proofs.Common.{◌≡◌, ℕ, zero, suc, ◌+◌, ◌*◌, ◌<◌, ◌≤◌, ◌==◌, Bool, true, false, cond, nat_eq, Option, List, [], ◌∷◌, ◌++◌, map, length, count_by, refl, ap, sym, ◌∙◌, arith, eq-eqb, length-append, subst, rules}
-use Rattle.std.specs.List.{range_with_len, AllByRecursion, flat_map}
+use Rattle.std.proofs.Common.{◌≡◌, ℕ, zero, suc, ◌+◌, ◌<◌, ◌≤◌, ◌==◌, Bool, true, false, cond, Option, List, [], ◌∷◌, ◌++◌, map, length, count_by, refl, ap, ◌∙◌, arith, length-append, rules}
+use Rattle.std.specs.List.{range_with_len, flat_map}
 use Rattle.std.proofs.lemmas.List.{append-nil, length-map}
 use Rattle.std.proofs.lemmas.List.Sums.{sum_by-cons}
 use Rattle.scenario_values.specs.Scenario.{Entries}
@@ -14,8 +14,8 @@ use Rattle.target_trait.specs.Outcomes.{outcome}
 use Rattle.plan_gen.specs.Census.{census_of, counts_of, sites_of}
 use Rattle.plan_gen.specs.Counts.{total_of}
 use Rattle.plan_gen.proofs.Counting.{sites_length}
-use Rattle.grown_plans.specs.GrownPlans.{Subject, cut_point, is_cut, kinds_at, usual_subject, given_for, children, level, levels, onward, grown}
-use Rattle.grown_plans.specs.AskedPoints.{GrowsByAsked, sites_from, children_by}
+use Rattle.grown_plans.specs.GrownPlans.{Subject, cut_point, is_cut, kinds_at, usual_subject, children, level, levels, onward, grown}
+use Rattle.grown_plans.specs.AskedPoints.{GrowsByAsked, sites_from}
 use Rattle.grown_plans.specs.Promises.{IsLawful}
 use Rattle.grown_plans.proofs.AskedSites.{grows_by_asked}
 

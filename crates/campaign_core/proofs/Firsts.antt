@@ -1,5 +1,5 @@
 -- The first failures, and what a report says of them.
-use Rattle.std.proofs.Common.{◌≡◌, ℕ, zero, suc, ◌+◌, ◌<◌, true, Bool, Option, option_map, slice_get, List, [], ◌∷◌, length, get_or, map, All, refl, sym, ap}
+use Rattle.std.proofs.Common.{◌≡◌, ℕ, zero, suc, ◌+◌, ◌<◌, true, Option, option_map, slice_get, List, [], ◌∷◌, length, get_or, map, All, refl, sym, ap}
 use Rattle.std.proofs.Common.{◌∙◌, arith, eq-eqb, zero-add, add-zero}
 use Rattle.std.proofs.lemmas.List.Elements.{All-map}
 use Rattle.scenario_values.specs.Scenario.{Entries, DistinctNames}

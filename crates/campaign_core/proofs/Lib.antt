@@ -1,6 +1,7 @@
 pub mod Minimal
 pub mod Firsts
 mod PageRuns
+mod ToldRuns
 pub mod PlanNames
 pub mod Gathered
 pub mod PlanRows

@@ -1,6 +1,5 @@
 -- What a map shows of plans that grew.
-use Rattle.std.proofs.Common.{◌≡◌, ℕ, ◌+◌, ◌≤◌, Option, None, Some, IfSome, option_map, List, length, refl, arith}
-use Rattle.action_eval.specs.declared.rig.Rig.{Rig}
+use Rattle.std.proofs.Common.{◌≡◌, ℕ, ◌≤◌, Option, None, Some, IfSome, option_map, length, refl, arith}
 use Rattle.plan_gen.specs.Census.{sites_of}
 use Rattle.grown_plans.specs.Promises.{IsLawful}
 use Rattle.grown_runs.specs.declared.levels.Grown.{Grown}

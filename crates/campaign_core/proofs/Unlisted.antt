@@ -1,5 +1,5 @@
 -- Why a list of plans isn't made, and a plan isn't found.
-use Rattle.std.proofs.Common.{◌≡◌, ◌<◌, ℕ, Bool, false, List, Option, Result, Ok, Err, IfErr, IsErrAnd, length, refl, sym, ◌∙◌, subst}
+use Rattle.std.proofs.Common.{◌≡◌, ◌<◌, ℕ, List, Result, Ok, Err, IfErr, IsErrAnd, length, refl, sym, ◌∙◌, subst}
 use Rattle.std.specs.Prelude.{IsErrOf}
 use Rattle.plan_gen.specs.PlanList.{most_plans}
 use Rattle.plan_gen.specs.declared.list.PlanFault.{PlanFault}
@@ -8,6 +8,7 @@ use Rattle.campaign_core.specs.declared.ending.CampaignFault.{CampaignFault}
 use Rattle.campaign_core.specs.declared.ending.CampaignFault.TheVariants as fault
 use Rattle.campaign_core.specs.CommandTexts.{counted, plan_fault, IsFault, IsUnfound}
 use Rattle.campaign_core.specs.Headline.{Campaign, plans}
+use Rattle.campaign_core.specs.Writes.{Change, IsUntouched}
 
 module _ {A : Type 0} where
   pub passed_on : (result : Result A CampaignFault) (f : PlanFault) → IsErrAnd result (λ x. x ≡ plan_fault f) → (P : CampaignFault → Type 0) → P (plan_fault f)
@@ -27,7 +28,7 @@ pub unfound : (k : Campaign) (n : ℕ) (f : PlanFault) → (f ≡ planning.TooMa
 unfound k n planning.TooManyPlans many = many refl
 unfound k n planning.Memory many = tt
 
-pub unlisted : (k : Campaign) (text : List ℕ) (old : Option (List ℕ)) (failed : Bool) (f : PlanFault) → failed ≡ false
-    → (f ≡ planning.TooManyPlans → most_plans < length (plans k)) → IsFault k text old old failed (plan_fault f)
-unlisted k text old failed planning.TooManyPlans sound many = (refl, sound, many refl)
-unlisted k text old failed planning.Memory sound many = (refl, sound)
+pub unlisted : (k : Campaign) (text : List ℕ) (w : Change) (f : PlanFault) → IsUntouched w → (f ≡ planning.TooManyPlans → most_plans < length (plans k))
+    → IsFault k text w (plan_fault f)
+unlisted k text w planning.TooManyPlans untouched many = (untouched, many refl)
+unlisted k text w planning.Memory untouched many = untouched

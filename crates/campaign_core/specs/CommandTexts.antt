@@ -1,7 +1,6 @@
 -- What the commands write: the list of plans, one scenario tried, one scenario reduced.
-use Rattle.std.specs.Prelude.{◌≡◌, ◌≤◌, ◌<◌, ℕ, ◌+◌, Bool, true, false, List, [], ◌∷◌, ◌++◌, Option, None, Some, length, codes, take}
+use Rattle.std.specs.Prelude.{◌≡◌, ◌≤◌, ◌<◌, ℕ, ◌+◌, List, [], ◌∷◌, ◌++◌, Option, None, Some, length, codes}
 use Rattle.std.specs.Fmt.{decimal}
-use Rattle.std.specs.Io.KnownBytes.{Appends}
 use Rattle.scenario_values.specs.Scenario.{Entries}
 use Rattle.action_eval.specs.Answers.{Given, given_of}
 use Rattle.target_trait.specs.declared.judgement.Verdict.{Verdict}
@@ -14,6 +13,7 @@ use Rattle.report.specs.ReportText.{scenario_text, verdict_text, text_of}
 use Rattle.run_explained.specs.Explained.{explain_text}
 use Rattle.campaign_core.specs.Findings.{reduced, reduction, IsMinimal}
 use Rattle.campaign_core.specs.Headline.{Campaign, grower, say, plans}
+use Rattle.campaign_core.specs.Writes.{Change, IsUntouched, WritesPart}
 use Rattle.grown_runs.specs.Grown.{begun}
 use Rattle.campaign_core.specs.declared.ending.CampaignFault.{CampaignFault}
 use Rattle.campaign_core.specs.declared.ending.CampaignFault.TheVariants as fault
@@ -119,17 +119,15 @@ abbrev pub plan_fault : PlanFault → CampaignFault
 plan_fault plan_faults.TooManyPlans = fault.TooManyPlans
 plan_fault plan_faults.Memory = fault.Memory
 
--- What a fault means of a text that wasn't written whole, and what was written by then: for want of memory nothing, and the sink is as
--- good as before; a failed write left some of the first bytes, never all, and the sink says so. A sink held `old` and holds `new`, where
--- it tells its bytes.
-abbrev pub LeavesOnly : Option (List ℕ) → Option (List ℕ) → Bool → List ℕ → CampaignFault → Type 0
-LeavesOnly old new failed text fault.TooManyPlans = ⊥
-LeavesOnly old new failed text fault.Memory = (new ≡ old) × (failed ≡ false)
-LeavesOnly old new failed text (fault.Write n) = Appends old new (take n text) × (n < length text) × (failed ≡ true)
+-- What a fault means of a text that wasn't written whole: for want of memory nothing was written, and the sink is as good as before; a
+-- failed write left some of the first bytes, never all, and the sink says so.
+abbrev pub LeavesOnly : List ℕ → Change → CampaignFault → Type 0
+LeavesOnly text w fault.TooManyPlans = ⊥
+LeavesOnly text w fault.Memory = IsUntouched w
+LeavesOnly text w (fault.Write n) = WritesPart text n w
 
 -- The same of a text over the list of plans: it is refused where the list is too long, and then nothing is written.
-abbrev pub IsFault : Campaign → List ℕ → Option (List ℕ) → Option (List ℕ) → Bool → CampaignFault → Type 0
-IsFault c text old new failed fault.TooManyPlans = (new ≡ old) × (failed ≡ false) × (most_plans < length (plans c))
-IsFault c text old new failed fault.Memory = (new ≡ old) × (failed ≡ false)
-IsFault c text old new failed (fault.Write n) =
-    Appends old new (take n text) × (n < length text) × (failed ≡ true) × (length (plans c) ≤ most_plans)
+abbrev pub IsFault : Campaign → List ℕ → Change → CampaignFault → Type 0
+IsFault c text w fault.TooManyPlans = IsUntouched w × (most_plans < length (plans c))
+IsFault c text w fault.Memory = IsUntouched w
+IsFault c text w (fault.Write n) = WritesPart text n w × (length (plans c) ≤ most_plans)

@@ -2,6 +2,7 @@ pub mod FaultTest
 pub mod Findings
 pub mod Headline
 pub mod Planned
+pub mod Writes
 pub mod CommandTexts
 pub mod Machines
 pub mod Pages

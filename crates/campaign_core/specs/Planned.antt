@@ -1,5 +1,5 @@
 -- What a campaign's plans are kept in.
-use Rattle.std.specs.Prelude.{◌≡◌, ◌+◌, ◌≤◌, ◌<◌, ℕ, List, Option, None, Some, length}
+use Rattle.std.specs.Prelude.{◌≡◌, ◌≤◌, ◌<◌, ℕ, List, Option, None, Some, length}
 use Rattle.std.specs.List.{AllByRecursion}
 use Rattle.scenario_values.specs.Scenario.{Entries}
 use Rattle.target_trait.specs.declared.judgement.Verdict.{Verdict}
@@ -10,7 +10,7 @@ use Rattle.grown_runs.specs.declared.levels.Grown.{Grown}
 use Rattle.action_eval.specs.declared.rig.Rig.{Rig}
 use Rattle.grown_runs.specs.Grown.{HasGrown, begun}
 use Rattle.result_book.specs.Rows.{AreSaid}
-use Rattle.campaign_core.specs.Headline.{Campaign, census, grower, plans, say}
+use Rattle.campaign_core.specs.Headline.{Campaign, census, grower, plans}
 use Rattle.campaign_core.specs.CommandTexts.{with_rest}
 use Rattle.campaign_core.specs.declared.planned.Planned.{Planned}
 

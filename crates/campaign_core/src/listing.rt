@@ -1,6 +1,5 @@
 //! The list of a campaign's plans.
 ghost use Rattle.std.specs.Prelude.{◌≡◌, ◌++◌, ◌≤◌, ◌<◌, false, length, slice_get, string_bytes, IfOk, IfErr, OnOk, IsErrOf};
-ghost use Rattle.std.specs.Io.KnownBytes.{Appends};
 ghost use Rattle.std.specs.List.{AllByRecursion};
 ghost use Rattle.action_eval.specs.Answers.{texts};
 ghost use Rattle.action_eval.specs.Catalogue.{IsCatalogue};
@@ -11,6 +10,7 @@ ghost use Rattle.plan_gen.specs.PlanList.{most_plans};
 ghost use Rattle.report.specs.ReportText.{ended, text_of};
 ghost use Rattle.campaign_core.specs.Headline.{campaign_in, plans};
 ghost use Rattle.campaign_core.specs.CommandTexts.{counted, plan_line, plan_lines, plans_text, IsFault, IsUnfound};
+ghost use Rattle.campaign_core.specs.Writes.{change, WritesWhole};
 
 use crate::ending::CampaignFault;
 use crate::planned::{begin_list, end_list, plans_with};
@@ -129,11 +129,10 @@ pub fn plan_list<T: Target + Send, G: Gate, W: Sink, R: Threads + Wait + Sync>(
 where
     T::Workload: Sync,
     requires { W.has_failed sink.old ≡ false }
-    ensures text { OnOk result (Appends (W.told sink.old) (W.told sink.new) (plans_text (campaign_in T.Target subject.now))) }
+    ensures text { OnOk result (WritesWhole (plans_text (campaign_in T.Target subject.now)) (change W.Sink sink.old sink.new)) }
     ensures few { OnOk result (length (plans (campaign_in T.Target subject.now)) ≤ most_plans) }
-    ensures sound { OnOk result (W.has_failed sink.new ≡ false) }
     ensures fault { IfErr result (let c = campaign_in T.Target subject.now in
-        IsFault c (plans_text c) (W.told sink.old) (W.told sink.new) (W.has_failed sink.new)) }
+        IsFault c (plans_text c) (change W.Sink sink.old sink.new)) }
 {
     let grown = begin_list(host, subject, usize::MAX)?;
     let before = grown.as_ref();

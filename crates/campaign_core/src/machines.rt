@@ -1,10 +1,10 @@
 //! A whole campaign, told to programs.
 ghost use Rattle.std.specs.Prelude.{◌≡◌, ◌≤◌, false, length, option_map, IfOk, IfErr, OnOk};
-ghost use Rattle.std.specs.Io.KnownBytes.{Appends};
 ghost use Rattle.plan_gen.specs.PlanList.{most_plans};
 ghost use Rattle.campaign_core.specs.Headline.{campaign_in, plans, first_failure, EachIsMinimal, EachIsTried};
 ghost use Rattle.campaign_core.specs.Machines.{machine_text};
 ghost use Rattle.campaign_core.specs.CommandTexts.{IsFault};
+ghost use Rattle.campaign_core.specs.Writes.{change, WritesWhole};
 ghost use Rattle.campaign_core.specs.inside.Results.{IsRan};
 
 use crate::ending::{CampaignFault, Ending};
@@ -63,14 +63,13 @@ pub fn machine_campaign<T: Target + Send, G: Gate, W: Sink, R: Threads + Wait + 
 where
     T::Workload: Sync,
     requires { W.has_failed sink.old ≡ false }
-    ensures text { IfOk result (λ _. Appends (W.told sink.old) (W.told sink.new) (machine_text form (campaign_in T.Target subject.now))) }
+    ensures text { OnOk result (WritesWhole (machine_text form (campaign_in T.Target subject.now)) (change W.Sink sink.old sink.new)) }
     ensures first { IfOk result (λ ending. ending.first ≡ option_map (λ f. f.0) (first_failure (campaign_in T.Target subject.now))) }
     ensures minimal { OnOk result (EachIsMinimal (campaign_in T.Target subject.now)) }
     ensures promises { OnOk result (EachIsTried (campaign_in T.Target subject.now)) }
     ensures few { OnOk result (length (plans (campaign_in T.Target subject.now)) ≤ most_plans) }
-    ensures sound { OnOk result (W.has_failed sink.new ≡ false) }
     ensures fault { IfErr result (let c = campaign_in T.Target subject.now in
-        IsFault c (machine_text form c) (W.told sink.old) (W.told sink.new) (W.has_failed sink.new)) }
+        IsFault c (machine_text form c) (change W.Sink sink.old sink.new)) }
 {
     each_behaviour_is_tried::<T>();
     let ran = run_campaign(host, subject)?;

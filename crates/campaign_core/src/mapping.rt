@@ -1,10 +1,10 @@
 //! The map of a whole campaign.
 ghost use Rattle.std.specs.Prelude.{◌≡◌, ◌≤◌, false, length, option_copied, option_map, string_bytes, IfOk, IfErr, OnOk};
-ghost use Rattle.std.specs.Io.KnownBytes.{Appends};
 ghost use Rattle.plan_gen.specs.PlanList.{most_plans};
 ghost use Rattle.campaign_map.specs.Map.{map_text};
 ghost use Rattle.campaign_core.specs.Headline.{campaign_in, mapped, plans, campaign_map_text, first_failure};
 ghost use Rattle.campaign_core.specs.CommandTexts.{IsFault};
+ghost use Rattle.campaign_core.specs.Writes.{change, WritesWhole};
 ghost use Rattle.campaign_core.specs.inside.Results.{IsRan};
 ghost use Rattle.campaign_core.specs.Planned.{onward_among};
 
@@ -73,12 +73,11 @@ pub fn map_campaign<T: Target + Send, G: Gate, W: Sink, R: Threads + Wait + Sync
 where
     T::Workload: Sync,
     requires { W.has_failed sink.old ≡ false }
-    ensures text { IfOk result (λ _. Appends (W.told sink.old) (W.told sink.new) (campaign_map_text (campaign_in T.Target subject.now))) }
+    ensures text { OnOk result (WritesWhole (campaign_map_text (campaign_in T.Target subject.now)) (change W.Sink sink.old sink.new)) }
     ensures first { IfOk result (λ ending. ending.first ≡ option_map (λ f. f.0) (first_failure (campaign_in T.Target subject.now))) }
     ensures few { OnOk result (length (plans (campaign_in T.Target subject.now)) ≤ most_plans) }
-    ensures sound { OnOk result (W.has_failed sink.new ≡ false) }
     ensures fault { IfErr result (let c = campaign_in T.Target subject.now in
-        IsFault c (campaign_map_text c) (W.told sink.old) (W.told sink.new) (W.has_failed sink.new)) }
+        IsFault c (campaign_map_text c) (change W.Sink sink.old sink.new)) }
 {
     let ran = run_campaign(host, subject)?;
     let text = map_of(host.alloc, subject, &ran, 0)?;

@@ -1,9 +1,9 @@
 //! The page of a whole campaign.
 ghost use Rattle.std.specs.Prelude.{◌≡◌, ◌≤◌, ◌++◌, false, length, map, option_map, string_bytes, IfOk, IfErr, OnOk};
-ghost use Rattle.std.specs.Io.KnownBytes.{Appends};
 ghost use Rattle.plan_gen.specs.PlanList.{most_plans};
 ghost use Rattle.campaign_core.specs.Headline.{campaign_in, plans, first_failure, EachIsMinimal, EachIsTried};
 ghost use Rattle.campaign_core.specs.CommandTexts.{IsFault};
+ghost use Rattle.campaign_core.specs.Writes.{change, WritesWhole};
 ghost use Rattle.campaign_core.specs.Pages.{bool_text, depth_text, limits_text, listing_text, settings_text, text_or};
 ghost use Rattle.campaign_core.specs.Pages.{run_of_finding, run_of_cause, run_under, cause_runs, campaign_page_text};
 ghost use Rattle.campaign_core.specs.inside.Results.{IsRan};
@@ -28,7 +28,7 @@ use std::thread::Threads;
 use target_trait::{Sink, Target};
 use work_gate::Gate;
 
-/// Of a run that is told, so many hits are.
+/// How many hits of a run the page tells at most.
 const MOST_HITS: usize = 1000;
 
 /// What a page tells that the campaign doesn't.
@@ -189,34 +189,6 @@ fn cause_runs<T: Target>(
     }
 }
 
-/// What a page tells beside the report, by the runs of the first failures and those of the causes.
-fn about_of<'a>(
-    map: &'a str,
-    runs: &'a [ToldRun],
-    cause_runs: &'a [ToldRun],
-    version: &'a str,
-    command: &'a str,
-    settings: &'a str,
-) -> About<'a>
-    ensures { result ≡ record {
-      map = map.entry.now;
-      runs = runs.entry.now;
-      cause_runs = cause_runs.entry.now;
-      version = version.entry.now;
-      command = command.entry.now;
-      settings = settings.entry.now;
-    } }
-{
-    About {
-        map,
-        runs,
-        cause_runs,
-        version,
-        command,
-        settings,
-    }
-}
-
 /// The page of a campaign whose plans have run. An error means that memory was refused.
 fn page_of<T: Target + Send, G: Gate, R: Threads + Wait + Sync>(
     host: &Host<'_, G, R>,
@@ -238,14 +210,14 @@ where
     let runs = finding_runs(alloc, subject, &report.findings)?;
     let cause_runs = cause_runs(alloc, subject, &report.growth)?;
     let settings = shown_settings(alloc, subject)?;
-    let about = about_of(
-        map.as_str(),
-        runs.as_slice(),
-        cause_runs.as_slice(),
-        notes.version,
-        notes.command,
-        settings.as_str(),
-    );
+    let about = About {
+        map: map.as_str(),
+        runs: runs.as_slice(),
+        cause_runs: cause_runs.as_slice(),
+        version: notes.version,
+        command: notes.command,
+        settings: settings.as_str(),
+    };
     page_text(alloc, subject.target, &report, &plans, &about)
 }
 
@@ -261,14 +233,13 @@ pub fn page_campaign<T: Target + Send, G: Gate, W: Sink, R: Threads + Wait + Syn
 where
     T::Workload: Sync,
     requires { W.has_failed sink.old ≡ false }
-    ensures text { IfOk result (λ _. Appends (W.told sink.old) (W.told sink.new) (campaign_page_text notes.now (campaign_in T.Target subject.now))) }
+    ensures text { OnOk result (WritesWhole (campaign_page_text notes.now (campaign_in T.Target subject.now)) (change W.Sink sink.old sink.new)) }
     ensures first { IfOk result (λ ending. ending.first ≡ option_map (λ f. f.0) (first_failure (campaign_in T.Target subject.now))) }
     ensures minimal { OnOk result (EachIsMinimal (campaign_in T.Target subject.now)) }
     ensures promises { OnOk result (EachIsTried (campaign_in T.Target subject.now)) }
     ensures few { OnOk result (length (plans (campaign_in T.Target subject.now)) ≤ most_plans) }
-    ensures sound { OnOk result (W.has_failed sink.new ≡ false) }
     ensures fault { IfErr result (let c = campaign_in T.Target subject.now in
-        IsFault c (campaign_page_text notes.now c) (W.told sink.old) (W.told sink.new) (W.has_failed sink.new)) }
+        IsFault c (campaign_page_text notes.now c) (change W.Sink sink.old sink.new)) }
 {
     each_behaviour_is_tried::<T>();
     let ran = run_campaign(host, subject)?;

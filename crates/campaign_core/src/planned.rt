@@ -19,7 +19,7 @@ use std::thread::Threads;
 use target_trait::{Target, Verdict};
 use work_gate::Gate;
 
-/// A campaign has at most so many plans.
+/// How many plans a campaign has at most.
 const MOST_PLANS: u32 = 65536;
 
 /// What a campaign's plans are kept in.
@@ -115,7 +115,7 @@ where
     }
 }
 
-/// The plans that grow to this depth with which the list begins, where it is looked at for so many.
+/// The plans that grow to this depth, level by level until they are `count` or more; all of them where they never are.
 fn begun_to<T: Target + Send, G: Gate, R: Threads + Wait + Sync>(
     host: &Host<'_, G, R>,
     subject: &Subject<'_, T>,
@@ -138,9 +138,10 @@ where
     }
 }
 
-/// Of a campaign with a depth the plans that grow with which its list begins, where it is looked at for so many. No more is run than that takes.
+/// Of a campaign with a depth, the plans that grow, level by level until they are `count` or more; all of them where they never are. No more
+/// is run than that takes.
 ///
-/// The answer is `TooManyPlans` only where these and what stands behind make more than 65536 plans; otherwise an error is `Memory`.
+/// The answer is `TooManyPlans` only where these, the storms and the listed scenarios are more than 65536; otherwise an error is `Memory`.
 pub fn begin_list<T: Target + Send, G: Gate, R: Threads + Wait + Sync>(
     host: &Host<'_, G, R>,
     subject: &Subject<'_, T>,
@@ -160,8 +161,8 @@ where
     Ok(Some(begun))
 }
 
-/// The census of a campaign, by a run of a twin of the target, and those of its plans that don't grow: where it has a depth, what stands behind
-/// these plans that did.
+/// The census of a campaign, by a run of a twin of the target, and those of its plans that don't grow: the storms and the listed scenarios,
+/// where it has a depth, which stand behind the plans that grew.
 ///
 /// The answer is `TooManyPlans` only where there are more than 65536 plans; otherwise an error is `Memory`.
 pub fn end_list<'a, T: Target>(

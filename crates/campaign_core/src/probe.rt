@@ -110,7 +110,7 @@ where
 
 /// Reduces a failure with a thread for each worker, and a twin of the target for each. The result is that of one thread. An error means
 /// that memory was refused.
-pub fn reduced<T: Target + Send, G: Gate, R: Threads + Wait + Sync>(
+pub fn reduction_of<T: Target + Send, G: Gate, R: Threads + Wait + Sync>(
     host: &Host<'_, G, R>,
     target: &T,
     failure: &Failure<'_, T>,

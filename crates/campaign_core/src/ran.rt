@@ -43,7 +43,7 @@ where
     run_course(host, subject.target, &course, known_of(subject, planned))
 }
 
-/// Runs a campaign's plans, each once, with as many threads as the settings say. What they come to is that of one thread.
+/// Runs a campaign's plans, with as many threads as the settings say. What they come to is that of one thread.
 ///
 /// The answer is `TooManyPlans` only where there are more than 65536 plans; otherwise an error is `Memory`.
 pub fn run_campaign<'a, T: Target + Send, G: Gate, R: Threads + Wait + Sync>(

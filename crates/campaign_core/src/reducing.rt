@@ -1,16 +1,16 @@
 //! A failing scenario, reduced to what it takes to fail.
 ghost use Rattle.std.specs.Prelude.{◌≡◌, ◌++◌, ◌∷◌, [], true, false, codes, string_bytes, IfOk, IfErr, OnOk};
 ghost use Rattle.std.specs.Fmt.{decimal};
-ghost use Rattle.std.specs.Io.KnownBytes.{Appends};
 ghost use Rattle.report.specs.ReportText.{scenario_text, text_of};
 ghost use Rattle.campaign_core.specs.FaultTest.{fails_with};
 ghost use Rattle.campaign_core.specs.Findings.{reduction, reduced, IsMinimal};
 ghost use Rattle.campaign_core.specs.Headline.{campaign_in, say};
 ghost use Rattle.campaign_core.specs.CommandTexts.{found_lines, reduce_text, IsReducedToMinimal, LeavesOnly};
+ghost use Rattle.campaign_core.specs.Writes.{change, WritesWhole};
 ghost use Rattle.campaign_core.specs.inside.Says.{failure_says};
 
 use crate::ending::CampaignFault;
-use crate::probe::{Failure, fault_count, reduced};
+use crate::probe::{Failure, fault_count, reduction_of};
 use crate::subject::{Host, Subject};
 use crate::written::write_judged;
 use report::{write_scenario, write_verdict};
@@ -39,7 +39,7 @@ where
         (reduced (failure_says T.Target target.now failure.now) failure.now.stream failure.now.code failure.now.scenario.now)) }
 {
     let _ = failure.scenario.entries();
-    let reduction = reduced(host, target, failure)?;
+    let reduction = reduction_of(host, target, failure)?;
     let kept = keep(host.alloc, failure.scenario, reduction.kept.as_slice())?;
     Ok((tidy(host.alloc, &kept)?, reduction.tests))
 }
@@ -142,12 +142,11 @@ where
     T::Workload: Sync,
     requires { W.has_failed sink.old ≡ false }
     ensures verdict { IfOk result (λ verdict. verdict ≡ say (campaign_in T.Target subject.now) stream scenario.now) }
-    ensures text { OnOk result (Appends (W.told sink.old) (W.told sink.new)
-        (reduce_text (campaign_in T.Target subject.now) stream scenario.now)) }
+    ensures text { OnOk result (WritesWhole (reduce_text (campaign_in T.Target subject.now) stream scenario.now)
+        (change W.Sink sink.old sink.new)) }
     ensures minimal { OnOk result (IsReducedToMinimal (campaign_in T.Target subject.now) stream scenario.now) }
-    ensures sound { OnOk result (W.has_failed sink.new ≡ false) }
-    ensures fault { IfErr result (LeavesOnly (W.told sink.old) (W.told sink.new) (W.has_failed sink.new)
-        (reduce_text (campaign_in T.Target subject.now) stream scenario.now)) }
+    ensures fault { IfErr result (LeavesOnly (reduce_text (campaign_in T.Target subject.now) stream scenario.now)
+        (change W.Sink sink.old sink.new)) }
 {
     let verdict = verdict_of(host.alloc, subject, stream, scenario)?;
     let text = reduce_text(host, subject, stream, scenario, verdict)?;

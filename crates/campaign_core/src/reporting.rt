@@ -22,7 +22,7 @@ use work_gate::Gate;
 
 /// What is told of a first failure of a course, by its number and code, with its plan's scenario reduced. An error means that memory was
 /// refused.
-fn found<T: Target + Send, G: Gate, R: Threads + Wait + Sync>(
+fn finding_of<T: Target + Send, G: Gate, R: Threads + Wait + Sync>(
     host: &Host<'_, G, R>,
     target: &T,
     course: &Course<'_, T>,
@@ -70,7 +70,7 @@ where
 {
     let mut all = Vec::with_capacity(host.alloc, firsts.len())?;
     for first in firsts {
-        let found = found(host, target, course, *first)?;
+        let found = finding_of(host, target, course, *first)?;
         all.push(found)?;
     }
     Ok(all)

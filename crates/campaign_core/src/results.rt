@@ -36,8 +36,8 @@ impl Results {
     }
 }
 
-/// Runs each plan of a course once whose verdict isn't known, with a thread for each worker and a twin of the target for each. The results
-/// are those of one thread. An error means that memory was refused.
+/// Runs each plan of a course whose verdict isn't known, with a thread for each worker and a twin of the target for each. The results are
+/// those of one thread. An error means that memory was refused.
 pub fn run_course<T: Target + Send, G: Gate, R: Threads + Wait + Sync>(
     host: &Host<'_, G, R>,
     target: &T,

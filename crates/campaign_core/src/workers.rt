@@ -44,18 +44,9 @@ where
     Ok(all)
 }
 
-/// A copy of these verdicts. An error means that memory was refused.
-fn copied(alloc: Global, verdicts: &[Verdict]) -> Result<Vec<Verdict>, AllocError>
-    ensures { IfOk result (λ all. all.items ≡ verdicts.now) }
-{
-    let mut all = Vec::new(alloc);
-    all.extend_from_slice(verdicts)?;
-    Ok(all)
-}
-
-/// Runs each plan of a course once whose verdict isn't known, with a thread for each worker and a twin of the target for each, and puts all
-/// verdicts into a book. It is the book of one thread. The book is made once all have run, when the workers' tickets are gone. An error
-/// means that memory was refused.
+/// Runs each plan of a course whose verdict isn't known, with a thread for each worker and a twin of the target for each, and puts all
+/// verdicts into a book. It is the book of one thread. A row at which a worker was refused memory is run again. The book is made once all
+/// have run, when the workers' tickets are gone. An error means that memory was refused.
 pub fn run_plans<T: Target + Send, G: Gate, R: Threads + Wait + Sync>(
     host: &Host<'_, G, R>,
     target: &T,
@@ -82,7 +73,7 @@ where
     };
     let rows = answers_of(*rt, *alloc, &gate, jobs, row_count(plans))?;
     let mut book = Book::new(*alloc, course)?;
-    book.put_known(copied(*alloc, known)?);
+    book.put_known(Vec::from_slice(*alloc, known)?);
     put_all(&mut book, rows);
     Ok(book)
 }

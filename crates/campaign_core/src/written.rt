@@ -1,7 +1,7 @@
 //! The text of a run that was judged, written to a sink.
 ghost use Rattle.std.specs.Prelude.{◌≡◌, false, IfOk, IfErr, OnOk};
-ghost use Rattle.std.specs.Io.KnownBytes.{Appends};
 ghost use Rattle.campaign_core.specs.CommandTexts.{LeavesOnly};
+ghost use Rattle.campaign_core.specs.Writes.{change, WritesWhole};
 
 use crate::ending::CampaignFault;
 use report::write_report;
@@ -16,9 +16,8 @@ pub fn write_judged<W: Sink>(
 ) -> Result<Verdict, CampaignFault>
     requires { W.has_failed sink.old ≡ false }
     ensures verdict { IfOk result (λ told. told ≡ verdict) }
-    ensures text { OnOk result (Appends (W.told sink.old) (W.told sink.new) text.now) }
-    ensures sound { OnOk result (W.has_failed sink.new ≡ false) }
-    ensures fault { IfErr result (LeavesOnly (W.told sink.old) (W.told sink.new) (W.has_failed sink.new) text.now) }
+    ensures text { OnOk result (WritesWhole text.now (change W.Sink sink.old sink.new)) }
+    ensures fault { IfErr result (LeavesOnly text.now (change W.Sink sink.old sink.new)) }
 {
     write_report(text.as_bytes(), sink)?;
     Ok(verdict)

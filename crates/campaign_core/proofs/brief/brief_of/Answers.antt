@@ -1,4 +1,4 @@
-use Rattle.std.proofs.Common.{◌≡◌, ap, sym, ◌∙◌, length, ℕ, List}
+use Rattle.std.proofs.Common.{◌≡◌, ap, sym, ◌∙◌, length, List}
 use Rattle.std.proofs.lemmas.Result.{IfOk-weaker}
 use Rattle.scenario_values.specs.Scenario.{Entries}
 use Rattle.result_book.proofs.SlotLemmas.{length_verdicts}

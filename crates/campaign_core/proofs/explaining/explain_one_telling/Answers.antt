@@ -1,29 +1,26 @@
 use Rattle.std.proofs.Common.{subst, IfErr, OnOk, ℕ, List}
-use Rattle.std.specs.Io.KnownBytes.{Appends}
-use Rattle.action_eval.specs.Answers.{Given}
 use Rattle.campaign_core.specs.CommandTexts.{LeavesOnly}
+use Rattle.campaign_core.specs.Writes.{change, WritesWhole}
+use Rattle.campaign_core.proofs.ToldRuns.{twin_text_is}
 use Rattle.run_explained.specs.Tales.{telling_text}
-use Rattle.run_explained.proofs.Cases.{text_is}
 use Rattle.campaign_core.proofs.explaining.explain_one_telling.Goals as goal
 
 pub returns-clause-text : goal.returns-clause-text
 returns-clause-text g c =
-    let W = g.W.Sink in
     let T = g.T.Target in
     let tells = g.T.TellingTarget in
-    let told : Given → List ℕ = λ x. telling_text T.code_text (T.asks c.args.target.now c.args.workload.now) x
-    (tells.state_of c.args.target.now c.args.workload.now x) (tells.reason_of c.args.target.now c.args.workload.now x) in
-    subst (λ (text : List ℕ). OnOk c.write_judged.result (Appends (W.told c.args.sink.now) (W.told c.write_judged.new.sink) text))
-    (text_is T.names told _ _ _ _ c.as_str.ensures.value c.in_ok-told.ensures.text c.case-case.ensures)
+    let work = c.args.subject.now.workload.now in
+    subst (λ (text : List ℕ). OnOk c.write_judged.result (WritesWhole text (change g.W.Sink c.args.sink.now c.write_judged.new.sink)))
+    (twin_text_is T.names (λ t x. telling_text T.code_text (T.asks t work) x (tells.state_of t work x) (tells.reason_of t work x)) _ _ _ _ _ _
+    c.as_str.ensures.value c.in_ok-told.ensures.text c.case-case.ensures c.in_ok-twin.ensures)
     c.write_judged.ensures.text
 
 pub returns-clause-fault : goal.returns-clause-fault
 returns-clause-fault g c =
-    let W = g.W.Sink in
     let T = g.T.Target in
     let tells = g.T.TellingTarget in
-    let told : Given → List ℕ = λ x. telling_text T.code_text (T.asks c.args.target.now c.args.workload.now) x
-    (tells.state_of c.args.target.now c.args.workload.now x) (tells.reason_of c.args.target.now c.args.workload.now x) in
-    subst (λ (text : List ℕ). IfErr c.write_judged.result (LeavesOnly (W.told c.args.sink.now) (W.told c.write_judged.new.sink) (W.has_failed c.write_judged.new.sink) text))
-    (text_is T.names told _ _ _ _ c.as_str.ensures.value c.in_ok-told.ensures.text c.case-case.ensures)
+    let work = c.args.subject.now.workload.now in
+    subst (λ (text : List ℕ). IfErr c.write_judged.result (LeavesOnly text (change g.W.Sink c.args.sink.now c.write_judged.new.sink)))
+    (twin_text_is T.names (λ t x. telling_text T.code_text (T.asks t work) x (tells.state_of t work x) (tells.reason_of t work x)) _ _ _ _ _ _
+    c.as_str.ensures.value c.in_ok-told.ensures.text c.case-case.ensures c.in_ok-twin.ensures)
     c.write_judged.ensures.fault

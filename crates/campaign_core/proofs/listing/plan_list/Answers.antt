@@ -1,8 +1,9 @@
-use Rattle.std.proofs.Common.{◌≡◌, ◌<◌, ℕ, List, Option, Err, refl, ap, sym, subst, arith}
+use Rattle.std.proofs.Common.{List, Option, Err, refl, ap, sym, subst, arith}
 use Rattle.action_eval.specs.declared.rig.Rig.{Rig}
 use Rattle.campaign_core.specs.CommandTexts.{plans_text, IsFault}
 use Rattle.campaign_core.specs.Headline.{Campaign, campaign_in}
 use Rattle.campaign_core.specs.Planned.{AreGrown}
+use Rattle.campaign_core.specs.Writes.{Change, change}
 use Rattle.campaign_core.proofs.Begun.{begun_full, counted_least}
 use Rattle.campaign_core.proofs.Unlisted.{passed_on, unlisted}
 use Rattle.campaign_core.proofs.listing.plan_list.Goals as goal
@@ -10,10 +11,9 @@ use Rattle.campaign_core.proofs.listing.plan_list.Goals as goal
 pub returns-in_err-grown-clause-fault : goal.returns-in_err-grown-clause-fault
 returns-in_err-grown-clause-fault g c =
     let k : Campaign = campaign_in g.T.Target c.args.subject.now in
-    let told = g.W.Sink.told c.args.sink.now in
-    let failed = g.W.Sink.has_failed c.args.sink.now in
-    passed_on c.from_residual.result c.in_err-grown.field-0.0 c.from_residual.ensures.1 (IsFault k (plans_text k) told told failed)
-    (unlisted k (plans_text k) told failed c.in_err-grown.field-0.0 c.requires
+    let w : Change = change g.W.Sink c.args.sink.now c.args.sink.now in
+    passed_on c.from_residual.result c.in_err-grown.field-0.0 c.from_residual.ensures.1 (IsFault k (plans_text k) w)
+    (unlisted k (plans_text k) w c.in_err-grown.field-0.0 (refl, c.requires)
     (λ is.
     let many = c.in_err-grown.ensures.many (ap Err is) in
     let least = counted_least k 18446744073709551615 k.depth refl in

@@ -4,7 +4,7 @@ use Rattle.std.proofs.lemmas.Option.{slice_get-get_or, slice_get_past}
 use Rattle.action_eval.specs.declared.rig.Rig.{Rig}
 use Rattle.campaign_plans.specs.GrownScenarios.{grown_among, grown_scenarios}
 use Rattle.campaign_core.specs.CommandTexts.{IsUnfound}
-use Rattle.campaign_core.specs.Headline.{Campaign, campaign_in, plans}
+use Rattle.campaign_core.specs.Headline.{Campaign, campaign_in}
 use Rattle.campaign_core.specs.Planned.{AreGrown}
 use Rattle.campaign_core.proofs.Begun.{begun_rigged, begun_found, begun_counted, begun_whole, counted_all, counted_least}
 use Rattle.campaign_core.proofs.Unlisted.{passed_on, too_many, unfound}

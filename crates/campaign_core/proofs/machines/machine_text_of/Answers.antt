@@ -1,12 +1,10 @@
 use Rattle.std.proofs.Common.{◌≡◌, ◌∙◌, List, IfSome, ap, length, subst, sym}
 use Rattle.std.proofs.lemmas.Result.{IfOk-weaker}
 use Rattle.scenario_values.specs.Scenario.{Entries}
-use Rattle.result_book.proofs.SlotLemmas.{length_verdicts}
 use Rattle.report.specs.Reports.{GrowthFacts, ReportFacts}
 use Rattle.report_json.specs.Document.{document_of}
 use Rattle.report_json.specs.Document.{text_of as json_of}
-use Rattle.report_junit.specs.Junit.{document_text}
-use Rattle.campaign_core.specs.Headline.{Campaign, campaign_in, plans, report, say}
+use Rattle.campaign_core.specs.Headline.{Campaign, campaign_in, report}
 use Rattle.campaign_core.specs.Machines.{machine_text}
 use Rattle.campaign_core.specs.declared.machines.MachineForm.{MachineForm}
 use Rattle.campaign_core.proofs.EachVerdict.{verdicts_each}

@@ -1,7 +1,7 @@
-use Rattle.std.proofs.Common.{◌≤◌, ℕ, List, length, ap, sym, subst, ◌∙◌, arith, refl, rules}
+use Rattle.std.proofs.Common.{◌≤◌, ℕ, List, length, ap, sym, subst, ◌∙◌, arith, rules}
 use Rattle.plan_gen.specs.Census.{sites_of}
-use Rattle.campaign_core.specs.Headline.{Campaign, campaign_in, census, plans, plans_to, say}
-use Rattle.campaign_core.proofs.Shown.{few_sites_to, grown_shown, onward_shown}
+use Rattle.campaign_core.specs.Headline.{Campaign, campaign_in, census}
+use Rattle.campaign_core.proofs.Shown.{few_sites_to}
 use Rattle.campaign_core.proofs.mapping.map_of.Goals as goal
 
 pub map_text-requires-clause-points : goal.map_text-requires-clause-points

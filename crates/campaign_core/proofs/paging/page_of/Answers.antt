@@ -1,4 +1,4 @@
-use Rattle.std.proofs.Common.{◌≡◌, ◌∙◌, ℕ, IfSome, List, ap, length, map, subst, sym}
+use Rattle.std.proofs.Common.{◌≡◌, ◌∙◌, ℕ, IfSome, ap, length, map, subst, sym}
 use Rattle.std.proofs.lemmas.Result.{IfOk-weaker}
 use Rattle.report.specs.Reports.{GrowthFacts, ReportFacts}
 use Rattle.report_page.specs.Page.{most_told, rows_to}
@@ -27,7 +27,7 @@ returns-clause-text g c =
     c.linked_plans-linked.ensures ∙ ap (λ (r : ReportFacts). rows_to most_told r.verdicts) (c.report.view_is ∙ c.in_ok-report.ensures.report) in
     IfOk-weaker c.page_text.result _ (λ text. text.items ≡ campaign_page_text c.args.notes.now k)
     (λ text h. page_is k c.args.notes.now text.items _ _ _ h c.in_ok-report.ensures.report c.plans_of-plans.ensures
-    (c.about_of-about.ensures ∙ about_is k _ _ _ _ _ (c.as_str.ensures.value ∙ c.in_ok-map.ensures ∙ ap (λ (n : ℕ). map_text k.points k.codes (mapped n k)) linked)
+    (about_is k _ _ _ _ _ (c.as_str.ensures.value ∙ c.in_ok-map.ensures ∙ ap (λ (n : ℕ). map_text k.points k.codes (mapped n k)) linked)
     (c.as_slice.ensures.value ∙ c.in_ok-runs.ensures ∙ ap (map (run_of_finding k)) c.deref.ensures.value
     ∙ ap (λ (r : ReportFacts). map (run_of_finding k) r.findings) (c.report.view_is ∙ c.in_ok-report.ensures.report))
     (c.as_slice-2.ensures.value ∙ c.in_ok-cause_runs.ensures ∙ ap (λ (r : ReportFacts). cause_runs k r.growth) (c.report.view_is ∙ c.in_ok-report.ensures.report))

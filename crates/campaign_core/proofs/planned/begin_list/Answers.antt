@@ -1,4 +1,4 @@
-use Rattle.std.proofs.Common.{rules, ◌≡◌, ◌<◌, ℕ, Option, None, Some, List, ap, sym, subst, ◌∙◌, arith}
+use Rattle.std.proofs.Common.{rules, ◌≡◌, ◌<◌, ℕ, Option, None, Some, ap, sym, subst, ◌∙◌}
 use Rattle.campaign_given.specs.Given.{Given}
 use Rattle.campaign_core.specs.CommandTexts.{counted_to}
 use Rattle.campaign_core.specs.Headline.{Campaign, campaign_in}

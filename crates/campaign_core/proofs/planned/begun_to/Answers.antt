@@ -1,6 +1,5 @@
-use Rattle.std.proofs.Common.{rules, ◌≡◌, ◌≤◌, ◌<◌, ◌+◌, ℕ, List, length, ap, sym, subst, ◌∙◌, arith}
-use Rattle.action_eval.specs.declared.rig.Rig.{Rig}
-use Rattle.grown_plans.specs.GrownPlans.{Subject, grown}
+use Rattle.std.proofs.Common.{rules, ◌≡◌, ℕ, length, ap, ◌∙◌, arith}
+use Rattle.grown_plans.specs.GrownPlans.{Subject}
 use Rattle.grown_plans.specs.Promises.{IsLawful}
 use Rattle.grown_runs.specs.Grown.{subject_in, begun}
 use Rattle.campaign_core.specs.Headline.{Campaign, campaign_in, grower}

@@ -1,9 +1,9 @@
-use Rattle.std.proofs.Common.{rules, ◌≡◌, ◌≤◌, ◌<◌, ◌+◌, ℕ, List, length, ap, sym, subst, ◌∙◌, arith}
+use Rattle.std.proofs.Common.{subst}
 use Rattle.grown_plans.specs.Promises.{IsLawful}
 use Rattle.campaign_core.specs.Headline.{Campaign, campaign_in, grower}
 use Rattle.std.specs.Option.{option_copied}
 use Rattle.campaign_core.specs.Planned.{AreGrown}
-use Rattle.campaign_core.proofs.Begun.{sites_few, listed_grown, listed_census, behind_counted, behind_some, no_depth}
+use Rattle.campaign_core.proofs.Begun.{sites_few, behind_some}
 use Rattle.campaign_core.proofs.planned.end_list.Goals as goal
 
 pub further_plans-requires-clause-sites : goal.further_plans-requires-clause-sites

@@ -1,4 +1,4 @@
-use Rattle.std.proofs.Common.{rules, ◌≡◌, ◌≤◌, ◌<◌, ◌+◌, ℕ, List, length, ap, sym, subst, ◌∙◌, arith}
+use Rattle.std.proofs.Common.{rules, ◌≡◌, ℕ, length, ap, subst, ◌∙◌, arith}
 use Rattle.grown_plans.specs.GrownPlans.{Subject, grown}
 use Rattle.grown_plans.specs.Promises.{IsLawful}
 use Rattle.grown_runs.specs.Grown.{subject_in, HasGrown}

@@ -1,4 +1,4 @@
-use Rattle.std.proofs.Common.{◌≡◌, ◌<◌, ◌≤◌, ◌-◌, ℕ, List, nat_eq, get_or, length, vec_len, ap, sym, subst, ◌∙◌, arith}
+use Rattle.std.proofs.Common.{◌≡◌, ◌<◌, ◌-◌, ℕ, List, nat_eq, get_or, length, vec_len, ap, sym, subst, ◌∙◌, arith}
 use Rattle.scenario_values.specs.Scenario.{Entries}
 use Rattle.target_trait.specs.declared.judgement.Verdict.{Verdict}
 use Rattle.result_book.specs.Says.{course_says}
@@ -29,7 +29,7 @@ returns g c =
     let ls = c.in_ok-rows.rows.items in
     let say : ℕ → Entries → Verdict = course_says g.T.Target c.args.target.now course in
     let same_len : length ls ≡ length jobs = omega (arith, c.in_ok-rows.ensures.many, c.in_ok-rows.rows.ok.0, c.in_ok-jobs.jobs.ok.0) in
-    c.put_all.ensures ∙ ap (λ s. enter_lists s ls) (c.put_known.ensures ∙ ap (λ vs. enter_row c.in_ok-book.book 0 vs) c.in_ok-copied.ensures
+    c.put_all.ensures ∙ ap (λ s. enter_lists s ls) (c.put_known.ensures ∙ ap (λ vs. enter_row c.in_ok-book.book 0 vs) c.in_ok-from_slice.ensures.items
     ∙ ap (λ s. enter_row s 0 known) c.in_ok-book.ensures)
     ∙ book_after_known say plans known (row_of say plans first) ls c.requires.known.said c.requires.known.few
     (all_own jobs ls c.args.target.now course first (λ r. r.target) (λ r. r.course.now) (λ r. r.first)

@@ -5,7 +5,7 @@ use Rattle.result_book.specs.Says.{course_says}
 use Rattle.campaign_core.specs.FaultTest.{fails_with}
 use Rattle.campaign_core.specs.Findings.{IsMinimal}
 use Rattle.campaign_core.proofs.Firsts.{failure_fails, found_is}
-use Rattle.campaign_core.proofs.reporting.found.Goals as goal
+use Rattle.campaign_core.proofs.reporting.finding_of.Goals as goal
 
 pub reduced_scenario-requires-clause-fails : goal.reduced_scenario-requires-clause-fails
 reduced_scenario-requires-clause-fails g c κs within =

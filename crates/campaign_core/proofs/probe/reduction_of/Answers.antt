@@ -5,7 +5,7 @@ use Rattle.campaign_core.specs.inside.Says.{failure_says}
 use Rattle.campaign_core.specs.FaultTest.{fault_test}
 use Rattle.campaign_core.specs.Findings.{reduction}
 use Rattle.campaign_core.proofs.Gathered.{by_first}
-use Rattle.campaign_core.proofs.probe.reduced.Goals as goal
+use Rattle.campaign_core.proofs.probe.reduction_of.Goals as goal
 
 pub returns : goal.returns
 returns g c =
