@@ -1,6 +1,7 @@
 //! Campaigns on made-up components, from nothing known to the report.
 
 use crate::plain::{number_of, plain_report, tidied_text, verdict_of};
+use asked_lines::AskedPart;
 use campaign_given::{CampaignSettings, Outside};
 use campaign_settings::{Choice, Settings};
 use outside_campaign::{Form, OutsideFault, list_plans, write_asks, write_report_in};
@@ -38,7 +39,14 @@ fn asks(
     answers: &str,
 ) -> Result<String, Fail> {
     let mut out = Out::new(Vec::new(alloc));
-    write_asks(alloc, outside, settings, answers.as_bytes(), &mut out)?;
+    write_asks(
+        alloc,
+        outside,
+        settings,
+        AskedPart::All,
+        answers.as_bytes(),
+        &mut out,
+    )?;
     text_in(out)
 }
 
@@ -145,6 +153,7 @@ fn is_refused(rt: &impl Abort, alloc: Global, answers: &str, line: &str) -> Resu
         alloc,
         outside,
         &settings.campaign,
+        AskedPart::All,
         answers.as_bytes(),
         &mut out,
     ) {

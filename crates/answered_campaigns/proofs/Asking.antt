@@ -9,13 +9,12 @@ use Rattle.campaign_plans.specs.GrownScenarios.{grown_scenarios}
 use Rattle.grown_plans.specs.GrownPlans.{usual_kinds}
 use Rattle.grown_plans.proofs.Members.{all_weaker}
 use Rattle.known_runs.proofs.Kept.{part_short}
-use Rattle.report.specs.ReportText.{text_of}
 use Rattle.answered_runs.specs.Answered.{Answered, known_plans, runs_in}
 use Rattle.answered_runs.specs.Broken.{line_told}
 use Rattle.answered_runs.specs.WholeList.{IsGap}
 use Rattle.answered_runs.specs.declared.whole.Gap.TheVariants as gap
 use Rattle.campaign_core.specs.declared.ending.CampaignFault.TheVariants as campaign
-use Rattle.outside_campaign.specs.Asked.{lines_for}
+use Rattle.asked_lines.specs.Lines.{lines_for}
 use Rattle.outside_campaign.specs.declared.refusal.OutsideFault.TheVariants as refusal
 use Rattle.outside_campaign.proofs.Lines.{none_once}
 use Rattle.outside_grown.specs.Asked.{to_try, undecided, unrun}
@@ -102,16 +101,11 @@ cards_asked a depth asked plans grew cards slice lines h is known same asks = as
 
 -- ---- the text
 
-empty_by : (keys : List (List ℕ)) → length keys ≡ 0 → keys ≡ []
-empty_by [] h = refl
-empty_by (key ∷ keys) h = absurd (omega (arith, h))
-
-pub none_to_try : (k : Known) (a : Answered) (depth : ℕ) (asked asks : Asked) (keys : List (List ℕ)) → (a, depth) ≡ k → asks ≡ asked → keys ≡ lines_for (to_try a depth asks) → length keys ≡ 0
+pub none_to_try : (k : Known) (a : Answered) (depth : ℕ) (asked asks : Asked) (keys : List (List ℕ)) → (a, depth) ≡ k → asks ≡ asked → keys ≡ lines_for (to_try a depth asks) → keys ≡ []
     → to_try k.0 k.1 asked ≡ []
 none_to_try k a depth asked asks keys at same is empty =
-    ap (λ (x : Known). to_try x.0 x.1 asked) (sym at) ∙ ap (to_try a depth) (sym same) ∙ none_once (to_try a depth asks) (sym is ∙ empty_by keys empty)
+    ap (λ (x : Known). to_try x.0 x.1 asked) (sym at) ∙ ap (to_try a depth) (sym same) ∙ none_once (to_try a depth asks) (sym is ∙ empty)
 
-pub others_asked : (a : Answered) (depth : ℕ) (asked : Asked) (lines : List (List ℕ)) (text : List ℕ) → to_try a depth asked ≡ [] → lines ≡ lines_for (candidates a depth asked) → text ≡ text_of lines
-    → text ≡ text_of (lines_for (untried a depth asked))
-others_asked a depth asked lines text none is told =
-    told ∙ ap text_of is ∙ ap (λ (first : List Entries). text_of (lines_for (or_else first (candidates a depth asked)))) (sym none)
+pub others_asked : (a : Answered) (depth : ℕ) (asked : Asked) (lines : List (List ℕ)) → to_try a depth asked ≡ [] → lines ≡ lines_for (candidates a depth asked)
+    → lines ≡ lines_for (untried a depth asked)
+others_asked a depth asked lines none is = is ∙ ap (λ (first : List Entries). lines_for (or_else first (candidates a depth asked))) (sym none)

@@ -31,7 +31,7 @@ use Rattle.answered_campaigns.specs.Grown.{candidates, known, listed, or_else, u
 use Rattle.answered_campaigns.specs.Questions.{RefusesBy}
 use Rattle.answered_campaigns.specs.declared.fault.QuestionFault.{QuestionFault}
 use Rattle.answered_campaigns.specs.declared.fault.QuestionFault.TheVariants as fault
-use Rattle.answered_campaigns.specs.inside.Outcomes.{IsFirstOf, IsGapFault, IsOpenPlan, RefusesAsks}
+use Rattle.answered_campaigns.specs.inside.Outcomes.{IsFirstOf, IsGapFault, IsOpenPlan, RefusesAsks, RefusesKnown}
 
 -- ---- known plans
 
@@ -60,6 +60,15 @@ tried_first [] others t there = absurd (contains_none t there)
 tried_first (x ∷ xs) others t there = there
 
 -- ---- faults
+
+pub known_asks : (a : Answered) (depth : ℕ) (asked : Asked) (why : QuestionFault) → RefusesKnown a depth asked why → RefusesAsks a depth asked why
+known_asks a depth asked (fault.Broken b) h = h
+known_asks a depth asked (fault.Unseen line) h = absurd h
+known_asks a depth asked (fault.Outside (refusal.NotAnswered t)) h = absurd h
+known_asks a depth asked (fault.Outside (refusal.Answers f)) h = h
+known_asks a depth asked (fault.Outside (refusal.Campaign campaign.TooManyPlans)) h = h
+known_asks a depth asked (fault.Outside (refusal.Campaign campaign.Memory)) h = h
+known_asks a depth asked (fault.Outside (refusal.Campaign (campaign.Write n))) h = h
 
 pub asks_refused : (a : Answered) (depth : ℕ) (asked : Asked) (why : QuestionFault) → RefusesAsks a depth asked why → RefusesBy a depth asked why
 asks_refused a depth asked (fault.Broken b) h = h

@@ -1,10 +1,10 @@
--- Questions on components that somebody else runs, of a campaign with or without a depth, by the settings and a text of answers. A sink held `old`
--- and holds `new`, where it tells its bytes, and says whether it failed.
-use Rattle.std.specs.Prelude.{◌≡◌, ◌≤◌, ◌<◌, ℕ, Bool, true, false, List, [], ◌∷◌, Option, None, Some, Ok, Err, length, slice_index_or, Contains}
-use Rattle.std.specs.Io.KnownBytes.{Appends}
+-- Questions on components that somebody else runs, of a campaign with or without a depth, by the settings and a text of answers.
+use Rattle.std.specs.Prelude.{◌≡◌, ◌≤◌, ◌<◌, ℕ, Bool, true, List, [], ◌∷◌, Option, None, Some, Ok, Err, length, slice_index_or, Contains}
 use Rattle.scenario_values.specs.Scenario.{Entries}
 use Rattle.plan_gen.specs.PlanList.{Asked, most_plans}
-use Rattle.report.specs.ReportText.{text_of}
+use Rattle.asked_lines.specs.Lines.{lines_for}
+use Rattle.asked_lines.specs.Parts.{part_text}
+use Rattle.asked_lines.specs.declared.parts.AskedPart.{AskedPart}
 use Rattle.answer_text.specs.Answers.{Answer, Says}
 use Rattle.answer_text.specs.FirstFault.{reading_of}
 use Rattle.answer_text.specs.Known.{AgreesWithText}
@@ -16,11 +16,12 @@ use Rattle.answered_runs.specs.WholeList.{AreSeen, IsGap}
 use Rattle.answered_runs.specs.declared.whole.Gap.TheVariants as gap
 use Rattle.campaign_given.specs.Description.{Description}
 use Rattle.campaign_given.specs.Given.{Given}
+use Rattle.campaign_core.specs.Writes.{Change, IsUntouched, WritesPart, WritesWhole}
 use Rattle.campaign_core.specs.declared.ending.CampaignFault.TheVariants as campaign
 use Rattle.grown_plans.specs.GrownPlans.{Subject}
-use Rattle.outside_campaign.specs.Asked.{lines_for}
-use Rattle.outside_campaign.specs.Campaigns.{IsCut, asks_text, first_failure, plans, report_in, untried_by}
+use Rattle.outside_campaign.specs.Campaigns.{asks_text, first_failure, plans, report_in, untried_by}
 use Rattle.outside_campaign.specs.Outside.{Component}
+use Rattle.outside_campaign.specs.Partial.{partial_by, partial_text, some_fails, some_fails_by}
 use Rattle.outside_campaign.specs.declared.forms.Form.{Form}
 use Rattle.outside_campaign.specs.declared.refusal.OutsideFault.TheVariants as refusal
 use Rattle.outside_grown.specs.Further.{AreTooMany}
@@ -38,19 +39,19 @@ pub record Tells (outside : Description) (answers : List ℕ) (a : Answered) : T
   pub read : runs_of outside.codes outside.points answers ≡ Ok lines
 
 -- the lines that ask for what is still to be tried
-abbrev pub grown_asks_text : Given → ℕ → Answered → List ℕ
-grown_asks_text given depth a = text_of (lines_for (grown.untried a depth given.plans))
+abbrev pub grown_lines : Given → ℕ → Answered → List (List ℕ)
+grown_lines given depth a = lines_for (grown.untried a depth given.plans)
 
 -- no run that is told breaks with that of the plan which its own grew from
 abbrev pub AreUnbroken : Answered → ℕ → Type 0
 AreUnbroken a depth = AreBroken a (known_plans a depth) None
 
--- a text asks for what is still to be tried
-pub record IsAskedText (outside : Description) (given : Given) (depth : ℕ) (answers text : List ℕ) : Type 0 where
+-- a text asks for a part of what is still to be tried
+pub record IsAskedText (part : AskedPart) (outside : Description) (given : Given) (depth : ℕ) (answers text : List ℕ) : Type 0 where
   pub runs : Answered
   pub tells : Tells outside answers runs
   pub unbroken : AreUnbroken runs depth
-  pub text_is : text ≡ grown_asks_text given depth runs
+  pub text_is : text ≡ part_text part (grown_lines given depth runs)
 
 -- a text is the report of every component that agrees with the answers, and this the number of its first plan that fails: each plan is answered whole,
 -- and nothing is still to be tried
@@ -81,70 +82,98 @@ RefusesGrown outside given depth answers (fault.Outside (refusal.Answers f)) = r
 RefusesGrown outside given depth answers (fault.Outside (refusal.Campaign campaign.Memory)) = Unit {0}
 RefusesGrown outside given depth answers why = (a : Answered) × Tells outside answers a × RefusesBy a depth given.plans why
 
--- the same of what is asked, which waits for nothing
+-- the same of what is known so far, which waits for nothing and takes runs without hits
+abbrev pub RefusesPartly : Description → Given → ℕ → List ℕ → QuestionFault → Type 0
+RefusesPartly outside given depth answers (fault.Outside (refusal.NotAnswered t)) = ⊥
+RefusesPartly outside given depth answers (fault.Unseen line) = ⊥
+RefusesPartly outside given depth answers why = RefusesGrown outside given depth answers why
+
+-- and of what is asked, which waits for nothing
 abbrev pub RefusesAsked : Description → Given → ℕ → List ℕ → QuestionFault → Type 0
 RefusesAsked outside given depth answers (fault.Outside (refusal.NotAnswered t)) = ⊥
 RefusesAsked outside given depth answers why = RefusesGrown outside given depth answers why
 
 -- such a text was written whole
-abbrev pub IsWritten : (List ℕ → Type 0) → Option (List ℕ) → Option (List ℕ) → Bool → Type 0
-IsWritten IsText old new failed = (text : List ℕ) × IsText text × Appends old new text × (failed ≡ false)
+abbrev pub IsWritten : (List ℕ → Type 0) → Change → Type 0
+IsWritten IsText w = (text : List ℕ) × IsText text × WritesWhole text w
 
 -- or some of its first bytes, never all, before the sink failed
-abbrev pub IsWrittenInPart : (List ℕ → Type 0) → Option (List ℕ) → Option (List ℕ) → Bool → ℕ → Type 0
-IsWrittenInPart IsText old new failed n = ((text : List ℕ) × IsText text × IsCut old new text n) × (failed ≡ true)
+abbrev pub IsWrittenInPart : (List ℕ → Type 0) → Change → ℕ → Type 0
+IsWrittenInPart IsText w n = (text : List ℕ) × IsText text × WritesPart text n w
 
 -- ---- with or without one
 
 -- what is still to be tried was written, of answers without a fault
-pub record IsAskedByCensus (outside : Description) (given : Given) (answers : List ℕ) (old new : Option (List ℕ)) (failed : Bool) : Type 0 where
-  pub text : Appends old new (asks_text outside given answers)
+pub record IsAskedByCensus (part : AskedPart) (outside : Description) (given : Given) (answers : List ℕ) (w : Change) : Type 0 where
+  pub text : WritesWhole (asks_text part outside given answers) w
   pub few : length (plans outside given) ≤ most_plans
   pub said : (all : List Answer) × Says outside.codes answers all
-  pub sound : failed ≡ false
 
 -- the report was written that each component has which agrees with the answers, and some component does; nothing is still to be tried
-pub record IsReportedByCensus (form : Form) (outside : Description) (given : Given) (answers : List ℕ) (old new : Option (List ℕ)) (failed : Bool)
-    (first : Option ℕ) : Type 0 where
-  pub text : (component : Component) → AgreesWithText outside.codes answers component → Appends old new (report_in form outside given component)
+pub record IsReportedByCensus (form : Form) (outside : Description) (given : Given) (answers : List ℕ) (w : Change) (first : Option ℕ) : Type 0 where
+  pub text : (component : Component) → AgreesWithText outside.codes answers component → WritesWhole (report_in form outside given component) w
   pub first_is : (component : Component) → AgreesWithText outside.codes answers component → first ≡ first_failure outside given component
   pub some : (component : Component) × AgreesWithText outside.codes answers component
   pub all : untried_by outside given answers ≡ []
   pub few : length (plans outside given) ≤ most_plans
-  pub sound : failed ≡ false
 
-abbrev pub IsAskedTo : Option ℕ → Description → Given → List ℕ → Option (List ℕ) → Option (List ℕ) → Bool → Type 0
-IsAskedTo None outside given answers old new failed = IsAskedByCensus outside given answers old new failed
-IsAskedTo (Some depth) outside given answers old new failed = IsWritten (IsAskedText outside given depth answers) old new failed
+abbrev pub IsAskedTo : Option ℕ → AskedPart → Description → Given → List ℕ → Change → Type 0
+IsAskedTo None part outside given answers w = IsAskedByCensus part outside given answers w
+IsAskedTo (Some depth) part outside given answers w = IsWritten (IsAskedText part outside given depth answers) w
 
-abbrev pub IsAsked : Description → Given → List ℕ → Option (List ℕ) → Option (List ℕ) → Bool → Type 0
-IsAsked outside given answers old new failed = IsAskedTo given.depth outside given answers old new failed
+abbrev pub IsAsked : AskedPart → Description → Given → List ℕ → Change → Type 0
+IsAsked part outside given answers w = IsAskedTo given.depth part outside given answers w
 
-abbrev pub IsReportedTo : Option ℕ → Form → Description → Given → List ℕ → Option (List ℕ) → Option (List ℕ) → Bool → Option ℕ → Type 0
-IsReportedTo None form outside given answers old new failed first = IsReportedByCensus form outside given answers old new failed first
-IsReportedTo (Some depth) form outside given answers old new failed first =
-    IsWritten (λ text. IsReportedText form outside given depth answers text first) old new failed
+abbrev pub IsReportedTo : Option ℕ → Form → Description → Given → List ℕ → Change → Option ℕ → Type 0
+IsReportedTo None form outside given answers w first = IsReportedByCensus form outside given answers w first
+IsReportedTo (Some depth) form outside given answers w first =
+    IsWritten (λ text. IsReportedText form outside given depth answers text first) w
 
-abbrev pub IsReported : Form → Description → Given → List ℕ → Option (List ℕ) → Option (List ℕ) → Bool → Option ℕ → Type 0
-IsReported form outside given answers old new failed first = IsReportedTo given.depth form outside given answers old new failed first
+abbrev pub IsReported : Form → Description → Given → List ℕ → Change → Option ℕ → Type 0
+IsReported form outside given answers w first = IsReportedTo given.depth form outside given answers w first
+
+-- what is known so far of a campaign with a depth, as far as its list is known by now, and whether a plan is known to fail
+pub record IsPartialText (outside : Description) (given : Given) (depth : ℕ) (answers text : List ℕ) (found : Bool) : Type 0 where
+  pub runs : Answered
+  pub tells : Tells outside answers runs
+  pub unbroken : AreUnbroken runs depth
+  pub text_is : text ≡ partial_text outside given.plans.seed true (grown.known runs depth) (grown.listed runs depth given.plans)
+  pub found_is : found ≡ some_fails (grown.known runs depth) (grown.listed runs depth given.plans)
+
+-- the same of one without
+pub record IsKnownByCensus (outside : Description) (given : Given) (answers : List ℕ) (w : Change) (found : Bool) : Type 0 where
+  pub text : WritesWhole (partial_by outside given answers) w
+  pub found_is : found ≡ some_fails_by outside given answers
+  pub few : length (plans outside given) ≤ most_plans
+  pub said : (all : List Answer) × Says outside.codes answers all
+
+abbrev pub IsKnownTo : Option ℕ → Description → Given → List ℕ → Change → Bool → Type 0
+IsKnownTo None outside given answers w found = IsKnownByCensus outside given answers w found
+IsKnownTo (Some depth) outside given answers w found = IsWritten (λ text. IsPartialText outside given depth answers text found) w
+
+abbrev pub IsKnownSoFar : Description → Given → List ℕ → Change → Bool → Type 0
+IsKnownSoFar outside given answers w found = IsKnownTo given.depth outside given answers w found
 
 -- ---- faults
 
-abbrev pub IsUntouched : Option (List ℕ) → Option (List ℕ) → Bool → Type 0
-IsUntouched old new failed = (new ≡ old) × (failed ≡ false)
-
 -- some of the first bytes of what is asked were written, never all, before the sink failed
-abbrev pub IsAskedInPart : Option ℕ → Description → Given → List ℕ → Option (List ℕ) → Option (List ℕ) → Bool → ℕ → Type 0
-IsAskedInPart None outside given answers old new failed n = IsCut old new (asks_text outside given answers) n × (failed ≡ true)
-IsAskedInPart (Some depth) outside given answers old new failed n = IsWrittenInPart (IsAskedText outside given depth answers) old new failed n
+abbrev pub IsAskedInPart : Option ℕ → AskedPart → Description → Given → List ℕ → Change → ℕ → Type 0
+IsAskedInPart None part outside given answers w n = WritesPart (asks_text part outside given answers) n w
+IsAskedInPart (Some depth) part outside given answers w n = IsWrittenInPart (IsAskedText part outside given depth answers) w n
 
 -- or of the report of each component that agrees
-abbrev pub IsReportedInPart : Option ℕ → Form → Description → Given → List ℕ → Option (List ℕ) → Option (List ℕ) → Bool → ℕ → Type 0
-IsReportedInPart None form outside given answers old new failed n =
-    ((component : Component) → AgreesWithText outside.codes answers component → IsCut old new (report_in form outside given component) n)
-    × (failed ≡ true)
-IsReportedInPart (Some depth) form outside given answers old new failed n =
-    IsWrittenInPart (λ text. (first : Option ℕ) × IsReportedText form outside given depth answers text first) old new failed n
+abbrev pub IsReportedInPart : Option ℕ → Form → Description → Given → List ℕ → Change → ℕ → Type 0
+IsReportedInPart None form outside given answers w n =
+    ((component : Component) → AgreesWithText outside.codes answers component → WritesPart (report_in form outside given component) n w)
+    × (w.failed ≡ true)
+IsReportedInPart (Some depth) form outside given answers w n =
+    IsWrittenInPart (λ text. (first : Option ℕ) × IsReportedText form outside given depth answers text first) w n
+
+-- or of what is known so far
+abbrev pub IsKnownInPart : Option ℕ → Description → Given → List ℕ → Change → ℕ → Type 0
+IsKnownInPart None outside given answers w n = WritesPart (partial_by outside given answers) n w
+IsKnownInPart (Some depth) outside given answers w n =
+    IsWrittenInPart (λ text. (found : Bool) × IsPartialText outside given depth answers text found) w n
 
 -- why a question is refused, where that is no want of memory
 abbrev pub RefusesByCensus : Description → Given → List ℕ → QuestionFault → Type 0
@@ -161,14 +190,21 @@ Refuses None outside given answers why = RefusesByCensus outside given answers w
 Refuses (Some depth) outside given answers why = RefusesGrown outside given depth answers why
 
 -- why what is to be tried wasn't written, and what was written: it waits for nothing
-abbrev pub AsksRefused : Description → Given → List ℕ → Option (List ℕ) → Option (List ℕ) → Bool → QuestionFault → Type 0
-AsksRefused outside given answers old new failed (fault.Outside (refusal.Campaign (campaign.Write n))) =
-    IsAskedInPart given.depth outside given answers old new failed n
-AsksRefused outside given answers old new failed (fault.Outside (refusal.NotAnswered t)) = ⊥
-AsksRefused outside given answers old new failed why = IsUntouched old new failed × Refuses given.depth outside given answers why
+abbrev pub AsksRefused : AskedPart → Description → Given → List ℕ → Change → QuestionFault → Type 0
+AsksRefused part outside given answers w (fault.Outside (refusal.Campaign (campaign.Write n))) =
+    IsAskedInPart given.depth part outside given answers w n
+AsksRefused part outside given answers w (fault.Outside (refusal.NotAnswered t)) = ⊥
+AsksRefused part outside given answers w why = IsUntouched w × Refuses given.depth outside given answers why
 
 -- and why the report wasn't
-abbrev pub ReportRefused : Form → Description → Given → List ℕ → Option (List ℕ) → Option (List ℕ) → Bool → QuestionFault → Type 0
-ReportRefused form outside given answers old new failed (fault.Outside (refusal.Campaign (campaign.Write n))) =
-    IsReportedInPart given.depth form outside given answers old new failed n
-ReportRefused form outside given answers old new failed why = IsUntouched old new failed × Refuses given.depth outside given answers why
+abbrev pub ReportRefused : Form → Description → Given → List ℕ → Change → QuestionFault → Type 0
+ReportRefused form outside given answers w (fault.Outside (refusal.Campaign (campaign.Write n))) =
+    IsReportedInPart given.depth form outside given answers w n
+ReportRefused form outside given answers w why = IsUntouched w × Refuses given.depth outside given answers why
+
+-- and why what is known so far wasn't: it waits for nothing, and takes runs without hits
+abbrev pub KnownRefused : Description → Given → List ℕ → Change → QuestionFault → Type 0
+KnownRefused outside given answers w (fault.Outside (refusal.Campaign (campaign.Write n))) = IsKnownInPart given.depth outside given answers w n
+KnownRefused outside given answers w (fault.Outside (refusal.NotAnswered t)) = ⊥
+KnownRefused outside given answers w (fault.Unseen line) = ⊥
+KnownRefused outside given answers w why = IsUntouched w × Refuses given.depth outside given answers why

@@ -1,4 +1,5 @@
-//! What has to be tried once each plan's run is known: on what it depends which plans are causes, and what first failures are reduced to.
+//! What is left to try once each plan's run is known: the scenarios whose verdicts decide which plans are causes, and to what the first failures
+//! are reduced.
 ghost use Rattle.std.specs.Prelude.{◌≡◌, ◌≤◌, ◌<◌, ◌^◌, ◌++◌, length, IfOk};
 ghost use Rattle.std.specs.List.{AllByRecursion};
 ghost use Rattle.action_eval.specs.Rigging.{CanBeRigged};
@@ -34,7 +35,7 @@ pub enum Outcome {
 }
 
 /// The first of these, and then the others.
-fn joined(first: Vec<Scenario>, others: Vec<Scenario>) -> Result<Vec<Scenario>, AllocError>
+fn append(first: Vec<Scenario>, others: Vec<Scenario>) -> Result<Vec<Scenario>, AllocError>
     ensures { IfOk result (λ all. all.items ≡ first.items ++ others.items) }
 {
     let mut all = first;
@@ -66,7 +67,7 @@ pub fn outcome_known(
         },
         Findings::Open(open) => match causes {
             Causes::Told(_told) => Ok(Outcome::Open(open)),
-            Causes::Open(more) => Ok(Outcome::Open(joined(open, more)?)),
+            Causes::Open(more) => Ok(Outcome::Open(append(open, more)?)),
         },
     }
 }

@@ -1,13 +1,16 @@
 //! The questions, of a campaign with or without a depth.
 ghost use Rattle.std.specs.Prelude.{◌≡◌, ◌≤◌, false, Some, string_bytes, IfErr, IfOk, OnOk};
-ghost use Rattle.answered_campaigns.specs.Questions.{AsksRefused, IsAsked, IsAskedText, IsReported, IsReportedText, RefusesAsked, RefusesGrown, ReportRefused};
+ghost use Rattle.campaign_core.specs.Writes.{change};
+ghost use Rattle.answered_campaigns.specs.Questions.{AsksRefused, IsAsked, IsAskedText, IsKnownSoFar, IsPartialText, IsReported, IsReportedText, KnownRefused, RefusesAsked, RefusesGrown, RefusesPartly, ReportRefused};
 
 use crate::fault::QuestionFault;
-use crate::grown_asks::grown_asks_text;
+use crate::grown_asks::grown_lines;
+use crate::grown_partial::grown_partial;
 use crate::grown_report::grown_report;
 use crate::table::KnownByRuns;
 use answer_text::read_runs;
 use answered_runs::AnsweredRuns;
+use asked_lines::AskedPart;
 use campaign_core::Ending;
 use campaign_given::{CampaignSettings, Outside};
 use outside_campaign::{Form, borrowed};
@@ -15,16 +18,17 @@ use report::write_report;
 use std::alloc::Global;
 use target_trait::Sink;
 
-/// What is still to be tried of a campaign with this depth.
+/// A part of the lines that ask for what is still to be tried of a campaign with this depth.
 fn asked_text(
     alloc: Global,
     outside: &Outside,
     settings: &CampaignSettings,
     depth: u32,
+    part: AskedPart,
     answers: &[u8],
 ) -> Result<String, QuestionFault>
     requires { depth ≤ 64 }
-    ensures text { IfOk result (λ text. IsAskedText outside.now settings.now depth answers.now (string_bytes text)) }
+    ensures text { IfOk result (λ text. IsAskedText part outside.now settings.now depth answers.now (string_bytes text)) }
     ensures fault { IfErr result (RefusesAsked outside.now settings.now depth answers.now) }
 {
     let told = read_runs(
@@ -36,11 +40,12 @@ fn asked_text(
     let points = borrowed(alloc, outside.points.as_slice())?;
     let runs = AnsweredRuns::new(alloc, points.as_slice(), &told);
     let known = KnownByRuns { runs: &runs, depth };
-    grown_asks_text(alloc, &known, settings)
+    let lines = grown_lines(alloc, &known, settings)?;
+    Ok(lines.text(alloc, part)?)
 }
 
 /// The text of the report of a campaign with this depth, in a form, and the number of the first plan that fails.
-fn reported(
+fn report_text(
     alloc: Global,
     form: &Form<'_>,
     outside: &Outside,
@@ -64,9 +69,33 @@ fn reported(
     grown_report(alloc, form, outside, settings, &known)
 }
 
+/// What is known so far of a campaign with this depth, as a text, and whether a plan is known to fail.
+fn known_text(
+    alloc: Global,
+    outside: &Outside,
+    settings: &CampaignSettings,
+    depth: u32,
+    answers: &[u8],
+) -> Result<(String, bool), QuestionFault>
+    requires { depth ≤ 64 }
+    ensures text { IfOk result (λ r. IsPartialText outside.now settings.now depth answers.now (string_bytes r.0) r.1) }
+    ensures fault { IfErr result (RefusesPartly outside.now settings.now depth answers.now) }
+{
+    let told = read_runs(
+        alloc,
+        outside.codes.as_slice(),
+        outside.points.as_slice(),
+        answers,
+    )?;
+    let points = borrowed(alloc, outside.points.as_slice())?;
+    let runs = AnsweredRuns::new(alloc, points.as_slice(), &told);
+    let known = KnownByRuns { runs: &runs, depth };
+    grown_partial(alloc, outside, settings, &known)
+}
+
 /// Writes what is still to be tried of a campaign on a component that somebody else runs, by the answers so far: a line for each scenario,
-/// tidied, `none` for the one without entries, and each once. Nothing is written where all is known, and only then. Any of the lines may be
-/// tried, in any order.
+/// tidied, `none` for the one without entries, and each once. There is none where all is known, and only then. Any of the lines may be
+/// tried, in any order. They are written whole, or a shard of them alone, or how many there are.
 ///
 /// Without a depth it is what [`outside_campaign::write_asks`] writes. With one the answers tell the hits of runs, and the lines are the plans
 /// that are known by now and aren't answered: those that grow, in the order of the list, each known once the hits of those that it grew from
@@ -82,18 +111,19 @@ pub fn write_asks<W: Sink>(
     alloc: Global,
     outside: &Outside,
     settings: &CampaignSettings,
+    part: AskedPart,
     answers: &[u8],
     sink: &mut W,
 ) -> Result<(), QuestionFault>
     requires { W.has_failed sink.old ≡ false }
-    ensures asked { OnOk result (IsAsked outside.now settings.now answers.now (W.told sink.old) (W.told sink.new) (W.has_failed sink.new)) }
-    ensures fault { IfErr result (AsksRefused outside.now settings.now answers.now (W.told sink.old) (W.told sink.new) (W.has_failed sink.new)) }
+    ensures asked { OnOk result (IsAsked part outside.now settings.now answers.now (change W.Sink sink.old sink.new)) }
+    ensures fault { IfErr result (AsksRefused part outside.now settings.now answers.now (change W.Sink sink.old sink.new)) }
 {
     let Some(depth) = settings.depth else {
-        outside_campaign::write_asks(alloc, outside, settings, answers, sink)?;
+        outside_campaign::write_asks(alloc, outside, settings, part, answers, sink)?;
         return Ok(());
     };
-    let text = asked_text(alloc, outside, settings, depth, answers)?;
+    let text = asked_text(alloc, outside, settings, depth, part, answers)?;
     write_report(text.as_bytes(), sink)?;
     Ok(())
 }
@@ -116,10 +146,9 @@ pub fn write_report_in<W: Sink>(
     sink: &mut W,
 ) -> Result<Ending, QuestionFault>
     requires { W.has_failed sink.old ≡ false }
-    ensures reported { IfOk result (λ ending. IsReported form.now outside.now settings.now answers.now (W.told sink.old) (W.told sink.new)
-        (W.has_failed sink.new) ending.first) }
-    ensures fault { IfErr result (ReportRefused form.now outside.now settings.now answers.now (W.told sink.old) (W.told sink.new)
-        (W.has_failed sink.new)) }
+    ensures reported { IfOk result (λ ending. IsReported form.now outside.now settings.now answers.now (change W.Sink sink.old sink.new)
+        ending.first) }
+    ensures fault { IfErr result (ReportRefused form.now outside.now settings.now answers.now (change W.Sink sink.old sink.new)) }
 {
     let Some(depth) = settings.depth else {
         let ending = outside_campaign::write_report_in(
@@ -127,7 +156,35 @@ pub fn write_report_in<W: Sink>(
         )?;
         return Ok(ending);
     };
-    let (text, first) = reported(alloc, form, outside, settings, depth, answers)?;
+    let (text, first) = report_text(alloc, form, outside, settings, depth, answers)?;
     write_report(text.as_slice(), sink)?;
     Ok(Ending { first })
+}
+
+/// Writes what is known so far of a campaign on a component that somebody else runs, by the answers: how many plans have a verdict, those that are
+/// known not to pass, and the first that is known to fail. It is no report: plans without a verdict may fail, and nothing is reduced. Answers
+/// whether a plan is known to fail.
+///
+/// Without a depth it is what [`outside_campaign::write_partial`] writes. With one the plans are those that are known by now: a plan is known once
+/// the hits of those that it grew from are told, and its number isn't, so the lines have scenarios in place of numbers.
+///
+/// The faults are those of [`write_asks`] without `Unseen`: a run may be told without its hits.
+pub fn write_partial<W: Sink>(
+    alloc: Global,
+    outside: &Outside,
+    settings: &CampaignSettings,
+    answers: &[u8],
+    sink: &mut W,
+) -> Result<bool, QuestionFault>
+    requires { W.has_failed sink.old ≡ false }
+    ensures known { IfOk result (IsKnownSoFar outside.now settings.now answers.now (change W.Sink sink.old sink.new)) }
+    ensures fault { IfErr result (KnownRefused outside.now settings.now answers.now (change W.Sink sink.old sink.new)) }
+{
+    let Some(depth) = settings.depth else {
+        let fails = outside_campaign::write_partial(alloc, outside, settings, answers, sink)?;
+        return Ok(fails);
+    };
+    let (text, fails) = known_text(alloc, outside, settings, depth, answers)?;
+    write_report(text.as_bytes(), sink)?;
+    Ok(fails)
 }

@@ -7,7 +7,7 @@ ghost use Rattle.answered_runs.specs.Broken.{AreBroken};
 ghost use Rattle.answered_runs.specs.WholeList.{AreSeen};
 ghost use Rattle.plan_gen.specs.PlanList.{Asked};
 ghost use Rattle.answered_campaigns.specs.Questions.{AreUnbroken, RefusesBy};
-ghost use Rattle.answered_campaigns.specs.inside.Outcomes.{gap_number, IsGapFault, IsLacking, RefusesAsks};
+ghost use Rattle.answered_campaigns.specs.inside.Outcomes.{gap_number, IsGapFault, IsLacking, RefusesKnown};
 
 use crate::fault::QuestionFault;
 use crate::table::KnownByRuns;
@@ -23,7 +23,7 @@ use std::alloc::{AllocError, Global};
 pub fn refuse_broken(alloc: Global, known: &KnownByRuns<'_>) -> Result<(), QuestionFault>
     requires { known.now.1 ≤ 64 }
     ensures ok { OnOk result (AreUnbroken known.now.0 known.now.1) }
-    ensures fault { IfErr result (λ why. (asked : Asked) → RefusesAsks known.now.0 known.now.1 asked why) }
+    ensures fault { IfErr result (λ why. (asked : Asked) → RefusesKnown known.now.0 known.now.1 asked why) }
 {
     match broken_run(alloc, known.runs, known.depth, MOST_PLANS)? {
         Some(broken) => Err(QuestionFault::Broken(broken)),

@@ -1,32 +1,30 @@
 //! What is still to be tried of a campaign with a depth.
-ghost use Rattle.std.specs.Prelude.{◌≡◌, ◌≤◌, [], string_bytes, IfErr, IfOk, OnOk};
-ghost use Rattle.outside_campaign.specs.Asked.{lines_for};
+ghost use Rattle.std.specs.Prelude.{◌≡◌, ◌≤◌, [], IfErr, IfOk, OnOk};
+ghost use Rattle.asked_lines.specs.Lines.{lines_for};
 ghost use Rattle.outside_grown.specs.Asked.{to_try};
 ghost use Rattle.answered_campaigns.specs.Grown.{candidates};
-ghost use Rattle.answered_campaigns.specs.Questions.{AreUnbroken, grown_asks_text};
+ghost use Rattle.answered_campaigns.specs.Questions.{AreUnbroken, grown_lines};
 ghost use Rattle.answered_campaigns.specs.inside.Outcomes.{RefusesAsks};
 
 use crate::candidates::{Outcome, outcome_known};
 use crate::fault::QuestionFault;
 use crate::grown::{refuse_broken, refuse_gap};
-use crate::lines::{joined, lines_of};
 use crate::table::KnownByRuns;
+use asked_lines::AskedLines;
 use campaign_given::CampaignSettings;
 use campaign_plans::CampaignPlans;
-use indexmap::IndexSet;
 use outside_grown::{asks, grown_lists};
-use scenario_values::{Scenario, Text};
-use std::alloc::{AllocError, Global};
+use std::alloc::Global;
 
-/// The candidates on which it depends what plans come to whose runs are all known, as texts.
+/// The lines that ask for the scenarios that still decide causes and reductions, once each plan's run is known.
 fn candidates(
     alloc: Global,
     known: &KnownByRuns<'_>,
     settings: &CampaignSettings,
-) -> Result<IndexSet<Text>, QuestionFault>
+) -> Result<AskedLines, QuestionFault>
     requires depth { known.now.1 ≤ 64 }
     requires answered { to_try known.now.0 known.now.1 settings.now.plans ≡ [] }
-    ensures lines { IfOk result (λ lines. lines.keys ≡ lines_for (candidates known.now.0 known.now.1 settings.now.plans)) }
+    ensures lines { IfOk result (λ lines. lines ≡ lines_for (candidates known.now.0 known.now.1 settings.now.plans)) }
     ensures fault { IfErr result (RefusesAsks known.now.0 known.now.1 settings.now.plans) }
 {
     let lists = grown_lists(alloc, known.runs, known.depth, &settings.plan_settings())?;
@@ -34,27 +32,26 @@ fn candidates(
     let grown = &lists.listed.known.plans;
     let plans = CampaignPlans::grown(Some(grown), known.runs.points(), &lists.further);
     match outcome_known(alloc, known, &plans, grown)? {
-        Outcome::Told(_) => Ok(IndexSet::new(alloc)),
-        Outcome::Open(cards) => Ok(lines_of(alloc, cards.as_slice())?),
+        Outcome::Told(_) => Ok(AskedLines::new(alloc)),
+        Outcome::Open(cards) => Ok(AskedLines::of(alloc, cards.as_slice())?),
     }
 }
 
 /// The lines that ask for what is still to be tried.
-pub fn grown_asks_text(
+pub fn grown_lines(
     alloc: Global,
     known: &KnownByRuns<'_>,
     settings: &CampaignSettings,
-) -> Result<String, QuestionFault>
+) -> Result<AskedLines, QuestionFault>
     requires { known.now.1 ≤ 64 }
     ensures unbroken { OnOk result (AreUnbroken known.now.0 known.now.1) }
-    ensures text { IfOk result (λ text. string_bytes text ≡ grown_asks_text settings.now known.now.1 known.now.0) }
+    ensures lines { IfOk result (λ lines. lines ≡ grown_lines settings.now known.now.1 known.now.0) }
     ensures fault { IfErr result (RefusesAsks known.now.0 known.now.1 settings.now.plans) }
 {
     refuse_broken(alloc, known)?;
     let plans = asks(alloc, known.runs, known.depth, &settings.plan_settings())?;
     if !plans.is_empty() {
-        return Ok(joined(alloc, &plans)?);
+        return Ok(plans);
     }
-    let lines = candidates(alloc, known, settings)?;
-    Ok(joined(alloc, &lines)?)
+    candidates(alloc, known, settings)
 }

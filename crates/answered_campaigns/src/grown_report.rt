@@ -30,7 +30,7 @@ use scenario_values::Scenario;
 use std::alloc::{AllocError, Global};
 use target_trait::Verdict;
 
-/// A campaign with a depth, of whose plans each run is known.
+/// A campaign with a depth in which each plan's run is known.
 #[derive(Drop)]
 struct Campaign<'a> {
     outside: &'a Outside,

@@ -7,9 +7,9 @@ mod depth;
 mod fault;
 mod grown;
 mod grown_asks;
+mod grown_partial;
 mod grown_report;
-mod lines;
 mod table;
 
-pub use depth::{write_asks, write_report_in};
+pub use depth::{write_asks, write_partial, write_report_in};
 pub use fault::QuestionFault;

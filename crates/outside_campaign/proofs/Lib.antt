@@ -3,3 +3,4 @@ pub mod Gathered
 pub mod Lines
 pub mod Open
 pub mod ResultLemmas
+pub mod PlansFound

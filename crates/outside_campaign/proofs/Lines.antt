@@ -11,22 +11,20 @@ use Rattle.scenario_values.specs.Tidied.{tidied}
 use Rattle.target_trait.specs.declared.judgement.Verdict.{Verdict}
 use Rattle.result_book.specs.Verdicts.{verdicts_from}
 use Rattle.report.specs.ReportText.{scenario_text}
+use Rattle.asked_lines.specs.Lines.{lines_behind, lines_for}
 use Rattle.answer_text.specs.Known.{KnownVerdicts}
 use Rattle.outside_campaign.specs.Outside.{Components, say_each, EachAgrees}
-use Rattle.outside_campaign.specs.Asked.{open_plans, plan_verdicts, lines_for}
+use Rattle.outside_campaign.specs.Asked.{open_plans, plan_verdicts}
 
-abbrev put_all : List (List ℕ) → List Entries → List (List ℕ)
-put_all lines ts = fold (insert_key bytes_eq) lines (map scenario_text ts)
-
-put_more : (lines : List (List ℕ)) (ts us : List Entries) → put_all lines (ts ++ us) ≡ put_all (put_all lines ts) us
+put_more : (lines : List (List ℕ)) (ts us : List Entries) → lines_behind lines (ts ++ us) ≡ lines_behind (lines_behind lines ts) us
 put_more lines [] us = refl
 put_more lines (t ∷ ts) us = put_more (insert_key bytes_eq lines (scenario_text t)) ts us
 
-pub both_added : (cards opened : List Entries) (first second : List (List ℕ)) → first ≡ put_all [] cards → second ≡ put_all first opened → second ≡ lines_for (cards ++ opened)
-both_added cards opened first second e f = f ∙ ap (λ (l : List (List ℕ)). put_all l opened) e ∙ sym (put_more [] cards opened)
+pub both_added : (cards opened : List Entries) (first second : List (List ℕ)) → first ≡ lines_behind [] cards → second ≡ lines_behind first opened → second ≡ lines_for (cards ++ opened)
+both_added cards opened first second e f = f ∙ ap (λ (l : List (List ℕ)). lines_behind l opened) e ∙ sym (put_more [] cards opened)
 
-pub from_nothing : (cards : List Entries) (none after : List (List ℕ)) → none ≡ [] → after ≡ put_all none cards → after ≡ put_all [] cards
-from_nothing cards none after e f = f ∙ ap (λ (l : List (List ℕ)). put_all l cards) e
+pub from_nothing : (cards : List Entries) (none after : List (List ℕ)) → none ≡ [] → after ≡ lines_behind none cards → after ≡ lines_behind [] cards
+from_nothing cards none after e f = f ∙ ap (λ (l : List (List ℕ)). lines_behind l cards) e
 
 open_more : (known : KnownVerdicts) (ps qs : List Entries) → open_plans known (ps ++ qs) ≡ open_plans known ps ++ open_plans known qs
 open_more known [] qs = refl
@@ -38,13 +36,13 @@ open_more known (p ∷ ps) qs = by_test (is_none (known (tidied p))) (open_more 
     by_test false e = e
 
 pub plan_added : (known : KnownVerdicts) (first before after : List (List ℕ)) (plans : List Entries) (i : ℕ) (p : Entries) → i < length plans → p ≡ get_or plans i []
-    → before ≡ put_all first (open_plans known (take i plans)) → after ≡ put_all before (open_plans known (p ∷ [])) → after ≡ put_all first (open_plans known (take (i + 1) plans))
+    → before ≡ lines_behind first (open_plans known (take i plans)) → after ≡ lines_behind before (open_plans known (p ∷ [])) → after ≡ lines_behind first (open_plans known (take (i + 1) plans))
 plan_added known first before after plans i p less is so_far this =
     let more : take (i + 1) plans ≡ take i plans ++ p ∷ [] = take_more plans i [] less ∙ ap (λ (x : Entries). take i plans ++ x ∷ []) (sym is) in
-    this ∙ ap (λ (x : List (List ℕ)). put_all x (open_plans known (p ∷ []))) so_far
+    this ∙ ap (λ (x : List (List ℕ)). lines_behind x (open_plans known (p ∷ []))) so_far
     ∙ sym (put_more first (open_plans known (take i plans)) (open_plans known (p ∷ [])))
-    ∙ ap (put_all first) (sym (open_more known (take i plans) (p ∷ [])))
-    ∙ ap (λ (x : List Entries). put_all first (open_plans known x)) (sym more)
+    ∙ ap (lines_behind first) (sym (open_more known (take i plans) (p ∷ [])))
+    ∙ ap (λ (x : List Entries). lines_behind first (open_plans known x)) (sym more)
 
 -- ---- nothing asked
 

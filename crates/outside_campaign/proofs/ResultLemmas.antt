@@ -15,7 +15,9 @@ use Rattle.result_book.proofs.EachCodeLemmas.{firsts_in, firsts_full}
 use Rattle.result_book.proofs.SlotLemmas.{length_verdicts}
 use Rattle.plan_gen.specs.PlanList.{most_plans}
 use Rattle.report.specs.Reports.{FindingFacts, ReportFacts}
-use Rattle.report.specs.ReportText.{text_of}
+use Rattle.asked_lines.specs.Lines.{lines_for}
+use Rattle.asked_lines.specs.Parts.{part_text}
+use Rattle.asked_lines.specs.declared.parts.AskedPart.{AskedPart}
 use Rattle.answer_text.specs.Known.{KnownVerdicts, known_by, Agrees, AgreesWithText}
 use Rattle.answer_text.specs.Answers.{Answer, Says}
 use Rattle.answer_text.proofs.Agreement.{agrees_by, some_agrees}
@@ -23,8 +25,8 @@ use Rattle.campaign_given.specs.Description.{Description}
 use Rattle.campaign_given.specs.Given.{Given}
 use Rattle.campaign_core.specs.Findings.{finding}
 use Rattle.outside_campaign.specs.Outside.{Component, Components, say, say_each, EachAgrees}
-use Rattle.outside_campaign.specs.Asked.{open_plans, open_cards, plan_verdicts, known_failures, lines_for}
-use Rattle.outside_campaign.specs.Campaigns.{plans as plans_of, code_name, report as report_by, report_in, shown, asks_text, first_failure, untried, untried_by, AsksFault}
+use Rattle.outside_campaign.specs.Asked.{open_plans, open_cards, plan_verdicts, known_failures}
+use Rattle.outside_campaign.specs.Campaigns.{plans as plans_of, code_name, report as report_by, report_in, shown, asks_text, first_failure, untried, untried_by, KnownTextFault}
 use Rattle.outside_campaign.specs.Forms.{text_in}
 use Rattle.outside_campaign.specs.inside.ToldPlans.{AreOf, AreResults}
 use Rattle.outside_campaign.specs.inside.Results.{IsFirst, AreWithVerdicts, facts_of}
@@ -122,14 +124,18 @@ untried_is outside settings answers known plans e is = ap (λ (k : KnownVerdicts
 
 -- ---- faults
 
--- a write that failed, of the bytes that are asked
-pub asks_cut : {X : Type 0} (outside : Description) (settings : Given) (answers : List ℕ) (old new : Option (List ℕ)) (failed : Bool) (known : KnownVerdicts) (plans : List Entries) (bytes : List ℕ) (n : ℕ) (result : Result X OutsideFault)
-    → IsErrAnd result (λ f. f ≡ refusal.Campaign (campaign.Write n)) → known ≡ known_by outside.codes answers → plans ≡ plans_of outside settings → bytes ≡ text_of (lines_for (untried known plans))
-    → Appends old new (take n bytes) → n < length bytes → failed ≡ true → length (plans_of outside settings) ≤ most_plans → IfErr result (AsksFault outside settings answers old new failed)
-asks_cut outside settings answers old new failed known plans bytes n (Ok x) is k p b wrote less bad few = tt
-asks_cut outside settings answers old new failed known plans bytes n (Err f) is k p b wrote less bad few =
-    let whole : bytes ≡ asks_text outside settings answers = b ∙ ap (λ (ts : List Entries). text_of (lines_for ts)) (untried_is outside settings answers known plans k p) in
-    let P : OutsideFault → Type 0 = λ x. AsksFault outside settings answers old new failed x in
+-- the bytes that are asked
+pub asks_are : (part : AskedPart) (outside : Description) (settings : Given) (answers : List ℕ) (known : KnownVerdicts) (plans : List Entries) (bytes : List ℕ) → known ≡ known_by outside.codes answers → plans ≡ plans_of outside settings
+    → bytes ≡ part_text part (lines_for (untried known plans)) → bytes ≡ asks_text part outside settings answers
+asks_are part outside settings answers known plans bytes k p b = b ∙ ap (λ (ts : List Entries). part_text part (lines_for ts)) (untried_is outside settings answers known plans k p)
+
+-- a write that failed, of a text by what is known
+pub known_cut : {X : Type 0} (text : List ℕ) (outside : Description) (settings : Given) (answers : List ℕ) (old new : Option (List ℕ)) (failed : Bool) (bytes : List ℕ) (n : ℕ) (result : Result X OutsideFault)
+    → IsErrAnd result (λ f. f ≡ refusal.Campaign (campaign.Write n)) → bytes ≡ text → Appends old new (take n bytes) → n < length bytes → failed ≡ true → length (plans_of outside settings) ≤ most_plans
+    → IfErr result (KnownTextFault text outside settings answers old new failed)
+known_cut text outside settings answers old new failed bytes n (Ok x) is whole wrote less bad few = tt
+known_cut text outside settings answers old new failed bytes n (Err f) is whole wrote less bad few =
+    let P : OutsideFault → Type 0 = λ x. KnownTextFault text outside settings answers old new failed x in
     let Q : List ℕ → Type 0 = λ t. Appends old new (take n t) × (n < length t) in
     subst P (sym is) (subst Q whole (wrote, less), bad, few)
 

@@ -1,13 +1,11 @@
 -- What is still to be tried.
-use Rattle.std.specs.Prelude.{◌≡◌, ℕ, None, List, [], ◌∷◌, ◌++◌, is_none, if◌then◌else◌, map, flat_map, fold, Option}
-use Rattle.std.specs.Str.{bytes_eq}
-use Rattle.indexmap.specs.IndexSet.{insert_key}
+use Rattle.std.specs.Prelude.{◌≡◌, ℕ, None, List, [], ◌∷◌, ◌++◌, is_none, if◌then◌else◌, map, flat_map, Option}
 use Rattle.scenario_values.specs.Scenario.{Entries}
 use Rattle.scenario_values.specs.Tidied.{tidied}
 use Rattle.target_trait.specs.declared.judgement.Verdict.{Verdict}
 use Rattle.result_book.specs.FirstFailures.{first_failures}
 use Rattle.result_book.specs.Slots.{in_book}
-use Rattle.report.specs.ReportText.{scenario_text}
+use Rattle.asked_lines.specs.Lines.{lines_for}
 use Rattle.answer_text.specs.Known.{KnownVerdicts}
 use Rattle.campaign_core.specs.Findings.{plan_at}
 use Rattle.outside_campaign.specs.Reached.{open_candidates}
@@ -33,10 +31,7 @@ open_cards known plans failures = flat_map (λ failure. open_candidates known fa
 abbrev pub to_try : KnownVerdicts → List Entries → List (ℕ × ℕ) → List Entries
 to_try known plans failures = open_cards known plans failures ++ open_plans known plans
 
--- the lines that ask for it, each where it first stands
-abbrev pub lines_for : List Entries → List (List ℕ)
-lines_for scenarios = fold (insert_key bytes_eq) [] (map scenario_text scenarios)
-
+-- the lines that ask for it
 abbrev pub asked : KnownVerdicts → List Entries → List (ℕ × ℕ) → List (List ℕ)
 asked known plans failures = lines_for (to_try known plans failures)
 

@@ -8,6 +8,9 @@ use Rattle.result_book.specs.Verdicts.{verdicts_from, numbered}
 use Rattle.result_book.specs.FirstFailures.{first_failures}
 use Rattle.report.specs.Reports.{ReportFacts}
 use Rattle.report.specs.ReportText.{text_of}
+use Rattle.asked_lines.specs.Lines.{lines_for}
+use Rattle.asked_lines.specs.Parts.{part_text}
+use Rattle.asked_lines.specs.declared.parts.AskedPart.{AskedPart}
 use Rattle.answer_text.specs.FirstFault.{reading_of}
 use Rattle.answer_text.specs.Known.{KnownVerdicts, known_by, AgreesWithText}
 use Rattle.campaign_given.specs.Description.{Description}
@@ -17,7 +20,7 @@ use Rattle.campaign_core.specs.Findings.{report_of}
 use Rattle.campaign_core.specs.declared.ending.CampaignFault.{CampaignFault}
 use Rattle.campaign_core.specs.declared.ending.CampaignFault.TheVariants as campaign
 use Rattle.outside_campaign.specs.Outside.{Component, say}
-use Rattle.outside_campaign.specs.Asked.{to_try, lines_for, known_failures}
+use Rattle.outside_campaign.specs.Asked.{to_try, known_failures}
 use Rattle.outside_campaign.specs.Forms.{ShownFacts, text_in}
 use Rattle.outside_campaign.specs.declared.forms.Form.{Form}
 use Rattle.outside_campaign.specs.declared.refusal.OutsideFault.{OutsideFault}
@@ -67,8 +70,9 @@ untried known plans = to_try known plans (known_failures known plans)
 abbrev pub untried_by : Description → Given → List ℕ → List Entries
 untried_by outside given answers = untried (known_by outside.codes answers) (plans outside given)
 
-abbrev pub asks_text : Description → Given → List ℕ → List ℕ
-asks_text outside given answers = text_of (lines_for (untried_by outside given answers))
+-- the text of a part of the lines that ask for it
+abbrev pub asks_text : AskedPart → Description → Given → List ℕ → List ℕ
+asks_text part outside given answers = part_text part (lines_for (untried_by outside given answers))
 
 -- ---- faults. A sink held `old` and holds `new`, where it tells its bytes.
 
@@ -83,13 +87,17 @@ IsUnwritten plans Cut old new failed campaign.TooManyPlans = (new ≡ old) × (f
 IsUnwritten plans Cut old new failed campaign.Memory = (new ≡ old) × (failed ≡ false)
 IsUnwritten plans Cut old new failed (campaign.Write n) = Cut n × (failed ≡ true) × (length plans ≤ most_plans)
 
--- why what is to be tried wasn't written: the answers' first fault, or a fault as of the list of plans
-abbrev pub AsksFault : Description → Given → List ℕ → Option (List ℕ) → Option (List ℕ) → Bool → OutsideFault → Type 0
-AsksFault outside given answers old new failed (refusal.Answers fault) =
+-- why a text wasn't written that is told by whatever is known: the answers' first fault, or a fault as of the list of plans
+abbrev pub KnownTextFault : List ℕ → Description → Given → List ℕ → Option (List ℕ) → Option (List ℕ) → Bool → OutsideFault → Type 0
+KnownTextFault text outside given answers old new failed (refusal.Answers fault) =
     (new ≡ old) × (failed ≡ false) × (reading_of outside.codes answers ≡ Err fault)
-AsksFault outside given answers old new failed (refusal.NotAnswered t) = ⊥
-AsksFault outside given answers old new failed (refusal.Campaign fault) =
-    IsUnwritten (plans outside given) (IsCut old new (asks_text outside given answers)) old new failed fault
+KnownTextFault text outside given answers old new failed (refusal.NotAnswered t) = ⊥
+KnownTextFault text outside given answers old new failed (refusal.Campaign fault) =
+    IsUnwritten (plans outside given) (IsCut old new text) old new failed fault
+
+-- why what is to be tried wasn't written
+abbrev pub AsksFault : AskedPart → Description → Given → List ℕ → Option (List ℕ) → Option (List ℕ) → Bool → OutsideFault → Type 0
+AsksFault part outside given answers = KnownTextFault (asks_text part outside given answers) outside given answers
 
 -- the same of a text on a component, for each that agrees with the answers; and it isn't written where something is to be tried, of which
 -- this is the first

@@ -3,6 +3,7 @@ pub mod Reached
 pub mod Asked
 pub mod Forms
 pub mod Campaigns
+pub mod Partial
 pub mod Results
 pub mod Told
 pub mod inside

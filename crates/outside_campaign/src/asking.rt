@@ -1,40 +1,24 @@
 //! What is still to be tried.
-ghost use Rattle.std.specs.Prelude.{◌≡◌, ◌<◌, ◌∷◌, ◌++◌, [], All, length, map, IfOk, OnOk, fold, string_bytes};
-ghost use Rattle.std.specs.Str.{bytes_eq};
-ghost use Rattle.indexmap.specs.IndexSet.{insert_key};
-ghost use Rattle.report.specs.ReportText.{scenario_text, text_of};
-ghost use Rattle.outside_campaign.specs.Asked.{asked, lines_for, open_plans};
+ghost use Rattle.std.specs.Prelude.{◌≡◌, ◌<◌, ◌∷◌, ◌++◌, [], All, length, IfOk, OnOk, string_bytes};
+ghost use Rattle.asked_lines.specs.Lines.{lines_behind, lines_for};
+ghost use Rattle.asked_lines.specs.Parts.{part_text};
+ghost use Rattle.outside_campaign.specs.Asked.{asked, open_plans};
 ghost use Rattle.outside_campaign.specs.Campaigns.{untried};
 
 use crate::findings::{Findings, findings_known};
 use crate::table::VerdictTable;
 use crate::verdicts::plan_verdicts;
+use asked_lines::{AskedLines, AskedPart};
 use campaign_plans::{CampaignPlan, CampaignPlans};
-use indexmap::IndexSet;
-use report::write_scenario;
 use result_book::first_failures_of;
-use scenario_values::{Scenario, Text, tidy};
+use scenario_values::{Scenario, tidy};
 use std::alloc::{AllocError, Global};
 
-/// Adds the text of a scenario, unless it is there.
-fn add(alloc: Global, lines: &mut IndexSet<Text>, scenario: &Scenario) -> Result<(), AllocError>
-    ensures { OnOk result (lines.new.keys ≡ insert_key bytes_eq lines.old.keys (scenario_text scenario.now)) }
-{
-    let mut text = String::new(alloc);
-    write_scenario(alloc, &mut text, scenario)?;
-    lines.insert(Text::from_string(text))?;
-    Ok(())
-}
-
-fn add_cards(
-    alloc: Global,
-    lines: &mut IndexSet<Text>,
-    cards: &[Scenario],
-) -> Result<(), AllocError>
-    ensures { OnOk result (lines.new.keys ≡ fold (insert_key bytes_eq) lines.old.keys (map scenario_text cards.now)) }
+fn add_cards(alloc: Global, lines: &mut AskedLines, cards: &[Scenario]) -> Result<(), AllocError>
+    ensures { OnOk result (lines.new ≡ lines_behind lines.old cards.now) }
 {
     for card in cards {
-        add(alloc, lines, card)?;
+        lines.add(alloc, card)?;
     }
     Ok(())
 }
@@ -42,29 +26,29 @@ fn add_cards(
 /// Adds a plan that isn't answered, tidied.
 fn add_plan<K: VerdictTable>(
     alloc: Global,
-    lines: &mut IndexSet<Text>,
+    lines: &mut AskedLines,
     known: &K,
     plan: &CampaignPlan<'_>,
 ) -> Result<(), AllocError>
-    ensures { OnOk result (lines.new.keys ≡ fold (insert_key bytes_eq) lines.old.keys (map scenario_text (open_plans (K.verdicts known.now) (plan.now ∷ [])))) }
+    ensures { OnOk result (lines.new ≡ lines_behind lines.old (open_plans (K.verdicts known.now) (plan.now ∷ []))) }
 {
     let scenario = plan.scenario(alloc)?;
     match known.look_up(alloc, &scenario)? {
         Some(_) => Ok(()),
         None => {
             let tidied = tidy(alloc, &scenario)?;
-            add(alloc, lines, &tidied)
+            lines.add(alloc, &tidied)
         }
     }
 }
 
 fn add_plans<K: VerdictTable>(
     alloc: Global,
-    lines: &mut IndexSet<Text>,
+    lines: &mut AskedLines,
     known: &K,
     plans: &CampaignPlans<'_>,
 ) -> Result<(), AllocError>
-    ensures { OnOk result (lines.new.keys ≡ fold (insert_key bytes_eq) lines.old.keys (map scenario_text (open_plans (K.verdicts known.now) plans.now))) }
+    ensures { OnOk result (lines.new ≡ lines_behind lines.old (open_plans (K.verdicts known.now) plans.now)) }
 {
     for number in 0..plans.len() {
         add_plan(alloc, lines, known, &plans.plan(number))?;
@@ -78,10 +62,10 @@ fn asked<K: VerdictTable>(
     known: &K,
     cards: &[Scenario],
     plans: &CampaignPlans<'_>,
-) -> Result<IndexSet<Text>, AllocError>
-    ensures { IfOk result (λ lines. lines.keys ≡ lines_for (cards.now ++ open_plans (K.verdicts known.now) plans.now)) }
+) -> Result<AskedLines, AllocError>
+    ensures { IfOk result (λ lines. lines ≡ lines_for (cards.now ++ open_plans (K.verdicts known.now) plans.now)) }
 {
-    let mut lines = IndexSet::new(alloc);
+    let mut lines = AskedLines::new(alloc);
     add_cards(alloc, &mut lines, cards)?;
     add_plans(alloc, &mut lines, known, plans)?;
     Ok(lines)
@@ -96,9 +80,9 @@ pub fn asks<K: VerdictTable>(
     known: &K,
     plans: &CampaignPlans<'_>,
     failures: &[(u32, u32)],
-) -> Result<IndexSet<Text>, AllocError>
+) -> Result<AskedLines, AllocError>
     requires { All (λ f. f.0 < length plans.now) failures.now }
-    ensures { IfOk result (λ lines. lines.keys ≡ asked (K.verdicts known.now) plans.now failures.now) }
+    ensures { IfOk result (λ lines. lines ≡ asked (K.verdicts known.now) plans.now failures.now) }
 {
     match findings_known(alloc, known, plans, failures)? {
         Findings::Told(_) => asked(alloc, known, &[], plans),
@@ -106,29 +90,18 @@ pub fn asks<K: VerdictTable>(
     }
 }
 
-/// The lines, each with its line feed. An error means that memory was refused.
-fn joined(alloc: Global, lines: &IndexSet<Text>) -> Result<String, AllocError>
-    ensures { IfOk result (λ text. string_bytes text ≡ text_of lines.now.keys) }
-{
-    let mut text = String::new(alloc);
-    for line in lines {
-        text.push_str(line.as_str())?;
-        text.push_str("\n")?;
-    }
-    Ok(text)
-}
-
-/// The lines that ask for what is still to be tried of these plans, where the reductions are those of the first failures known. An error
-/// means that memory was refused.
+/// The text of a part of the lines that ask for what is still to be tried of these plans, where the reductions are those of the first
+/// failures known. An error means that memory was refused.
 pub fn asks_text<K: VerdictTable>(
     alloc: Global,
     known: &K,
     plans: &CampaignPlans<'_>,
+    part: AskedPart,
 ) -> Result<String, AllocError>
-    ensures { IfOk result (λ text. string_bytes text ≡ text_of (lines_for (untried (K.verdicts known.now) plans.now))) }
+    ensures { IfOk result (λ text. string_bytes text ≡ part_text part (lines_for (untried (K.verdicts known.now) plans.now))) }
 {
     let verdicts = plan_verdicts(alloc, known, plans)?;
     let failures = first_failures_of(alloc, verdicts.as_slice())?;
     let lines = asks(alloc, known, plans, failures.as_slice())?;
-    joined(alloc, &lines)
+    lines.text(alloc, part)
 }

@@ -9,6 +9,7 @@ use crate::asking::asks_text;
 use crate::planned::{borrowed, planned};
 use crate::refusal::OutsideFault;
 use answer_text::read;
+use asked_lines::AskedPart;
 use campaign_given::{CampaignSettings, Outside};
 use campaign_plans::CampaignPlans;
 use report::write_report;
@@ -18,7 +19,9 @@ use target_trait::Sink;
 /// Writes what is still to be tried of a campaign on a component that somebody else runs, by the answers so far: a line for each scenario,
 /// tidied, `none` for the one without entries, and each once. First come the open candidates of the reductions, one reduction for each
 /// code with which a plan is known to fail, from the least such plan: all that its present round waits for. Then come the plans that aren't
-/// answered. Nothing is written where all is known, and only then. Any of the lines may be tried, in any order.
+/// answered. There is no line where all is known, and only then. Any of the lines may be tried, in any order.
+///
+/// Of these lines a part is written: all of them, or one machine's shard, or one line in their place that says how many there are.
 ///
 /// Nothing is written before the whole text stands. `Answers` is the answers' first fault; `NotAnswered` never comes; and of a fault as of
 /// a campaign, `TooManyPlans` comes only where the list has more than 65536 plans. After each of these, and where memory was refused, the
@@ -27,21 +30,23 @@ pub fn write_asks<W: Sink>(
     alloc: Global,
     outside: &Outside,
     settings: &CampaignSettings,
+    part: AskedPart,
     answers: &[u8],
     sink: &mut W,
 ) -> Result<(), OutsideFault>
     requires { W.has_failed sink.old ≡ false }
-    ensures text { OnOk result (Appends (W.told sink.old) (W.told sink.new) (asks_text outside.now settings.now answers.now)) }
+    ensures text { OnOk result (Appends (W.told sink.old) (W.told sink.new) (asks_text part outside.now settings.now answers.now)) }
     ensures few { OnOk result (length (plans outside.now settings.now) ≤ most_plans) }
     ensures sound { OnOk result (W.has_failed sink.new ≡ false) }
     // Where the answers have a fault nothing is asked.
     ensures said { OnOk result ((said : List Answer) × Says outside.now.codes answers.now said) }
-    ensures fault { IfErr result (AsksFault outside.now settings.now answers.now (W.told sink.old) (W.told sink.new) (W.has_failed sink.new)) }
+    ensures fault { IfErr result (AsksFault part outside.now settings.now answers.now
+        (W.told sink.old) (W.told sink.new) (W.has_failed sink.new)) }
 {
     let known = read(alloc, outside.codes.as_slice(), answers)?;
     let points = borrowed(alloc, outside.points.as_slice())?;
     let plans = planned(alloc, points.as_slice(), outside, settings)?;
-    let text = asks_text(alloc, &known, &CampaignPlans::by_census(&plans))?;
+    let text = asks_text(alloc, &known, &CampaignPlans::by_census(&plans), part)?;
     write_report(text.as_bytes(), sink)?;
     Ok(())
 }

@@ -7,7 +7,8 @@ ghost use Rattle.result_book.specs.FirstFailures.{first_failures};
 ghost use Rattle.answer_text.specs.Known.{KnownVerdicts, Agrees};
 ghost use Rattle.outside_campaign.specs.Outside.{Component, Components, say_each, EachAgrees};
 ghost use Rattle.outside_campaign.specs.Reached.{place_of, ComesTo};
-ghost use Rattle.outside_campaign.specs.Asked.{lines_for, open_plans, known_failures, IsUntried};
+ghost use Rattle.asked_lines.specs.Lines.{lines_for};
+ghost use Rattle.outside_campaign.specs.Asked.{open_plans, known_failures, IsUntried};
 ghost use Rattle.outside_campaign.specs.Campaigns.{untried};
 
 /// No line is written just where nothing is still to be tried, which is where no report is refused for want of answers.

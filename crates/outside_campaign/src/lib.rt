@@ -6,6 +6,7 @@ mod driving;
 mod findings;
 mod forms;
 mod laws;
+mod partial;
 mod planned;
 mod reduction;
 mod refusal;
@@ -22,6 +23,7 @@ pub use laws::{
     known_failures_are_first, nothing_is_asked_where_nothing_is_to_be_tried,
     reductions_come_to_what_is_asked, what_is_asked_is_unanswered,
 };
+pub use partial::{partial_text, write_partial};
 pub use planned::{borrowed, list_plans, planned as outside_plans};
 pub use refusal::OutsideFault;
 pub use reporting::write_report_in;

@@ -22,6 +22,7 @@ use Rattle.action_eval.proofs.RunLaws.{tidied_means}
 use Rattle.plan_gen.specs.PlanList.{Asked}
 use Rattle.campaign_plans.specs.GrownScenarios.{grown_scenario}
 use Rattle.report.specs.ReportText.{scenario_text}
+use Rattle.asked_lines.specs.Lines.{lines_behind, lines_for}
 use Rattle.answer_text.proofs.Members.{same_printed}
 use Rattle.grown_plans.specs.Runs.{run}
 use Rattle.grown_plans.specs.GrownPlans.{Subject, grown, levels, onward, rigs_of, run_of_plan, scenario_of}
@@ -34,7 +35,7 @@ use Rattle.known_runs.specs.KnownPart.{is_reached, is_reached_onward, known_part
 use Rattle.known_runs.proofs.Ends.{filtered, runs_each_once}
 use Rattle.answered_runs.specs.Answered.{Answered, runs_in}
 use Rattle.answered_runs.specs.Components.{IsComponent}
-use Rattle.outside_grown.specs.Asked.{AreApart, IsAskedOf, lines_behind, lines_of, lines_to_run, plan_line, undecided, unrun}
+use Rattle.outside_grown.specs.Asked.{AreApart, IsAskedOf, lines_to_run, plan_line, undecided, unrun}
 use Rattle.outside_grown.specs.Further.{clean_hits, further_known}
 use Rattle.outside_grown.proofs.SameRuns.{run_same}
 
@@ -163,7 +164,7 @@ put_more : (lines : List (List ℕ)) (first later : List Entries) → lines_behi
 put_more lines [] later = refl
 put_more lines (s ∷ ss) later = put_more (insert_key bytes_eq lines (scenario_text s)) ss later
 
-pub both_added : (first later : List Entries) (none mid after : List (List ℕ)) → none ≡ [] → mid ≡ lines_behind none first → after ≡ lines_behind mid later → after ≡ lines_of (first ++ later)
+pub both_added : (first later : List Entries) (none mid after : List (List ℕ)) → none ≡ [] → mid ≡ lines_behind none first → after ≡ lines_behind mid later → after ≡ lines_for (first ++ later)
 both_added first later none mid after empty grew went =
     went ∙ ap (λ (ls : List (List ℕ)). lines_behind ls later) (grew ∙ ap (λ (ls : List (List ℕ)). lines_behind ls first) empty) ∙ sym (put_more [] first later)
 
@@ -174,7 +175,7 @@ map_both {C = C} g f (x ∷ xs) = ap (λ (ys : List C). g (f x) ∷ ys) (map_bot
 unrun_lines : (a : Answered) (plans : List (List Rig)) → map scenario_text (unrun a plans) ≡ map (plan_line a.points) (filter (λ plan. is_none (runs_in a plan)) plans)
 unrun_lines a plans = map_both scenario_text (λ (plan : List Rig). tidied (grown_scenario a.points plan)) (filter (λ (plan : List Rig). is_none (runs_in a plan)) plans)
 
-plans_asked : (t : Subject) (a : Answered) (d : ℕ) (plans : List (List Rig)) → IsComponent a.points t → d ≤ 64 → plans ≡ known_part t d (runs_in a) → lines_of (unrun a plans) ≡ lines_to_run t d (runs_in a)
+plans_asked : (t : Subject) (a : Answered) (d : ℕ) (plans : List (List Rig)) → IsComponent a.points t → d ≤ 64 → plans ≡ known_part t d (runs_in a) → lines_for (unrun a plans) ≡ lines_to_run t d (runs_in a)
 plans_asked t a d plans is low same =
     ap (fold (insert_key bytes_eq) []) (unrun_lines a plans ∙ ap (λ (ps : List (List Rig)). map (plan_line a.points) (filter (λ (plan : List Rig). is_none (runs_in a plan)) ps)) same
     ∙ ap (λ (names : List (List ℕ)). map (plan_line names) (to_run t d (runs_in a))) (sym is.names))

@@ -1,8 +1,6 @@
 -- What is still to be tried of a campaign with a depth, by what answers tell.
-use Rattle.std.specs.Prelude.{◌≡◌, ◌≢◌, ℕ, List, [], ◌++◌, is_none, map, fold}
+use Rattle.std.specs.Prelude.{◌≡◌, ◌≢◌, ℕ, List, ◌++◌, is_none, map}
 use Rattle.std.specs.List.{filter}
-use Rattle.std.specs.Str.{bytes_eq}
-use Rattle.indexmap.specs.IndexSet.{insert_key}
 use Rattle.scenario_values.specs.Scenario.{Entries}
 use Rattle.scenario_values.specs.Tidied.{tidied}
 use Rattle.action_eval.specs.declared.rig.Rig.{Rig}
@@ -13,6 +11,7 @@ use Rattle.grown_plans.specs.Promises.{EachTwo}
 use Rattle.known_runs.specs.Known.{KnownRuns}
 use Rattle.known_runs.specs.KnownPart.{to_run}
 use Rattle.report.specs.ReportText.{scenario_text}
+use Rattle.asked_lines.specs.Lines.{lines_behind}
 use Rattle.answer_text.specs.Runs.{told_in}
 use Rattle.answered_runs.specs.Answered.{Answered, known_plans, runs_in}
 use Rattle.answered_runs.specs.Verdicts.{verdict_by}
@@ -30,13 +29,6 @@ undecided a depth scenarios = map tidied (filter (λ s. is_none (verdict_by a.po
 -- listed scenarios
 abbrev pub to_try : Answered → ℕ → Asked → List Entries
 to_try a depth asked = unrun a (known_plans a depth) ++ undecided a depth (further_told a asked)
-
--- the lines that ask for scenarios, behind others, each where it first stands
-abbrev pub lines_behind : List (List ℕ) → List Entries → List (List ℕ)
-lines_behind lines scenarios = fold (insert_key bytes_eq) lines (map scenario_text scenarios)
-
-abbrev pub lines_of : List Entries → List (List ℕ)
-lines_of scenarios = lines_behind [] scenarios
 
 -- the line that asks for a plan
 abbrev pub plan_line : List (List ℕ) → List Rig → List ℕ

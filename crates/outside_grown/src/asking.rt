@@ -1,37 +1,34 @@
 //! What is still to be tried.
-ghost use Rattle.std.specs.Prelude.{◌≡◌, ◌≤◌, ◌∷◌, ◌++◌, [], length, map, fold, string_bytes, IfOk, IsErrOf, OnOk};
+ghost use Rattle.std.specs.Prelude.{◌≡◌, ◌≤◌, ◌∷◌, [], length, IfOk, IsErrOf, OnOk};
 ghost use Rattle.std.specs.List.{AllByRecursion};
 ghost use Rattle.std.specs.Str.{bytes_eq};
 ghost use Rattle.scenario_values.specs.Tidied.{tidied};
 ghost use Rattle.indexmap.specs.IndexSet.{insert_key};
-ghost use Rattle.report.specs.ReportText.{scenario_text, text_of};
+ghost use Rattle.report.specs.ReportText.{scenario_text};
+ghost use Rattle.asked_lines.specs.Lines.{lines_behind, lines_for};
 ghost use Rattle.answer_text.specs.Runs.{told_in};
 ghost use Rattle.grown_plans.specs.GrownPlans.{Subject};
 ghost use Rattle.answered_runs.specs.Answered.{known_plans};
 ghost use Rattle.answered_runs.specs.Components.{AgreesWithRuns, IsComponent};
-ghost use Rattle.outside_grown.specs.Asked.{AreApart, IsAskedOf, lines_of, to_try, undecided, unrun};
+ghost use Rattle.outside_grown.specs.Asked.{AreApart, IsAskedOf, to_try, undecided, unrun};
 ghost use Rattle.outside_grown.specs.Further.{AreTooMany};
 
 use crate::further::{MOST_PLANS, further_plans};
 use action_eval::Rig;
 use answered_runs::{AnsweredRuns, plan_scenario};
+use asked_lines::AskedLines;
 use grown_plans::GrownPlans;
-use indexmap::IndexSet;
 use known_runs::{KnownFault, Look, RunTable, Workspace};
 use plan_gen::{Plan, PlanList, PlanSettings};
-use report::write_scenario;
-use scenario_values::{Scenario, Text, tidy};
+use scenario_values::{Scenario, tidy};
 use std::alloc::{AllocError, Global};
 
 /// Adds the text of a scenario once it is tidied, unless it is there.
-fn add(alloc: Global, lines: &mut IndexSet<Text>, scenario: &Scenario) -> Result<(), AllocError>
-    ensures { OnOk result (lines.new.keys ≡ insert_key bytes_eq lines.old.keys (scenario_text (tidied scenario.now))) }
+fn add(alloc: Global, lines: &mut AskedLines, scenario: &Scenario) -> Result<(), AllocError>
+    ensures { OnOk result (lines.new ≡ insert_key bytes_eq lines.old (scenario_text (tidied scenario.now))) }
 {
     let tidied = tidy(alloc, scenario)?;
-    let mut text = String::new(alloc);
-    write_scenario(alloc, &mut text, &tidied)?;
-    lines.insert(Text::from_string(text))?;
-    Ok(())
+    lines.add(alloc, &tidied)
 }
 
 /// Adds a plan that grew, where nothing is told of its run.
@@ -40,10 +37,10 @@ fn add_grown(
     runs: &AnsweredRuns<'_>,
     faults: &[Rig],
     hits: &mut Vec<u32>,
-    lines: &mut IndexSet<Text>,
+    lines: &mut AskedLines,
 ) -> Result<(), AllocError>
     requires { length faults.now ≤ 64 }
-    ensures { OnOk result (lines.new.keys ≡ fold (insert_key bytes_eq) lines.old.keys (map scenario_text (unrun runs.now (faults.now ∷ [])))) }
+    ensures { OnOk result (lines.new ≡ lines_behind lines.old (unrun runs.now (faults.now ∷ []))) }
 {
     match runs.look(faults, hits)? {
         Look::Unknown => {
@@ -59,10 +56,10 @@ fn add_all_grown(
     alloc: Global,
     runs: &AnsweredRuns<'_>,
     plans: &GrownPlans,
-    lines: &mut IndexSet<Text>,
+    lines: &mut AskedLines,
 ) -> Result<(), AllocError>
     requires { AllByRecursion (λ plan. length plan ≤ 64) plans.now }
-    ensures { OnOk result (lines.new.keys ≡ fold (insert_key bytes_eq) lines.old.keys (map scenario_text (unrun runs.now plans.now))) }
+    ensures { OnOk result (lines.new ≡ lines_behind lines.old (unrun runs.now plans.now)) }
 {
     let mut workspace = Workspace::new(alloc);
     for number in 0..plans.len() {
@@ -79,9 +76,9 @@ fn add_further(
     runs: &AnsweredRuns<'_>,
     depth: u32,
     plan: &Plan<'_>,
-    lines: &mut IndexSet<Text>,
+    lines: &mut AskedLines,
 ) -> Result<(), AllocError>
-    ensures { OnOk result (lines.new.keys ≡ fold (insert_key bytes_eq) lines.old.keys (map scenario_text (undecided runs.now depth (plan.now ∷ [])))) }
+    ensures { OnOk result (lines.new ≡ lines_behind lines.old (undecided runs.now depth (plan.now ∷ []))) }
 {
     let scenario = plan.scenario(alloc)?;
     match runs.verdict_of(alloc, depth, &scenario)? {
@@ -96,9 +93,9 @@ fn add_all_further(
     runs: &AnsweredRuns<'_>,
     depth: u32,
     plans: &PlanList<'_>,
-    lines: &mut IndexSet<Text>,
+    lines: &mut AskedLines,
 ) -> Result<(), AllocError>
-    ensures { OnOk result (lines.new.keys ≡ fold (insert_key bytes_eq) lines.old.keys (map scenario_text (undecided runs.now depth plans.now))) }
+    ensures { OnOk result (lines.new ≡ lines_behind lines.old (undecided runs.now depth plans.now)) }
 {
     for number in 0..plans.len() {
         add_further(alloc, runs, depth, &plans.plan(number), lines)?;
@@ -121,18 +118,18 @@ pub fn asks(
     runs: &AnsweredRuns<'_>,
     depth: u32,
     settings: &PlanSettings<'_>,
-) -> Result<IndexSet<Text>, KnownFault>
+) -> Result<AskedLines, KnownFault>
     requires { depth ≤ 64 }
-    ensures lines { IfOk result (λ lines. lines.keys ≡ lines_of (to_try runs.now depth settings.now)) }
-    ensures once { IfOk result (λ lines. AreApart lines.keys) }
+    ensures lines { IfOk result (λ lines. lines ≡ lines_for (to_try runs.now depth settings.now)) }
+    ensures once { IfOk result (λ lines. AreApart lines) }
     // For every component that agrees with the answers.
     ensures asked { IfOk result (λ lines. (t : Subject) → IsComponent runs.now.points t → AgreesWithRuns t (told_in runs.now.book)
-        → IsAskedOf t runs.now depth settings.now lines.keys) }
+        → IsAskedOf t runs.now depth settings.now lines) }
     ensures many { IsErrOf result KnownFault.TooManyPlans → AreTooMany runs.now settings.now (length (known_plans runs.now depth)) }
 {
     let known = runs.known_plans(alloc, depth, MOST_PLANS)?;
     let further = further_plans(alloc, runs, settings, known.plans.len())?;
-    let mut lines = IndexSet::new(alloc);
+    let mut lines = AskedLines::new(alloc);
     add_all_grown(alloc, runs, &known.plans, &mut lines)?;
     add_all_further(alloc, runs, depth, &further, &mut lines)?;
     Ok(lines)

@@ -87,6 +87,12 @@ IsGapFault a plans (fault.Outside (refusal.NotAnswered t)) = Contains (unrun a p
 IsGapFault a plans (fault.Unseen line) = (n : ℕ) × IsGap (runs_in a) plans (gap.Unseen n) × (line ≡ line_told a (slice_index_or plans n []))
 IsGapFault a plans why = ⊥
 
+-- why it isn't told what is known so far
+abbrev pub RefusesKnown : Answered → ℕ → Asked → QuestionFault → Type 0
+RefusesKnown a depth asked (fault.Outside (refusal.NotAnswered t)) = ⊥
+RefusesKnown a depth asked (fault.Unseen line) = ⊥
+RefusesKnown a depth asked why = RefusesBy a depth asked why
+
 -- why it isn't answered which scenarios are still to be tried
 abbrev pub RefusesAsks : Answered → ℕ → Asked → QuestionFault → Type 0
 RefusesAsks a depth asked (fault.Outside (refusal.NotAnswered t)) = ⊥

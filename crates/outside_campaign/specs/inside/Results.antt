@@ -48,3 +48,8 @@ IsUntold outside settings answers (refusal.NotAnswered t) = (more : List Entries
 IsUntold outside settings answers (refusal.Campaign campaign.TooManyPlans) = most_plans < length (plans outside settings)
 IsUntold outside settings answers (refusal.Campaign campaign.Memory) = Unit {0}
 IsUntold outside settings answers (refusal.Campaign _) = ⊥
+
+-- why there is no text of what is known: the same, but that it waits for nothing
+abbrev pub IsUntoldYet : Description → Given → List ℕ → OutsideFault → Type 0
+IsUntoldYet outside settings answers (refusal.NotAnswered t) = ⊥
+IsUntoldYet outside settings answers fault = IsUntold outside settings answers fault

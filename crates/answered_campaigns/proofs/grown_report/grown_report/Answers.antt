@@ -5,7 +5,7 @@ use Rattle.report.specs.Reports.{FindingFacts}
 use Rattle.answered_runs.specs.Answered.{Answered, known_plans, runs_in}
 use Rattle.answered_runs.specs.WholeList.{AreAllSeen}
 use Rattle.outside_grown.specs.Further.{HasFewHits}
-use Rattle.answered_campaigns.proofs.Refused.{asks_refused, cards_refused, gap_refused, known_short, none_to_try, nothing_left, open_refused}
+use Rattle.answered_campaigns.proofs.Refused.{asks_refused, known_asks, cards_refused, gap_refused, known_short, none_to_try, nothing_left, open_refused}
 use Rattle.answered_campaigns.proofs.Told.{are_candidates, decide, err_with, is_listed, lists_seen, no_candidates, some_verdict}
 use Rattle.answered_campaigns.proofs.Reports.{first_is}
 use Rattle.answered_campaigns.proofs.grown_report.grown_report.Goals as goal
@@ -13,7 +13,8 @@ use Rattle.answered_campaigns.proofs.grown_report.grown_report.Goals as goal
 pub returns-in_err-refuse_broken-clause-fault : goal.returns-in_err-refuse_broken-clause-fault
 returns-in_err-refuse_broken-clause-fault c =
     err_with _ c.from_residual.result c.in_err-refuse_broken.field-0.0 c.from_residual.ensures.1
-    (asks_refused c.args.known.now.0 c.args.known.now.1 c.args.settings.now.plans c.in_err-refuse_broken.field-0.0 (c.in_err-refuse_broken.ensures.fault c.args.settings.now.plans))
+    (asks_refused c.args.known.now.0 c.args.known.now.1 c.args.settings.now.plans c.in_err-refuse_broken.field-0.0
+    (known_asks c.args.known.now.0 c.args.known.now.1 c.args.settings.now.plans c.in_err-refuse_broken.field-0.0 (c.in_err-refuse_broken.ensures.fault c.args.settings.now.plans)))
 
 pub refuse_gap-requires-clause-short : goal.refuse_gap-requires-clause-short
 refuse_gap-requires-clause-short c =

@@ -1,6 +1,7 @@
 use Rattle.std.proofs.Common.{◌≡◌, take}
-use Rattle.outside_grown.specs.Asked.{lines_behind, unrun}
+use Rattle.asked_lines.specs.Lines.{lines_behind}
+use Rattle.outside_grown.specs.Asked.{unrun}
 use Rattle.outside_grown.proofs.asking.add_all_grown.Given as goal
 
 abbrev pub invariant-loop-number : goal.invariant-loop-number
-invariant-loop-number l = l.lines.keys ≡ lines_behind l.fn.lines.keys (unrun l.runs (take l.number l.plans))
+invariant-loop-number l = l.lines ≡ lines_behind l.fn.lines (unrun l.runs (take l.number l.plans))

@@ -4,7 +4,7 @@ use Rattle.answer_text.specs.Runs.{told_in}
 use Rattle.answered_runs.specs.Answered.{Answered}
 use Rattle.campaign_given.specs.Description.{Description}
 use Rattle.answered_campaigns.proofs.Read.{reported, tells}
-use Rattle.answered_campaigns.proofs.depth.reported.Goals as goal
+use Rattle.answered_campaigns.proofs.depth.report_text.Goals as goal
 
 pub returns-clause-report : goal.returns-clause-report
 returns-clause-report c =

@@ -1,0 +1,105 @@
+-- What is found of plans that are looked at one after another.
+use Rattle.std.proofs.Common.{◌≡◌, ℕ, ◌+◌, ◌≤◌, Bool, false, cond, List, [], ◌∷◌, ◌++◌, Option, None, Some, length, refl, ap, sym, ◌∙◌, arith, subst, add-zero}
+use Rattle.std.specs.Prelude.{is_some, count_by, slice_get, string_bytes}
+use Rattle.std.specs.Option.{option_or}
+use Rattle.std.proofs.lemmas.List.{append_assoc, append-nil}
+use Rattle.std.proofs.lemmas.List.Concat.{flat_map-append}
+use Rattle.std.proofs.lemmas.List.Sums.{count_by-le-length, sum_by-cons}
+use Rattle.scenario_values.specs.Scenario.{Entries}
+use Rattle.scenario_values.specs.Tidied.{tidied}
+use Rattle.target_trait.specs.declared.judgement.Verdict.{Verdict}
+use Rattle.report.specs.ReportText.{ended, text_of}
+use Rattle.report.proofs.Written.{goes_on}
+use Rattle.answer_text.specs.Known.{KnownVerdicts, known_by}
+use Rattle.campaign_given.specs.Description.{Description}
+use Rattle.campaign_given.specs.Given.{Given}
+use Rattle.outside_campaign.specs.Campaigns.{plans as listed}
+use Rattle.outside_campaign.specs.Partial.{answered_count, failure_of, first_so_far, known_line_of, known_lines, known_to_fail, partial_by, partial_text, some_fails, some_fails_by}
+use Rattle.outside_campaign.specs.inside.Found.{IsAdded, IsFound}
+use Rattle.outside_campaign.specs.declared.partial.Found.{Found}
+
+-- ---- the loop
+
+-- with what the rest of the plans adds it is what is found of all
+pub record IsLeft (code_name : ℕ → List ℕ) (known : KnownVerdicts) (plans rest : List Entries) (found : Found) : Type 0 where
+  pub answered_is : found.answered + answered_count known rest ≡ answered_count known plans
+  pub lines_are : string_bytes found.lines ++ text_of (known_lines code_name known rest) ≡ text_of (known_lines code_name known plans)
+  pub first_is : option_or found.first (first_so_far known rest) ≡ first_so_far known plans
+
+pub begins : (code_name : ℕ → List ℕ) (known : KnownVerdicts) (plans : List Entries) (found : Found) → found.answered ≡ 0 → string_bytes found.lines ≡ [] → found.first ≡ None → IsLeft code_name known plans plans found
+begins code_name known plans found none empty no_first = record {
+  answered_is = omega arith;
+  lines_are = ap (λ (text : List ℕ). text ++ text_of (known_lines code_name known plans)) empty;
+  first_is = ap (λ (first : Option (ℕ × Entries)). option_or first (first_so_far known plans)) no_first;
+}
+
+-- there is room to count one more
+pub few_answered : (code_name : ℕ → List ℕ) (known : KnownVerdicts) (plans rest : List Entries) (found : Found) → IsLeft code_name known plans rest found → found.answered ≤ length plans
+few_answered code_name known plans rest found left =
+    let whole = left.answered_is in
+    let most = count_by-le-length (λ (plan : Entries). is_some (known (tidied plan))) plans in
+    omega (arith, whole, most)
+
+first_of_both : (first : Option (ℕ × Entries)) (here later : List (ℕ × Entries)) → option_or (option_or first (slice_get here 0)) (slice_get later 0) ≡ option_or first (slice_get (here ++ later) 0)
+first_of_both (Some f) here later = refl
+first_of_both None [] later = refl
+first_of_both None (f ∷ here) later = refl
+
+pub adds : (code_name : ℕ → List ℕ) (known : KnownVerdicts) (plans rest more : List Entries) (plan : Entries) (old new : Found) → rest ≡ plan ∷ more → IsLeft code_name known plans rest old → IsAdded code_name plan (known (tidied plan)) old new
+    → IsLeft code_name known plans more new
+adds code_name known plans rest more plan old new is before added =
+    let left = subst (λ (ps : List Entries). IsLeft code_name known plans ps old) is before in
+    let v : Option Verdict = known (tidied plan) in
+    let so_far = left.answered_is in
+    let one = added.answered_is in
+    let split = sum_by-cons (λ (p : Entries). cond (is_some (known (tidied p))) 1 0) plan more in
+    record {
+      answered_is = omega (arith, so_far, one, split);
+      lines_are =
+          goes_on (string_bytes old.lines) (string_bytes new.lines) (text_of (known_line_of code_name plan v)) (text_of (known_lines code_name known more)) (text_of (known_lines code_name known plans))
+          (ap (λ (text : List ℕ). string_bytes old.lines ++ text) (sym (flat_map-append ended (known_line_of code_name plan v) (known_lines code_name known more))) ∙ left.lines_are) added.lines_are;
+      first_is =
+          ap (λ (first : Option (ℕ × Entries)). option_or first (first_so_far known more)) added.first_is
+          ∙ first_of_both old.first (failure_of plan v) (known_to_fail known more) ∙ left.first_is;
+    }
+
+or_none : (first : Option (ℕ × Entries)) → option_or first None ≡ first
+or_none None = refl
+or_none (Some f) = refl
+
+pub all_looked_at : (code_name : ℕ → List ℕ) (known : KnownVerdicts) (plans rest : List Entries) (found : Found) → rest ≡ [] → IsLeft code_name known plans rest found → IsFound code_name known plans found
+all_looked_at code_name known plans rest found none before =
+    let left = subst (λ (ps : List Entries). IsLeft code_name known plans ps found) none before in
+    record {
+      answered_is = sym (add-zero found.answered) ∙ left.answered_is;
+      lines_are = sym (append-nil (string_bytes found.lines)) ∙ left.lines_are;
+      first_is = sym (or_none found.first) ∙ left.first_is;
+    }
+
+-- ---- the text
+
+pieces : (head counted known last : List ℕ) → ((head ++ counted) ++ known) ++ last ≡ head ++ (counted ++ (known ++ (last ++ [])))
+pieces head counted known last = simp (append_assoc, append-nil)
+
+front : (label seed counted rest : List ℕ) → (label ++ (seed ++ [])) ++ (counted ++ rest) ≡ label ++ (seed ++ (counted ++ rest))
+front label seed counted rest = simp (append_assoc, append-nil)
+
+-- the lines, written one after another
+pub written : (label seed counted last : List ℕ) (known : List (List ℕ)) (text : List ℕ) → text ≡ ((text_of (label ∷ seed ∷ []) ++ ended counted) ++ text_of known) ++ ended last
+    → text ≡ text_of (label ∷ seed ∷ counted ∷ [] ++ known ++ last ∷ [])
+written label seed counted last known text is =
+    is ∙ pieces (text_of (label ∷ seed ∷ [])) (ended counted) (text_of known) (ended last)
+    ∙ front (ended label) (ended seed) (ended counted) (text_of known ++ (ended last ++ []))
+    ∙ ap (λ (t : List ℕ). ended label ++ (ended seed ++ (ended counted ++ t))) (sym (flat_map-append ended known (last ∷ [])))
+
+-- ---- by the settings and the answers
+
+pub partial_is : (outside : Description) (given : Given) (answers : List ℕ) (known : KnownVerdicts) (plans : List Entries) (seed : ℕ) (text : List ℕ) → known ≡ known_by outside.codes answers → plans ≡ listed outside given → seed ≡ given.plans.seed
+    → text ≡ partial_text outside seed false known plans → text ≡ partial_by outside given answers
+partial_is outside given answers known plans seed text k p s is =
+    is ∙ ap (λ (n : ℕ). partial_text outside n false known plans) s ∙ ap (λ (ps : List Entries). partial_text outside given.plans.seed false known ps) p
+    ∙ ap (λ (v : KnownVerdicts). partial_text outside given.plans.seed false v (listed outside given)) k
+
+pub fails_is : (outside : Description) (given : Given) (answers : List ℕ) (known : KnownVerdicts) (plans : List Entries) (fails : Bool) → known ≡ known_by outside.codes answers → plans ≡ listed outside given → fails ≡ some_fails known plans
+    → fails ≡ some_fails_by outside given answers
+fails_is outside given answers known plans fails k p is = is ∙ ap (some_fails known) p ∙ ap (λ (v : KnownVerdicts). some_fails v (listed outside given)) k
