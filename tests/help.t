@@ -68,9 +68,9 @@ Each option has an example.
     paklour page my.toml > page.html
   tells what was tried and found, with the map and the run of each first failure, hit by hit.
   $ paklour help report | grep -e --brief -e --map -e --page
-        --brief   Count the verdicts that pass, and write the scenario beside each other verdict
-        --map     Write the map, an SVG picture
-        --page    Write a page to look at, as HTML; it tells no run hit by hit
+        --brief    Count the verdicts that pass, and write the scenario beside each other verdict
+        --map      Write the map, an SVG picture
+        --page     Write a page to look at, as HTML; it tells no run hit by hit
     paklour report --brief my.toml < answers
     paklour report --page my.toml < answers > page.html
 
@@ -107,9 +107,10 @@ statuses.
       label         what the component is, a text of up to 200 bytes
       codes         what may follow `fail` in an answer, up to 64 texts of up to 200 bytes
       points        the names of its points, 1 to 64 texts of up to 200 bytes
-      hits          how often each point is hit without faults, as many numbers from 0 to 100000
+      hits          how often each point is hit without faults, as many numbers from 0 to 100000;
+                    with a depth the answers tell that, and this key is out of range
   With "outside" somebody else runs the component: only plans, asks and report take such settings, in
-  which variant, workers, max_hits and crash_states are unknown keys, and depth is out of range.
+  which variant, workers, max_hits and crash_states are unknown keys. With a depth plans takes none.
   A chunk is a text of up to 4096 bytes. `paklour help try` says what a scenario may hold.
   
   Example:
@@ -126,6 +127,7 @@ statuses.
 The help of the commands on a component that somebody else runs says what an answer is.
 
   $ paklour help asks | grep -e ^Usage: -e VERDICT -e '<FILE>  '
-  Usage: paklour asks <FILE>
+  Usage: paklour asks [OPTIONS] <FILE>
     <FILE>  TOML settings, of which `paklour help` lists the keys; standard input has the answers
     VERDICT<TAB>SCENARIO
+    VERDICT<TAB>SCENARIO<TAB>HITS

@@ -6,15 +6,23 @@ report is that of `run`, in each form; before that each scenario that is asked h
 
 `paklour` has to be on the PATH. Prints each difference, and fails where there is one.
 """
+import itertools
 import os
 import random
 import re
 import subprocess
 import sys
 import tempfile
+from concurrent.futures import ThreadPoolExecutor
 
 EXAMPLES = os.path.join(os.path.dirname(os.path.abspath(__file__)), "..", "examples")
 CODES = {"replace": ["torn", "stale"], "maildir": ["torn", "lost"], "commit": ["split", "lost", "phantom"]}
+# the example of each target and variant
+VARIANTS = {
+    "replace": ["sound", "late_sync", "ignore_sync", "retry_write", "rename_first", "in_place"],
+    "maildir": ["sound", "link_first", "ignore_write", "append_tmp", "deliver_in_new"],
+    "commit": ["sound", "lazy_prepare", "early_end", "two_tries", "end_first"],
+}
 # the forms of a report by answers, each beside the command that writes the same of a bundled target
 FORMS = {"--brief": ["run", "--brief"], "--json": ["run", "--json"], "--junit": ["run", "--junit"], "--map": ["map"]}
 
@@ -46,8 +54,8 @@ class Campaigns:
             print(f"  {name} {str(value)[:600]}", file=sys.stderr)
 
 
-def outside_settings(report, own):
-    """Settings of a component from outside whose report is this, with the campaign's own numbers and scenarios."""
+def outside_settings(report, own, depth=None):
+    """Settings of a component from outside whose report is this, with the campaign's own numbers and scenarios. With a depth nobody tells a census."""
     text = report.decode()
     census = re.findall(r"^census (\S+) (\d+)$", text, re.M)
     label = re.search(r"^target (.*)$", text, re.M)[1]
@@ -57,7 +65,9 @@ def outside_settings(report, own):
     names = ", ".join(f'"{name}"' for name, _ in census)
     hits = ", ".join(count for _, count in census)
     codes = ", ".join(f'"{code}"' for code in codes_of(text, target))
-    return "\n".join(['target = "outside"', *kept, "[outside]", f'label = "{label}"', f"codes = [{codes}]", f"points = [{names}]", f"hits = [{hits}]", ""])
+    told = [f"hits = [{hits}]"] if depth is None else []
+    grows = [] if depth is None else [f"depth = {depth}"]
+    return "\n".join(['target = "outside"', *kept, *grows, "[outside]", f'label = "{label}"', f"codes = [{codes}]", f"points = [{names}]", *told, ""])
 
 
 def codes_of(text, target):
@@ -74,6 +84,18 @@ def answer(campaigns, own, scenario, known):
     return known[scenario]
 
 
+def answer_with_hits(campaigns, own, scenario, known):
+    """One run of the bundled target with its hits, hits of one point in a row as their number and the point."""
+    if scenario not in known:
+        text = "" if scenario == b"none" else scenario.decode()
+        _, said, _ = campaigns.run(["explain", f"--scenario={text}", own])
+        points = re.findall(rb"^hit \d+ (\S+) ", said, re.M)
+        rows = [(point, len(list(row))) for point, row in itertools.groupby(points)]
+        hits = b";".join(point if count == 1 else b"%d*%s" % (count, point) for point, count in rows)
+        known[scenario] = re.match(rb"verdict (.*)\n", said)[1] + b"\t" + scenario + b"\t" + hits + b"\n"
+    return known[scenario]
+
+
 NOBODY = b"nobody::asked=return"
 
 
@@ -85,7 +107,51 @@ def uncoloured(picture):
 def told(given):
     """What the commands note of these answers: the lines whose scenario names a point that nobody has."""
     lines = enumerate(given.splitlines(), 1)
-    return b"".join(b"answers: line %d: no point is named nobody::asked\n" % number for number, line in lines if line.endswith(NOBODY))
+    return b"".join(b"answers: line %d: no point is named nobody::asked\n" % number for number, line in lines if line.split(b"\t")[1] == NOBODY)
+
+
+def grown(campaigns, name, depth, known, more=""):
+    """The same with a depth: answers tell the hits of runs, and no line of the settings tells a census. `known` has runs of this target that were
+    tried before."""
+    with open(os.path.join(EXAMPLES, name), encoding="utf-8") as file:
+        own_text = f"{more}depth = {depth}\n" + re.sub(r"^(depth|pairs) = .*\n", "", file.read(), flags=re.M)
+    own = campaigns.file("own.toml", own_text)
+    status, wanted, _ = campaigns.run(["run", own])
+    settings = campaigns.file("outside.toml", outside_settings(wanted, own_text, depth))
+    draw, answers, answered = random.Random(depth), [answer_with_hits(campaigns, own, NOBODY, known)], set()
+    while True:
+        given = b"".join(answers)
+        asked = campaigns.run(["asks", settings], given)
+        campaigns.expect(f"{name} to {depth}: asks", (0, told(given)), (asked[0], asked[2]))
+        lines = asked[1].splitlines()
+        campaigns.expect(f"{name} to {depth}: each once", len(lines), len(set(lines)))
+        campaigns.expect(f"{name} to {depth}: none that is answered", set(), set(lines) & answered)
+        if not lines or asked[0] != 0:
+            break
+        refused = campaigns.run(["report", settings], given)
+        campaigns.expect(f"{name} to {depth}: report waits", (2, b""), refused[:2])
+        waits = refused[2].removeprefix(b"not answered ").removesuffix(b"\n")
+        campaigns.expect(f"{name} to {depth}: it waits for what is asked", True, waits in lines)
+        part = draw.sample(lines, max(1, len(lines) // 2))
+        answers += [answer_with_hits(campaigns, own, line, known) for line in part]
+        answered |= set(part)
+        answers += draw.sample(answers, 1)
+        draw.shuffle(answers)
+    given = b"".join(answers)
+    campaigns.expect(f"{name} to {depth}: report", (status, wanted, told(given)), campaigns.run(["report", settings], given))
+    for form, words in FORMS.items():
+        status, wanted, _ = campaigns.run([*words, own])
+        found = campaigns.run(["report", form, settings], given)
+        campaigns.expect(f"{name} to {depth}: {form}", (status, uncoloured(wanted), told(given)), (found[0], uncoloured(found[1]), found[2]))
+
+
+def grown_to_three(target, variant):
+    """To each depth, in a folder of its own: how many checks there were, and how many of them differed."""
+    with tempfile.TemporaryDirectory() as folder:
+        campaigns, known = Campaigns(folder), {}
+        for depth in (1, 2, 3):
+            grown(campaigns, f"{target}_{variant}.toml", depth, known)
+        return campaigns.checks, campaigns.failed
 
 
 def bundled(campaigns, name, more=""):
@@ -136,13 +202,37 @@ def size(campaigns):
         campaigns.expect(command, (0, wanted), (status, len(text.splitlines())))
 
 
+def size_to_a_depth(campaigns):
+    """Many with a depth: 23,857 plans of 90 hits each, where runs go on after a panic too. Each command takes some seconds; a search of a list for each plan
+    would take minutes."""
+    settings = campaigns.file("deep.toml", 'target = "outside"\ndepth = 2\n[outside]\nlabel = "x"\ncodes = []\npoints = ["p", "q"]\n')
+    hits = b";".join([b"p;q"] * 45)
+    answers = {b"none": b"pass\tnone\t%s\n" % hits}
+    while True:
+        status, asked, _ = campaigns.run(["asks", settings], b"".join(answers.values()))
+        campaigns.expect("asks of many", 0, status)
+        if not asked or status != 0:
+            break
+        answers.update((line, b"pass\t%s\t%s\n" % (line, hits)) for line in asked.splitlines())
+    status, text, _ = campaigns.run(["report", settings], b"".join(answers.values()))
+    # 180 plans have one fault, and 4 for each two of the 90 hits have two; 7,656 go onward: 2 for each two of the first 88 hits, whose points are hit again
+    campaigns.expect("a report of many", (0, [b"level 1 180", b"level 2 16020", b"plans 23857"]),
+                     (status, [line for line in text.splitlines() if line.startswith((b"level 1", b"level 2", b"plans"))]))
+
+
 def main():
     with tempfile.TemporaryDirectory() as folder:
         campaigns = Campaigns(folder)
         for name in ("replace_late_sync.toml", "replace_retry_write.toml", "maildir_append_tmp.toml", "commit_early_end.toml"):
             bundled(campaigns, name)
         bundled(campaigns, "replace_ignore_sync.toml", "pairs = true\nstorms = 20\nrate = 300\n")
+        with ThreadPoolExecutor(4) as workers:
+            for checks, failed in workers.map(lambda each: grown_to_three(*each), [(target, variant) for target in VARIANTS for variant in VARIANTS[target]]):
+                campaigns.checks += checks
+                campaigns.failed += failed
+        grown(campaigns, "replace_ignore_sync.toml", 2, {}, "storms = 20\nrate = 300\n")
         size(campaigns)
+        size_to_a_depth(campaigns)
         print(f"{campaigns.failed} checks failed")
     return 1 if campaigns.failed else 0
 

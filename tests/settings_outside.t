@@ -51,18 +51,24 @@ known; of unknown keys the least is told, before all else. Nor does `crash_state
   $ outside --top 'storms = 10001'
   settings: out of range storms
 
-Plans don't grow from the runs of such a component: each depth is out of range. It comes where the key comes, before the scenarios.
+With a depth plans grow from the hits that answers tell, so that the settings say none: `hits` is out of range then, whatever its value.
 
+  $ outside -hits --top 'depth = 1'
+  settings: target outside with a depth: only asks and report
+  $ outside -hits --top 'depth = 64'
+  settings: target outside with a depth: only asks and report
   $ outside --top 'depth = 1'
-  settings: out of range depth
-  $ outside --top 'depth = 64'
-  settings: out of range depth
+  settings: out of range outside.hits
+  $ outside --top 'depth = 1' 'hits = "none"'
+  settings: out of range outside.hits
+  $ outside -points --top 'depth = 1'
+  settings: missing outside.points
   $ outside --top 'depth = 65'
   settings: out of range depth
   $ outside --top 'depth = "2"'
   settings: wrong type depth
   $ outside --top 'depth = 2' --top 'pairs = false' --top 'scenarios = 1'
-  settings: out of range depth
+  settings: wrong type scenarios
   $ outside --top 'depth = 2' --top 'pairs = true'
   settings: out of range pairs
   $ outside --top 'depth = 2' --top 'rate = 1001'

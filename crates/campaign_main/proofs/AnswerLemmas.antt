@@ -1,34 +1,39 @@
 -- Answers, by what a command did.
-use Rattle.std.proofs.Common.{◌≡◌, ◌≤◌, ◌<◌, ◌∙◌, ℕ, Bool, true, false, List, Option, Some, None, Result, Ok, Err, IfErr, IfOk, IsErrAnd, OnOk, length, refl, sym, ap, is_some, option_map, slice_get, subst, take, if◌then◌else◌}
-use Rattle.std.proofs.lemmas.Bool.{false≢true, le-ltb, lt-ltb}
+use Rattle.std.proofs.Common.{◌≡◌, ◌≤◌, ◌<◌, ◌∙◌, ℕ, Bool, true, false, List, Option, Some, None, Result, Ok, Err, IfErr, IfOk, IsErrAnd, OnOk, length, refl, sym, ap, is_some, option_map, slice_get, subst, if◌then◌else◌}
+use Rattle.std.proofs.lemmas.Bool.{le-ltb, lt-ltb}
 use Rattle.std.specs.Io.KnownBytes.{Appends}
 use Rattle.scenario_values.specs.Scenario.{Entries}
 use Rattle.scenario_grammar.specs.declared.fault.ScenarioFault.TheVariants as scenario
+use Rattle.target_trait.specs.declared.judgement.Verdict.{Verdict}
 use Rattle.plan_gen.specs.PlanList.{most_plans}
 use Rattle.campaign_core.specs.Headline.{Campaign, say, plans, campaign_map_text, first_failure}
-use Rattle.campaign_core.specs.CommandTexts.{counted, IsFault, IsReducedToMinimal, IsUnfound, IsUnlisted, LeavesOnly, plan_lines, plans_text, reduce_text, tried, try_text}
+use Rattle.campaign_core.specs.CommandTexts.{counted, explained, IsFault, IsReducedToMinimal, IsUnfound, IsUnlisted, LeavesOnly, plan_lines, plans_text, reduce_text, tried, try_text}
+use Rattle.campaign_core.specs.Writes.{Change, IsUntouched, WritesPart, WritesWhole}
 use Rattle.campaign_core.specs.declared.ending.CampaignFault.{CampaignFault}
 use Rattle.campaign_core.specs.declared.ending.CampaignFault.TheVariants as campaign
 use Rattle.command_words.specs.declared.words.Form.{Form}
 use Rattle.command_words.specs.declared.words.Order.TheVariants as order
 use Rattle.outside_campaign.specs.Campaigns.{IsCut, IsUnwritten}
 use Rattle.report.specs.ReportText.{text_of}
-use Rattle.action_eval.specs.Answers.{given_of}
-use Rattle.run_explained.specs.Explained.{explain_text}
 use Rattle.campaign_main.specs.declared.fault.CommandFault.{CommandFault}
 use Rattle.campaign_main.specs.declared.fault.CommandFault.TheVariants as faults
+use Rattle.campaign_main.specs.declared.exit.Answered.{Answered}
 use Rattle.campaign_main.specs.declared.exit.Conclusion.{Conclusion}
 use Rattle.campaign_main.specs.declared.exit.Conclusion.TheVariants.{Clean}
 use Rattle.campaign_main.specs.Exit.{concluded}
 use Rattle.campaign_main.specs.Commands.{Answer, Refusal, explain_answer, map_answer, numbered, of_few_plans, of_verdict, outside_answer, planned, plans_answer, reduce_answer, report_in, run_answer, taken_answer, too_many_plans, try_answer}
 use Rattle.campaign_main.specs.Notes.{is_doubted, listed_notes, notes_of, report_notes}
-use Rattle.campaign_main.specs.Ends.{ComesTo, FallsShort, IsCutOff, IsNoted, IsUntaken, IsUntouched, IsWritten, TellsNotes}
+use Rattle.campaign_main.specs.Ends.{ComesTo, FallsShort, HasNotes, IsCutOff, IsUntaken, IsWritten}
 
 -- why a list of plans isn't made
 abbrev IsUnmade : List Entries → CampaignFault → Type 0
 IsUnmade plans campaign.TooManyPlans = most_plans < length plans
 IsUnmade plans campaign.Memory = Unit {0}
 IsUnmade plans (campaign.Write n) = ⊥
+
+-- what a command came to that wrote its whole text
+abbrev pub IsDone : Answer → Change → Conclusion → List ℕ → Type 0
+IsDone answer w found notes = IsWritten answer w found × HasNotes answer notes
 
 module _ (plans : List Entries) (a : List ℕ × Conclusion × List ℕ) where
   few_plans : length plans ≤ most_plans → of_few_plans plans a ≡ Ok a
@@ -38,54 +43,31 @@ module _ (plans : List Entries) (a : List ℕ × Conclusion × List ℕ) where
   many_plans many = let f : Bool → Answer = λ b. if b then Err too_many_plans else Ok a in ap f (lt-ltb most_plans (length plans) many)
 
 -- what comes of a list of plans and of its text, where that is the answer
-module _ (plans : List Entries) (answer : Answer) (text : List ℕ) (found : Conclusion) (notes : List ℕ) (is : answer ≡ of_few_plans plans (text, found, notes)) where
-  module _ (old new : Option (List ℕ)) where
-    of_plans : (failed : Bool) → length plans ≤ most_plans → Appends old new text → failed ≡ false → IsWritten answer old new failed found
-    of_plans failed few written sound =
-        let P : Answer → Type 0 = λ x. IsWritten x old new failed found in
-        subst P (sym (is ∙ few_plans plans (text, found, notes) few)) (written, refl, sound)
+module _ (plans : List Entries) (answer : Answer) (text : List ℕ) (found : Conclusion) (notes : List ℕ) (is : answer ≡ of_few_plans plans (text, found, notes)) (w : Change) where
+  done_plans : (lines : List ℕ) → length plans ≤ most_plans → WritesWhole text w → lines ≡ notes → IsDone answer w found lines
+  done_plans lines few written same =
+      let P : Answer → Type 0 = λ x. IsDone x w found lines in
+      subst P (sym (is ∙ few_plans plans (text, found, notes) few)) ((written, refl), same)
 
-    long_plans : (failed : Bool) → IsUntouched old new failed → most_plans < length plans → FallsShort answer old new failed (faults.Campaign campaign.TooManyPlans)
-    long_plans failed untouched many = (untouched, is ∙ many_plans plans (text, found, notes) many)
+  long_plans : IsUntouched w → most_plans < length plans → FallsShort answer w (faults.Campaign campaign.TooManyPlans)
+  long_plans untouched many = (untouched, is ∙ many_plans plans (text, found, notes) many)
 
-    part_of_plans : (failed : Bool) (n : ℕ) → Appends old new (take n text) × (n < length text) × (failed ≡ true) → length plans ≤ most_plans → IsCutOff answer old new failed n
-    part_of_plans failed n part few =
-        let P : Answer → Type 0 = λ x. IsCutOff x old new failed n in
-        subst P (sym (is ∙ few_plans plans (text, found, notes) few)) part
+  part_of_plans : (n : ℕ) → WritesPart text n w → length plans ≤ most_plans → IsCutOff answer w n
+  part_of_plans n part few =
+      let P : Answer → Type 0 = λ x. IsCutOff x w n in
+      subst P (sym (is ∙ few_plans plans (text, found, notes) few)) part
 
-    -- a list that isn't made, before anything is written
-    unlisted_plans : (failed : Bool) (f : CampaignFault) → IsUntouched old new failed → IsUnmade plans f → FallsShort answer old new failed (faults.Campaign f)
-    unlisted_plans failed campaign.TooManyPlans untouched h = long_plans failed untouched h
-    unlisted_plans failed campaign.Memory untouched h = untouched
-    unlisted_plans failed (campaign.Write n) untouched h = absurd h
+  -- a list that isn't made, before anything is written
+  unlisted_plans : (f : CampaignFault) → IsUntouched w → IsUnmade plans f → FallsShort answer w (faults.Campaign f)
+  unlisted_plans campaign.TooManyPlans untouched h = long_plans untouched h
+  unlisted_plans campaign.Memory untouched h = untouched
+  unlisted_plans (campaign.Write n) untouched h = absurd h
 
-  -- what is noted beside it
-  noted_plans : (lines : List ℕ) (told told' : Option (List ℕ)) (broken : Bool) → length plans ≤ most_plans → lines ≡ notes → IsNoted lines told told' broken
-      → TellsNotes answer told told' broken
-  noted_plans lines told told' broken few same h =
-      let P : Answer → Type 0 = λ x. TellsNotes x told told' broken in
-      let Q : List ℕ → Type 0 = λ n. IsNoted n told told' broken in
-      subst P (sym (is ∙ few_plans plans (text, found, notes) few)) (subst Q same h)
-
-module _ (c : Campaign) (answer : Answer) (text : List ℕ) (found : Conclusion) (notes : List ℕ) (is : answer ≡ of_few_plans (plans c) (text, found, notes)) (old new : Option (List ℕ)) where
-  short_of_plans : (failed : Bool) (f : CampaignFault) → IsFault c text old new failed f → FallsShort answer old new failed (faults.Campaign f)
-  short_of_plans failed campaign.TooManyPlans h = long_plans (plans c) answer text found notes is old new failed (h.0, h.1) h.2
-  short_of_plans failed campaign.Memory h = h
-  short_of_plans failed (campaign.Write n) h = part_of_plans (plans c) answer text found notes is old new failed n (h.0, h.1, h.2) h.3
-
--- what comes of a scenario and of its text, where that is the answer
-module _ (answer : Answer) (text : List ℕ) (found : Conclusion) (notes : List ℕ) (is : answer ≡ Ok (text, found, notes)) (old new : Option (List ℕ)) where
-  pub of_scenario : (failed : Bool) → Appends old new text → failed ≡ false → IsWritten answer old new failed found
-  of_scenario failed written sound =
-      let P : Answer → Type 0 = λ x. IsWritten x old new failed found in
-      subst P (sym is) (written, refl, sound)
-
-  pub short_of_scenario : (failed : Bool) (f : CampaignFault) → LeavesOnly old new failed text f → FallsShort answer old new failed (faults.Campaign f)
-  short_of_scenario failed campaign.TooManyPlans h = absurd h
-  short_of_scenario failed campaign.Memory h = h
-  short_of_scenario failed (campaign.Write n) h =
-      let P : Answer → Type 0 = λ x. IsCutOff x old new failed n in
-      subst P (sym is) h
+module _ (c : Campaign) (answer : Answer) (text : List ℕ) (found : Conclusion) (notes : List ℕ) (is : answer ≡ of_few_plans (plans c) (text, found, notes)) (w : Change) where
+  short_of_plans : (f : CampaignFault) → IsFault c text w f → FallsShort answer w (faults.Campaign f)
+  short_of_plans campaign.TooManyPlans h = long_plans (plans c) answer text found notes is w h.0 h.1
+  short_of_plans campaign.Memory h = h
+  short_of_plans (campaign.Write n) h = part_of_plans (plans c) answer text found notes is w n h.0 h.1
 
 -- whether there is a first failure, by its number
 first_found : (first : Option (ℕ × ℕ)) → is_some (option_map (λ f. f.0) first) ≡ is_some first
@@ -96,144 +78,107 @@ first_found (Some f) = refl
 
 -- what comes of a campaign and of its text, where that is the answer
 module _ (c : Campaign) (answer : Answer) (text : List ℕ) (doubted : Bool) (notes : List ℕ)
-    (is : answer ≡ of_few_plans (plans c) (text, concluded (is_some (first_failure c)) doubted, notes)) (old new : Option (List ℕ)) where
-  of_campaign : (failed : Bool) (found : Conclusion) (first : Option ℕ) → length (plans c) ≤ most_plans → Appends old new text → failed ≡ false
-      → found ≡ concluded (is_some first) doubted → first ≡ option_map (λ f. f.0) (first_failure c) → IsWritten answer old new failed found
-  of_campaign failed found first few written sound has first-is =
-      let P : Conclusion → Type 0 = λ b. IsWritten answer old new failed b in
+    (is : answer ≡ of_few_plans (plans c) (text, concluded (is_some (first_failure c)) doubted, notes)) (w : Change) where
+  done_campaign : (found : Conclusion) (first : Option ℕ) (lines : List ℕ) → length (plans c) ≤ most_plans → WritesWhole text w
+      → found ≡ concluded (is_some first) doubted → first ≡ option_map (λ f. f.0) (first_failure c) → lines ≡ notes → IsDone answer w found lines
+  done_campaign found first lines few written has first-is same =
+      let P : Conclusion → Type 0 = λ b. IsDone answer w b lines in
       let f : Bool → Conclusion = λ b. concluded b doubted in
-      let same : found ≡ concluded (is_some (first_failure c)) doubted = has ∙ ap f (ap is_some first-is ∙ first_found (first_failure c)) in
-      subst P (sym same) (of_plans (plans c) answer text (concluded (is_some (first_failure c)) doubted) notes is old new failed few written sound)
+      let comes : found ≡ concluded (is_some (first_failure c)) doubted = has ∙ ap f (ap is_some first-is ∙ first_found (first_failure c)) in
+      subst P (sym comes) (done_plans (plans c) answer text (concluded (is_some (first_failure c)) doubted) notes is w lines few written same)
 
-module _ (c : Campaign) (form : Form) (strict : Bool) where
+module _ (c : Campaign) (form : Form) (strict : Bool) (w : Change) where
   abbrev run-ended : Conclusion
   run-ended = concluded (is_some (first_failure c)) (is_doubted strict (report_notes strict c))
 
-  module _ (old new : Option (List ℕ)) where
-    pub run-written : (failed : Bool) (found : Conclusion) (first : Option ℕ) (some doubted : Bool) (notes : List ℕ) → length (plans c) ≤ most_plans → Appends old new (report_in form c)
-        → failed ≡ false → found ≡ concluded some doubted → some ≡ is_some first → first ≡ option_map (λ f. f.0) (first_failure c)
-        → doubted ≡ is_doubted strict notes → notes ≡ report_notes strict c → IsWritten (run_answer form strict c) old new failed found
-    unfolding run_answer
-    run-written failed found first some doubted notes few written sound is has first-is doubts same =
-        let f : Bool → Conclusion = λ b. concluded b doubted in
-        let g : Bool → Conclusion = λ d. concluded (is_some first) d in
-        let h : List ℕ → Bool = is_doubted strict in
-        of_campaign c (run_answer form strict c) (report_in form c) (is_doubted strict (report_notes strict c)) (report_notes strict c) refl old new
-        failed found first few written sound (is ∙ ap f has ∙ ap g (doubts ∙ ap h same)) first-is
-
-    pub run-short : (failed : Bool) (f : CampaignFault) → IsFault c (report_in form c) old new failed f → FallsShort (run_answer form strict c) old new failed (faults.Campaign f)
-    unfolding run_answer
-    run-short failed f h = short_of_plans c (run_answer form strict c) (report_in form c) run-ended (report_notes strict c) refl old new failed f h
-
-    pub run-unlisted : (failed : Bool) (f : CampaignFault) → IsUntouched old new failed → IsUnlisted c f → FallsShort (run_answer form strict c) old new failed (faults.Campaign f)
-    unfolding run_answer
-    run-unlisted failed campaign.TooManyPlans untouched h =
-        unlisted_plans (plans c) (run_answer form strict c) (report_in form c) run-ended (report_notes strict c) refl old new failed campaign.TooManyPlans untouched h
-    run-unlisted failed campaign.Memory untouched h = untouched
-    run-unlisted failed (campaign.Write n) untouched h = absurd h
-
-  pub run-noted : (lines : List ℕ) (told told' : Option (List ℕ)) (broken : Bool) → length (plans c) ≤ most_plans → lines ≡ report_notes strict c → IsNoted lines told told' broken
-      → TellsNotes (run_answer form strict c) told told' broken
+  pub run-done : (found : Conclusion) (first : Option ℕ) (some doubted : Bool) (notes : List ℕ) → length (plans c) ≤ most_plans → WritesWhole (report_in form c) w
+      → found ≡ concluded some doubted → some ≡ is_some first → first ≡ option_map (λ f. f.0) (first_failure c)
+      → doubted ≡ is_doubted strict notes → notes ≡ report_notes strict c → IsDone (run_answer form strict c) w found notes
   unfolding run_answer
-  run-noted = noted_plans (plans c) (run_answer form strict c) (report_in form c) run-ended (report_notes strict c) refl
+  run-done found first some doubted notes few written is has first-is doubts same =
+      let f : Bool → Conclusion = λ b. concluded b doubted in
+      let g : Bool → Conclusion = λ d. concluded (is_some first) d in
+      let h : List ℕ → Bool = is_doubted strict in
+      done_campaign c (run_answer form strict c) (report_in form c) (is_doubted strict (report_notes strict c)) (report_notes strict c) refl w
+      found first notes few written (is ∙ ap f has ∙ ap g (doubts ∙ ap h same)) first-is same
 
-module _ (c : Campaign) where
+  pub run-short : (f : CampaignFault) → IsFault c (report_in form c) w f → FallsShort (run_answer form strict c) w (faults.Campaign f)
+  unfolding run_answer
+  run-short f h = short_of_plans c (run_answer form strict c) (report_in form c) run-ended (report_notes strict c) refl w f h
+
+  pub run-unlisted : (f : CampaignFault) → IsUntouched w → IsUnlisted c f → FallsShort (run_answer form strict c) w (faults.Campaign f)
+  unfolding run_answer
+  run-unlisted campaign.TooManyPlans untouched h =
+      unlisted_plans (plans c) (run_answer form strict c) (report_in form c) run-ended (report_notes strict c) refl w campaign.TooManyPlans untouched h
+  run-unlisted campaign.Memory untouched h = untouched
+  run-unlisted (campaign.Write n) untouched h = absurd h
+
+module _ (c : Campaign) (w : Change) where
   abbrev listed : List ℕ
   listed = listed_notes c.points c.plans.listed
 
-  module _ (old new : Option (List ℕ)) where
-    pub map-written : (failed : Bool) (found : Conclusion) (first : Option ℕ) (some : Bool) → length (plans c) ≤ most_plans → Appends old new (campaign_map_text c) → failed ≡ false
-        → found ≡ concluded some false → some ≡ is_some first → first ≡ option_map (λ f. f.0) (first_failure c) → IsWritten (map_answer c) old new failed found
-    unfolding map_answer
-    map-written failed found first some few written sound is has first-is =
-        let f : Bool → Conclusion = λ b. concluded b false in
-        of_campaign c (map_answer c) (campaign_map_text c) false listed refl old new failed found first few written sound (is ∙ ap f has) first-is
-
-    pub map-short : (failed : Bool) (f : CampaignFault) → IsFault c (campaign_map_text c) old new failed f → FallsShort (map_answer c) old new failed (faults.Campaign f)
-    unfolding map_answer
-    map-short failed f h = short_of_plans c (map_answer c) (campaign_map_text c) (concluded (is_some (first_failure c)) false) listed refl old new failed f h
-
-    pub plans-written : (failed : Bool) → length (plans c) ≤ most_plans → Appends old new (plans_text c) → failed ≡ false → IsWritten (plans_answer c) old new failed Clean
-    unfolding plans_answer
-    plans-written failed few written sound = of_plans (plans c) (plans_answer c) (plans_text c) Clean listed refl old new failed few written sound
-
-    pub plans-short : (failed : Bool) (f : CampaignFault) → IsFault c (plans_text c) old new failed f → FallsShort (plans_answer c) old new failed (faults.Campaign f)
-    unfolding plans_answer
-    plans-short failed f h = short_of_plans c (plans_answer c) (plans_text c) Clean listed refl old new failed f h
-
-  pub map-noted : (lines : List ℕ) (told told' : Option (List ℕ)) (broken : Bool) → length (plans c) ≤ most_plans → lines ≡ listed → IsNoted lines told told' broken
-      → TellsNotes (map_answer c) told told' broken
+  pub map-done : (found : Conclusion) (first : Option ℕ) (some : Bool) (notes : List ℕ) → length (plans c) ≤ most_plans → WritesWhole (campaign_map_text c) w
+      → found ≡ concluded some false → some ≡ is_some first → first ≡ option_map (λ f. f.0) (first_failure c) → notes ≡ listed → IsDone (map_answer c) w found notes
   unfolding map_answer
-  map-noted = noted_plans (plans c) (map_answer c) (campaign_map_text c) (concluded (is_some (first_failure c)) false) listed refl
+  map-done found first some notes few written is has first-is same =
+      let f : Bool → Conclusion = λ b. concluded b false in
+      done_campaign c (map_answer c) (campaign_map_text c) false listed refl w found first notes few written (is ∙ ap f has) first-is same
 
-  pub plans-noted : (lines : List ℕ) (told told' : Option (List ℕ)) (broken : Bool) → length (plans c) ≤ most_plans → lines ≡ listed → IsNoted lines told told' broken
-      → TellsNotes (plans_answer c) told told' broken
+  pub map-short : (f : CampaignFault) → IsFault c (campaign_map_text c) w f → FallsShort (map_answer c) w (faults.Campaign f)
+  unfolding map_answer
+  map-short f h = short_of_plans c (map_answer c) (campaign_map_text c) (concluded (is_some (first_failure c)) false) listed refl w f h
+
+  pub plans-done : (notes : List ℕ) → length (plans c) ≤ most_plans → WritesWhole (plans_text c) w → notes ≡ listed → IsDone (plans_answer c) w Clean notes
   unfolding plans_answer
-  plans-noted = noted_plans (plans c) (plans_answer c) (plans_text c) Clean listed refl
+  plans-done notes few written same = done_plans (plans c) (plans_answer c) (plans_text c) Clean listed refl w notes few written same
 
-module _ (c : Campaign) (read : Result (ℕ × Entries) Refusal) (t : ℕ × Entries) (takes : read ≡ Ok t) (old new : Option (List ℕ)) where
-  tried-is : taken_answer (try_answer c) read ≡ Ok (try_text c.codes (tried c t.0 t.1), of_verdict (tried c t.0 t.1).verdict, notes_of c.points t.1)
+  pub plans-short : (f : CampaignFault) → IsFault c (plans_text c) w f → FallsShort (plans_answer c) w (faults.Campaign f)
+  unfolding plans_answer
+  plans-short f h = short_of_plans c (plans_answer c) (plans_text c) Clean listed refl w f h
+
+-- ---- a command on the scenario that it takes
+
+-- the answer that tells a scenario's text and verdict, where it is taken
+module _ (answer : ℕ → Entries → Answer) (text : ℕ → Entries → List ℕ) (verdict : ℕ → Entries → Verdict) (points : List (List ℕ))
+    (is : (stream : ℕ) (scenario : Entries) → answer stream scenario ≡ Ok (text stream scenario, of_verdict (verdict stream scenario), notes_of points scenario))
+    (read : Result (ℕ × Entries) Refusal) (t : ℕ × Entries) (takes : read ≡ Ok t) (w : Change) where
+  taken-is : taken_answer answer read ≡ Ok (text t.0 t.1, of_verdict (verdict t.0 t.1), notes_of points t.1)
+  taken-is = ap (taken_answer answer) takes ∙ is t.0 t.1
+
+  pub taken-done : (found : Conclusion) (v : Verdict) (notes : List ℕ) → WritesWhole (text t.0 t.1) w → found ≡ of_verdict v → v ≡ verdict t.0 t.1 → notes ≡ notes_of points t.1
+      → IsDone (taken_answer answer read) w found notes
+  taken-done found v notes written comes judged same =
+      let P : Answer → Type 0 = λ x. IsDone x w found notes in
+      subst P (sym taken-is) ((written, sym (comes ∙ ap of_verdict judged)), same)
+
+  pub taken-short : (f : CampaignFault) → LeavesOnly (text t.0 t.1) w f → FallsShort (taken_answer answer read) w (faults.Campaign f)
+  taken-short campaign.TooManyPlans h = absurd h
+  taken-short campaign.Memory h = h
+  taken-short (campaign.Write n) h =
+      let P : Answer → Type 0 = λ x. IsCutOff x w n in
+      subst P (sym taken-is) h
+
+module _ (c : Campaign) where
+  abbrev pub tried_text : ℕ → Entries → List ℕ
+  tried_text stream scenario = try_text c.codes (tried c stream scenario)
+
+  abbrev pub tried_verdict : ℕ → Entries → Verdict
+  tried_verdict stream scenario = (tried c stream scenario).verdict
+
+  pub try-is : (stream : ℕ) (scenario : Entries) → try_answer c stream scenario ≡ Ok (tried_text stream scenario, of_verdict (tried_verdict stream scenario), notes_of c.points scenario)
   unfolding try_answer
-  tried-is = ap (taken_answer (try_answer c)) takes
+  try-is stream scenario = refl
 
-  pub try-written : (failed : Bool) (found : Conclusion) → Appends old new (try_text c.codes (tried c t.0 t.1)) → failed ≡ false → found ≡ of_verdict (tried c t.0 t.1).verdict
-      → IsWritten (taken_answer (try_answer c) read) old new failed found
-  try-written failed found written sound is =
-      let P : Conclusion → Type 0 = λ b. IsWritten (taken_answer (try_answer c) read) old new failed b in
-      subst P (sym is) (of_scenario _ _ _ _ tried-is old new failed written sound)
-
-  pub try-short : (failed : Bool) (f : CampaignFault) → LeavesOnly old new failed (try_text c.codes (tried c t.0 t.1)) f → FallsShort (taken_answer (try_answer c) read) old new failed (faults.Campaign f)
-  try-short failed f h = short_of_scenario _ _ _ _ tried-is old new failed f h
-
-  pub try-noted : (notes : List ℕ) (told told' : Option (List ℕ)) (broken : Bool) → notes ≡ notes_of c.points t.1 → IsNoted notes told told' broken
-      → TellsNotes (taken_answer (try_answer c) read) told told' broken
-  try-noted notes told told' broken same h =
-      let P : Answer → Type 0 = λ a. TellsNotes a told told' broken in
-      let Q : List ℕ → Type 0 = λ n. IsNoted n told told' broken in
-      subst P (sym tried-is) (subst Q same h)
-
-  explained-is : taken_answer (explain_answer c) read ≡ Ok (explain_text c.codes c.asks (given_of t.1 c.points c.plans.seed t.0 c.max_hits), of_verdict (tried c t.0 t.1).verdict, notes_of c.points t.1)
+  pub explain-is : (stream : ℕ) (scenario : Entries) → explain_answer c stream scenario ≡ Ok (explained c stream scenario, of_verdict (tried_verdict stream scenario), notes_of c.points scenario)
   unfolding explain_answer
-  explained-is = ap (taken_answer (explain_answer c)) takes
+  explain-is stream scenario = refl
 
-  pub explain-written : (failed : Bool) (found : Conclusion) → Appends old new (explain_text c.codes c.asks (given_of t.1 c.points c.plans.seed t.0 c.max_hits)) → failed ≡ false → found ≡ of_verdict (tried c t.0 t.1).verdict
-      → IsWritten (taken_answer (explain_answer c) read) old new failed found
-  explain-written failed found written sound is =
-      let P : Conclusion → Type 0 = λ b. IsWritten (taken_answer (explain_answer c) read) old new failed b in
-      subst P (sym is) (of_scenario _ _ _ _ explained-is old new failed written sound)
-
-  pub explain-short : (failed : Bool) (f : CampaignFault) → LeavesOnly old new failed (explain_text c.codes c.asks (given_of t.1 c.points c.plans.seed t.0 c.max_hits)) f
-      → FallsShort (taken_answer (explain_answer c) read) old new failed (faults.Campaign f)
-  explain-short failed f h = short_of_scenario _ _ _ _ explained-is old new failed f h
-
-  pub explain-noted : (notes : List ℕ) (told told' : Option (List ℕ)) (broken : Bool) → notes ≡ notes_of c.points t.1 → IsNoted notes told told' broken
-      → TellsNotes (taken_answer (explain_answer c) read) told told' broken
-  explain-noted notes told told' broken same h =
-      let P : Answer → Type 0 = λ a. TellsNotes a told told' broken in
-      let Q : List ℕ → Type 0 = λ n. IsNoted n told told' broken in
-      subst P (sym explained-is) (subst Q same h)
-
-  reduced-is : taken_answer (reduce_answer c) read ≡ Ok (reduce_text c t.0 t.1, of_verdict (say c t.0 t.1), notes_of c.points t.1)
+  pub reduce-is : (stream : ℕ) (scenario : Entries) → reduce_answer c stream scenario ≡ Ok (reduce_text c stream scenario, of_verdict (say c stream scenario), notes_of c.points scenario)
   unfolding reduce_answer
-  reduced-is = ap (taken_answer (reduce_answer c)) takes
+  reduce-is stream scenario = refl
 
-  pub reduce-written : (failed : Bool) (found : Conclusion) → Appends old new (reduce_text c t.0 t.1) → failed ≡ false → found ≡ of_verdict (say c t.0 t.1) → IsWritten (taken_answer (reduce_answer c) read) old new failed found
-  reduce-written failed found written sound is =
-      let P : Conclusion → Type 0 = λ b. IsWritten (taken_answer (reduce_answer c) read) old new failed b in
-      subst P (sym is) (of_scenario _ _ _ _ reduced-is old new failed written sound)
-
-  pub reduce-short : (failed : Bool) (f : CampaignFault) → LeavesOnly old new failed (reduce_text c t.0 t.1) f → FallsShort (taken_answer (reduce_answer c) read) old new failed (faults.Campaign f)
-  reduce-short failed f h = short_of_scenario _ _ _ _ reduced-is old new failed f h
-
-  pub reduce-noted : (notes : List ℕ) (told told' : Option (List ℕ)) (broken : Bool) → notes ≡ notes_of c.points t.1 → IsNoted notes told told' broken
-      → TellsNotes (taken_answer (reduce_answer c) read) told told' broken
-  reduce-noted notes told told' broken same h =
-      let P : Answer → Type 0 = λ a. TellsNotes a told told' broken in
-      let Q : List ℕ → Type 0 = λ n. IsNoted n told told' broken in
-      subst P (sym reduced-is) (subst Q same h)
-
-  pub reduce-minimal : IsReducedToMinimal c t.0 t.1 → IfOk read (λ t. IsReducedToMinimal c t.0 t.1)
-  reduce-minimal minimal = let P : Result (ℕ × Entries) Refusal → Type 0 = λ r. IfOk r (λ t. IsReducedToMinimal c t.0 t.1) in subst P (sym takes) minimal
+pub reduce-minimal : (c : Campaign) (read : Result (ℕ × Entries) Refusal) (t : ℕ × Entries) → read ≡ Ok t → IsReducedToMinimal c t.0 t.1 → IfOk read (λ t. IsReducedToMinimal c t.0 t.1)
+reduce-minimal c read t takes minimal = let P : Result (ℕ × Entries) Refusal → Type 0 = λ r. IfOk r (λ t. IsReducedToMinimal c t.0 t.1) in subst P (sym takes) minimal
 
 -- ---- the scenario that a command takes
 
@@ -259,44 +204,42 @@ memory-untaken taken (Ok t) is = absurd is
 memory-untaken taken (Err f) is = let P : CommandFault → Type 0 = λ x. IsUntaken taken x in subst P (sym is) tt
 
 -- a command that takes no scenario wrote nothing
-pub untaken-short : (answer : ℕ → Entries → Answer) (read : Result (ℕ × Entries) Refusal) (old : Option (List ℕ)) (failed : Bool) (fault : CommandFault) → failed ≡ false → IsUntaken read fault
-    → FallsShort (taken_answer answer read) old old failed fault
-untaken-short answer read old failed (faults.Scenario scenario.Memory) sound h = (refl, sound)
-untaken-short answer read old failed (faults.Scenario (scenario.Bad kind entry term)) sound h = ((refl, sound), ap (taken_answer answer) h)
-untaken-short answer read old failed (faults.Plan number) sound h = ((refl, sound), ap (taken_answer answer) h)
-untaken-short answer read old failed (faults.Campaign campaign.TooManyPlans) sound h = ((refl, sound), ap (taken_answer answer) h)
-untaken-short answer read old failed (faults.Campaign campaign.Memory) sound h = (refl, sound)
-untaken-short answer read old failed (faults.Campaign (campaign.Write n)) sound h = absurd h
-untaken-short answer read old failed (faults.Unsteady line) sound h = absurd h
-untaken-short answer read old failed faults.Outside sound h = absurd h
+pub untaken-short : (answer : ℕ → Entries → Answer) (read : Result (ℕ × Entries) Refusal) (w : Change) (fault : CommandFault) → IsUntouched w → IsUntaken read fault
+    → FallsShort (taken_answer answer read) w fault
+untaken-short answer read w (faults.Scenario scenario.Memory) untouched h = untouched
+untaken-short answer read w (faults.Scenario (scenario.Bad kind entry term)) untouched h = (untouched, ap (taken_answer answer) h)
+untaken-short answer read w (faults.Plan number) untouched h = (untouched, ap (taken_answer answer) h)
+untaken-short answer read w (faults.Campaign campaign.TooManyPlans) untouched h = (untouched, ap (taken_answer answer) h)
+untaken-short answer read w (faults.Campaign campaign.Memory) untouched h = untouched
+untaken-short answer read w (faults.Campaign (campaign.Write n)) untouched h = absurd h
+untaken-short answer read w (faults.Unsteady line) untouched h = absurd h
+untaken-short answer read w faults.Outside untouched h = absurd h
+untaken-short answer read w faults.OutsideWithDepth untouched h = absurd h
 
 -- ---- the plans of a component that somebody else runs
 
-module _ (plans : List Entries) (notes : List ℕ) where
+module _ (plans : List Entries) (notes : List ℕ) (w : Change) where
   abbrev outside : Answer
-  outside = outside_answer order.Plans plans notes
+  outside = outside_answer order.Plans None plans notes
 
-  module _ (old new : Option (List ℕ)) where
-    pub outside-written : (failed : Bool) → length plans ≤ most_plans → Appends old new (text_of (plan_lines 0 plans)) → failed ≡ false → IsWritten outside old new failed Clean
-    unfolding outside_answer
-    outside-written failed few written sound = of_plans plans outside (text_of (plan_lines 0 plans)) Clean notes refl old new failed few written sound
+  abbrev outside-text : List ℕ
+  outside-text = text_of (plan_lines 0 plans)
 
-    pub outside-short : (failed : Bool) (f : CampaignFault) → IsUnwritten plans (IsCut old new (text_of (plan_lines 0 plans))) old new failed f → FallsShort outside old new failed (faults.Campaign f)
-    unfolding outside_answer
-    outside-short failed campaign.TooManyPlans h = long_plans plans outside (text_of (plan_lines 0 plans)) Clean notes refl old new failed (h.0, h.1) h.2
-    outside-short failed campaign.Memory h = h
-    outside-short failed (campaign.Write n) h = part_of_plans plans outside (text_of (plan_lines 0 plans)) Clean notes refl old new failed n (h.0.0, h.0.1, h.1) h.2
-
-  pub outside-noted : (lines : List ℕ) (told told' : Option (List ℕ)) (broken : Bool) → length plans ≤ most_plans → lines ≡ notes → IsNoted lines told told' broken
-      → TellsNotes outside told told' broken
+  pub outside-done : (lines : List ℕ) → length plans ≤ most_plans → Appends w.old w.new outside-text → w.failed ≡ false → lines ≡ notes → IsDone outside w Clean lines
   unfolding outside_answer
-  outside-noted = noted_plans plans outside (text_of (plan_lines 0 plans)) Clean notes refl
+  outside-done lines few written sound same = done_plans plans outside outside-text Clean notes refl w lines few (written, sound) same
+
+  pub outside-short : (f : CampaignFault) → IsUnwritten plans (IsCut w.old w.new outside-text) w.old w.new w.failed f → FallsShort outside w (faults.Campaign f)
+  unfolding outside_answer
+  outside-short campaign.TooManyPlans h = long_plans plans outside outside-text Clean notes refl w (h.0, h.1) h.2
+  outside-short campaign.Memory h = h
+  outside-short (campaign.Write n) h = part_of_plans plans outside outside-text Clean notes refl w n (h.0.0, h.0.1, h.1) h.2
 
 -- a fault that is passed up
-pub short-up : (answer : Answer) (old new : Option (List ℕ)) (failed : Bool) (result : Result Conclusion CommandFault) (fault : CommandFault) → IsErrAnd result (λ f. f ≡ fault)
-    → FallsShort answer old new failed fault → ComesTo answer old new failed result
-short-up answer old new failed (Ok found) fault is short = absurd is
-short-up answer old new failed (Err f) fault is short = let P : CommandFault → Type 0 = λ x. FallsShort answer old new failed x in subst P (sym is) short
+pub short-up : (answer : Answer) (w : Change) (result : Result Answered CommandFault) (fault : CommandFault) → IsErrAnd result (λ f. f ≡ fault)
+    → FallsShort answer w fault → ComesTo answer w result
+short-up answer w (Ok done) fault is short = absurd is
+short-up answer w (Err f) fault is short = let P : CommandFault → Type 0 = λ x. FallsShort answer w x in subst P (sym is) short
 
 -- ---- two promises of a call
 

@@ -1,12 +1,10 @@
 -- Answers of a target whose runs end with the power cut, by what a command did.
-use Rattle.std.proofs.Common.{◌≡◌, ◌++◌, ◌∙◌, ℕ, Bool, false, List, Option, Result, Ok, String, Global, length, map, min, refl, string_bytes, sym, ap, subst, take}
+use Rattle.std.proofs.Common.{◌≡◌, ◌++◌, ◌∙◌, ℕ, List, Ok, String, Global, length, map, min, refl, string_bytes, sym, ap, take}
 use Rattle.std.proofs.lemmas.List.{take-map, take_min}
-use Rattle.std.specs.Io.KnownBytes.{Appends}
 use Rattle.scenario_values.specs.Scenario.{Entries}
 use Rattle.action_eval.specs.Answers.{Given, Reply, given_of}
 use Rattle.campaign_core.specs.Headline.{Campaign}
-use Rattle.campaign_core.specs.CommandTexts.{LeavesOnly, tried}
-use Rattle.campaign_core.specs.declared.ending.CampaignFault.{CampaignFault}
+use Rattle.campaign_core.specs.CommandTexts.{explained, tried}
 use Rattle.command_words.specs.declared.words.Order.{Order}
 use Rattle.command_words.specs.declared.words.Order.TheVariants as order
 use Rattle.command_words.specs.declared.words.Which.{Which}
@@ -17,12 +15,8 @@ use Rattle.target_trait.specs.declared.judgement.Verdict.{Verdict}
 use Rattle.target_trait.specs.Cuts.{with_keep}
 use Rattle.target_trait.specs.Outcomes.{outcome}
 use Rattle.target_trait.specs.Play.{Move}
-use Rattle.campaign_main.specs.declared.exit.Conclusion.{Conclusion}
-use Rattle.campaign_main.specs.declared.fault.CommandFault.TheVariants as faults
-use Rattle.campaign_main.specs.Commands.{Answer, Refusal, calls_met, cut_answer, cut_explain_answer, keep_lines, keeps_asked, of_verdict, order_answer, taken_answer}
-use Rattle.campaign_main.specs.Ends.{FallsShort, IsNoted, IsWritten, TellsNotes}
+use Rattle.campaign_main.specs.Commands.{calls_met, cut_answer, cut_explain_answer, keep_lines, keeps_asked, of_verdict, order_answer}
 use Rattle.campaign_main.specs.Notes.{notes_of}
-use Rattle.campaign_main.proofs.AnswerLemmas.{of_scenario, short_of_scenario}
 
 -- the first of the calls that are told are the told ones' first
 pub first-told : (calls : List (String Global)) (told : List (List ℕ)) (met asked : ℕ) → map string_bytes calls ≡ told → met ≡ min asked (length calls)
@@ -72,27 +66,10 @@ module _ (calls : Given → List (List ℕ)) (points : List (List ℕ)) (c : Cam
   others-are (order.Try which) other = refl
   others-are (order.Reduce which) other = refl
 
-  module _ (read : Result (ℕ × Entries) Refusal) (t : ℕ × Entries) (takes : read ≡ Ok t) (old new : Option (List ℕ)) where
-    abbrev pub cut-text : List ℕ
-    cut-text = explain_text c.codes c.asks (given_of t.1 c.points c.plans.seed t.0 c.max_hits) ++ text_of (keep_lines (calls_met calls points c t.0 t.1))
+  abbrev pub cut-text : ℕ → Entries → List ℕ
+  cut-text stream scenario = explained c stream scenario ++ text_of (keep_lines (calls_met calls points c stream scenario))
 
-    told-is : taken_answer (cut_explain_answer calls points c) read ≡ Ok (cut-text, of_verdict (tried c t.0 t.1).verdict, notes_of c.points t.1)
-    unfolding cut_explain_answer
-    told-is = ap (taken_answer (cut_explain_answer calls points c)) takes
-
-    pub cut-written : (failed : Bool) (found : Conclusion) → Appends old new cut-text → failed ≡ false → found ≡ of_verdict (tried c t.0 t.1).verdict
-        → IsWritten (taken_answer (cut_explain_answer calls points c) read) old new failed found
-    cut-written failed found written sound is =
-        let P : Conclusion → Type 0 = λ b. IsWritten (taken_answer (cut_explain_answer calls points c) read) old new failed b in
-        subst P (sym is) (of_scenario _ _ _ _ told-is old new failed written sound)
-
-    pub cut-short : (failed : Bool) (f : CampaignFault) → LeavesOnly old new failed cut-text f
-        → FallsShort (taken_answer (cut_explain_answer calls points c) read) old new failed (faults.Campaign f)
-    cut-short failed f h = short_of_scenario _ _ _ _ told-is old new failed f h
-
-    pub cut-noted : (notes : List ℕ) (told told' : Option (List ℕ)) (broken : Bool) → notes ≡ notes_of c.points t.1 → IsNoted notes told told' broken
-        → TellsNotes (taken_answer (cut_explain_answer calls points c) read) told told' broken
-    cut-noted notes told told' broken same h =
-        let P : Answer → Type 0 = λ a. TellsNotes a told told' broken in
-        let Q : List ℕ → Type 0 = λ n. IsNoted n told told' broken in
-        subst P (sym told-is) (subst Q same h)
+  pub cut-is : (stream : ℕ) (scenario : Entries)
+      → cut_explain_answer calls points c stream scenario ≡ Ok (cut-text stream scenario, of_verdict (tried c stream scenario).verdict, notes_of c.points scenario)
+  unfolding cut_explain_answer
+  cut-is stream scenario = refl

@@ -5,6 +5,7 @@ pub mod OwnLemmas
 pub mod QuestionLemmas
 pub mod ToldLemmas
 mod TextLemmas
+mod RunLemmas
 mod StrictLemmas
 pub mod TellingLemmas
 pub mod KeepLemmas

@@ -1,10 +1,11 @@
 -- What is noted beside a text, by the order.
-use Rattle.std.proofs.Common.{◌≡◌, [], ◌∷◌, ℕ, Bool, true, false, List, Option, None, Some, Result, Ok, Err, IfOk, IsErrAnd, length, refl, inl, if◌then◌else◌}
+use Rattle.std.proofs.Common.{◌≡◌, [], ◌∷◌, ℕ, Bool, true, false, List, Option, None, Some, Result, Ok, Err, IfOk, length, refl, inl, if◌then◌else◌}
 use Rattle.std.specs.Prelude.{nat_lt}
 use Rattle.scenario_values.specs.Scenario.{Entries}
 use Rattle.plan_gen.specs.PlanList.{most_plans}
 use Rattle.action_eval.specs.Answers.{Given as Run}
 use Rattle.campaign_core.specs.Headline.{Campaign}
+use Rattle.campaign_core.specs.Writes.{Change}
 use Rattle.campaign_settings.specs.Own.{own_settings_of}
 use Rattle.campaign_given.specs.Given.{Given}
 use Rattle.campaign_settings.specs.Settings.{Read, settings_of}
@@ -17,9 +18,8 @@ use Rattle.command_words.specs.declared.words.Order.TheVariants as order
 use Rattle.command_words.specs.declared.words.Which.{Which}
 use Rattle.campaign_main.specs.declared.exit.Exit.{Exit}
 use Rattle.campaign_main.specs.declared.exit.Exit.TheVariants as exit
-use Rattle.campaign_main.specs.declared.fault.CommandFault.{CommandFault}
 use Rattle.campaign_main.specs.Commands.{Answer, Refusal, bundled_answer, choice_answer, cut_answer, cut_explain_answer, explain_answer, given_answer, map_answer, of_few_plans, order_answer, outside_answer, plans_answer, reduce_answer, run_answer, taken, taken_answer, text_answer, too_many_plans, try_answer}
-use Rattle.campaign_main.specs.Ends.{IsNoted, IsTold, Noted, OnWhole, TellsANote, TellsARefusal, TellsAs, TellsNotes, TellsRefusal, Tells}
+use Rattle.campaign_main.specs.Ends.{IsNoted, IsTold, OnWhole, TellsANote, TellsARefusal, TellsAs, TellsNotes, TellsRefusal, Tells}
 use Rattle.campaign_main.specs.declared.exit.Conclusion.{Conclusion}
 use Rattle.campaign_main.specs.declared.exit.Conclusion.TheVariants.{Clean, Failed, Doubtful}
 use Rattle.campaign_main.specs.Exit.{exit_of}
@@ -29,9 +29,9 @@ use Rattle.campaign_main.specs.OwnTarget.{own_given_answer, own_text_answer}
 -- ---- notes that are told
 
 -- notes that aren't empty are told as lines are
-pub noted-some : (notes : List ℕ) (old new : Option (List ℕ)) (failed : Bool) → ¬ (notes ≡ []) → IsTold notes old new failed → IsNoted notes old new failed
-noted-some [] old new failed some told = absurd (some refl)
-noted-some (byte ∷ more) old new failed some told = told
+pub noted-some : (notes : List ℕ) (w : Change) → ¬ (notes ≡ []) → IsTold notes w → IsNoted notes w
+noted-some [] w some told = absurd (some refl)
+noted-some (byte ∷ more) w some told = told
 
 -- ---- what an answer may note
 
@@ -107,20 +107,21 @@ module _ (calls : Run → List (List ℕ)) (points : List (List ℕ)) where
     | false ↦ may-order c o
   ]
 
-may-outside : (o : Order) (plans : List Entries) (points : List (List ℕ)) (listed : List Entries) → NotesFor o (outside_answer o plans (listed_notes points listed))
+may-outside : (o : Order) (depth : Option ℕ) (plans : List Entries) (points : List (List ℕ)) (listed : List Entries) → NotesFor o (outside_answer o depth plans (listed_notes points listed))
 unfolding outside_answer
-may-outside (order.Run form strict recheck) plans points listed = tt
-may-outside order.Map plans points listed = tt
-may-outside order.Plans plans points listed = of-few (MayNote order.Plans) plans _ (points, (listed, refl))
-may-outside (order.Try which) plans points listed = tt
-may-outside (order.Reduce which) plans points listed = tt
-may-outside (order.Explain which) plans points listed = tt
+may-outside (order.Run form strict recheck) depth plans points listed = tt
+may-outside order.Map depth plans points listed = tt
+may-outside order.Plans None plans points listed = of-few (MayNote order.Plans) plans _ (points, (listed, refl))
+may-outside order.Plans (Some depth) plans points listed = tt
+may-outside (order.Try which) depth plans points listed = tt
+may-outside (order.Reduce which) depth plans points listed = tt
+may-outside (order.Explain which) depth plans points listed = tt
 
 may-choice : (o : Order) (given : Given) (chosen : Choice) → NotesFor o (choice_answer o given chosen)
 may-choice o given (choice.Replace variant work) = may-bundled _ _ given _ o
 may-choice o given (choice.Maildir variant messages) = may-bundled _ _ given _ o
 may-choice o given (choice.Commit variant work) = may-bundled _ _ given _ o
-may-choice o given (choice.Outside outside) = may-outside o _ outside.points given.plans.listed
+may-choice o given (choice.Outside outside) = may-outside o given.depth _ outside.points given.plans.listed
 
 may-given : (o : Order) (read : Read Settings) → NotesFor o (given_answer o read)
 may-given o (Ok s) = may-choice o s.campaign s.choice
@@ -140,23 +141,17 @@ may-own o campaign text = may-own-given o campaign (own_settings_of text)
 
 -- ---- by what a command came to
 
--- a fault that is passed up told nothing
-pub err-noted : (answer : Answer) (told : Option (List ℕ)) (broken : Bool) (result : Result Conclusion CommandFault) (fault : CommandFault) → IsErrAnd result (λ f. f ≡ fault) → broken ≡ false
-    → Noted answer told told broken result
-err-noted answer told broken (Ok found) fault is sound = absurd is
-err-noted answer told broken (Err f) fault is sound = (refl, sound)
-
-module _ (old new : Option (List ℕ)) (failed : Bool) where
-  some-note : (o : Order) (answer : Answer) → NotesFor o answer → TellsNotes answer old new failed → TellsANote o old new failed
+module _ (w : Change) where
+  some-note : (o : Order) (answer : Answer) → NotesFor o answer → TellsNotes answer w → TellsANote o w
   some-note o (Ok a) may h = (a.2, may, h)
   some-note o (Err refusal) may h = absurd h
 
-  one-refusal : (answer : Answer) → TellsRefusal answer old new failed → TellsARefusal old new failed
+  one-refusal : (answer : Answer) → TellsRefusal answer w → TellsARefusal w
   one-refusal (Ok a) h = absurd h
   one-refusal (Err refusal) h = inl (refusal, h)
 
   -- what is told by an answer is told by some note, or by some refusal
-  pub some-tells : (o : Order) (answer : Answer) (end : Exit) → NotesFor o answer → TellsAs end answer old new failed → Tells o end old new failed
+  pub some-tells : (o : Order) (answer : Answer) (end : Exit) → NotesFor o answer → TellsAs end answer w → Tells o end w
   some-tells o answer exit.Kept may h = some-note o answer may h
   some-tells o answer exit.Found may h = some-note o answer may h
   some-tells o answer exit.Doubted may h = some-note o answer may h
@@ -166,12 +161,12 @@ module _ (old new : Option (List ℕ)) (failed : Bool) where
 
   module _ (answer : Answer) where
     -- an end of a text that was written whole tells the notes
-    pub found-notes : (found : Conclusion) → TellsNotes answer old new failed → TellsAs (exit_of found) answer old new failed
+    pub found-notes : (found : Conclusion) → TellsNotes answer w → TellsAs (exit_of found) answer w
     found-notes Clean h = h
     found-notes Failed h = h
     found-notes Doubtful h = h
 
-    pub told-notes : (end : Exit) → TellsAs end answer old new failed → OnWhole end (TellsNotes answer old new failed)
+    pub told-notes : (end : Exit) → TellsAs end answer w → OnWhole end (TellsNotes answer w)
     told-notes exit.Kept h = h
     told-notes exit.Found h = h
     told-notes exit.Doubted h = h

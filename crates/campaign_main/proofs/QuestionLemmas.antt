@@ -1,5 +1,5 @@
 -- Ends of questions, by what they came to and by what was read.
-use Rattle.std.proofs.Common.{◌∙◌, ◌≡◌, ◌≤◌, ◌<◌, ◌==◌, [], ℕ, Bool, true, false, List, Option, Some, None, IfSome, IsErrAnd, Result, Ok, Err, length, refl, sym, ap, inl, inr, subst, if◌then◌else◌}
+use Rattle.std.proofs.Common.{◌∙◌, ◌≡◌, ◌≤◌, ◌<◌, ◌==◌, [], ℕ, Bool, true, false, List, Option, Some, None, IfSome, IfOk, IfErr, IsErrAnd, Result, Ok, Err, length, refl, sym, ap, inl, inr, subst, if◌then◌else◌}
 use Rattle.std.specs.Str.{IsUtf8}
 use Rattle.answer_text.specs.Answers.{Answer as Told, most_bytes}
 use Rattle.answer_text.specs.FirstFault.{pieces_from, reading_of}
@@ -13,12 +13,19 @@ use Rattle.campaign_settings.specs.Settings.{Cause, Read, RefusedBy, settings_of
 use Rattle.campaign_settings.specs.declared.fault.SettingsFault.{SettingsFault}
 use Rattle.campaign_settings.specs.declared.fault.SettingsFault.TheVariants as settings
 use Rattle.campaign_settings.specs.declared.settings.Settings.{Settings}
+use Rattle.campaign_core.specs.Writes.{Change, IsUntouched}
 use Rattle.campaign_core.specs.declared.ending.CampaignFault.TheVariants as campaign
+use Rattle.command_words.specs.declared.words.AskedPart.{AskedPart}
 use Rattle.command_words.specs.declared.words.Question.{Question}
 use Rattle.command_words.specs.declared.words.Question.TheVariants.{Asks, Report}
 use Rattle.command_words.specs.declared.words.ToldForm.{ToldForm}
-use Rattle.outside_campaign.specs.Campaigns.{AsksFault, TextFault}
-use Rattle.outside_campaign.specs.declared.refusal.OutsideFault.{OutsideFault}
+use Rattle.answer_text.specs.Runs.{runs_of}
+use Rattle.answer_text.specs.Runs.{pieces_from as run_pieces_from}
+use Rattle.answer_text.specs.declared.runs.RunLine.{RunLine}
+use Rattle.answered_campaigns.specs.Questions.{AsksRefused, IsAskedInPart, IsAskedTo, IsKnownInPart, IsKnownTo, IsReportedInPart, IsReportedTo, KnownRefused, Refuses, ReportRefused}
+use Rattle.answered_campaigns.specs.declared.fault.QuestionFault.{QuestionFault}
+use Rattle.answered_campaigns.specs.declared.fault.QuestionFault.TheVariants as fault
+use Rattle.outside_campaign.specs.declared.forms.Form.{Form}
 use Rattle.outside_campaign.specs.declared.refusal.OutsideFault.TheVariants as outside
 use Rattle.campaign_main.specs.declared.exit.Conclusion.{Conclusion}
 use Rattle.campaign_main.specs.declared.exit.Conclusion.TheVariants.{Clean, Failed, Doubtful}
@@ -26,93 +33,161 @@ use Rattle.campaign_main.specs.declared.exit.Exit.{Exit}
 use Rattle.campaign_main.specs.declared.exit.Exit.TheVariants as exit
 use Rattle.campaign_main.specs.declared.input.ReadFault.{ReadFault}
 use Rattle.campaign_main.specs.declared.input.ReadFault.TheVariants as read
-use Rattle.campaign_main.specs.Commands.{Refusal, bad_answers, bad_settings, not_answered, not_text, too_many_plans}
-use Rattle.campaign_main.specs.Ends.{IsNoted, IsUntouched, Leaves, OnWhole, RefusesWith, TellsOf}
+use Rattle.campaign_main.specs.Commands.{Refusal, bad_answers, bad_settings, broken_run, not_answered, not_text, too_many_plans, unseen_hits}
+use Rattle.campaign_main.specs.Ends.{IsNoted, Leaves, OnWhole, RefusesWith, TellsOf}
 use Rattle.campaign_main.specs.Exit.{concluded, exit_of}
 use Rattle.campaign_main.specs.FaultLines.{answers_read_line, read_fault_line, refusal_line, settings_line, unreadable_answers_line, unreadable_line}
 use Rattle.campaign_main.specs.QuestionNotes.{is_question_doubted, question_notes}
-use Rattle.campaign_main.specs.Questions.{ComesToText, ConcludesText, EndsAnswered, EndsQuestion, FallsShortOf, IsAnswered, IsConcluded, IsEndOfQuestion, IsNotAnswered, IsPart, IsUnnoted, NotesText, RefusesQuestion, Subject, TellsOfQuestion, TellsWhy, chosen_subject, given_subject, subject_of, text_subject, told_text}
+use Rattle.campaign_main.specs.Questions.{ComesToText, ConcludesText, EndsAnswered, EndsQuestion, FallsShortOf, IsAnswered, IsConcluded, IsEndOfQuestion, IsNotAnswered, IsPart, IsUnnoted, NotesText, RefusesQuestion, Subject, TellsOfQuestion, TellsWhy, chosen_subject, given_subject, subject_of, text_subject, IsToldIn, IsToldInPart, WaitsIn, asked_part, report_form}
 use Rattle.campaign_main.proofs.EndLemmas.{broken-meaning, if_some, long-meaning, memory-apart, read-meaning, tells-of, text-meaning, unset-cause}
 
 -- ---- by what the lower crate came to
 
-module _ (s : Given) (d : Description) (answers : List ℕ) (old new : Option (List ℕ)) (failed : Bool) where
-  asks-short : (f : OutsideFault) → AsksFault d s answers old new failed f → FallsShortOf Asks (s, d) answers old new failed f
-  asks-short (outside.Answers f) h = ((h.0, h.1), h.2)
-  asks-short (outside.NotAnswered t) h = absurd h
-  asks-short (outside.Campaign campaign.TooManyPlans) h = ((h.0, h.1), h.2)
-  asks-short (outside.Campaign campaign.Memory) h = h
-  asks-short (outside.Campaign (campaign.Write n)) h = (h.0, h.1)
+module _ (s : Given) (d : Description) (answers : List ℕ) (w : Change) where
+  asks-short : (part : AskedPart) (f : QuestionFault) → AsksRefused (asked_part part) d s answers w f → FallsShortOf (Asks part) (s, d) answers w f
+  asks-short part (fault.Outside (outside.Answers f)) h = h
+  asks-short part (fault.Outside (outside.NotAnswered t)) h = absurd h
+  asks-short part (fault.Outside (outside.Campaign campaign.TooManyPlans)) h = h
+  asks-short part (fault.Outside (outside.Campaign campaign.Memory)) h = h.0
+  asks-short part (fault.Outside (outside.Campaign (campaign.Write n))) h = h
+  asks-short part (fault.Broken b) h = h
+  asks-short part (fault.Unseen line) h = h
 
-  report-short : (form : ToldForm) (f : OutsideFault) → TextFault (told_text form (s, d)) d s answers old new failed f → FallsShortOf (Report form false) (s, d) answers old new failed f
-  report-short form (outside.Answers f) h = ((h.0, h.1), h.2)
-  report-short form (outside.NotAnswered t) h = ((h.0, h.1), h.2)
-  report-short form (outside.Campaign campaign.TooManyPlans) h = ((h.0, h.1), h.2)
-  report-short form (outside.Campaign campaign.Memory) h = h
-  report-short form (outside.Campaign (campaign.Write n)) h = (h.0, h.1)
+  report-short : (form : ToldForm) (shown : Form) (f : QuestionFault) → report_form form ≡ Some shown → ReportRefused shown d s answers w f
+      → FallsShortOf (Report form false) (s, d) answers w f
+  report-short form shown (fault.Outside (outside.Answers f)) is h = h
+  report-short form shown (fault.Outside (outside.NotAnswered t)) is h = let P : Option Form → Type 0 = λ o. WaitsIn o (s, d) answers t in (h.0, subst P (sym is) h.1)
+  report-short form shown (fault.Outside (outside.Campaign campaign.TooManyPlans)) is h = h
+  report-short form shown (fault.Outside (outside.Campaign campaign.Memory)) is h = h.0
+  report-short form shown (fault.Outside (outside.Campaign (campaign.Write n))) is h = let P : Option Form → Type 0 = λ o. IsToldInPart o (s, d) answers w n in subst P (sym is) h
+  report-short form shown (fault.Broken b) is h = h
+  report-short form shown (fault.Unseen line) is h = h
+
+  known-short : (form : ToldForm) (f : QuestionFault) → report_form form ≡ None → KnownRefused d s answers w f → FallsShortOf (Report form false) (s, d) answers w f
+  known-short form (fault.Outside (outside.Answers f)) is h = h
+  known-short form (fault.Outside (outside.NotAnswered t)) is h = absurd h
+  known-short form (fault.Outside (outside.Campaign campaign.TooManyPlans)) is h = h
+  known-short form (fault.Outside (outside.Campaign campaign.Memory)) is h = h.0
+  known-short form (fault.Outside (outside.Campaign (campaign.Write n))) is h = let P : Option Form → Type 0 = λ o. IsToldInPart o (s, d) answers w n in subst P (sym is) h
+  known-short form (fault.Broken b) is h = h
+  known-short form (fault.Unseen line) is h = absurd h
 
   -- a fault that is passed up
-  short-of-up : (question : Question) (result : Result Bool OutsideFault) (f : OutsideFault) → IsErrAnd result (λ e. e ≡ f)
-      → FallsShortOf question (s, d) answers old new failed f → ComesToText question (s, d) answers old new failed result
+  short-of-up : (question : Question) (result : Result Bool QuestionFault) (f : QuestionFault) → IsErrAnd result (λ e. e ≡ f)
+      → FallsShortOf question (s, d) answers w f → ComesToText question (s, d) answers w result
   short-of-up question (Ok found) f is short = absurd is
-  short-of-up question (Err e) f is short = let P : OutsideFault → Type 0 = λ x. FallsShortOf question (s, d) answers old new failed x in subst P (sym is) short
+  short-of-up question (Err e) f is short = let P : QuestionFault → Type 0 = λ x. FallsShortOf question (s, d) answers w x in subst P (sym is) short
 
-  pub asks-up : (result : Result Bool OutsideFault) (f : OutsideFault) → IsErrAnd result (λ e. e ≡ f) → AsksFault d s answers old new failed f → ComesToText Asks (s, d) answers old new failed result
-  asks-up result f is h = short-of-up Asks result f is (asks-short f h)
+  pub asks-up : (part : AskedPart) (result : Result Bool QuestionFault) (f : QuestionFault) → IsErrAnd result (λ e. e ≡ f) → AsksRefused (asked_part part) d s answers w f
+      → ComesToText (Asks part) (s, d) answers w result
+  asks-up part result f is h = short-of-up (Asks part) result f is (asks-short part f h)
 
-  pub report-up : (form : ToldForm) (result : Result Bool OutsideFault) (f : OutsideFault) → IsErrAnd result (λ e. e ≡ f) → TextFault (told_text form (s, d)) d s answers old new failed f → ComesToText (Report form false) (s, d) answers old new failed result
-  report-up form result f is h = short-of-up (Report form false) result f is (report-short form f h)
+  pub report-up : (form : ToldForm) (shown : Form) (result : Result Bool QuestionFault) (f : QuestionFault) → report_form form ≡ Some shown → IsErrAnd result (λ e. e ≡ f)
+      → ReportRefused shown d s answers w f → ComesToText (Report form false) (s, d) answers w result
+  report-up form shown result f told is h = short-of-up (Report form false) result f is (report-short form shown f told h)
+
+  -- the report was written
+  pub report-told : (form : ToldForm) (shown : Form) (found : Bool) → report_form form ≡ Some shown → IsToldIn (Some shown) (s, d) answers w found
+      → ComesToText (Report form false) (s, d) answers w (Ok found)
+  report-told form shown found is h = let P : Option Form → Type 0 = λ o. IsToldIn o (s, d) answers w found in subst P (sym is) h
+
+  -- and what is known so far
+  known-told : (form : ToldForm) (found : Bool) → report_form form ≡ None → IsToldIn None (s, d) answers w found → ComesToText (Report form false) (s, d) answers w (Ok found)
+  known-told form found is h = let P : Option Form → Type 0 = λ o. IsToldIn o (s, d) answers w found in subst P (sym is) h
+
+  pub known-up : (form : ToldForm) (result : Result Bool QuestionFault) → report_form form ≡ None → IfOk result (λ found. IsToldIn None (s, d) answers w found)
+      → IfErr result (KnownRefused d s answers w) → ComesToText (Report form false) (s, d) answers w result
+  known-up form (Ok found) is ok err = known-told form found is ok
+  known-up form (Err e) is ok err = known-short form e is err
 
 -- ---- by what is noted
 
 module _ (question : Question) (s : Subject) (answers : List ℕ) where
+  -- nothing is written before notes stand
+  never-cut : {A : Type 0} (depth : Option ℕ) (n : ℕ) → Refuses depth s.1 s.0 answers (fault.Outside (outside.Campaign (campaign.Write n))) → A
+  never-cut None n h = absurd h
+  never-cut (Some depth) n h = absurd h.2
+
   -- a fault that is passed up, before anything is written
-  unnoted-short : (f : OutsideFault) (old : Option (List ℕ)) (failed : Bool) → failed ≡ false → IsUnnoted s answers f → FallsShortOf question s answers old old failed f
-  unnoted-short (outside.Answers f) old failed sound h = ((refl, sound), h)
-  unnoted-short (outside.NotAnswered t) old failed sound h = absurd h
-  unnoted-short (outside.Campaign campaign.TooManyPlans) old failed sound h = ((refl, sound), h)
-  unnoted-short (outside.Campaign campaign.Memory) old failed sound h = (refl, sound)
-  unnoted-short (outside.Campaign (campaign.Write n)) old failed sound h = absurd h
+  unnoted-short : (f : QuestionFault) (w : Change) → IsUntouched w → IsUnnoted s answers f → FallsShortOf question s answers w f
+  unnoted-short (fault.Outside (outside.Answers f)) w untouched h = (untouched, h)
+  unnoted-short (fault.Outside (outside.NotAnswered t)) w untouched h = absurd h
+  unnoted-short (fault.Outside (outside.Campaign campaign.TooManyPlans)) w untouched h = (untouched, h)
+  unnoted-short (fault.Outside (outside.Campaign campaign.Memory)) w untouched h = untouched
+  unnoted-short (fault.Outside (outside.Campaign (campaign.Write n))) w untouched h = never-cut s.0.depth n h
+  unnoted-short (fault.Broken b) w untouched h = (untouched, h)
+  unnoted-short (fault.Unseen line) w untouched h = (untouched, h)
 
-  pub fault-up : (result : Result Conclusion OutsideFault) (f : OutsideFault) (old new : Option (List ℕ)) (failed : Bool) → IsErrAnd result (λ e. e ≡ f)
-      → FallsShortOf question s answers old new failed f → ConcludesText question s answers old new failed result
-  fault-up (Ok c) f old new failed is short = absurd is
-  fault-up (Err e) f old new failed is short = let P : OutsideFault → Type 0 = λ x. FallsShortOf question s answers old new failed x in subst P (sym is) short
+  pub fault-up : (result : Result Conclusion QuestionFault) (f : QuestionFault) (w : Change) → IsErrAnd result (λ e. e ≡ f)
+      → FallsShortOf question s answers w f → ConcludesText question s answers w result
+  fault-up (Ok c) f w is short = absurd is
+  fault-up (Err e) f w is short = let P : QuestionFault → Type 0 = λ x. FallsShortOf question s answers w x in subst P (sym is) short
 
-  pub unnoted-up : (result : Result Conclusion OutsideFault) (f : OutsideFault) (old : Option (List ℕ)) (failed : Bool) → IsErrAnd result (λ e. e ≡ f)
-      → failed ≡ false → IsUnnoted s answers f → ConcludesText question s answers old old failed result
-  unnoted-up result f old failed is sound h = fault-up result f old old failed is (unnoted-short f old failed sound h)
+  pub unnoted-up : (result : Result Conclusion QuestionFault) (f : QuestionFault) (w : Change) → IsErrAnd result (λ e. e ≡ f)
+      → IsUntouched w → IsUnnoted s answers f → ConcludesText question s answers w result
+  unnoted-up result f w is untouched h = fault-up result f w is (unnoted-short f w untouched h)
 
-  pub up-notes : (result : Result Conclusion OutsideFault) (f : OutsideFault) (old : Option (List ℕ)) (failed : Bool) → IsErrAnd result (λ e. e ≡ f) → failed ≡ false
-      → NotesText question s answers old old failed result
-  up-notes (Ok c) f old failed is sound = absurd is
-  up-notes (Err e) f old failed is sound = (refl, sound)
+  pub up-notes : (result : Result Conclusion QuestionFault) (f : QuestionFault) (w : Change) → IsErrAnd result (λ e. e ≡ f) → IsUntouched w → NotesText question s answers w result
+  up-notes (Ok c) f w is untouched = absurd is
+  up-notes (Err e) f w is untouched = untouched
 
   -- what a text comes to that was written whole
-  pub text-concluded : (found doubted : Bool) (notes : List ℕ) (conclusion : Conclusion) (old new : Option (List ℕ)) (failed : Bool)
-      → IsAnswered question s answers old new failed found → notes ≡ question_notes question s.0 s.1 answers → doubted ≡ is_question_doubted question notes
-      → conclusion ≡ concluded found doubted → IsConcluded question s answers old new failed conclusion
-  text-concluded found doubted notes conclusion old new failed h same is ends =
+  pub text-concluded : (found doubted : Bool) (notes : List ℕ) (conclusion : Conclusion) (w : Change)
+      → IsAnswered question s answers w found → notes ≡ question_notes question s.0 s.1 answers → doubted ≡ is_question_doubted question notes
+      → conclusion ≡ concluded found doubted → IsConcluded question s answers w conclusion
+  text-concluded found doubted notes conclusion w h same is ends =
       (found, h, ends ∙ ap (concluded found) (is ∙ ap (is_question_doubted question) same))
 
 -- ---- by what a question came to
 
 module _ (question : Question) (s : Subject) (answers : List ℕ) where
-  module _ (old new : Option (List ℕ)) (failed : Bool) where
-    pub concluded-ends : (conclusion : Conclusion) → IsConcluded question s answers old new failed conclusion → EndsAnswered question s answers (exit_of conclusion) old new failed
+  module _ (w : Change) where
+    pub concluded-ends : (conclusion : Conclusion) → IsConcluded question s answers w conclusion → EndsAnswered question s answers (exit_of conclusion) w
     concluded-ends Clean h = h
     concluded-ends Failed h = h
     concluded-ends Doubtful h = h
 
-    answered-sound : (q : Question) (found : Bool) → IsAnswered q s answers old new failed found → failed ≡ false
-    answered-sound Asks found h = h.sound
-    answered-sound (Report form strict) found h = h.sound
+    asked-sound : (depth : Option ℕ) (part : AskedPart) → IsAskedTo depth (asked_part part) s.1 s.0 answers w → w.failed ≡ false
+    asked-sound None part h = h.text.1
+    asked-sound (Some depth) part h = h.2.1
 
-    part-broken : (q : Question) (n : ℕ) → IsPart q s answers old new failed n → failed ≡ true
-    part-broken Asks n h = h.1
-    part-broken (Report form strict) n h = h.1
+    reported-sound : (depth : Option ℕ) (form : Form) (first : Option ℕ) → IsReportedTo depth form s.1 s.0 answers w first → w.failed ≡ false
+    reported-sound None form first h = (h.text h.some.0 h.some.1).1
+    reported-sound (Some depth) form first h = h.2.1
 
-    pub answered-leaves : (end : Exit) → EndsAnswered question s answers end old new failed → Leaves end old new failed
+    known-sound : (depth : Option ℕ) (found : Bool) → IsKnownTo depth s.1 s.0 answers w found → w.failed ≡ false
+    known-sound None found h = h.text.1
+    known-sound (Some depth) found h = h.2.1
+
+    asked-broken : (depth : Option ℕ) (part : AskedPart) (n : ℕ) → IsAskedInPart depth (asked_part part) s.1 s.0 answers w n → w.failed ≡ true
+    asked-broken None part n h = h.2
+    asked-broken (Some depth) part n h = h.2.2
+
+    reported-broken : (depth : Option ℕ) (form : Form) (n : ℕ) → IsReportedInPart depth form s.1 s.0 answers w n → w.failed ≡ true
+    reported-broken None form n h = h.1
+    reported-broken (Some depth) form n h = h.2.2
+
+    known-broken : (depth : Option ℕ) (n : ℕ) → IsKnownInPart depth s.1 s.0 answers w n → w.failed ≡ true
+    known-broken None n h = h.2
+    known-broken (Some depth) n h = h.2.2
+
+    told-sound : (form : Option Form) (found : Bool) → IsToldIn form s answers w found → w.failed ≡ false
+    told-sound (Some form) found h = reported-sound s.0.depth form h.0 h.1
+    told-sound None found h = known-sound s.0.depth found h
+
+    told-broken : (form : Option Form) (n : ℕ) → IsToldInPart form s answers w n → w.failed ≡ true
+    told-broken (Some form) n h = reported-broken s.0.depth form n h
+    told-broken None n h = known-broken s.0.depth n h
+
+    answered-sound : (q : Question) (found : Bool) → IsAnswered q s answers w found → w.failed ≡ false
+    answered-sound (Asks part) found h = asked-sound s.0.depth part h.0
+    answered-sound (Report form strict) found h = told-sound (report_form form) found h
+
+    part-broken : (q : Question) (n : ℕ) → IsPart q s answers w n → w.failed ≡ true
+    part-broken (Asks part) n h = asked-broken s.0.depth part n h
+    part-broken (Report form strict) n h = told-broken (report_form form) n h
+
+    pub answered-leaves : (end : Exit) → EndsAnswered question s answers end w → Leaves end w
     answered-leaves exit.Kept h = answered-sound question h.0 h.1
     answered-leaves exit.Found h = answered-sound question h.0 h.1
     answered-leaves exit.Doubted h = answered-sound question h.0 h.1
@@ -120,8 +195,8 @@ module _ (question : Question) (s : Subject) (answers : List ℕ) where
     answered-leaves exit.Memory h = h
     answered-leaves (exit.Write n) h = part-broken question n h
 
-    module _ (line line' : Option (List ℕ)) (broken : Bool) where
-      pub refused-ends : (text : List ℕ) (end : Exit) → IsUntouched old new failed → RefusesWith text end line line' broken → EndsAnswered question s answers end old new failed
+    module _ (v : Change) where
+      pub refused-ends : (text : List ℕ) (end : Exit) → IsUntouched w → RefusesWith text end v → EndsAnswered question s answers end w
       refused-ends text exit.Kept h is = absurd is
       refused-ends text exit.Found h is = absurd is
       refused-ends text exit.Doubted h is = absurd is
@@ -129,77 +204,82 @@ module _ (question : Question) (s : Subject) (answers : List ℕ) where
       refused-ends text exit.Memory h is = h
       refused-ends text (exit.Write n) h is = absurd is
 
-      pub short-ends : (f : OutsideFault) (end : Exit) → FallsShortOf question s answers old new failed f → IsEndOfQuestion f end line line' broken → EndsAnswered question s answers end old new failed
-      short-ends (outside.Answers f) end short is = refused-ends _ end short.0 is
-      short-ends (outside.NotAnswered t) end short is = refused-ends _ end short.0 is
-      short-ends (outside.Campaign campaign.TooManyPlans) end short is = let P : Exit → Type 0 = λ e. EndsAnswered question s answers e old new failed in subst P (sym is.0) short.0
-      short-ends (outside.Campaign campaign.Memory) end short is = let P : Exit → Type 0 = λ e. EndsAnswered question s answers e old new failed in subst P (sym is.0) short
-      short-ends (outside.Campaign (campaign.Write n)) end short is = let P : Exit → Type 0 = λ e. EndsAnswered question s answers e old new failed in subst P (sym is.0) short
+      pub short-ends : (f : QuestionFault) (end : Exit) → FallsShortOf question s answers w f → IsEndOfQuestion f end v → EndsAnswered question s answers end w
+      short-ends (fault.Outside (outside.Answers f)) end short is = refused-ends _ end short.0 is
+      short-ends (fault.Outside (outside.NotAnswered t)) end short is = refused-ends _ end short.0 is
+      short-ends (fault.Outside (outside.Campaign campaign.TooManyPlans)) end short is = let P : Exit → Type 0 = λ e. EndsAnswered question s answers e w in subst P (sym is.0) short.0
+      short-ends (fault.Outside (outside.Campaign campaign.Memory)) end short is = let P : Exit → Type 0 = λ e. EndsAnswered question s answers e w in subst P (sym is.0) short
+      short-ends (fault.Outside (outside.Campaign (campaign.Write n))) end short is = let P : Exit → Type 0 = λ e. EndsAnswered question s answers e w in subst P (sym is.0) short
+      short-ends (fault.Broken b) end short is = refused-ends _ end short.0 is
+      short-ends (fault.Unseen line) end short is = refused-ends _ end short.0 is
 
       -- a refusal whose line is told
-      why : (refusal : Refusal) (end : Exit) → RefusesQuestion question (Ok s) answers refusal → RefusesWith (refusal_line refusal) end line line' broken → end ≡ exit.Refused → TellsWhy question (Ok s) answers line line' broken
+      why : (refusal : Refusal) (end : Exit) → RefusesQuestion question (Ok s) answers refusal → RefusesWith (refusal_line refusal) end v → end ≡ exit.Refused → TellsWhy question (Ok s) answers v
       why refusal end because is refused =
-          let P : Exit → Type 0 = λ e. RefusesWith (refusal_line refusal) e line line' broken in (refusal, because, subst P refused is)
+          let P : Exit → Type 0 = λ e. RefusesWith (refusal_line refusal) e v in (refusal, because, subst P refused is)
 
       module _ (noted : Type 0) where
         abbrev tells : Exit → Type 0
-        tells e = TellsOf noted (TellsWhy question (Ok s) answers line line' broken) e line line' broken
+        tells e = TellsOf noted (TellsWhy question (Ok s) answers v) e v
 
-        pub short-tells : (f : OutsideFault) (end : Exit) → FallsShortOf question s answers old new failed f → IsEndOfQuestion f end line line' broken → tells end
-        short-tells (outside.Answers f) end short is = tells-of _ _ _ end line line' broken is (why (bad_answers f) end short.1 is)
-        short-tells (outside.NotAnswered t) end short is = tells-of _ _ _ end line line' broken is (why (not_answered t) end short.1 is)
-        short-tells (outside.Campaign campaign.TooManyPlans) end short is = subst tells (sym is.0) (too_many_plans, short.1, is.1)
-        short-tells (outside.Campaign campaign.Memory) end short is = subst tells (sym is.0) is.1
-        short-tells (outside.Campaign (campaign.Write n)) end short is = subst tells (sym is.0) is.1
+        pub short-tells : (f : QuestionFault) (end : Exit) → FallsShortOf question s answers w f → IsEndOfQuestion f end v → tells end
+        short-tells (fault.Outside (outside.Answers f)) end short is = tells-of _ _ _ end v is (why (bad_answers f) end short.1 is)
+        short-tells (fault.Outside (outside.NotAnswered t)) end short is = tells-of _ _ _ end v is (why (not_answered t) end short.1 is)
+        short-tells (fault.Outside (outside.Campaign campaign.TooManyPlans)) end short is = subst tells (sym is.0) (too_many_plans, short.1, is.1)
+        short-tells (fault.Outside (outside.Campaign campaign.Memory)) end short is = subst tells (sym is.0) is.1
+        short-tells (fault.Outside (outside.Campaign (campaign.Write n))) end short is = subst tells (sym is.0) is.1
+        short-tells (fault.Broken b) end short is = tells-of _ _ _ end v is (why (broken_run b) end short.1 is)
+        short-tells (fault.Unseen number) end short is = tells-of _ _ _ end v is (why (unseen_hits number) end short.1 is)
 
   -- the same where nothing was told before
-  pub short-told : (old new : Option (List ℕ)) (failed : Bool) (line mid line' : Option (List ℕ)) (sound broken : Bool) (f : OutsideFault) (end : Exit)
-      → IsUntouched line mid sound → FallsShortOf question s answers old new failed f → IsEndOfQuestion f end mid line' broken
-      → TellsOf (IsNoted (question_notes question s.0 s.1 answers) line line' broken) (TellsWhy question (Ok s) answers line line' broken) end line line' broken
-  short-told old new failed line mid line' sound broken f end untouched short is =
+  pub short-told : (w u : Change) (new : Option (List ℕ)) (broken : Bool) (f : QuestionFault) (end : Exit) → IsUntouched u → FallsShortOf question s answers w f
+      → IsEndOfQuestion f end (record { old = u.new; new = new; failed = broken })
+      → (let v : Change = record { old = u.old; new = new; failed = broken } in TellsOf (IsNoted (question_notes question s.0 s.1 answers) v) (TellsWhy question (Ok s) answers v) end v)
+  short-told w u new broken f end untouched short is =
       let P : Option (List ℕ) → Type 0 =
-      λ o. TellsOf (IsNoted (question_notes question s.0 s.1 answers) o line' broken) (TellsWhy question (Ok s) answers o line' broken) end o line' broken in
-      subst P untouched.0 (short-tells old new failed mid line' broken (IsNoted (question_notes question s.0 s.1 answers) mid line' broken) f end short is)
+      λ o. let v : Change = record { old = o; new = new; failed = broken } in TellsOf (IsNoted (question_notes question s.0 s.1 answers) v) (TellsWhy question (Ok s) answers v) end v in
+      let v : Change = record { old = u.new; new = new; failed = broken } in
+      subst P untouched.0 (short-tells w v (IsNoted (question_notes question s.0 s.1 answers) v) f end short is)
 
 -- an end of a text that was written whole tells the notes
-pub concluded-tells : (refusal : Type 0) (notes : List ℕ) (conclusion : Conclusion) (old new : Option (List ℕ)) (failed : Bool) → IsNoted notes old new failed
-    → TellsOf (IsNoted notes old new failed) refusal (exit_of conclusion) old new failed
-concluded-tells refusal notes Clean old new failed h = h
-concluded-tells refusal notes Failed old new failed h = h
-concluded-tells refusal notes Doubtful old new failed h = h
+pub concluded-tells : (refusal : Type 0) (notes : List ℕ) (conclusion : Conclusion) (w : Change) → IsNoted notes w
+    → TellsOf (IsNoted notes w) refusal (exit_of conclusion) w
+concluded-tells refusal notes Clean w h = h
+concluded-tells refusal notes Failed w h = h
+concluded-tells refusal notes Doubtful w h = h
 
-pub whole-noted : (noted refusal : Type 0) (end : Exit) (old new : Option (List ℕ)) (failed : Bool) → TellsOf noted refusal end old new failed → OnWhole end noted
-whole-noted noted refusal exit.Kept old new failed h = h
-whole-noted noted refusal exit.Found old new failed h = h
-whole-noted noted refusal exit.Doubted old new failed h = h
-whole-noted noted refusal exit.Refused old new failed h = tt
-whole-noted noted refusal exit.Memory old new failed h = tt
-whole-noted noted refusal (exit.Write n) old new failed h = tt
+pub whole-noted : (noted refusal : Type 0) (end : Exit) (w : Change) → TellsOf noted refusal end w → OnWhole end noted
+whole-noted noted refusal exit.Kept w h = h
+whole-noted noted refusal exit.Found w h = h
+whole-noted noted refusal exit.Doubted w h = h
+whole-noted noted refusal exit.Refused w h = tt
+whole-noted noted refusal exit.Memory w h = tt
+whole-noted noted refusal (exit.Write n) w h = tt
 
 -- what is told of a question's refusal is the line of some refusal
-pub some-why : (question : Question) (read : Result Subject Refusal) (answers notes : List ℕ) (end : Exit) (old new : Option (List ℕ)) (failed : Bool)
-    → TellsOf (IsNoted notes old new failed) (TellsWhy question read answers old new failed) end old new failed → TellsOfQuestion end old new failed
-some-why question read answers notes exit.Kept old new failed told = (notes, told)
-some-why question read answers notes exit.Found old new failed told = (notes, told)
-some-why question read answers notes exit.Doubted old new failed told = (notes, told)
-some-why question read answers notes exit.Refused old new failed told = inl (told.0, told.2)
-some-why question read answers notes exit.Memory old new failed told = told
-some-why question read answers notes (exit.Write n) old new failed told = told
+pub some-why : (question : Question) (read : Result Subject Refusal) (answers notes : List ℕ) (end : Exit) (w : Change)
+    → TellsOf (IsNoted notes w) (TellsWhy question read answers w) end w → TellsOfQuestion end w
+some-why question read answers notes exit.Kept w told = (notes, told)
+some-why question read answers notes exit.Found w told = (notes, told)
+some-why question read answers notes exit.Doubted w told = (notes, told)
+some-why question read answers notes exit.Refused w told = inl (told.0, told.2)
+some-why question read answers notes exit.Memory w told = told
+some-why question read answers notes (exit.Write n) w told = told
 
-pub refused-why : (noted claim : Type 0) (end : Exit) (old new : Option (List ℕ)) (failed : Bool) → end ≡ exit.Refused → TellsOf noted claim end old new failed → claim
-refused-why noted claim end old new failed refused told = let P : Exit → Type 0 = λ e. TellsOf noted claim e old new failed in subst P refused told
+pub refused-why : (noted claim : Type 0) (end : Exit) (w : Change) → end ≡ exit.Refused → TellsOf noted claim end w → claim
+refused-why noted claim end w refused told = let P : Exit → Type 0 = λ e. TellsOf noted claim e w in subst P refused told
 
--- an end that refuses with a line wrote nothing, whatever the question is about
-pub refused-question : (question : Question) (read : Result Subject Refusal) (answers : List ℕ) (line : List ℕ) (end : Exit) (old new : Option (List ℕ)) (failed : Bool) (output : Option (List ℕ)) (broken : Bool)
-    → RefusesWith line end old new failed → broken ≡ false → EndsQuestion question read answers end output output broken
-refused-question question read answers line exit.Kept old new failed output broken told sound = absurd told
-refused-question question read answers line exit.Found old new failed output broken told sound = absurd told
-refused-question question read answers line exit.Doubted old new failed output broken told sound = absurd told
-refused-question question (Ok s) answers line exit.Refused old new failed output broken told sound = (refl, sound)
-refused-question question (Err r) answers line exit.Refused old new failed output broken told sound = (refl, sound)
-refused-question question (Ok s) answers line exit.Memory old new failed output broken told sound = (refl, sound)
-refused-question question (Err r) answers line exit.Memory old new failed output broken told sound = (refl, sound)
-refused-question question read answers line (exit.Write n) old new failed output broken told sound = absurd told
+-- an end that refuses with a line, where nothing was written, whatever the question is about
+pub refused-question : (question : Question) (read : Result Subject Refusal) (answers : List ℕ) (line : List ℕ) (end : Exit) (w v : Change)
+    → RefusesWith line end w → IsUntouched v → EndsQuestion question read answers end v
+refused-question question read answers line exit.Kept w v told h = absurd told
+refused-question question read answers line exit.Found w v told h = absurd told
+refused-question question read answers line exit.Doubted w v told h = absurd told
+refused-question question (Ok s) answers line exit.Refused w v told h = h
+refused-question question (Err r) answers line exit.Refused w v told h = h
+refused-question question (Ok s) answers line exit.Memory w v told h = h
+refused-question question (Err r) answers line exit.Memory w v told h = h
+refused-question question read answers line (exit.Write n) w v told h = absurd told
 
 -- a text that is too long
 long-answers : (names : List (List ℕ)) (text : List ℕ) → most_bytes < length text → reading_of names text ≡ Err answers.TooLong
@@ -209,6 +289,17 @@ long-answers names text many =
     let f : Bool → Result (List Told) AnswersFault = λ b. if b then Err answers.TooLong else rest in
     ap f (lt-ltb most_bytes (length text) many)
 
+long-runs : (names points : List (List ℕ)) (text : List ℕ) → most_bytes < length text → runs_of names points text ≡ Err answers.TooLong
+unfolding runs_of
+long-runs names points text many =
+    let rest : Result (List RunLine) AnswersFault = run_pieces_from names points [] (slice_split (λ b. b == 10) text) in
+    let f : Bool → Result (List RunLine) AnswersFault = λ b. if b then Err answers.TooLong else rest in
+    ap f (lt-ltb most_bytes (length text) many)
+
+too-long : (depth : Option ℕ) (s : Subject) (text : List ℕ) → most_bytes < length text → Refuses depth s.1 s.0 text (fault.Outside (outside.Answers answers.TooLong))
+too-long None s text many = long-answers s.1.codes text many
+too-long (Some depth) s text many = long-runs s.1.codes s.1.points text many
+
 -- ---- by the answers that a reader gave
 
 module _ (question : Question) (s : Subject) (known : Option (List ℕ)) where
@@ -216,49 +307,48 @@ module _ (question : Question) (s : Subject) (known : Option (List ℕ)) where
   pub of-bytes : (bytes : List ℕ) (P : List ℕ → Type 0) → IfSome known (λ xs. bytes ≡ xs) → P bytes → IfSome known P
   of-bytes bytes P is h = if_some known (λ xs. bytes ≡ xs) P (λ xs e. subst P e h) is
 
-  pub cause-unread-answers : (f : ReadFault) (end : Exit) (old new : Option (List ℕ)) (failed : Bool)
+  pub cause-unread-answers : (f : ReadFault) (end : Exit) (w : Change)
       → (f ≡ read.TooLong → IfSome known (λ bytes. 268435456 < length bytes))
-      → RefusesWith (answers_read_line f) end old new failed → (f ≡ read.Memory → end ≡ exit.Memory) → end ≡ exit.Refused
-      → IfSome known (λ bytes. IsNotAnswered question (Ok s) bytes old new failed)
-  cause-unread-answers read.TooLong end old new failed long told memory refused =
-      let P : Exit → Type 0 = λ e. RefusesWith (answers_read_line read.TooLong) e old new failed in
-      if_some known _ (λ bytes. IsNotAnswered question (Ok s) bytes old new failed)
-      (λ bytes h. inl (bad_answers _, long-answers s.1.codes bytes h, subst P refused told)) (long refl)
-  cause-unread-answers read.NotUtf8 end old new failed long told memory refused =
-      let P : Exit → Type 0 = λ e. RefusesWith unreadable_answers_line e old new failed in
-      elim known as (λ k. IfSome k (λ bytes. IsNotAnswered question (Ok s) bytes old new failed)) [ None ↦ tt | Some bytes ↦ inr (inr (subst P refused told)) ]
-  cause-unread-answers read.NotReadable end old new failed long told memory refused =
-      let P : Exit → Type 0 = λ e. RefusesWith unreadable_answers_line e old new failed in
-      elim known as (λ k. IfSome k (λ bytes. IsNotAnswered question (Ok s) bytes old new failed)) [ None ↦ tt | Some bytes ↦ inr (inr (subst P refused told)) ]
-  cause-unread-answers read.Memory end old new failed long told memory refused = memory-apart end (memory refl) refused
+      → RefusesWith (answers_read_line f) end w → (f ≡ read.Memory → end ≡ exit.Memory) → end ≡ exit.Refused
+      → IfSome known (λ bytes. IsNotAnswered question (Ok s) bytes w)
+  cause-unread-answers read.TooLong end w long told memory refused =
+      let P : Exit → Type 0 = λ e. RefusesWith (answers_read_line read.TooLong) e w in
+      if_some known _ (λ bytes. IsNotAnswered question (Ok s) bytes w)
+      (λ bytes h. inl (bad_answers _, too-long s.0.depth s bytes h, subst P refused told)) (long refl)
+  cause-unread-answers read.NotUtf8 end w long told memory refused =
+      let P : Exit → Type 0 = λ e. RefusesWith unreadable_answers_line e w in
+      elim known as (λ k. IfSome k (λ bytes. IsNotAnswered question (Ok s) bytes w)) [ None ↦ tt | Some bytes ↦ inr (inr (subst P refused told)) ]
+  cause-unread-answers read.NotReadable end w long told memory refused =
+      let P : Exit → Type 0 = λ e. RefusesWith unreadable_answers_line e w in
+      elim known as (λ k. IfSome k (λ bytes. IsNotAnswered question (Ok s) bytes w)) [ None ↦ tt | Some bytes ↦ inr (inr (subst P refused told)) ]
+  cause-unread-answers read.Memory end w long told memory refused = memory-apart end (memory refl) refused
 
 -- what holds of all bytes
 pub for-any : (known : Option (List ℕ)) (P : List ℕ → Type 0) → ((bytes : List ℕ) → P bytes) → IfSome known P
 for-any None P h = tt
 for-any (Some bytes) P h = h bytes
 
-pub refused-any : (question : Question) (read : Result Subject Refusal) (known : Option (List ℕ)) (line : List ℕ) (end : Exit) (old new : Option (List ℕ)) (failed : Bool) (output : Option (List ℕ)) (broken : Bool)
-    → RefusesWith line end old new failed → broken ≡ false → IfSome known (λ bytes. EndsQuestion question read bytes end output output broken)
-refused-any question read known line end old new failed output broken told sound =
-    for-any known (λ bytes. EndsQuestion question read bytes end output output broken)
-    (λ bytes. refused-question question read bytes line end old new failed output broken told sound)
+pub refused-any : (question : Question) (read : Result Subject Refusal) (known : Option (List ℕ)) (line : List ℕ) (end : Exit) (w v : Change)
+    → RefusesWith line end w → IsUntouched v → IfSome known (λ bytes. EndsQuestion question read bytes end v)
+refused-any question read known line end w v told h =
+    for-any known (λ bytes. EndsQuestion question read bytes end v) (λ bytes. refused-question question read bytes line end w v told h)
 
 -- ---- by what the settings come to
 
 module _ (question : Question) (read : Result Subject Refusal) (refusal : Refusal) (is : read ≡ Err refusal) where
   -- a refusal by the settings, whose line is told
-  pub settings-why : (known : Option (List ℕ)) (end : Exit) (old new : Option (List ℕ)) (failed : Bool) → RefusesWith (refusal_line refusal) end old new failed → end ≡ exit.Refused
-      → IfSome known (λ bytes. IsNotAnswered question read bytes old new failed)
-  settings-why known end old new failed told refused =
-      let P : Exit → Type 0 = λ e. RefusesWith (refusal_line refusal) e old new failed in
-      let Q : Result Subject Refusal → Type 0 = λ r. IfSome known (λ bytes. IsNotAnswered question r bytes old new failed) in
-      subst Q (sym is) (for-any known (λ bytes. IsNotAnswered question (Err refusal) bytes old new failed) (λ bytes. inl (refusal, refl, subst P refused told)))
+  pub settings-why : (known : Option (List ℕ)) (end : Exit) (w : Change) → RefusesWith (refusal_line refusal) end w → end ≡ exit.Refused
+      → IfSome known (λ bytes. IsNotAnswered question read bytes w)
+  settings-why known end w told refused =
+      let P : Exit → Type 0 = λ e. RefusesWith (refusal_line refusal) e w in
+      let Q : Result Subject Refusal → Type 0 = λ r. IfSome known (λ bytes. IsNotAnswered question r bytes w) in
+      subst Q (sym is) (for-any known (λ bytes. IsNotAnswered question (Err refusal) bytes w) (λ bytes. inl (refusal, refl, subst P refused told)))
 
 -- the line of a refusal, where an end refuses with it
-pub tells-question : (refusal : Refusal) (end : Exit) (old new : Option (List ℕ)) (failed : Bool) → RefusesWith (refusal_line refusal) end old new failed → TellsOfQuestion end old new failed
-tells-question refusal end old new failed told =
-    let P : Exit → Type 0 = λ e. RefusesWith (refusal_line refusal) e old new failed in
-    tells-of _ _ _ end old new failed told (λ refused. inl (refusal, subst P refused told))
+pub tells-question : (refusal : Refusal) (end : Exit) (w : Change) → RefusesWith (refusal_line refusal) end w → TellsOfQuestion end w
+tells-question refusal end w told =
+    let P : Exit → Type 0 = λ e. RefusesWith (refusal_line refusal) e w in
+    tells-of _ _ _ end w told (λ refused. inl (refusal, subst P refused told))
 
 module _ (text : List ℕ) where
   unset-subject : (cause : Cause) → settings_of text ≡ Err cause → text_subject text ≡ Err (bad_settings cause)
@@ -270,19 +360,19 @@ module _ (text : List ℕ) where
   chosen-is s is = let f : Read Settings → Result Subject Refusal = given_subject in ap f is
 
   -- settings with a fault, whose line is told
-  module _ (question : Question) (end : Exit) (old new : Option (List ℕ)) (failed : Bool) (f : SettingsFault) (by : RefusedBy (settings_of text) f) (memory : f ≡ settings.Memory → end ≡ exit.Memory)
-      (told : RefusesWith (settings_line f) end old new failed) where
-    pub unset-why : (known : Option (List ℕ)) → end ≡ exit.Refused → IfSome known (λ bytes. IsNotAnswered question (text_subject text) bytes old new failed)
+  module _ (question : Question) (end : Exit) (w : Change) (f : SettingsFault) (by : RefusedBy (settings_of text) f) (memory : f ≡ settings.Memory → end ≡ exit.Memory)
+      (told : RefusesWith (settings_line f) end w) where
+    pub unset-why : (known : Option (List ℕ)) → end ≡ exit.Refused → IfSome known (λ bytes. IsNotAnswered question (text_subject text) bytes w)
     unset-why known refused =
-        let c = unset-cause (settings_of text) end old new failed refused f by memory told in
-        settings-why question (text_subject text) (bad_settings c.0) (unset-subject c.0 c.1) known end old new failed c.2 refused
+        let c = unset-cause (settings_of text) end w refused f by memory told in
+        settings-why question (text_subject text) (bad_settings c.0) (unset-subject c.0 c.1) known end w c.2 refused
 
-    pub unset-tells : TellsOfQuestion end old new failed
+    pub unset-tells : TellsOfQuestion end w
     unset-tells =
-        tells-of _ _ _ end old new failed told
+        tells-of _ _ _ end w told
         (λ refused.
-        let c = unset-cause (settings_of text) end old new failed refused f by memory told in
-        let Q : Exit → Type 0 = λ e. RefusesWith (refusal_line (bad_settings c.0)) e old new failed in
+        let c = unset-cause (settings_of text) end w refused f by memory told in
+        let Q : Exit → Type 0 = λ e. RefusesWith (refusal_line (bad_settings c.0)) e w in
         inl (bad_settings c.0, subst Q refused c.2))
 
 -- ---- by the bytes of the settings
@@ -304,38 +394,38 @@ pub read-subject : (known : Option (List ℕ)) (text shown : List ℕ) (P : Resu
 read-subject known text shown P same is few utf8 h = read-meaning subject_of text_subject subject-text known text shown P same is few utf8 h
 
 -- a reader that gave no settings
-module _ (question : Question) (given known : Option (List ℕ)) (end : Exit) (old new : Option (List ℕ)) (failed : Bool) (refused : end ≡ exit.Refused) where
-  unread-settings : RefusesWith unreadable_line end old new failed → IfSome given (λ s. IfSome known (λ bytes. IsNotAnswered question (subject_of s) bytes old new failed))
+module _ (question : Question) (given known : Option (List ℕ)) (end : Exit) (w : Change) (refused : end ≡ exit.Refused) where
+  unread-settings : RefusesWith unreadable_line end w → IfSome given (λ s. IfSome known (λ bytes. IsNotAnswered question (subject_of s) bytes w))
   unread-settings told =
-      let P : Exit → Type 0 = λ e. RefusesWith unreadable_line e old new failed in
-      for-any given _ (λ s. for-any known (λ bytes. IsNotAnswered question (subject_of s) bytes old new failed) (λ bytes. inr (inl (subst P refused told))))
+      let P : Exit → Type 0 = λ e. RefusesWith unreadable_line e w in
+      for-any given _ (λ s. for-any known (λ bytes. IsNotAnswered question (subject_of s) bytes w) (λ bytes. inr (inl (subst P refused told))))
 
   pub unread-why : (f : ReadFault) → (f ≡ read.TooLong → IfSome given (λ bytes. 1048576 < length bytes))
       → (f ≡ read.NotUtf8 → IfSome given (λ bytes. (length bytes ≤ 1048576) × ¬ IsUtf8 bytes))
-      → RefusesWith (read_fault_line f) end old new failed → (f ≡ read.Memory → end ≡ exit.Memory)
-      → IfSome given (λ s. IfSome known (λ bytes. IsNotAnswered question (subject_of s) bytes old new failed))
+      → RefusesWith (read_fault_line f) end w → (f ≡ read.Memory → end ≡ exit.Memory)
+      → IfSome given (λ s. IfSome known (λ bytes. IsNotAnswered question (subject_of s) bytes w))
   unread-why read.TooLong long broken told memory =
-      if_some given _ (λ s. IfSome known (λ bytes. IsNotAnswered question (subject_of s) bytes old new failed))
-      (λ s h. settings-why question (subject_of s) (bad_settings too_long) (subject-long s h) known end old new failed told refused) (long refl)
+      if_some given _ (λ s. IfSome known (λ bytes. IsNotAnswered question (subject_of s) bytes w))
+      (λ s h. settings-why question (subject_of s) (bad_settings too_long) (subject-long s h) known end w told refused) (long refl)
   unread-why read.NotUtf8 long broken told memory =
-      if_some given _ (λ s. IfSome known (λ bytes. IsNotAnswered question (subject_of s) bytes old new failed))
-      (λ s h. settings-why question (subject_of s) not_text (subject-broken s h.0 h.1) known end old new failed told refused) (broken refl)
+      if_some given _ (λ s. IfSome known (λ bytes. IsNotAnswered question (subject_of s) bytes w))
+      (λ s h. settings-why question (subject_of s) not_text (subject-broken s h.0 h.1) known end w told refused) (broken refl)
   unread-why read.NotReadable long broken told memory = unread-settings told
   unread-why read.Memory long broken told memory = memory-apart end (memory refl) refused
 
 -- what is told of a reader that gave nothing
-module _ (end : Exit) (old new : Option (List ℕ)) (failed : Bool) where
-  pub unread-tells : (f : ReadFault) → RefusesWith (read_fault_line f) end old new failed → (f ≡ read.Memory → end ≡ exit.Memory) → TellsOfQuestion end old new failed
-  unread-tells read.TooLong told memory = tells-question (bad_settings too_long) end old new failed told
-  unread-tells read.NotUtf8 told memory = tells-question not_text end old new failed told
+module _ (end : Exit) (w : Change) where
+  pub unread-tells : (f : ReadFault) → RefusesWith (read_fault_line f) end w → (f ≡ read.Memory → end ≡ exit.Memory) → TellsOfQuestion end w
+  unread-tells read.TooLong told memory = tells-question (bad_settings too_long) end w told
+  unread-tells read.NotUtf8 told memory = tells-question not_text end w told
   unread-tells read.NotReadable told memory =
-      let P : Exit → Type 0 = λ e. RefusesWith unreadable_line e old new failed in tells-of _ _ _ end old new failed told (λ refused. inr (inl (subst P refused told)))
-  unread-tells read.Memory told memory = tells-of _ _ _ end old new failed told (λ refused. memory-apart end (memory refl) refused)
+      let P : Exit → Type 0 = λ e. RefusesWith unreadable_line e w in tells-of _ _ _ end w told (λ refused. inr (inl (subst P refused told)))
+  unread-tells read.Memory told memory = tells-of _ _ _ end w told (λ refused. memory-apart end (memory refl) refused)
 
-  pub unread-answers-tells : (f : ReadFault) → RefusesWith (answers_read_line f) end old new failed → (f ≡ read.Memory → end ≡ exit.Memory) → TellsOfQuestion end old new failed
-  unread-answers-tells read.TooLong told memory = tells-question (bad_answers answers.TooLong) end old new failed told
+  pub unread-answers-tells : (f : ReadFault) → RefusesWith (answers_read_line f) end w → (f ≡ read.Memory → end ≡ exit.Memory) → TellsOfQuestion end w
+  unread-answers-tells read.TooLong told memory = tells-question (bad_answers answers.TooLong) end w told
   unread-answers-tells read.NotUtf8 told memory =
-      let P : Exit → Type 0 = λ e. RefusesWith unreadable_answers_line e old new failed in tells-of _ _ _ end old new failed told (λ refused. inr (inr (subst P refused told)))
+      let P : Exit → Type 0 = λ e. RefusesWith unreadable_answers_line e w in tells-of _ _ _ end w told (λ refused. inr (inr (subst P refused told)))
   unread-answers-tells read.NotReadable told memory =
-      let P : Exit → Type 0 = λ e. RefusesWith unreadable_answers_line e old new failed in tells-of _ _ _ end old new failed told (λ refused. inr (inr (subst P refused told)))
-  unread-answers-tells read.Memory told memory = tells-of _ _ _ end old new failed told (λ refused. memory-apart end (memory refl) refused)
+      let P : Exit → Type 0 = λ e. RefusesWith unreadable_answers_line e w in tells-of _ _ _ end w told (λ refused. inr (inr (subst P refused told)))
+  unread-answers-tells read.Memory told memory = tells-of _ _ _ end w told (λ refused. memory-apart end (memory refl) refused)

@@ -37,6 +37,14 @@ answered-is d e names points hits counts empty one two same named counted none f
     let rest : unhit_lines names hits ≡ unhit_lines points counts = ap (λ n. unhit_lines n hits) named ∙ ap (unhit_lines points) counted in
     second ∙ ap (λ (x : List ℕ). x ++ text_of (unhit_lines names hits)) start ∙ ap (λ l. doubt_notes e ++ text_of l) rest
 
+-- the same of a report with a depth
+pub runs-is : (d e : Doubts) (names points : List (List ℕ)) (places unreached empty one two : List ℕ) → d ≡ e → names ≡ points → places ≡ unreached
+    → empty ≡ [] → one ≡ empty ++ doubt_notes d → two ≡ one ++ text_of (unreached_lines names places) → two ≡ doubt_notes e ++ text_of (unreached_lines points unreached)
+runs-is d e names points places unreached empty one two same named left none first second =
+    let start : one ≡ doubt_notes e = first ∙ ap (λ (x : List ℕ). x ++ doubt_notes d) none ∙ ap doubt_notes same in
+    let rest : unreached_lines names places ≡ unreached_lines points unreached = ap (λ n. unreached_lines n places) named ∙ ap (unreached_lines points) left in
+    second ∙ ap (λ (x : List ℕ). x ++ text_of (unreached_lines names places)) start ∙ ap (λ l. doubt_notes e ++ text_of l) rest
+
 -- one more of the lines for points that no run asks
 pub unreached-step : (points : List (List ℕ)) (left : List ℕ) (k d : ℕ) (out new whole : List ℕ) → k < length left
     → new ≡ out ++ ended (unreached_line (slice_index_or points (slice_index_or left k d) []))

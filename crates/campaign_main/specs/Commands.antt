@@ -27,6 +27,7 @@ use Rattle.commit_target.specs.Words.{point_names as commit_points, code_text as
 use Rattle.plan_gen.specs.PlanList.{most_plans, plan_list}
 use Rattle.report.specs.ReportText.{text_of}
 use Rattle.answer_text.specs.declared.fault.AnswersFault.{AnswersFault}
+use Rattle.answered_runs.specs.declared.broken.BrokenRun.{BrokenRun}
 use Rattle.campaign_given.specs.Description.{Description}
 use Rattle.campaign_given.specs.Given.{Given}
 use Rattle.campaign_settings.specs.Settings.{Cause, Read, settings_of, too_long}
@@ -54,8 +55,8 @@ use Rattle.campaign_main.specs.Notes.{is_doubted, listed_notes, notes_of, report
 -- ---- answers
 
 -- why a command is refused: its settings are no UTF-8 or have a fault, its scenario has one, there are too many plans, or none of this
--- number; it would run a component from outside, or asks about a target that isn't from outside; the answers have a fault, or lack this
--- scenario
+-- number; it would run a component from outside, would list the plans of one that grow from what answers tell, or asks about a target that isn't
+-- from outside; the answers have a fault, or lack this scenario; a run that they tell breaks with another, or this line of them tells no hits
 pub data Refusal : Type 0 where
   not_text : Refusal
   bad_settings : Cause → Refusal
@@ -63,9 +64,12 @@ pub data Refusal : Type 0 where
   too_many_plans : Refusal
   no_plan : ℕ → Refusal
   outside_target : Refusal
+  outside_with_depth : Refusal
   bundled_target : Refusal
   bad_answers : AnswersFault → Refusal
   not_answered : Entries → Refusal
+  broken_run : BrokenRun → Refusal
+  unseen_hits : ℕ → Refusal
 
 -- a command's text, what it comes to, and what is noted beside it; or why the command is refused
 abbrev pub Answer : Type 0
@@ -192,14 +196,15 @@ cut_answer calls points (order.Reduce which) c = order_answer (order.Reduce whic
 
 -- ---- a command on a component that somebody else runs
 
--- its plans can be listed, with these notes; what runs it is refused
-unfoldable pub outside_answer : Order → List Entries → List ℕ → Answer
-outside_answer order.Plans plans notes = of_few_plans plans (text_of (plan_lines 0 plans), Clean, notes)
-outside_answer (order.Run form strict recheck) plans notes = Err outside_target
-outside_answer order.Map plans notes = Err outside_target
-outside_answer (order.Try which) plans notes = Err outside_target
-outside_answer (order.Reduce which) plans notes = Err outside_target
-outside_answer (order.Explain which) plans notes = Err outside_target
+-- its plans can be listed, with these notes, where they don't grow from what answers tell; what runs it is refused
+unfoldable pub outside_answer : Order → Option ℕ → List Entries → List ℕ → Answer
+outside_answer order.Plans None plans notes = of_few_plans plans (text_of (plan_lines 0 plans), Clean, notes)
+outside_answer order.Plans (Some depth) plans notes = Err outside_with_depth
+outside_answer (order.Run form strict recheck) depth plans notes = Err outside_target
+outside_answer order.Map depth plans notes = Err outside_target
+outside_answer (order.Try which) depth plans notes = Err outside_target
+outside_answer (order.Reduce which) depth plans notes = Err outside_target
+outside_answer (order.Explain which) depth plans notes = Err outside_target
 
 -- ---- by the settings
 
@@ -259,7 +264,7 @@ choice_answer order given (choice.Maildir variant messages) =
 choice_answer order given (choice.Commit variant work) =
     bundled_answer (commit_calls variant work) commit_points given order (committing_in given variant work)
 choice_answer order given (choice.Outside outside) =
-    outside_answer order (outside_plans given outside) (listed_notes outside.points given.plans.listed)
+    outside_answer order given.depth (outside_plans given outside) (listed_notes outside.points given.plans.listed)
 
 abbrev pub given_answer : Order → Read Settings → Answer
 given_answer order (Ok s) = choice_answer order s.campaign s.choice

@@ -3,6 +3,7 @@ use Rattle.std.specs.Prelude.{List, ℕ, ◌++◌, codes}
 use Rattle.std.specs.Fmt.{decimal}
 use Rattle.answer_text.specs.FaultText.{line_of as answers_line_of}
 use Rattle.answer_text.specs.declared.fault.AnswersFault.TheVariants as answers
+use Rattle.answered_runs.specs.Broken.{broken_text}
 use Rattle.report.specs.ReportText.{ended, scenario_text}
 use Rattle.scenario_grammar.specs.FaultText.{fault_text}
 use Rattle.scenario_grammar.specs.declared.fault.ScenarioFault.{ScenarioFault}
@@ -15,7 +16,7 @@ use Rattle.campaign_settings.specs.declared.fault.SettingsFault.TheVariants as s
 use Rattle.campaign_settings.specs.declared.keys.KeyFault.TheVariants as fault
 use Rattle.campaign_main.specs.declared.input.ReadFault.{ReadFault}
 use Rattle.campaign_main.specs.declared.input.ReadFault.TheVariants as read
-use Rattle.campaign_main.specs.Commands.{Refusal, not_text, bad_settings, bad_scenario, no_plan, too_many_plans, outside_target, bundled_target, bad_answers, not_answered}
+use Rattle.campaign_main.specs.Commands.{Refusal, not_text, bad_settings, bad_scenario, no_plan, too_many_plans, outside_target, outside_with_depth, bundled_target, bad_answers, not_answered, broken_run, unseen_hits}
 
 -- what is wrong with the settings
 abbrev pub settings_line : SettingsFault → List ℕ
@@ -61,9 +62,12 @@ refusal_line (bad_scenario f) = scenario_line (Bad f.kind f.entry f.term)
 refusal_line too_many_plans = codes "too many plans\n"
 refusal_line (no_plan number) = ended (codes "plan: out of range " ++ decimal number)
 refusal_line outside_target = codes "settings: target outside: only plans, asks and report\n"
+refusal_line outside_with_depth = codes "settings: target outside with a depth: only asks and report\n"
 refusal_line bundled_target = codes "settings: target not outside: only run, plans, map, try, reduce and explain\n"
 refusal_line (bad_answers f) = ended (answers_line_of f)
 refusal_line (not_answered s) = ended (codes "not answered " ++ scenario_text s)
+refusal_line (broken_run b) = ended (broken_text b)
+refusal_line (unseen_hits line) = codes "answers: line " ++ (decimal line ++ codes ": hits unknown\n")
 
 -- the line of a reader that gave no text
 abbrev pub read_fault_line : ReadFault → List ℕ

@@ -2,12 +2,13 @@
 use Rattle.std.specs.Prelude.{ℕ, List, IfOk, Ok, Err, ◌++◌, codes}
 use Rattle.scenario_values.specs.Scenario.{Entries}
 use Rattle.action_eval.specs.Answers.{Given as Run}
+use Rattle.target_trait.specs.declared.target.Target.{Ghosts}
 use Rattle.campaign_given.specs.Given.{Given}
 use Rattle.campaign_settings.specs.Own.{own_settings_of, worded_settings_of}
 use Rattle.campaign_settings.specs.declared.own.OwnSettings.{OwnSettings}
 use Rattle.campaign_settings.specs.Settings.{Read}
 use Rattle.campaign_core.specs.CommandTexts.{case_in, tried}
-use Rattle.campaign_core.specs.Headline.{Campaign}
+use Rattle.campaign_core.specs.Headline.{Campaign, campaign_on}
 use Rattle.command_words.specs.declared.words.Order.{Order}
 use Rattle.command_words.specs.declared.words.Order.TheVariants as order
 use Rattle.report.specs.ReportText.{ended}
@@ -28,6 +29,10 @@ own_text_answer order campaign text = own_given_answer order campaign (own_setti
 -- the answer to the bytes of settings
 unfoldable pub own_answer : Order → (Given → Campaign) → List ℕ → Answer
 own_answer order campaign bytes = of_text (own_text_answer order campaign) bytes
+
+-- the same over a target on a workload
+abbrev pub target_answer : {T W : Type 0} → Ghosts T W → T → W → Order → List ℕ → Answer
+target_answer target setup workload order = own_answer order (campaign_on target setup workload)
 
 -- what is promised of the command's text, where the text gives settings
 abbrev pub OwnKeepsPromises : Order → (Given → Campaign) → List ℕ → Type 0

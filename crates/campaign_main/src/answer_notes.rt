@@ -1,21 +1,25 @@
 //! What is noted beside the answer to a question on a component that somebody else runs.
-ghost use Rattle.std.specs.Prelude.{◌≡◌, ◌<◌, ◌==◌, ◌++◌, [], true, count_by, length, slice_index_or, string_bytes, IfErr, IfOk, OnOk, if◌then◌else◌};
+ghost use Rattle.std.specs.Prelude.{◌≡◌, ◌≤◌, ◌<◌, ◌==◌, ◌++◌, [], None, Some, true, count_by, length, slice_index_or, string_bytes, IfErr, IfOk, OnOk, if◌then◌else◌};
 ghost use Rattle.std.specs.List.{slice_split};
 ghost use Rattle.action_eval.specs.Answers.{texts};
 ghost use Rattle.report.specs.ReportText.{ended, text_of};
 ghost use Rattle.answer_text.specs.FirstFault.{answer_in};
 ghost use Rattle.answer_text.specs.Known.{verdict_in};
+ghost use Rattle.answer_text.specs.Runs.{run_in};
 ghost use Rattle.campaign_main.specs.Commands.{outside_plans};
-ghost use Rattle.campaign_main.specs.QuestionNotes.{answer_strangers, answered_doubts, doubts_by, is_left_open, is_question_doubted, name_notes, question_notes, strangers_from, unhit_line, unhit_lines, unhit_of};
-ghost use Rattle.campaign_main.specs.Questions.{IsUnnoted};
+ghost use Rattle.campaign_main.specs.QuestionNotes.{answer_strangers, answered_doubts, census_doubts, doubts_by, is_left_open, is_question_doubted, name_notes, question_notes, run_strangers, run_strangers_from, strangers_from, strict_doubts, unhit_line, unhit_lines, unhit_of};
+ghost use Rattle.campaign_main.specs.Questions.{IsUnnoted, IsUnnotedTo};
 
 use crate::notes::{
     Doubts, Origin, draws_nothing, is_doubted, is_unhit, listed_on, write_doubts, write_strangers,
 };
-use answer_text::{Known, LineError, answer_in, read};
+use crate::run_notes::run_doubts;
+use answer_text::{Known, LineError, answer_in, read, read_runs, run_in};
+use answered_campaigns::QuestionFault;
+use answered_runs::AnsweredRuns;
 use campaign_given::{CampaignSettings, Outside};
 use command_words::Question;
-use outside_campaign::{OutsideFault, borrowed, outside_plans};
+use outside_campaign::{borrowed, outside_plans};
 use plan_gen::PlanList;
 use scenario_grammar::Scenario;
 use scenario_values::build;
@@ -67,6 +71,48 @@ fn write_answers_strangers(
     Ok(())
 }
 
+/// The same of a line that tells the hits of a run.
+fn write_run_strangers(
+    alloc: Global,
+    out: &mut String,
+    points: &[&str],
+    outside: &Outside,
+    number: usize,
+    line: &[u8],
+) -> Result<(), AllocError>
+    ensures { OnOk result (string_bytes out.new ≡ string_bytes out.old
+        ++ text_of (run_strangers (texts points.now) number (run_in outside.now.codes outside.now.points line.now))) }
+{
+    match run_in(
+        alloc,
+        outside.codes.as_slice(),
+        outside.points.as_slice(),
+        line,
+    ) {
+        Ok(run) => write_strangers(out, points, Origin::Answered(number), &run.scenario),
+        Err(LineError::Bad(_)) => Ok(()),
+        Err(LineError::Memory) => Err(AllocError),
+    }
+}
+
+/// What is noted of a text of answers that tell hits, whose lines are numbered from 1.
+fn write_runs_strangers(
+    alloc: Global,
+    out: &mut String,
+    points: &[&str],
+    outside: &Outside,
+    answers: &[u8],
+) -> Result<(), AllocError>
+    ensures { OnOk result (string_bytes out.new ≡ string_bytes out.old
+        ++ run_strangers_from (texts points.now) outside.now 1 (slice_split (λ b. b == 10) answers.now)) }
+{
+    let lines = pieces(alloc, answers)?;
+    for place in 0..lines.len() {
+        write_run_strangers(alloc, out, points, outside, place + 1, lines[place])?;
+    }
+    Ok(())
+}
+
 /// What is noted of names that no point has: those of the listed scenarios, and then those of the answers.
 fn name_notes_on(
     alloc: Global,
@@ -79,7 +125,10 @@ fn name_notes_on(
     let points = borrowed(alloc, outside.points.as_slice())?;
     let points = points.as_slice();
     let mut lines = listed_on(alloc, points, settings.scenarios.as_slice())?;
-    write_answers_strangers(alloc, &mut lines, points, outside, answers)?;
+    match settings.depth {
+        None => write_answers_strangers(alloc, &mut lines, points, outside, answers)?,
+        Some(_) => write_runs_strangers(alloc, &mut lines, points, outside, answers)?,
+    }
     Ok(lines)
 }
 
@@ -175,15 +224,15 @@ fn write_all_unhit(out: &mut String, points: &[&str], hits: &[u32]) -> Result<()
     Ok(())
 }
 
-/// What is noted besides of a report that is to be strict.
-fn strict_answered(
+/// What is noted besides of a report without a depth that is to be strict.
+fn strict_by_census(
     alloc: Global,
     outside: &Outside,
     settings: &CampaignSettings,
     answers: &[u8],
-) -> Result<String, OutsideFault>
-    ensures ok { IfOk result (λ lines. string_bytes lines ≡ answered_doubts true settings.now outside.now answers.now) }
-    ensures fault { IfErr result (IsUnnoted (settings.now, outside.now) answers.now) }
+) -> Result<String, QuestionFault>
+    ensures ok { IfOk result (λ lines. string_bytes lines ≡ census_doubts settings.now outside.now answers.now) }
+    ensures fault { IfErr result (IsUnnotedTo None (settings.now, outside.now) answers.now) }
 {
     let known = read(alloc, outside.codes.as_slice(), answers)?;
     let points = borrowed(alloc, outside.points.as_slice())?;
@@ -196,6 +245,46 @@ fn strict_answered(
     Ok(lines)
 }
 
+/// What is noted besides of a report with this depth that is to be strict.
+fn strict_by_runs(
+    alloc: Global,
+    outside: &Outside,
+    settings: &CampaignSettings,
+    depth: u32,
+    answers: &[u8],
+) -> Result<String, QuestionFault>
+    requires { depth ≤ 64 }
+    ensures ok { IfOk result (λ lines. string_bytes lines ≡ strict_doubts (Some depth) settings.now outside.now answers.now) }
+    ensures fault { IfErr result (IsUnnotedTo (Some depth) (settings.now, outside.now) answers.now) }
+{
+    let told = read_runs(
+        alloc,
+        outside.codes.as_slice(),
+        outside.points.as_slice(),
+        answers,
+    )?;
+    let points = borrowed(alloc, outside.points.as_slice())?;
+    let runs = AnsweredRuns::new(alloc, points.as_slice(), &told);
+    let lines = run_doubts(alloc, &runs, settings, depth)?;
+    Ok(lines)
+}
+
+/// What is noted besides of a report that is to be strict.
+fn strict_answered(
+    alloc: Global,
+    outside: &Outside,
+    settings: &CampaignSettings,
+    answers: &[u8],
+) -> Result<String, QuestionFault>
+    ensures ok { IfOk result (λ lines. string_bytes lines ≡ answered_doubts true settings.now outside.now answers.now) }
+    ensures fault { IfErr result (IsUnnoted (settings.now, outside.now) answers.now) }
+{
+    match settings.depth {
+        None => strict_by_census(alloc, outside, settings, answers),
+        Some(depth) => strict_by_runs(alloc, outside, settings, depth, answers),
+    }
+}
+
 /// What is noted beside the answer to a question. A fault is one that the answer has.
 pub fn question_notes_on(
     alloc: Global,
@@ -203,7 +292,7 @@ pub fn question_notes_on(
     outside: &Outside,
     settings: &CampaignSettings,
     answers: &[u8],
-) -> Result<String, OutsideFault>
+) -> Result<String, QuestionFault>
     ensures ok { IfOk result (λ lines. string_bytes lines ≡ question_notes question.now settings.now outside.now answers.now) }
     ensures fault { IfErr result (IsUnnoted (settings.now, outside.now) answers.now) }
 {
@@ -220,7 +309,7 @@ pub fn is_question_doubted(question: &Question, notes: &str) -> bool
     ensures { result ≡ is_question_doubted question.now notes.now }
 {
     match question {
-        Question::Asks => false,
+        Question::Asks(_) => false,
         Question::Report { strict, .. } => is_doubted(*strict, notes),
     }
 }

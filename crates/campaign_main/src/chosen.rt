@@ -1,11 +1,12 @@
 //! A command over the target that the settings choose.
 ghost use Rattle.std.specs.Prelude.{◌≡◌, false, IfSome, OnOk};
 ghost use Rattle.campaign_main.specs.Commands.{bundled_answer, campaign_for, campaign_to_cut_in, campaign_with_cut_in, choice_answer, cut_answer};
-ghost use Rattle.campaign_main.specs.Ends.{ComesTo, Noted};
+ghost use Rattle.campaign_core.specs.Writes.{change};
+ghost use Rattle.campaign_main.specs.Ends.{ComesTo};
 ghost use Rattle.campaign_main.specs.Promises.{KeepsPromises};
 
 use crate::command::command;
-use crate::exit::Conclusion;
+use crate::exit::Answered;
 use crate::explaining::explain_to_cut;
 use crate::fault::CommandFault;
 use crate::outside::outside_command;
@@ -23,23 +24,18 @@ use target_trait::{Sink, Target, WithCut};
 use work_gate::Gate;
 
 /// Does what is ordered with a bundled target, each of whose runs ends with the power cut. An explained run tells what the cut's hits stand for.
-fn command_to_cut<T: TellsWrites + Send, W: Sink, E: Sink, H: Threads + Wait + Sync, G: Gate>(
+fn command_to_cut<T: TellsWrites + Send, W: Sink, H: Threads + Wait + Sync, G: Gate>(
     host: &Host<'_, G, H>,
     subject: &Subject<'_, T>,
     order: &Order,
     output: &mut W,
-    faults: &mut E,
-) -> Result<Conclusion, CommandFault>
+) -> Result<Answered, CommandFault>
 where
     T::Workload: Sync,
-    requires output { W.has_failed output.old ≡ false }
-    requires faults { E.has_failed faults.old ≡ false }
+    requires { W.has_failed output.old ≡ false }
     ensures text { let s = subject.now in
         ComesTo (cut_answer (T.calls s.target.now s.workload.now) T.names order.now (campaign_with_cut_in T.Target T.cut s))
-        (W.told output.old) (W.told output.new) (W.has_failed output.new) result }
-    ensures noted { let s = subject.now in
-        Noted (cut_answer (T.calls s.target.now s.workload.now) T.names order.now (campaign_with_cut_in T.Target T.cut s))
-        (E.told faults.old) (E.told faults.new) (E.has_failed faults.new) result }
+        (change W.Sink output.old output.new) result }
     ensures promises { OnOk result (KeepsPromises order.now (campaign_with_cut_in T.Target T.cut subject.now)) }
 {
     let target = WithCut::new(subject.target.twin()?);
@@ -49,56 +45,44 @@ where
         settings: subject.settings,
     };
     match order {
-        Order::Explain(which) => {
-            explain_to_cut(host, &to_cut, subject.target, which, output, faults)
-        }
-        _ => command(host, &to_cut, order, output, faults),
+        Order::Explain(which) => { explain_to_cut(host, &to_cut, subject.target, which, output) }
+        _ => command(host, &to_cut, order, output),
     }
 }
 
 /// Does what is ordered with a bundled target; with crash states each of its runs ends with the power cut.
-fn bundled_command<T: TellsWrites + Send, W: Sink, E: Sink, H: Threads + Wait + Sync, G: Gate>(
+fn bundled_command<T: TellsWrites + Send, W: Sink, H: Threads + Wait + Sync, G: Gate>(
     host: &Host<'_, G, H>,
     subject: &Subject<'_, T>,
     order: &Order,
     output: &mut W,
-    faults: &mut E,
-) -> Result<Conclusion, CommandFault>
+) -> Result<Answered, CommandFault>
 where
     T::Workload: Sync,
-    requires output { W.has_failed output.old ≡ false }
-    requires faults { E.has_failed faults.old ≡ false }
+    requires { W.has_failed output.old ≡ false }
     ensures text { let s = subject.now in
         ComesTo (bundled_answer (T.calls s.target.now s.workload.now) T.names s.settings.now order.now (campaign_to_cut_in T.Target T.cut s))
-        (W.told output.old) (W.told output.new) (W.has_failed output.new) result }
-    ensures noted { let s = subject.now in
-        Noted (bundled_answer (T.calls s.target.now s.workload.now) T.names s.settings.now order.now (campaign_to_cut_in T.Target T.cut s))
-        (E.told faults.old) (E.told faults.new) (E.has_failed faults.new) result }
+        (change W.Sink output.old output.new) result }
     ensures promises { OnOk result (KeepsPromises order.now (campaign_to_cut_in T.Target T.cut subject.now)) }
 {
     let settings = subject.settings;
     if settings.crash_states {
-        command_to_cut(host, subject, order, output, faults)
+        command_to_cut(host, subject, order, output)
     } else {
-        command(host, subject, order, output, faults)
+        command(host, subject, order, output)
     }
 }
 
 /// Does what is ordered with a bundled target and its workload, or with a component from outside.
-pub fn chosen_command<W: Sink, E: Sink, H: Threads + Wait + Sync, G: Gate>(
+pub fn chosen_command<W: Sink, H: Threads + Wait + Sync, G: Gate>(
     host: &Host<'_, G, H>,
     order: &Order,
     choice: &Choice,
     settings: &CampaignSettings,
     output: &mut W,
-    faults: &mut E,
-) -> Result<Conclusion, CommandFault>
-    requires output { W.has_failed output.old ≡ false }
-    requires faults { E.has_failed faults.old ≡ false }
-    ensures text { ComesTo (choice_answer order.now settings.now choice.now) (W.told output.old) (W.told output.new)
-        (W.has_failed output.new) result }
-    ensures noted { Noted (choice_answer order.now settings.now choice.now)
-        (E.told faults.old) (E.told faults.new) (E.has_failed faults.new) result }
+) -> Result<Answered, CommandFault>
+    requires { W.has_failed output.old ≡ false }
+    ensures text { ComesTo (choice_answer order.now settings.now choice.now) (change W.Sink output.old output.new) result }
     ensures promises { OnOk result (IfSome (campaign_for settings.now choice.now) (KeepsPromises order.now)) }
 {
     match choice {
@@ -109,7 +93,7 @@ pub fn chosen_command<W: Sink, E: Sink, H: Threads + Wait + Sync, G: Gate>(
                 workload: work,
                 settings,
             };
-            bundled_command(host, &subject, order, output, faults)
+            bundled_command(host, &subject, order, output)
         }
         Choice::Maildir(variant, work) => {
             let target = &Maildir::new(host.alloc, *variant);
@@ -118,7 +102,7 @@ pub fn chosen_command<W: Sink, E: Sink, H: Threads + Wait + Sync, G: Gate>(
                 workload: work,
                 settings,
             };
-            bundled_command(host, &subject, order, output, faults)
+            bundled_command(host, &subject, order, output)
         }
         Choice::Commit(variant, work) => {
             let target = &Commit::new(host.alloc, *variant);
@@ -127,10 +111,10 @@ pub fn chosen_command<W: Sink, E: Sink, H: Threads + Wait + Sync, G: Gate>(
                 workload: work,
                 settings,
             };
-            bundled_command(host, &subject, order, output, faults)
+            bundled_command(host, &subject, order, output)
         }
         Choice::Outside(outside) => {
-            outside_command(host.alloc, order, outside, settings, output, faults)
-        },
+            outside_command(host.alloc, order, outside, settings, output)
+        }
     }
 }

@@ -1,17 +1,16 @@
 //! The commands over one target.
 ghost use Rattle.std.specs.Prelude.{◌≡◌, ◌≤◌, false, length, option_map, string_bytes, IfErr, IfOk, Ok, OnOk};
-ghost use Rattle.std.specs.Io.KnownBytes.{Appends};
 ghost use Rattle.plan_gen.specs.PlanList.{most_plans};
 ghost use Rattle.campaign_core.specs.CommandTexts.{IsFault, IsReducedToMinimal};
 ghost use Rattle.campaign_core.specs.Headline.{campaign_in, first_failure, plans};
+ghost use Rattle.campaign_core.specs.Writes.{WritesWhole, change};
 ghost use Rattle.campaign_main.specs.Commands.{explain_answer, map_answer, order_answer, page_notes, plans_answer, reduce_answer, report_in, run_answer, taken, taken_answer, try_answer};
-ghost use Rattle.campaign_main.specs.Ends.{ComesTo, IsUntaken, Noted};
+ghost use Rattle.campaign_main.specs.Ends.{ComesTo, IsUntaken};
 ghost use Rattle.campaign_main.specs.Notes.{notes_of};
 ghost use Rattle.campaign_main.specs.Promises.{KeepsPromises, RunKeepsPromises};
 
-use crate::exit::{Conclusion, concluded, is_fail};
+use crate::exit::{Answered, Conclusion, concluded, judged};
 use crate::fault::CommandFault;
-use crate::lines::note;
 use crate::notes::{is_doubted, listed_of, notes_on, report_notes_on};
 use crate::steady::check_steady;
 use campaign_core::{
@@ -46,14 +45,11 @@ fn report_plans<T: Target + Send, W: Sink, H: Threads + Wait + Sync, G: Gate>(
 where
     T::Workload: Sync,
     requires { W.has_failed output.old ≡ false }
-    ensures text { IfOk result (λ _. Appends (W.told output.old) (W.told output.new)
-        (report_in form (campaign_in T.Target subject.now))) }
+    ensures text { OnOk result (WritesWhole (report_in form (campaign_in T.Target subject.now)) (change W.Sink output.old output.new)) }
     ensures first { IfOk result (λ ending. ending.first ≡ option_map (λ f. f.0) (first_failure (campaign_in T.Target subject.now))) }
     ensures promises { OnOk result (RunKeepsPromises (campaign_in T.Target subject.now)) }
     ensures few { OnOk result (length (plans (campaign_in T.Target subject.now)) ≤ most_plans) }
-    ensures sound { OnOk result (W.has_failed output.new ≡ false) }
-    ensures fault { IfErr result (let c = campaign_in T.Target subject.now in IsFault c (report_in form c)
-        (W.told output.old) (W.told output.new) (W.has_failed output.new)) }
+    ensures fault { IfErr result (let c = campaign_in T.Target subject.now in IsFault c (report_in form c) (change W.Sink output.old output.new)) }
 {
     match form {
         Form::Whole => campaign(host, subject, output),
@@ -64,74 +60,61 @@ where
     }
 }
 
-/// Runs a campaign, writes its report in this form and what is noted beside it, and answers what it comes to.
-fn run_plans<T: Target + Send, W: Sink, E: Sink, H: Threads + Wait + Sync, G: Gate>(
+/// Runs a campaign, and writes its report in this form.
+fn run_plans<T: Target + Send, W: Sink, H: Threads + Wait + Sync, G: Gate>(
     host: &Host<'_, G, H>,
     subject: &Subject<'_, T>,
     form: Form,
     strict: bool,
     output: &mut W,
-    faults: &mut E,
-) -> Result<Conclusion, CommandFault>
+) -> Result<Answered, CommandFault>
 where
     T::Workload: Sync,
-    requires output { W.has_failed output.old ≡ false }
-    requires faults { E.has_failed faults.old ≡ false }
-    ensures text { ComesTo (run_answer form strict (campaign_in T.Target subject.now)) (W.told output.old)
-        (W.told output.new) (W.has_failed output.new) result }
-    ensures noted { Noted (run_answer form strict (campaign_in T.Target subject.now))
-        (E.told faults.old) (E.told faults.new) (E.has_failed faults.new) result }
+    requires { W.has_failed output.old ≡ false }
+    ensures text { ComesTo (run_answer form strict (campaign_in T.Target subject.now)) (change W.Sink output.old output.new) result }
     ensures promises { OnOk result (RunKeepsPromises (campaign_in T.Target subject.now)) }
 {
     let notes = report_notes_on(host, subject, strict)?;
     let ending = report_plans(host, subject, form, output)?;
-    note(notes.as_str(), faults);
     let doubted = is_doubted(strict, notes.as_str());
-    Ok(concluded(ending.first.is_some(), doubted))
+    let conclusion = concluded(ending.first.is_some(), doubted);
+    Ok(Answered { conclusion, notes })
 }
 
-/// Runs a campaign, and writes its map and what is noted of the listed scenarios.
-fn map_plans<T: Target + Send, W: Sink, E: Sink, H: Threads + Wait + Sync, G: Gate>(
+/// Runs a campaign, and writes its map. What is noted is of the listed scenarios.
+fn map_plans<T: Target + Send, W: Sink, H: Threads + Wait + Sync, G: Gate>(
     host: &Host<'_, G, H>,
     subject: &Subject<'_, T>,
     output: &mut W,
-    faults: &mut E,
-) -> Result<Conclusion, CommandFault>
+) -> Result<Answered, CommandFault>
 where
     T::Workload: Sync,
-    requires output { W.has_failed output.old ≡ false }
-    requires faults { E.has_failed faults.old ≡ false }
-    ensures text { ComesTo (map_answer (campaign_in T.Target subject.now)) (W.told output.old) (W.told output.new)
-        (W.has_failed output.new) result }
-    ensures noted { Noted (map_answer (campaign_in T.Target subject.now))
-        (E.told faults.old) (E.told faults.new) (E.has_failed faults.new) result }
+    requires { W.has_failed output.old ≡ false }
+    ensures { ComesTo (map_answer (campaign_in T.Target subject.now)) (change W.Sink output.old output.new) result }
 {
     let notes = listed_of::<T>(host.alloc, subject.settings)?;
     let ending = map_campaign(host, subject, output)?;
-    note(notes.as_str(), faults);
-    Ok(concluded(ending.first.is_some(), false))
+    let conclusion = concluded(ending.first.is_some(), false);
+    Ok(Answered { conclusion, notes })
 }
 
-/// Writes the list of a campaign's plans, and what is noted of the listed scenarios.
-fn list_plans<T: Target + Send, W: Sink, E: Sink, H: Threads + Wait + Sync, G: Gate>(
+/// Writes the list of a campaign's plans. What is noted is of the listed scenarios.
+fn list_plans<T: Target + Send, W: Sink, H: Threads + Wait + Sync, G: Gate>(
     host: &Host<'_, G, H>,
     subject: &Subject<'_, T>,
     output: &mut W,
-    faults: &mut E,
-) -> Result<Conclusion, CommandFault>
+) -> Result<Answered, CommandFault>
 where
     T::Workload: Sync,
-    requires output { W.has_failed output.old ≡ false }
-    requires faults { E.has_failed faults.old ≡ false }
-    ensures text { ComesTo (plans_answer (campaign_in T.Target subject.now)) (W.told output.old) (W.told output.new)
-        (W.has_failed output.new) result }
-    ensures noted { Noted (plans_answer (campaign_in T.Target subject.now))
-        (E.told faults.old) (E.told faults.new) (E.has_failed faults.new) result }
+    requires { W.has_failed output.old ≡ false }
+    ensures { ComesTo (plans_answer (campaign_in T.Target subject.now)) (change W.Sink output.old output.new) result }
 {
     let notes = listed_of::<T>(host.alloc, subject.settings)?;
     plan_list(host, subject, output)?;
-    note(notes.as_str(), faults);
-    Ok(Conclusion::Clean)
+    Ok(Answered {
+        conclusion: Conclusion::Clean,
+        notes,
+    })
 }
 
 /// The stream number and the scenario that a command takes. Nothing is written.
@@ -175,113 +158,75 @@ where
 }
 
 /// Tries the scenario that the command takes.
-fn try_which<T: Target + Send, W: Sink, E: Sink, H: Threads + Wait + Sync, G: Gate>(
+fn try_which<T: Target + Send, W: Sink, H: Threads + Wait + Sync, G: Gate>(
     host: &Host<'_, G, H>,
     subject: &Subject<'_, T>,
     which: &Which,
     output: &mut W,
-    faults: &mut E,
-) -> Result<Conclusion, CommandFault>
+) -> Result<Answered, CommandFault>
 where
     T::Workload: Sync,
-    requires output { W.has_failed output.old ≡ false }
-    requires faults { E.has_failed faults.old ≡ false }
-    ensures text { let c = campaign_in T.Target subject.now in
-        ComesTo (taken_answer (try_answer c) (taken c which.now)) (W.told output.old) (W.told output.new) (W.has_failed output.new) result }
-    ensures noted { let c = campaign_in T.Target subject.now in
-        Noted (taken_answer (try_answer c) (taken c which.now)) (E.told faults.old) (E.told faults.new) (E.has_failed faults.new) result }
+    requires { W.has_failed output.old ≡ false }
+    ensures { let c = campaign_in T.Target subject.now in
+        ComesTo (taken_answer (try_answer c) (taken c which.now)) (change W.Sink output.old output.new) result }
 {
     let (stream, scenario, notes) = take_noted(host, subject, which)?;
-    let mut twin = subject.target.twin()?;
-    let verdict = try_one(
-        host.alloc,
-        &mut twin,
-        subject.workload,
-        subject.settings,
-        stream,
-        &scenario,
-        output,
-    )?;
-    note(notes.as_str(), faults);
-    Ok(concluded(is_fail(verdict), false))
+    let verdict = try_one(host.alloc, subject, stream, &scenario, output)?;
+    Ok(judged(verdict, notes))
 }
 
 /// Tells the run of the scenario that the command takes.
-fn explain_which<T: Target + Send, W: Sink, E: Sink, H: Threads + Wait + Sync, G: Gate>(
+fn explain_which<T: Target + Send, W: Sink, H: Threads + Wait + Sync, G: Gate>(
     host: &Host<'_, G, H>,
     subject: &Subject<'_, T>,
     which: &Which,
     output: &mut W,
-    faults: &mut E,
-) -> Result<Conclusion, CommandFault>
+) -> Result<Answered, CommandFault>
 where
     T::Workload: Sync,
-    requires output { W.has_failed output.old ≡ false }
-    requires faults { E.has_failed faults.old ≡ false }
-    ensures text { let c = campaign_in T.Target subject.now in
-        ComesTo (taken_answer (explain_answer c) (taken c which.now)) (W.told output.old) (W.told output.new) (W.has_failed output.new) result }
-    ensures noted { let c = campaign_in T.Target subject.now in
-        Noted (taken_answer (explain_answer c) (taken c which.now)) (E.told faults.old) (E.told faults.new) (E.has_failed faults.new) result }
+    requires { W.has_failed output.old ≡ false }
+    ensures { let c = campaign_in T.Target subject.now in
+        ComesTo (taken_answer (explain_answer c) (taken c which.now)) (change W.Sink output.old output.new) result }
 {
     let (stream, scenario, notes) = take_noted(host, subject, which)?;
-    let mut twin = subject.target.twin()?;
-    let verdict = explain_one(
-        host.alloc,
-        &mut twin,
-        subject.workload,
-        subject.settings,
-        stream,
-        &scenario,
-        output,
-    )?;
-    note(notes.as_str(), faults);
-    Ok(concluded(is_fail(verdict), false))
+    let verdict = explain_one(host.alloc, subject, stream, &scenario, output)?;
+    Ok(judged(verdict, notes))
 }
 
 /// Reduces the scenario that the command takes.
-fn reduce_which<T: Target + Send, W: Sink, E: Sink, H: Threads + Wait + Sync, G: Gate>(
+fn reduce_which<T: Target + Send, W: Sink, H: Threads + Wait + Sync, G: Gate>(
     host: &Host<'_, G, H>,
     subject: &Subject<'_, T>,
     which: &Which,
     output: &mut W,
-    faults: &mut E,
-) -> Result<Conclusion, CommandFault>
+) -> Result<Answered, CommandFault>
 where
     T::Workload: Sync,
-    requires output { W.has_failed output.old ≡ false }
-    requires faults { E.has_failed faults.old ≡ false }
+    requires { W.has_failed output.old ≡ false }
     ensures text { let c = campaign_in T.Target subject.now in
-        ComesTo (taken_answer (reduce_answer c) (taken c which.now)) (W.told output.old) (W.told output.new) (W.has_failed output.new) result }
-    ensures noted { let c = campaign_in T.Target subject.now in
-        Noted (taken_answer (reduce_answer c) (taken c which.now)) (E.told faults.old) (E.told faults.new) (E.has_failed faults.new) result }
+        ComesTo (taken_answer (reduce_answer c) (taken c which.now)) (change W.Sink output.old output.new) result }
     ensures minimal { let c = campaign_in T.Target subject.now in
         OnOk result (IfOk (taken c which.now) (λ t. IsReducedToMinimal c t.0 t.1)) }
 {
     let (stream, scenario, notes) = take_noted(host, subject, which)?;
     let verdict = reduce_one(host, subject, stream, &scenario, output)?;
-    note(notes.as_str(), faults);
-    Ok(concluded(is_fail(verdict), false))
+    Ok(judged(verdict, notes))
 }
 
-/// Does what is ordered with this target, writes the command's text, and after it to the sink of faults what is noted beside it.
+/// Does what is ordered with this target, and writes the command's text.
 ///
-/// It answers what the text comes to, where the whole text was written. Else nothing was written, or the fault tells
-/// how many bytes of the text, fewer than all, went out. Only then the output has failed.
-pub fn command<T: Target + Send, W: Sink, E: Sink, H: Threads + Wait + Sync, G: Gate>(
+/// It answers what the text comes to and what is noted beside it, where the whole text was written. Else nothing was written, or the fault
+/// tells how many bytes of the text, fewer than all, went out. Only then the output has failed.
+pub fn command<T: Target + Send, W: Sink, H: Threads + Wait + Sync, G: Gate>(
     host: &Host<'_, G, H>,
     subject: &Subject<'_, T>,
     order: &Order,
     output: &mut W,
-    faults: &mut E,
-) -> Result<Conclusion, CommandFault>
+) -> Result<Answered, CommandFault>
 where
     T::Workload: Sync,
-    requires output { W.has_failed output.old ≡ false }
-    requires faults { E.has_failed faults.old ≡ false }
-    ensures text { ComesTo (order_answer order.now (campaign_in T.Target subject.now)) (W.told output.old)
-        (W.told output.new) (W.has_failed output.new) result }
-    ensures noted { Noted (order_answer order.now (campaign_in T.Target subject.now))
-        (E.told faults.old) (E.told faults.new) (E.has_failed faults.new) result }
+    requires { W.has_failed output.old ≡ false }
+    ensures text { ComesTo (order_answer order.now (campaign_in T.Target subject.now)) (change W.Sink output.old output.new) result }
     ensures promises { OnOk result (KeepsPromises order.now (campaign_in T.Target subject.now)) }
 {
     match order {
@@ -293,12 +238,12 @@ where
             if *recheck {
                 check_steady(host, subject)?;
             }
-            run_plans(host, subject, *form, *strict, output, faults)
+            run_plans(host, subject, *form, *strict, output)
         }
-        Order::Map => map_plans(host, subject, output, faults),
-        Order::Plans => list_plans(host, subject, output, faults),
-        Order::Try(which) => try_which(host, subject, which, output, faults),
-        Order::Reduce(which) => reduce_which(host, subject, which, output, faults),
-        Order::Explain(which) => explain_which(host, subject, which, output, faults),
+        Order::Map => map_plans(host, subject, output),
+        Order::Plans => list_plans(host, subject, output),
+        Order::Try(which) => try_which(host, subject, which, output),
+        Order::Reduce(which) => reduce_which(host, subject, which, output),
+        Order::Explain(which) => explain_which(host, subject, which, output),
     }
 }

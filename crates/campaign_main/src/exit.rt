@@ -1,6 +1,7 @@
 //! How a command ended.
 ghost use Rattle.std.specs.Prelude.{◌≡◌};
 ghost use Rattle.target_trait.specs.Verdicts.{is_fail};
+ghost use Rattle.campaign_main.specs.Commands.{of_verdict};
 ghost use Rattle.campaign_main.specs.Exit.{status_of, concluded, exit_of};
 
 use target_trait::Verdict;
@@ -31,6 +32,15 @@ pub enum Conclusion {
     Failed,
     /// No verdict in it is fail, and what was told beside it makes that say less.
     Doubtful,
+}
+
+/// What a command answers whose text was written whole.
+#[derive(Debug, Drop)]
+pub struct Answered {
+    /// What its text comes to.
+    pub conclusion: Conclusion,
+    /// What is noted beside it: lines, or nothing.
+    pub notes: String,
 }
 
 /// The exit status of the program: 0 for Kept, 1 for Found, 2 for Refused, 3 for Memory, 4 for a failed write, 5 for Doubted.
@@ -70,11 +80,22 @@ pub(crate) fn exit_of(conclusion: Conclusion) -> Exit
 }
 
 /// Whether a verdict is fail.
-pub(crate) fn is_fail(verdict: Verdict) -> bool
+fn is_fail(verdict: Verdict) -> bool
     ensures { result ≡ is_fail verdict }
 {
     match verdict {
         Verdict::Fail(_) => true,
         Verdict::Pass | Verdict::Unresolved => false,
+    }
+}
+
+/// What a command answers whose text tells one verdict.
+pub(crate) fn judged(verdict: Verdict, notes: String) -> Answered
+    ensures conclusion { result.conclusion ≡ of_verdict verdict }
+    ensures notes { result.notes ≡ notes }
+{
+    Answered {
+        conclusion: concluded(is_fail(verdict), false),
+        notes,
     }
 }

@@ -1,23 +1,20 @@
 //! A run with its power cut, told hit by hit and by what the cut's hits stand for.
-ghost use Rattle.std.specs.Prelude.{◌≡◌, ◌++◌, ◌==◌, count_by, false, length, map, string_bytes, take, IfErr, IfOk, OnOk};
-ghost use Rattle.std.specs.Io.KnownBytes.{Appends};
+ghost use Rattle.std.specs.Prelude.{◌≡◌, ◌++◌, ◌==◌, count_by, false, length, map, string_bytes, take, IfOk, OnOk};
 ghost use Rattle.action_eval.specs.Answers.{given_of};
 ghost use Rattle.target_trait.specs.Cuts.{asks_with, with_keep};
 ghost use Rattle.target_trait.specs.Outcomes.{outcome};
 ghost use Rattle.report.specs.ReportText.{ended, text_of};
 ghost use Rattle.run_explained.specs.Explained.{explain_text};
-ghost use Rattle.campaign_core.specs.CommandTexts.{LeavesOnly};
+ghost use Rattle.campaign_core.specs.Writes.{change};
 ghost use Rattle.campaign_main.specs.Commands.{campaign_with_cut_in, cut_explain_answer, keep_line, keep_lines, keeps_asked, taken, taken_answer};
-ghost use Rattle.campaign_main.specs.Ends.{ComesTo, Noted};
+ghost use Rattle.campaign_main.specs.Ends.{ComesTo};
 
 use crate::command::take_noted;
-use crate::exit::{Conclusion, concluded, is_fail};
+use crate::exit::{Answered, judged};
 use crate::fault::CommandFault;
-use crate::lines::note;
 use crate::pending::TellsWrites;
-use campaign_core::{CampaignFault, Host, Subject};
+use campaign_core::{Host, Subject, write_judged};
 use command_words::Which;
-use report::write_report;
 use run_explained::{Explained, explain};
 use std::alloc::{AllocError, Global};
 use std::fmt::Write;
@@ -75,38 +72,22 @@ fn told_to_cut<T: TellsWrites>(
     Ok(Explained { verdict, text })
 }
 
-/// Writes the whole text. A failed write is the only fault.
-fn write_whole<W: Sink>(text: &str, sink: &mut W) -> Result<(), CampaignFault>
-    requires { W.has_failed sink.old ≡ false }
-    ensures text { OnOk result (Appends (W.told sink.old) (W.told sink.new) text.now) }
-    ensures sound { OnOk result (W.has_failed sink.new ≡ false) }
-    ensures fault { IfErr result (LeavesOnly (W.told sink.old) (W.told sink.new) (W.has_failed sink.new) text.now) }
-{
-    write_report(text.as_bytes(), sink)?;
-    Ok(())
-}
-
 /// Tells the run of the scenario that the command takes, with its power cut, and what the cut's hits stand for, as the target tells it.
 ///
 /// Nothing is written before the text stands whole. A failed write tells how many bytes of the text, fewer than all, went out.
-pub fn explain_to_cut<T: TellsWrites + Send, W: Sink, E: Sink, H: Threads + Wait + Sync, G: Gate>(
+pub fn explain_to_cut<T: TellsWrites + Send, W: Sink, H: Threads + Wait + Sync, G: Gate>(
     host: &Host<'_, G, H>,
     subject: &Subject<'_, WithCut<T>>,
     target: &T,
     which: &Which,
     output: &mut W,
-    faults: &mut E,
-) -> Result<Conclusion, CommandFault>
+) -> Result<Answered, CommandFault>
 where
     T::Workload: Sync,
-    requires output { W.has_failed output.old ≡ false }
-    requires faults { E.has_failed faults.old ≡ false }
-    ensures text { let c = campaign_with_cut_in T.Target T.cut subject.now in
+    requires { W.has_failed output.old ≡ false }
+    ensures { let c = campaign_with_cut_in T.Target T.cut subject.now in
         ComesTo (taken_answer (cut_explain_answer (T.calls target.now subject.now.workload.now) T.names c) (taken c which.now))
-        (W.told output.old) (W.told output.new) (W.has_failed output.new) result }
-    ensures noted { let c = campaign_with_cut_in T.Target T.cut subject.now in
-        Noted (taken_answer (cut_explain_answer (T.calls target.now subject.now.workload.now) T.names c) (taken c which.now))
-        (E.told faults.old) (E.told faults.new) (E.has_failed faults.new) result }
+        (change W.Sink output.old output.new) result }
 {
     let (stream, scenario, notes) = take_noted(host, subject, which)?;
     let mut with_cut = subject.target.twin()?;
@@ -119,7 +100,6 @@ where
         subject.workload,
         &case,
     )?;
-    write_whole(told.text.as_str(), output)?;
-    note(notes.as_str(), faults);
-    Ok(concluded(is_fail(told.verdict), false))
+    let verdict = write_judged(told.verdict, told.text.as_str(), output)?;
+    Ok(judged(verdict, notes))
 }

@@ -20,6 +20,8 @@ pub enum CommandFault {
     Unsteady(String),
     /// Somebody else runs the component, and the command would run it. Nothing was written.
     Outside,
+    /// Somebody else runs the component, and its plans grow from what answers tell. Nothing was written.
+    OutsideWithDepth,
 }
 
 impl From<ScenarioFault> for CommandFault {

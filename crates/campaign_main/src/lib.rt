@@ -17,6 +17,7 @@ mod pending;
 mod performing;
 mod questions;
 mod refusals;
+mod run_notes;
 mod steady;
 mod telling;
 

@@ -1,15 +1,18 @@
-//! The ends of a command that failed, and the line that says why. A line that can't be written changes no end.
+//! The ends of a command: what is noted beside its text, or the line that says why there is none. A line that can't be written changes no end.
 ghost use Rattle.std.specs.Prelude.{◌≡◌, ℕ, List, false, IfOk, string_bytes};
 ghost use Rattle.campaign_settings.specs.declared.fault.SettingsFault.TheVariants as settings;
-ghost use Rattle.campaign_main.specs.Commands.{bad_answers, bundled_target, no_plan, not_answered};
-ghost use Rattle.campaign_main.specs.Ends.{IsEndOf, IsNoted, IsTold, RefusesWith};
+ghost use Rattle.campaign_main.specs.Commands.{bad_answers, broken_run, bundled_target, no_plan, not_answered, unseen_hits};
+ghost use Rattle.campaign_core.specs.Writes.{change};
+ghost use Rattle.campaign_main.specs.Ends.{IsEndOf, IsEndOfCommand, IsNoted, IsTold, RefusesWith};
 ghost use Rattle.campaign_main.specs.FaultLines.{answers_read_line, cut_off_line, memory_line, read_fault_line, refusal_line, scenario_line, settings_line};
 ghost use Rattle.campaign_main.specs.Questions.{IsEndOfQuestion};
 
-use crate::exit::Exit;
+use crate::exit::{Answered, Exit, exit_of};
 use crate::fault::CommandFault;
 use crate::input::ReadFault;
 use answer_text::AnswersFault;
+use answered_campaigns::QuestionFault;
+use answered_runs::BrokenRun;
 use campaign_core::CampaignFault;
 use campaign_settings::SettingsFault;
 use itoa::Buffer;
@@ -23,7 +26,7 @@ use target_trait::Sink;
 /// Writes a line, or as much of it as the sink takes.
 fn tell<E: Sink>(line: &[u8], faults: &mut E)
     requires { E.has_failed faults.old ≡ false }
-    ensures { IsTold line.now (E.told faults.old) (E.told faults.new) (E.has_failed faults.new) }
+    ensures { IsTold line.now (change E.Sink faults.old faults.new) }
 {
     let _ = write_report(line, faults);
 }
@@ -31,7 +34,7 @@ fn tell<E: Sink>(line: &[u8], faults: &mut E)
 /// Writes what is noted beside a text, or as much of it as the sink takes, and nothing where nothing is noted.
 pub fn note<E: Sink>(lines: &str, faults: &mut E)
     requires { E.has_failed faults.old ≡ false }
-    ensures { IsNoted lines.now (E.told faults.old) (E.told faults.new) (E.has_failed faults.new) }
+    ensures { IsNoted lines.now (change E.Sink faults.old faults.new) }
 {
     if !lines.is_empty() {
         tell(lines.as_bytes(), faults);
@@ -42,7 +45,7 @@ pub fn note<E: Sink>(lines: &str, faults: &mut E)
 pub fn refused<E: Sink>(lines: &str, faults: &mut E) -> Exit
     requires { E.has_failed faults.old ≡ false }
     ensures end { result ≡ Exit.Refused }
-    ensures told { IsTold lines.now (E.told faults.old) (E.told faults.new) (E.has_failed faults.new) }
+    ensures told { IsTold lines.now (change E.Sink faults.old faults.new) }
 {
     tell(lines.as_bytes(), faults);
     Exit::Refused
@@ -52,7 +55,7 @@ pub fn refused<E: Sink>(lines: &str, faults: &mut E) -> Exit
 pub fn no_memory<E: Sink>(faults: &mut E) -> Exit
     requires { E.has_failed faults.old ≡ false }
     ensures end { result ≡ Exit.Memory }
-    ensures told { IsTold memory_line (E.told faults.old) (E.told faults.new) (E.has_failed faults.new) }
+    ensures told { IsTold memory_line (change E.Sink faults.old faults.new) }
 {
     tell(b"no memory\n", faults);
     Exit::Memory
@@ -69,7 +72,7 @@ pub fn unlawful<E: Sink>(alloc: Global, law: BrokenLaw, faults: &mut E) -> Exit
 pub fn refused_by<E: Sink>(line: Result<String, AllocError>, faults: &mut E) -> Exit
     requires { E.has_failed faults.old ≡ false }
     ensures { (text : List ℕ) → IfOk line (λ l. string_bytes l ≡ text)
-        → RefusesWith text result (E.told faults.old) (E.told faults.new) (E.has_failed faults.new) }
+        → RefusesWith text result (change E.Sink faults.old faults.new) }
 {
     match line {
         Ok(line) => refused(line.as_str(), faults),
@@ -78,9 +81,9 @@ pub fn refused_by<E: Sink>(line: Result<String, AllocError>, faults: &mut E) -> 
 }
 
 /// Ends where the settings couldn't be read.
-pub fn unread<E: Sink>(fault: ReadFault, faults: &mut E) -> Exit
+pub fn end_unreadable_settings<E: Sink>(fault: ReadFault, faults: &mut E) -> Exit
     requires { E.has_failed faults.old ≡ false }
-    ensures end { RefusesWith (read_fault_line fault) result (E.told faults.old) (E.told faults.new) (E.has_failed faults.new) }
+    ensures end { RefusesWith (read_fault_line fault) result (change E.Sink faults.old faults.new) }
     ensures memory { fault ≡ ReadFault.Memory → result ≡ Exit.Memory }
 {
     match fault {
@@ -99,9 +102,9 @@ fn settings_line(alloc: Global, fault: &SettingsFault) -> Result<String, AllocEr
 }
 
 /// Ends where a text gives no settings.
-pub fn unset<E: Sink>(alloc: Global, fault: &SettingsFault, faults: &mut E) -> Exit
+pub fn end_bad_settings<E: Sink>(alloc: Global, fault: &SettingsFault, faults: &mut E) -> Exit
     requires { E.has_failed faults.old ≡ false }
-    ensures end { RefusesWith (settings_line fault.now) result (E.told faults.old) (E.told faults.new) (E.has_failed faults.new) }
+    ensures end { RefusesWith (settings_line fault.now) result (change E.Sink faults.old faults.new) }
     ensures memory { fault.now ≡ settings.Memory → result ≡ Exit.Memory }
 {
     if let SettingsFault::Memory = fault {
@@ -118,9 +121,9 @@ fn scenario_line(alloc: Global, fault: &ScenarioFault) -> Result<String, AllocEr
 }
 
 /// Ends where a text spells no scenario.
-fn unspelled<E: Sink>(alloc: Global, fault: &ScenarioFault, faults: &mut E) -> Exit
+fn end_bad_scenario<E: Sink>(alloc: Global, fault: &ScenarioFault, faults: &mut E) -> Exit
     requires { E.has_failed faults.old ≡ false }
-    ensures { IsEndOf (CommandFault.Scenario fault.now) result (E.told faults.old) (E.told faults.new) (E.has_failed faults.new) }
+    ensures { IsEndOf (CommandFault.Scenario fault.now) result (change E.Sink faults.old faults.new) }
 {
     if let ScenarioFault::Memory = fault {
         return no_memory(faults);
@@ -135,10 +138,10 @@ fn plan_line(alloc: Global, number: u16) -> Result<String, AllocError>
     format!(in alloc; "plan: out of range {number}\n")
 }
 
-/// Writes the line for a write that failed after so many bytes, or as much of it as the sink takes. It takes no memory.
+/// Writes the line that says how many bytes were written before a write failed, or as much of it as the sink takes. It takes no memory.
 fn write_cut_off<E: Sink>(written: u64, faults: &mut E) -> Result<(), WriteFault>
     requires { E.has_failed faults.old ≡ false }
-    ensures { IsTold (cut_off_line written) (E.told faults.old) (E.told faults.new) (E.has_failed faults.new) }
+    ensures { IsTold (cut_off_line written) (change E.Sink faults.old faults.new) }
 {
     let mut digits = Buffer::new();
     write_report(b"write failed after ", faults)?;
@@ -146,20 +149,20 @@ fn write_cut_off<E: Sink>(written: u64, faults: &mut E) -> Result<(), WriteFault
     write_report(b" bytes\n", faults)
 }
 
-/// Ends where a write failed after so many bytes.
+/// Ends where a write failed once this many bytes were written.
 pub fn cut_off<E: Sink>(written: u64, faults: &mut E) -> Exit
     requires { E.has_failed faults.old ≡ false }
     ensures end { result ≡ Exit.Write written }
-    ensures told { IsTold (cut_off_line written) (E.told faults.old) (E.told faults.new) (E.has_failed faults.new) }
+    ensures told { IsTold (cut_off_line written) (change E.Sink faults.old faults.new) }
 {
     let _ = write_cut_off(written, faults);
     Exit::Write(written)
 }
 
 /// Ends where what was done with a target came to no whole text.
-fn unwritten<E: Sink>(fault: CampaignFault, faults: &mut E) -> Exit
+fn end_unwritten<E: Sink>(fault: CampaignFault, faults: &mut E) -> Exit
     requires { E.has_failed faults.old ≡ false }
-    ensures { IsEndOf (CommandFault.Campaign fault) result (E.told faults.old) (E.told faults.new) (E.has_failed faults.new) }
+    ensures { IsEndOf (CommandFault.Campaign fault) result (change E.Sink faults.old faults.new) }
 {
     match fault {
         CampaignFault::TooManyPlans => refused("too many plans\n", faults),
@@ -169,27 +172,49 @@ fn unwritten<E: Sink>(fault: CampaignFault, faults: &mut E) -> Exit
 }
 
 /// Ends where a command wrote no whole text.
-pub fn unanswered<E: Sink>(alloc: Global, fault: &CommandFault, faults: &mut E) -> Exit
+fn end_command<E: Sink>(alloc: Global, fault: &CommandFault, faults: &mut E) -> Exit
     requires { E.has_failed faults.old ≡ false }
-    ensures { IsEndOf fault.now result (E.told faults.old) (E.told faults.new) (E.has_failed faults.new) }
+    ensures { IsEndOf fault.now result (change E.Sink faults.old faults.new) }
 {
     match fault {
-        CommandFault::Scenario(cause) => unspelled(alloc, cause, faults),
+        CommandFault::Scenario(cause) => end_bad_scenario(alloc, cause, faults),
         CommandFault::Plan(number) => refused_by(plan_line(alloc, *number), faults),
-        CommandFault::Campaign(cause) => unwritten(*cause, faults),
+        CommandFault::Campaign(cause) => end_unwritten(*cause, faults),
         CommandFault::Unsteady(line) => refused(line.as_str(), faults),
         CommandFault::Outside => refused(
             "settings: target outside: only plans, asks and report\n",
             faults,
         ),
+        CommandFault::OutsideWithDepth => refused(
+            "settings: target outside with a depth: only asks and report\n",
+            faults,
+        ),
+    }
+}
+
+/// Ends a command by what it came to: tells what is noted beside its text, or why it wrote no whole text.
+pub fn end_outcome<E: Sink>(
+    alloc: Global,
+    outcome: Result<Answered, CommandFault>,
+    faults: &mut E,
+) -> Exit
+    requires { E.has_failed faults.old ≡ false }
+    ensures { IsEndOfCommand outcome result (change E.Sink faults.old faults.new) }
+{
+    match outcome {
+        Ok(answered) => {
+            note(answered.notes.as_str(), faults);
+            exit_of(answered.conclusion)
+        }
+        Err(fault) => end_command(alloc, &fault, faults),
     }
 }
 
 /// Ends where a question is about a bundled target.
-pub fn bundled<E: Sink>(faults: &mut E) -> Exit
+pub fn refuse_bundled<E: Sink>(faults: &mut E) -> Exit
     requires { E.has_failed faults.old ≡ false }
     ensures end { result ≡ Exit.Refused }
-    ensures told { IsTold (refusal_line bundled_target) (E.told faults.old) (E.told faults.new) (E.has_failed faults.new) }
+    ensures told { IsTold (refusal_line bundled_target) (change E.Sink faults.old faults.new) }
 {
     refused(
         "settings: target not outside: only run, plans, map, try, reduce and explain\n",
@@ -198,9 +223,9 @@ pub fn bundled<E: Sink>(faults: &mut E) -> Exit
 }
 
 /// Ends where the answers couldn't be read.
-pub fn unread_answers<E: Sink>(fault: ReadFault, faults: &mut E) -> Exit
+pub fn end_unreadable_answers<E: Sink>(fault: ReadFault, faults: &mut E) -> Exit
     requires { E.has_failed faults.old ≡ false }
-    ensures end { RefusesWith (answers_read_line fault) result (E.told faults.old) (E.told faults.new) (E.has_failed faults.new) }
+    ensures end { RefusesWith (answers_read_line fault) result (change E.Sink faults.old faults.new) }
     ensures memory { fault ≡ ReadFault.Memory → result ≡ Exit.Memory }
 {
     match fault {
@@ -228,14 +253,34 @@ fn waiting_line(alloc: Global, scenario: &Scenario) -> Result<String, AllocError
     Ok(line)
 }
 
+/// The line for a run that breaks with that of the plan which its own grew from.
+fn broken_line(alloc: Global, broken: &BrokenRun) -> Result<String, AllocError>
+    ensures { IfOk result (λ line. string_bytes line ≡ refusal_line (broken_run broken.now)) }
+{
+    format!(in alloc; "{broken}\n")
+}
+
+/// The line for an answer without the hits that plans grow from.
+fn unseen_line(alloc: Global, line: u32) -> Result<String, AllocError>
+    ensures { IfOk result (λ text. string_bytes text ≡ refusal_line (unseen_hits line)) }
+{
+    format!(in alloc; "answers: line {line}: hits unknown\n")
+}
+
 /// Ends where a question came to no whole text.
-pub fn untold<E: Sink>(alloc: Global, fault: &OutsideFault, faults: &mut E) -> Exit
+pub fn end_question<E: Sink>(alloc: Global, fault: &QuestionFault, faults: &mut E) -> Exit
     requires { E.has_failed faults.old ≡ false }
-    ensures { IsEndOfQuestion fault.now result (E.told faults.old) (E.told faults.new) (E.has_failed faults.new) }
+    ensures { IsEndOfQuestion fault.now result (change E.Sink faults.old faults.new) }
 {
     match fault {
-        OutsideFault::Answers(cause) => refused_by(answers_line(alloc, cause), faults),
-        OutsideFault::NotAnswered(scenario) => refused_by(waiting_line(alloc, scenario), faults),
-        OutsideFault::Campaign(cause) => unwritten(*cause, faults),
+        QuestionFault::Outside(OutsideFault::Answers(cause)) => {
+            refused_by(answers_line(alloc, cause), faults)
+        }
+        QuestionFault::Outside(OutsideFault::NotAnswered(scenario)) => {
+            refused_by(waiting_line(alloc, scenario), faults)
+        }
+        QuestionFault::Outside(OutsideFault::Campaign(cause)) => end_unwritten(*cause, faults),
+        QuestionFault::Broken(broken) => refused_by(broken_line(alloc, broken), faults),
+        QuestionFault::Unseen(line) => refused_by(unseen_line(alloc, *line), faults),
     }
 }

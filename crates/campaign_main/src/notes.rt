@@ -221,7 +221,8 @@ fn write_unreached(out: &mut String, points: &[&str], point: u32) -> Result<(), 
     write_unreached_name(out, point_name(points, point))
 }
 
-fn write_all_unreached(
+/// A line for each point of these numbers, which no run reaches.
+pub fn write_all_unreached(
     out: &mut String,
     points: &[&str],
     unreached: &[u32],

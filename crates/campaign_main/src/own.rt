@@ -3,15 +3,18 @@ ghost use Rattle.std.specs.Prelude.{◌≡◌, ℕ, List, None, false, IfErr, If
 ghost use Rattle.campaign_core.specs.Headline.{campaign_on};
 ghost use Rattle.campaign_settings.specs.declared.own.OwnSettings.{OwnSettings};
 ghost use Rattle.campaign_main.specs.Commands.{Answer, order_answer};
-ghost use Rattle.campaign_main.specs.Ends.{EndsAs, IsRefused, IsTold, Leaves, OnWhole, RefusesWith, Tells, TellsAs, TellsNotes, TellsRefusal};
+ghost use Rattle.campaign_core.specs.Writes.{change};
+ghost use Rattle.campaign_main.specs.Ends.{EndsAs, EndsBy, IsTold, Leaves, NotesBy, OnWhole, RefusesBy, RefusesWith, Tells, TellsAs, TellsRefusal};
 ghost use Rattle.campaign_main.specs.FaultLines.{memory_line};
 ghost use Rattle.campaign_main.specs.Promises.{KeepsPromises};
-ghost use Rattle.campaign_main.specs.OwnTarget.{OwnKeepsPromises, own_answer, own_text_answer, own_words_line, worded_answer, worded_text_answer};
+ghost use Rattle.campaign_main.specs.OwnTarget.{OwnKeepsPromises, own_text_answer, own_words_line, target_answer, worded_answer, worded_text_answer};
 
 use crate::command::command;
-use crate::exit::{Exit, exit_of};
+use crate::exit::Exit;
 use crate::input::read_all;
-use crate::lines::{no_memory, refused_by, unanswered, unlawful, unread, unset};
+use crate::lines::{
+    end_bad_settings, end_outcome, end_unreadable_settings, no_memory, refused_by, unlawful,
+};
 use campaign_core::{Host, Subject};
 use campaign_given::CampaignSettings;
 use campaign_settings::{OwnSettings, Settings};
@@ -32,7 +35,7 @@ pub fn broken_off<T: Target, E: Sink>(
     faults: &mut E,
 ) -> Option<Exit>
     requires { E.has_failed faults.old ≡ false }
-    ensures end { IfSome result (λ end. (end ≡ Exit.Memory) × IsTold memory_line (E.told faults.old) (E.told faults.new) (E.has_failed faults.new)) }
+    ensures end { IfSome result (λ end. (end ≡ Exit.Memory) × IsTold memory_line (change E.Sink faults.old faults.new)) }
     ensures untold { result ≡ None → faults.new ≡ faults.old }
 {
     let Subject {
@@ -64,10 +67,9 @@ where
     T::Workload: Sync,
     requires output { W.has_failed output.old ≡ false }
     requires faults { E.has_failed faults.old ≡ false }
-    ensures end { EndsAs result (order_answer order.now (campaign_on T.Target target.old workload.now settings.now)) (W.told output.old)
-        (W.told output.new) (W.has_failed output.new) }
+    ensures end { EndsAs result (order_answer order.now (campaign_on T.Target target.old workload.now settings.now)) (change W.Sink output.old output.new) }
     ensures told { TellsAs result (order_answer order.now (campaign_on T.Target target.old workload.now settings.now))
-        (E.told faults.old) (E.told faults.new) (E.has_failed faults.new) }
+        (change E.Sink faults.old faults.new) }
     ensures promises { OnWhole result (KeepsPromises order.now (campaign_on T.Target target.old workload.now settings.now)) }
 {
     let subject = Subject {
@@ -78,10 +80,8 @@ where
     if let Some(exit) = broken_off(host.alloc, &subject, faults) {
         return exit;
     }
-    match command(host, &subject, order, output, faults) {
-        Ok(conclusion) => exit_of(conclusion),
-        Err(fault) => unanswered(host.alloc, &fault, faults),
-    }
+    let outcome = command(host, &subject, order, output);
+    end_outcome(host.alloc, outcome, faults)
 }
 
 /// Does what is ordered with this target, by the settings that a text gives.
@@ -98,15 +98,14 @@ where
     T::Workload: Sync,
     requires output { W.has_failed output.old ≡ false }
     requires faults { E.has_failed faults.old ≡ false }
-    ensures end { EndsAs result (own_text_answer order.now (campaign_on T.Target target.old workload.now) text.now) (W.told output.old)
-        (W.told output.new) (W.has_failed output.new) }
+    ensures end { EndsAs result (own_text_answer order.now (campaign_on T.Target target.old workload.now) text.now) (change W.Sink output.old output.new) }
     ensures told { TellsAs result (own_text_answer order.now (campaign_on T.Target target.old workload.now) text.now)
-        (E.told faults.old) (E.told faults.new) (E.has_failed faults.new) }
+        (change E.Sink faults.old faults.new) }
     ensures promises { OnWhole result (OwnKeepsPromises order.now (campaign_on T.Target target.old workload.now) text.now) }
 {
     match Settings::read_own(host.alloc, text) {
         Ok(settings) => perform_settings(host, order, target, workload, &settings, output, faults),
-        Err(fault) => unset(host.alloc, &fault, faults),
+        Err(fault) => end_bad_settings(host.alloc, &fault, faults),
     }
 }
 
@@ -130,10 +129,8 @@ pub fn perform_target<
     H: Threads + Wait + Sync,
     G: Gate,
 >(
-    rt: &H,
-    alloc: Global,
+    host: &Host<'_, G, H>,
     order: &Order,
-    gate: &G,
     target: &mut T,
     workload: &T::Workload,
     reader: &mut R,
@@ -144,25 +141,19 @@ where
     T::Workload: Sync,
     requires output { W.has_failed output.old ≡ false }
     requires faults { E.has_failed faults.old ≡ false }
-    ensures end { IfSome (R.remaining reader.old) (λ bytes. EndsAs result
-        (own_answer order.now (campaign_on T.Target target.old workload.now) bytes) (W.told output.old) (W.told output.new) (W.has_failed output.new)) }
-    ensures noted { OnWhole result (IfSome (R.remaining reader.old) (λ bytes.
-        TellsNotes (own_answer order.now (campaign_on T.Target target.old workload.now) bytes) (E.told faults.old) (E.told faults.new)
-        (E.has_failed faults.new))) }
-    ensures cause { result ≡ Exit.Refused → IfSome (R.remaining reader.old)
-        (λ bytes. IsRefused (own_answer order.now (campaign_on T.Target target.old workload.now) bytes) (E.told faults.old) (E.told faults.new)
-        (E.has_failed faults.new)) }
+    ensures end { EndsBy (target_answer T.Target target.old workload.now order.now) (R.remaining reader.old) result (change W.Sink output.old output.new) }
+    ensures noted { NotesBy (target_answer T.Target target.old workload.now order.now) (R.remaining reader.old) result (change E.Sink faults.old faults.new) }
+    ensures cause { RefusesBy (target_answer T.Target target.old workload.now order.now) (R.remaining reader.old) result (change E.Sink faults.old faults.new) }
     ensures promises { OnWhole result (IfSome (R.remaining reader.old) (OwnKeepsPromises order.now (campaign_on T.Target target.old workload.now))) }
-    ensures output { Leaves result (W.told output.old) (W.told output.new) (W.has_failed output.new) }
-    ensures told { Tells order.now result (E.told faults.old) (E.told faults.new) (E.has_failed faults.new) }
+    ensures output { Leaves result (change W.Sink output.old output.new) }
+    ensures told { Tells order.now result (change E.Sink faults.old faults.new) }
 {
-    match read_all(alloc, reader) {
+    match read_all(host.alloc, reader) {
         Ok(text) => {
-            let host = Host { rt, alloc, gate };
             let text = text.as_str();
-            target_text(&host, order, target, workload, text, output, faults)
-        },
-        Err(fault) => unread(fault, faults),
+            target_text(host, order, target, workload, text, output, faults)
+        }
+        Err(fault) => end_unreadable_settings(fault, faults),
     }
 }
 
@@ -181,17 +172,16 @@ pub fn read_own_settings<R: Read, E: Sink>(
     ensures ok { (answer : OwnSettings → Answer) → IfOk result (λ settings. IfSome (R.remaining reader.old)
         (λ bytes. worded_answer answer bytes ≡ answer settings)) }
     ensures untold { OnOk result (faults.new ≡ faults.old) }
-    ensures told { IfErr result (λ end. (line : List ℕ)
-        × RefusesWith line end (E.told faults.old) (E.told faults.new) (E.has_failed faults.new)) }
-    ensures cause { (answer : OwnSettings → Answer) → IfErr result (λ end. end ≡ Exit.Refused → IfSome (R.remaining reader.old)
-        (λ bytes. IsRefused (worded_answer answer bytes) (E.told faults.old) (E.told faults.new) (E.has_failed faults.new))) }
+    ensures told { IfErr result (λ end. (line : List ℕ) × RefusesWith line end (change E.Sink faults.old faults.new)) }
+    ensures cause { (answer : OwnSettings → Answer) → IfErr result (λ end.
+        RefusesBy (worded_answer answer) (R.remaining reader.old) end (change E.Sink faults.old faults.new)) }
 {
     match read_all(alloc, reader) {
         Ok(text) => {
             let text = text.as_str();
             read_worded_text(alloc, text, faults)
         },
-        Err(fault) => Err(unread(fault, faults)),
+        Err(fault) => Err(end_unreadable_settings(fault, faults)),
     }
 }
 
@@ -200,14 +190,13 @@ fn read_worded_text<E: Sink>(alloc: Global, text: &str, faults: &mut E) -> Resul
     requires { E.has_failed faults.old ≡ false }
     ensures ok { (answer : OwnSettings → Answer) → IfOk result (λ settings. worded_text_answer answer text.now ≡ answer settings) }
     ensures untold { OnOk result (faults.new ≡ faults.old) }
-    ensures told { IfErr result (λ end. (line : List ℕ)
-        × RefusesWith line end (E.told faults.old) (E.told faults.new) (E.has_failed faults.new)) }
+    ensures told { IfErr result (λ end. (line : List ℕ) × RefusesWith line end (change E.Sink faults.old faults.new)) }
     ensures cause { (answer : OwnSettings → Answer) → IfErr result (λ end. end ≡ Exit.Refused
-        → TellsRefusal (worded_text_answer answer text.now) (E.told faults.old) (E.told faults.new) (E.has_failed faults.new)) }
+        → TellsRefusal (worded_text_answer answer text.now) (change E.Sink faults.old faults.new)) }
 {
     match Settings::read_worded(alloc, text) {
         Ok(settings) => Ok(settings),
-        Err(fault) => Err(unset(alloc, &fault, faults)),
+        Err(fault) => Err(end_bad_settings(alloc, &fault, faults)),
     }
 }
 
@@ -215,7 +204,7 @@ fn read_worded_text<E: Sink>(alloc: Global, text: &str, faults: &mut E) -> Resul
 /// refused. The reason is a line without its line feed.
 pub fn refuse_own_words<E: Sink>(alloc: Global, reason: &str, faults: &mut E) -> Exit
     requires { E.has_failed faults.old ≡ false }
-    ensures { RefusesWith (own_words_line reason.now) result (E.told faults.old) (E.told faults.new) (E.has_failed faults.new) }
+    ensures { RefusesWith (own_words_line reason.now) result (change E.Sink faults.old faults.new) }
 {
     refused_by(own_words_line(alloc, reason), faults)
 }

@@ -1,57 +1,78 @@
 //! Questions on a component that somebody else runs, over any readers and any sinks.
 ghost use Rattle.std.specs.Prelude.{◌≡◌, true, false, IfSome, Ok, Some};
+ghost use Rattle.campaign_core.specs.Writes.{change};
 ghost use Rattle.campaign_main.specs.Ends.{IsNoted, Leaves, OnWhole, TellsOf};
 ghost use Rattle.campaign_main.specs.QuestionNotes.{question_notes};
-ghost use Rattle.campaign_main.specs.Questions.{ComesToText, ConcludesText, EndsAnswered, EndsQuestion, IsNotAnswered, NotesQuestion, NotesText, TellsOfQuestion, TellsWhy, chosen_subject, subject_of, text_subject, written};
+ghost use Rattle.campaign_main.specs.Questions.{ComesToText, ConcludesText, EndsAnswered, EndsQuestion, IsNotAnswered, NotesQuestion, NotesText, TellsOfQuestion, TellsWhy, asked_part, chosen_subject, report_form, subject_of, text_subject};
 
 use crate::answer_notes::{is_question_doubted, question_notes_on};
 use crate::exit::{Conclusion, Exit, concluded, exit_of};
 use crate::input::{read_all, read_bytes};
-use crate::lines::{bundled, note, unread, unread_answers, unset, untold};
+use crate::lines::{
+    end_bad_settings, end_question, end_unreadable_answers, end_unreadable_settings, note,
+    refuse_bundled,
+};
 use answer_text::LIMIT;
+use answered_campaigns::{QuestionFault, write_asks, write_partial, write_report_in};
+use asked_lines::AskedPart;
 use campaign_core::PageNotes;
 use campaign_given::{CampaignSettings, Outside};
 use campaign_settings::{Choice, Settings};
-use command_words::{Question, ToldForm, VERSION};
-use outside_campaign::{Form, OutsideFault, write_asks, write_report_in};
+use command_words::{AskedPart as Part, Question, ToldForm, VERSION};
+use outside_campaign::Form;
 use std::alloc::Global;
 use std::io::Read;
 use target_trait::Sink;
 
-/// Writes what is still to be tried, in which no verdict stands.
+/// The part of the lines that ask which the words name.
+fn asked_part(part: Part) -> AskedPart
+    ensures { result ≡ asked_part part }
+{
+    match part {
+        Part::All => AskedPart::All,
+        Part::Shard { number, of } => AskedPart::Shard {
+            number: u32::from(number),
+            of: u32::from(of),
+        },
+        Part::Left => AskedPart::Left,
+    }
+}
+
+/// Writes a part of what is still to be tried, in which no verdict stands.
 fn write_asked<W: Sink>(
     alloc: Global,
+    part: Part,
     outside: &Outside,
     settings: &CampaignSettings,
     answers: &[u8],
     output: &mut W,
-) -> Result<bool, OutsideFault>
+) -> Result<bool, QuestionFault>
     requires { W.has_failed output.old ≡ false }
-    ensures { ComesToText Question.Asks (settings.now, outside.now) answers.now (W.told output.old) (W.told output.new)
-        (W.has_failed output.new) result }
+    ensures { ComesToText (Question.Asks part) (settings.now, outside.now) answers.now (change W.Sink output.old output.new) result }
 {
-    write_asks(alloc, outside, settings, answers, output)?;
+    write_asks(alloc, outside, settings, asked_part(part), answers, output)?;
     Ok(false)
 }
 
-/// The form in which a report by answers is written.
-fn written(form: ToldForm) -> Form<'static>
-    ensures { result ≡ written form }
+/// The form in which a report by answers is written; `None` for what is known so far, which is no report.
+fn report_form(form: ToldForm) -> Option<Form<'static>>
+    ensures { result ≡ report_form form }
 {
     match form {
-        ToldForm::Whole => Form::Whole,
-        ToldForm::Brief => Form::Brief,
-        ToldForm::Json => Form::Json,
-        ToldForm::Junit => Form::Junit,
-        ToldForm::Map => Form::Map,
-        ToldForm::Page => Form::Page(PageNotes {
+        ToldForm::Whole => Some(Form::Whole),
+        ToldForm::Brief => Some(Form::Brief),
+        ToldForm::Json => Some(Form::Json),
+        ToldForm::Junit => Some(Form::Junit),
+        ToldForm::Map => Some(Form::Map),
+        ToldForm::Page => Some(Form::Page(PageNotes {
             version: VERSION,
             command: "paklour report --page FILE < ANSWERS",
-        }),
+        })),
+        ToldForm::Partial => None,
     }
 }
 
-/// Writes the report in this form, and answers whether a plan fails.
+/// Writes the report in this form, and answers whether a plan fails; or what is known so far, and whether a plan is known to.
 fn write_reported<W: Sink>(
     alloc: Global,
     form: ToldForm,
@@ -59,14 +80,17 @@ fn write_reported<W: Sink>(
     settings: &CampaignSettings,
     answers: &[u8],
     output: &mut W,
-) -> Result<bool, OutsideFault>
+) -> Result<bool, QuestionFault>
     requires { W.has_failed output.old ≡ false }
-    ensures { ComesToText (Question.Report form false) (settings.now, outside.now) answers.now (W.told output.old) (W.told output.new)
-        (W.has_failed output.new) result }
+    ensures { ComesToText (Question.Report form false) (settings.now, outside.now) answers.now (change W.Sink output.old output.new) result }
 {
-    let form = written(form);
-    let ending = write_report_in(alloc, &form, outside, settings, answers, output)?;
-    Ok(ending.first.is_some())
+    match report_form(form) {
+        Some(form) => {
+            let ending = write_report_in(alloc, &form, outside, settings, answers, output)?;
+            Ok(ending.first.is_some())
+        }
+        None => write_partial(alloc, outside, settings, answers, output),
+    }
 }
 
 /// Writes the text that answers a question, and answers whether a verdict in it is fail.
@@ -77,13 +101,12 @@ fn write_answer<W: Sink>(
     settings: &CampaignSettings,
     answers: &[u8],
     output: &mut W,
-) -> Result<bool, OutsideFault>
+) -> Result<bool, QuestionFault>
     requires { W.has_failed output.old ≡ false }
-    ensures { ComesToText question.now (settings.now, outside.now) answers.now (W.told output.old) (W.told output.new)
-        (W.has_failed output.new) result }
+    ensures { ComesToText question.now (settings.now, outside.now) answers.now (change W.Sink output.old output.new) result }
 {
     match question {
-        Question::Asks => write_asked(alloc, outside, settings, answers, output),
+        Question::Asks(part) => write_asked(alloc, *part, outside, settings, answers, output),
         Question::Report { form, .. } => {
             write_reported(alloc, *form, outside, settings, answers, output)
         }
@@ -99,13 +122,11 @@ fn write_noted<W: Sink, E: Sink>(
     answers: &[u8],
     output: &mut W,
     faults: &mut E,
-) -> Result<Conclusion, OutsideFault>
+) -> Result<Conclusion, QuestionFault>
     requires output { W.has_failed output.old ≡ false }
     requires faults { E.has_failed faults.old ≡ false }
-    ensures text { ConcludesText question.now (settings.now, outside.now) answers.now (W.told output.old) (W.told output.new)
-        (W.has_failed output.new) result }
-    ensures noted { NotesText question.now (settings.now, outside.now) answers.now (E.told faults.old) (E.told faults.new)
-        (E.has_failed faults.new) result }
+    ensures text { ConcludesText question.now (settings.now, outside.now) answers.now (change W.Sink output.old output.new) result }
+    ensures noted { NotesText question.now (settings.now, outside.now) answers.now (change E.Sink faults.old faults.new) result }
 {
     let notes = question_notes_on(alloc, question, outside, settings, answers)?;
     let found = write_answer(alloc, question, outside, settings, answers, output)?;
@@ -126,16 +147,14 @@ fn answer_by<W: Sink, E: Sink>(
 ) -> Exit
     requires output { W.has_failed output.old ≡ false }
     requires faults { E.has_failed faults.old ≡ false }
-    ensures end { EndsAnswered question.now (settings.now, outside.now) answers.now result (W.told output.old) (W.told output.new)
-        (W.has_failed output.new) }
-    ensures told { TellsOf (IsNoted (question_notes question.now settings.now outside.now answers.now) (E.told faults.old) (E.told faults.new)
-        (E.has_failed faults.new))
-        (TellsWhy question.now (Ok (settings.now, outside.now)) answers.now (E.told faults.old) (E.told faults.new) (E.has_failed faults.new))
-        result (E.told faults.old) (E.told faults.new) (E.has_failed faults.new) }
+    ensures end { EndsAnswered question.now (settings.now, outside.now) answers.now result (change W.Sink output.old output.new) }
+    ensures told { TellsOf (IsNoted (question_notes question.now settings.now outside.now answers.now) (change E.Sink faults.old faults.new))
+        (TellsWhy question.now (Ok (settings.now, outside.now)) answers.now (change E.Sink faults.old faults.new))
+        result (change E.Sink faults.old faults.new) }
 {
     match write_noted(alloc, question, outside, settings, answers, output, faults) {
         Ok(conclusion) => exit_of(conclusion),
-        Err(fault) => untold(alloc, &fault, faults),
+        Err(fault) => end_question(alloc, &fault, faults),
     }
 }
 
@@ -152,14 +171,13 @@ fn answer_on<A: Read, W: Sink, E: Sink>(
     requires output { W.has_failed output.old ≡ false }
     requires faults { E.has_failed faults.old ≡ false }
     ensures end { IfSome (A.remaining answers.old) (λ bytes. EndsAnswered question.now (settings.now, outside.now) bytes result
-        (W.told output.old) (W.told output.new) (W.has_failed output.new)) }
+        (change W.Sink output.old output.new)) }
     ensures noted { OnWhole result (IfSome (A.remaining answers.old) (λ bytes. IsNoted (question_notes question.now settings.now outside.now bytes)
-        (E.told faults.old) (E.told faults.new) (E.has_failed faults.new))) }
+        (change E.Sink faults.old faults.new))) }
     ensures cause { result ≡ Exit.Refused → IfSome (A.remaining answers.old)
-        (λ bytes. IsNotAnswered question.now (Ok (settings.now, outside.now)) bytes (E.told faults.old) (E.told faults.new)
-        (E.has_failed faults.new)) }
-    ensures output { Leaves result (W.told output.old) (W.told output.new) (W.has_failed output.new) }
-    ensures told { TellsOfQuestion result (E.told faults.old) (E.told faults.new) (E.has_failed faults.new) }
+        (λ bytes. IsNotAnswered question.now (Ok (settings.now, outside.now)) bytes (change E.Sink faults.old faults.new)) }
+    ensures output { Leaves result (change W.Sink output.old output.new) }
+    ensures told { TellsOfQuestion result (change E.Sink faults.old faults.new) }
 {
     match read_bytes(alloc, answers, LIMIT) {
         Ok(bytes) => answer_by(
@@ -171,7 +189,7 @@ fn answer_on<A: Read, W: Sink, E: Sink>(
             output,
             faults,
         ),
-        Err(fault) => unread_answers(fault, faults),
+        Err(fault) => end_unreadable_answers(fault, faults),
     }
 }
 
@@ -188,20 +206,19 @@ fn answer_choice<A: Read, W: Sink, E: Sink>(
     requires output { W.has_failed output.old ≡ false }
     requires faults { E.has_failed faults.old ≡ false }
     ensures end { IfSome (A.remaining answers.old) (λ bytes. EndsQuestion question.now
-        (chosen_subject settings.now choice.now) bytes result (W.told output.old) (W.told output.new) (W.has_failed output.new)) }
+        (chosen_subject settings.now choice.now) bytes result (change W.Sink output.old output.new)) }
     ensures noted { OnWhole result (IfSome (A.remaining answers.old) (λ bytes. NotesQuestion question.now (chosen_subject settings.now choice.now)
-        bytes (E.told faults.old) (E.told faults.new) (E.has_failed faults.new))) }
+        bytes (change E.Sink faults.old faults.new))) }
     ensures cause { result ≡ Exit.Refused → IfSome (A.remaining answers.old)
-        (λ bytes. IsNotAnswered question.now (chosen_subject settings.now choice.now) bytes (E.told faults.old) (E.told faults.new)
-        (E.has_failed faults.new)) }
-    ensures output { Leaves result (W.told output.old) (W.told output.new) (W.has_failed output.new) }
-    ensures told { TellsOfQuestion result (E.told faults.old) (E.told faults.new) (E.has_failed faults.new) }
+        (λ bytes. IsNotAnswered question.now (chosen_subject settings.now choice.now) bytes (change E.Sink faults.old faults.new)) }
+    ensures output { Leaves result (change W.Sink output.old output.new) }
+    ensures told { TellsOfQuestion result (change E.Sink faults.old faults.new) }
 {
     match choice {
         Choice::Outside(outside) => {
             answer_on(alloc, question, outside, settings, answers, output, faults)
         }
-        Choice::Replace(..) | Choice::Maildir(..) | Choice::Commit(..) => bundled(faults),
+        Choice::Replace(..) | Choice::Maildir(..) | Choice::Commit(..) => refuse_bundled(faults),
     }
 }
 
@@ -216,14 +233,14 @@ fn answer_text<A: Read, W: Sink, E: Sink>(
 ) -> Exit
     requires output { W.has_failed output.old ≡ false }
     requires faults { E.has_failed faults.old ≡ false }
-    ensures end { IfSome (A.remaining answers.old) (λ bytes. EndsQuestion question.now (text_subject text.now) bytes result (W.told output.old)
-        (W.told output.new) (W.has_failed output.new)) }
+    ensures end { IfSome (A.remaining answers.old) (λ bytes. EndsQuestion question.now (text_subject text.now) bytes result
+        (change W.Sink output.old output.new)) }
     ensures noted { OnWhole result (IfSome (A.remaining answers.old) (λ bytes. NotesQuestion question.now (text_subject text.now) bytes
-        (E.told faults.old) (E.told faults.new) (E.has_failed faults.new))) }
+        (change E.Sink faults.old faults.new))) }
     ensures cause { result ≡ Exit.Refused → IfSome (A.remaining answers.old)
-        (λ bytes. IsNotAnswered question.now (text_subject text.now) bytes (E.told faults.old) (E.told faults.new) (E.has_failed faults.new)) }
-    ensures output { Leaves result (W.told output.old) (W.told output.new) (W.has_failed output.new) }
-    ensures told { TellsOfQuestion result (E.told faults.old) (E.told faults.new) (E.has_failed faults.new) }
+        (λ bytes. IsNotAnswered question.now (text_subject text.now) bytes (change E.Sink faults.old faults.new)) }
+    ensures output { Leaves result (change W.Sink output.old output.new) }
+    ensures told { TellsOfQuestion result (change E.Sink faults.old faults.new) }
 {
     match Settings::read(alloc, text) {
         Ok(settings) => answer_choice(
@@ -235,25 +252,28 @@ fn answer_text<A: Read, W: Sink, E: Sink>(
             output,
             faults,
         ),
-        Err(fault) => unset(alloc, &fault, faults),
+        Err(fault) => end_bad_settings(alloc, &fault, faults),
     }
 }
 
-/// Reads settings, and answers a question on the component from outside that they describe: which scenarios are still to be tried, or the
-/// report. What is known of the component is what a second reader has left: a text of answers, of which up to 268435456 bytes are read.
+/// Reads settings, and answers a question on the component from outside that they describe: which scenarios are still to be tried, how many,
+/// the report, or what is known so far. What is known of the component is what a second reader has left: a text of answers, of which up to
+/// 268435456 bytes are read.
 ///
 /// It answers Kept, Found where the report tells a failure, or Doubted where it tells none, is to be strict and something was told beside
 /// it, where the whole text stands in the output. Else one line on the sink of faults says why there is none: Refused for settings that
 /// can't be read or have a fault, that choose a bundled target, or that have more than 65536 plans; for answers that can't be read or have
-/// a fault, of which the first is named; and for a report where something is still to be tried. Memory is for memory that was refused, and
-/// both leave the output unchanged. Write tells how many bytes of the text, fewer than all, went out before the output failed. Where that
-/// line can't be written whole the answer stays. Where settings are refused, no answers are read.
+/// a fault, of which the first is named; and for a report where something is still to be tried. Of a campaign with a depth also where a run
+/// that answers tell breaks with that of the plan which its own grew from, and where a plan is answered without hits that plans grow from.
+/// Memory is for memory that was refused, and both leave the output unchanged. Write tells how many bytes of the text, fewer than all, went
+/// out before the output failed. Where that line can't be written whole the answer stays. Where settings are refused, no answers are read.
 ///
 /// Beside the text, once it stands there whole, the sink of faults has a line for each name that no point of the component has, of the
 /// scenarios that the settings list and of those that are answered: `answers: line 3: no point is named NAME`. A report that is strict adds
 /// what makes it say less than it seems to. A line that can't be written changes no end.
 ///
-/// The report is that of every component that agrees with the answers, a function from tidied scenarios to verdicts.
+/// The report is that of every component that agrees with the answers: a function from tidied scenarios to verdicts, or with a depth one whose
+/// next hit is a function of the answers so far.
 ///
 /// Which text and which fault, the contract says for readers that tell their bytes, as slices do, and for sinks that tell theirs, as
 /// [`target_trait::Out`] over a `Vec` does; of others, as [`crate::perform`] does.
@@ -268,17 +288,16 @@ pub fn perform_outside<R: Read, A: Read, W: Sink, E: Sink>(
     requires output { W.has_failed output.old ≡ false }
     requires faults { E.has_failed faults.old ≡ false }
     ensures end { IfSome (R.remaining settings.old) (λ given. IfSome (A.remaining answers.old)
-        (λ bytes. EndsQuestion question.now (subject_of given) bytes result (W.told output.old) (W.told output.new) (W.has_failed output.new))) }
+        (λ bytes. EndsQuestion question.now (subject_of given) bytes result (change W.Sink output.old output.new))) }
     ensures noted { OnWhole result (IfSome (R.remaining settings.old) (λ given. IfSome (A.remaining answers.old)
-        (λ bytes. NotesQuestion question.now (subject_of given) bytes (E.told faults.old) (E.told faults.new) (E.has_failed faults.new)))) }
+        (λ bytes. NotesQuestion question.now (subject_of given) bytes (change E.Sink faults.old faults.new)))) }
     ensures cause { result ≡ Exit.Refused → IfSome (R.remaining settings.old)
-        (λ given. IfSome (A.remaining answers.old) (λ bytes. IsNotAnswered question.now (subject_of given) bytes (E.told faults.old)
-        (E.told faults.new) (E.has_failed faults.new))) }
-    ensures output { Leaves result (W.told output.old) (W.told output.new) (W.has_failed output.new) }
-    ensures told { TellsOfQuestion result (E.told faults.old) (E.told faults.new) (E.has_failed faults.new) }
+        (λ given. IfSome (A.remaining answers.old) (λ bytes. IsNotAnswered question.now (subject_of given) bytes (change E.Sink faults.old faults.new))) }
+    ensures output { Leaves result (change W.Sink output.old output.new) }
+    ensures told { TellsOfQuestion result (change E.Sink faults.old faults.new) }
 {
     match read_all(alloc, settings) {
         Ok(text) => answer_text(alloc, question, text.as_str(), answers, output, faults),
-        Err(fault) => unread(fault, faults),
+        Err(fault) => end_unreadable_settings(fault, faults),
     }
 }

@@ -1,6 +1,7 @@
 //! What the program answers where it has no settings to read.
 ghost use Rattle.std.specs.Prelude.{◌≡◌, ◌↔◌, false, codes};
 ghost use Rattle.std.specs.IoError.{error_kind};
+ghost use Rattle.campaign_core.specs.Writes.{change};
 ghost use Rattle.campaign_main.specs.Ends.{EndsWords, RefusesWith, TellsWords};
 ghost use Rattle.campaign_main.specs.FaultLines.{unreadable_line};
 
@@ -16,7 +17,7 @@ use target_trait::Sink;
 /// sink of faults says which.
 pub fn unreadable_settings<E: Sink>(error: &io::Error, faults: &mut E) -> Exit
     requires { E.has_failed faults.old ≡ false }
-    ensures end { RefusesWith unreadable_line result (E.told faults.old) (E.told faults.new) (E.has_failed faults.new) }
+    ensures end { RefusesWith unreadable_line result (change E.Sink faults.old faults.new) }
     ensures memory { (result ≡ Exit.Memory) ↔ (error_kind error.now ≡ ErrorKind.OutOfMemory) }
 {
     unreadable(error, "settings: not readable\n", faults)
@@ -27,7 +28,7 @@ pub fn unreadable_settings<E: Sink>(error: &io::Error, faults: &mut E) -> Exit
 pub fn unreadable_words<E: Sink>(error: &io::Error, faults: &mut E) -> Exit
     requires { E.has_failed faults.old ≡ false }
     ensures end { RefusesWith (codes "error: invalid UTF-8 was detected in one or more arguments\n") result
-        (E.told faults.old) (E.told faults.new) (E.has_failed faults.new) }
+        (change E.Sink faults.old faults.new) }
     ensures memory { (result ≡ Exit.Memory) ↔ (error_kind error.now ≡ ErrorKind.OutOfMemory) }
 {
     unreadable(
@@ -39,7 +40,7 @@ pub fn unreadable_words<E: Sink>(error: &io::Error, faults: &mut E) -> Exit
 
 fn unreadable<E: Sink>(error: &io::Error, line: &str, faults: &mut E) -> Exit
     requires { E.has_failed faults.old ≡ false }
-    ensures end { RefusesWith line.now result (E.told faults.old) (E.told faults.new) (E.has_failed faults.new) }
+    ensures end { RefusesWith line.now result (change E.Sink faults.old faults.new) }
     ensures memory { (result ≡ Exit.Memory) ↔ (error_kind error.now ≡ ErrorKind.OutOfMemory) }
 {
     if error.kind() == ErrorKind::OutOfMemory {
@@ -62,9 +63,9 @@ pub fn refuse_words<W: Sink, E: Sink>(
 ) -> Exit
     requires output { W.has_failed output.old ≡ false }
     requires faults { E.has_failed faults.old ≡ false }
-    ensures end { EndsWords result fault.now (W.told output.old) (W.told output.new) (W.has_failed output.new) }
+    ensures end { EndsWords result fault.now (change W.Sink output.old output.new) }
     ensures memory { fault.now ≡ WordsFault.Memory → result ≡ Exit.Memory }
-    ensures told { TellsWords result (E.told faults.old) (E.told faults.new) (E.has_failed faults.new) }
+    ensures told { TellsWords result (change E.Sink faults.old faults.new) }
 {
     if let WordsFault::Memory = fault {
         return no_memory(faults);

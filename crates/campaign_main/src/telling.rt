@@ -1,14 +1,15 @@
 //! The commands over a target that tells of the end of a run.
 ghost use Rattle.std.specs.Prelude.{◌≡◌, false, OnOk};
 ghost use Rattle.campaign_core.specs.Headline.{campaign_in, campaign_on};
-ghost use Rattle.campaign_main.specs.Ends.{ComesTo, EndsAs, Noted, OnWhole, TellsAs};
+ghost use Rattle.campaign_core.specs.Writes.{change};
+ghost use Rattle.campaign_main.specs.Ends.{ComesTo, EndsAs, OnWhole, TellsAs};
 ghost use Rattle.campaign_main.specs.Promises.{KeepsPromises};
 ghost use Rattle.campaign_main.specs.OwnTarget.{telling_answer};
 
 use crate::command::{command, take_noted};
-use crate::exit::{Conclusion, Exit, concluded, exit_of, is_fail};
+use crate::exit::{Answered, Exit, judged};
 use crate::fault::CommandFault;
-use crate::lines::{note, unanswered};
+use crate::lines::end_outcome;
 use crate::own::broken_off;
 use campaign_core::{Host, Subject, explain_one_telling};
 use campaign_given::CampaignSettings;
@@ -19,62 +20,42 @@ use target_trait::{Sink, TellingTarget};
 use work_gate::Gate;
 
 /// Tells the run of the scenario that the command takes, and its end.
-fn explain_which<T: TellingTarget + Send, W: Sink, E: Sink, H: Threads + Wait + Sync, G: Gate>(
+fn explain_which<T: TellingTarget + Send, W: Sink, H: Threads + Wait + Sync, G: Gate>(
     host: &Host<'_, G, H>,
     subject: &Subject<'_, T>,
     which: &Which,
     output: &mut W,
-    faults: &mut E,
-) -> Result<Conclusion, CommandFault>
+) -> Result<Answered, CommandFault>
 where
     T::Workload: Sync,
-    requires output { W.has_failed output.old ≡ false }
-    requires faults { E.has_failed faults.old ≡ false }
-    ensures text { ComesTo (telling_answer (T.state_of subject.now.target.now subject.now.workload.now)
+    requires { W.has_failed output.old ≡ false }
+    ensures { ComesTo (telling_answer (T.state_of subject.now.target.now subject.now.workload.now)
         (T.reason_of subject.now.target.now subject.now.workload.now) (Order.Explain which.now) (campaign_in T.Target subject.now))
-        (W.told output.old) (W.told output.new) (W.has_failed output.new) result }
-    ensures noted { Noted (telling_answer (T.state_of subject.now.target.now subject.now.workload.now)
-        (T.reason_of subject.now.target.now subject.now.workload.now) (Order.Explain which.now) (campaign_in T.Target subject.now))
-        (E.told faults.old) (E.told faults.new) (E.has_failed faults.new) result }
+        (change W.Sink output.old output.new) result }
 {
     let (stream, scenario, notes) = take_noted(host, subject, which)?;
-    let mut twin = subject.target.twin()?;
-    let verdict = explain_one_telling(
-        host.alloc,
-        &mut twin,
-        subject.workload,
-        subject.settings,
-        stream,
-        &scenario,
-        output,
-    )?;
-    note(notes.as_str(), faults);
-    Ok(concluded(is_fail(verdict), false))
+    let verdict = explain_one_telling(host.alloc, subject, stream, &scenario, output)?;
+    Ok(judged(verdict, notes))
 }
 
 /// Does what is ordered with this target, as [`command`] does; an explained run tells its end too.
-fn telling_command<T: TellingTarget + Send, W: Sink, E: Sink, H: Threads + Wait + Sync, G: Gate>(
+fn telling_command<T: TellingTarget + Send, W: Sink, H: Threads + Wait + Sync, G: Gate>(
     host: &Host<'_, G, H>,
     subject: &Subject<'_, T>,
     order: &Order,
     output: &mut W,
-    faults: &mut E,
-) -> Result<Conclusion, CommandFault>
+) -> Result<Answered, CommandFault>
 where
     T::Workload: Sync,
-    requires output { W.has_failed output.old ≡ false }
-    requires faults { E.has_failed faults.old ≡ false }
+    requires { W.has_failed output.old ≡ false }
     ensures text { ComesTo (telling_answer (T.state_of subject.now.target.now subject.now.workload.now)
         (T.reason_of subject.now.target.now subject.now.workload.now) order.now (campaign_in T.Target subject.now))
-        (W.told output.old) (W.told output.new) (W.has_failed output.new) result }
-    ensures noted { Noted (telling_answer (T.state_of subject.now.target.now subject.now.workload.now)
-        (T.reason_of subject.now.target.now subject.now.workload.now) order.now (campaign_in T.Target subject.now))
-        (E.told faults.old) (E.told faults.new) (E.has_failed faults.new) result }
+        (change W.Sink output.old output.new) result }
     ensures promises { OnOk result (KeepsPromises order.now (campaign_in T.Target subject.now)) }
 {
     match order {
-        Order::Explain(which) => explain_which(host, subject, which, output, faults),
-        _ => command(host, subject, order, output, faults),
+        Order::Explain(which) => explain_which(host, subject, which, output),
+        _ => command(host, subject, order, output),
     }
 }
 
@@ -101,9 +82,9 @@ where
     requires output { W.has_failed output.old ≡ false }
     requires faults { E.has_failed faults.old ≡ false }
     ensures end { EndsAs result (telling_answer (T.state_of target.old workload.now) (T.reason_of target.old workload.now) order.now
-        (campaign_on T.Target target.old workload.now settings.now)) (W.told output.old) (W.told output.new) (W.has_failed output.new) }
+        (campaign_on T.Target target.old workload.now settings.now)) (change W.Sink output.old output.new) }
     ensures told { TellsAs result (telling_answer (T.state_of target.old workload.now) (T.reason_of target.old workload.now) order.now
-        (campaign_on T.Target target.old workload.now settings.now)) (E.told faults.old) (E.told faults.new) (E.has_failed faults.new) }
+        (campaign_on T.Target target.old workload.now settings.now)) (change E.Sink faults.old faults.new) }
     ensures promises { OnWhole result (KeepsPromises order.now (campaign_on T.Target target.old workload.now settings.now)) }
 {
     let subject = Subject {
@@ -114,8 +95,6 @@ where
     if let Some(exit) = broken_off(host.alloc, &subject, faults) {
         return exit;
     }
-    match telling_command(host, &subject, order, output, faults) {
-        Ok(conclusion) => exit_of(conclusion),
-        Err(fault) => unanswered(host.alloc, &fault, faults),
-    }
+    let outcome = telling_command(host, &subject, order, output);
+    end_outcome(host.alloc, outcome, faults)
 }

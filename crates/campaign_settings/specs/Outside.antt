@@ -1,5 +1,5 @@
 -- The values of the table of a target from outside.
-use Rattle.std.specs.Prelude.{◌&&◌, ◌||◌, ◌==◌, ℕ, ℤ, pos, negsuc, Bool, not, List, length, Option, Some, None, Result, Ok, Err, nat_le, if◌then◌else◌}
+use Rattle.std.specs.Prelude.{◌&&◌, ◌||◌, ◌==◌, ℕ, ℤ, pos, negsuc, Bool, not, List, length, Option, Some, None, Result, Ok, Err, nat_le, replicate, if◌then◌else◌}
 use Rattle.std.specs.List.{list_all}
 use Rattle.toml.specs.Data.{Data, as_array, as_integer, as_str}
 use Rattle.scenario_values.specs.declared.term.Term.{Term}
@@ -10,7 +10,7 @@ use Rattle.campaign_settings.specs.Keys.{Text}
 use Rattle.campaign_settings.specs.Lists.{all_in, texts_in}
 use Rattle.campaign_settings.specs.Values.{in_ranges, ranged, typed}
 use Rattle.campaign_settings.specs.declared.keys.KeyFault.{KeyFault}
-use Rattle.campaign_settings.specs.declared.keys.KeyFault.TheVariants.{Missing}
+use Rattle.campaign_settings.specs.declared.keys.KeyFault.TheVariants.{Missing, OutOfRange}
 
 -- ---- the values at its keys, which have to be there
 
@@ -40,6 +40,16 @@ abbrev pub counts_at : ℕ → Option Data → Result (List ℕ) KeyFault
 counts_at points None = Err Missing
 counts_at points (Some d) =
     typed (λ ds. typed (in_ranges count_of (ranged (λ counts. length counts == points))) (all_in as_integer ds)) (as_array d)
+
+-- a count of 0 for each of so many points, where none may be given
+abbrev pub uncounted_at : ℕ → Option Data → Result (List ℕ) KeyFault
+uncounted_at points None = Ok (replicate points 0)
+uncounted_at points (Some d) = Err OutOfRange
+
+-- the counts without a depth; with one answers tell the hits, and a count that is given would be read by nothing
+abbrev pub hits_beside : Option ℕ → ℕ → Option Data → Result (List ℕ) KeyFault
+hits_beside None points o = counts_at points o
+hits_beside (Some depth) points o = uncounted_at points o
 
 -- ---- the scenarios that it may be given
 

@@ -15,7 +15,7 @@ use Rattle.campaign_settings.specs.Keys.{Text, is_known, target_name}
 use Rattle.campaign_settings.specs.Values.{boolean_at, number_at, optional_at, lists_at, setup_at, table_at, target_at, text_at, texts_at}
 use Rattle.campaign_settings.specs.Lists.{chunks_of, wishes_of}
 use Rattle.campaign_given.specs.Description.{are_codes, are_points}
-use Rattle.campaign_settings.specs.Outside.{can_be_handed, counts_at, label_at, names_at}
+use Rattle.campaign_settings.specs.Outside.{can_be_handed, hits_beside, label_at, names_at}
 use Rattle.campaign_settings.specs.declared.keys.Key.{Key}
 use Rattle.campaign_settings.specs.declared.keys.Key.TheVariants as key
 use Rattle.campaign_settings.specs.declared.keys.KeyFault.{KeyFault}
@@ -126,27 +126,28 @@ committing_in v ms =
     after (keyed key.Transactions (lists_at (wishes_of n) 100 (get_member (codes "transactions") ms))) (λ lists.
     Ok (choice.Commit v (record { participants = n; transactions = lists }))))
 
-abbrev pub described_by : Text → Members → Read Choice
-described_by label ms =
+abbrev pub described_by : Option ℕ → Text → Members → Read Choice
+described_by depth label ms =
     after (keyed key.Codes (names_at are_codes (get_member (codes "codes") ms))) (λ names.
     after (keyed key.Points (names_at are_points (get_member (codes "points") ms))) (λ points.
-    after (keyed key.Hits (counts_at (length points) (get_member (codes "hits") ms))) (λ hits.
+    after (keyed key.Hits (hits_beside depth (length points) (get_member (codes "hits") ms))) (λ hits.
     Ok (choice.Outside (record { label = label; codes = names; points = points; hits = hits })))))
 
-abbrev pub describing_in : Members → Read Choice
-describing_in ms = after (keyed key.Label (label_at (get_member (codes "label") ms))) (λ label. described_by label ms)
+abbrev pub describing_in : Option ℕ → Members → Read Choice
+describing_in depth ms = after (keyed key.Label (label_at (get_member (codes "label") ms))) (λ label. described_by depth label ms)
 
-abbrev pub work_in : Setup → Members → Read Choice
-work_in (setup.Replace v) ms = replacing_in v ms
-work_in (setup.Maildir v) ms = delivering_in v ms
-work_in (setup.Commit v) ms = committing_in v ms
-work_in setup.Outside ms = describing_in ms
+-- beside a depth, or without one
+abbrev pub work_in : Setup → Option ℕ → Members → Read Choice
+work_in (setup.Replace v) depth ms = replacing_in v ms
+work_in (setup.Maildir v) depth ms = delivering_in v ms
+work_in (setup.Commit v) depth ms = committing_in v ms
+work_in setup.Outside depth ms = describing_in depth ms
 
 -- in the table of the target's name, after its unknown keys
-abbrev pub choice_in : TargetName → Setup → Members → Read Choice
-choice_in t s ms =
+abbrev pub choice_in : TargetName → Setup → Option ℕ → Members → Read Choice
+choice_in t s depth ms =
     after (keyed (key.Table t) (table_at (get_member (target_name t) ms))) (λ own.
-    after (known_in (Within t) own) (λ _. work_in s own))
+    after (known_in (Within t) own) (λ _. work_in s depth own))
 
 -- ---- numbers
 
@@ -177,14 +178,6 @@ planning_in ms =
     after (depth_beside pairs ms) (λ depth.
     after (crash_states_in ms) (λ crash_states.
     Ok (record { pairs = pairs; storms = storms; rate = rate; depth = depth; crash_states = crash_states }))))))
-
--- those of a target: no plans grow for one from outside yet
-abbrev pub growing_for : Setup → Planning → Read Planning
-growing_for setup.Outside planning = if is_some planning.depth then Err (wrong key.Depth fault.OutOfRange) else Ok planning
-growing_for s planning = Ok planning
-
-abbrev pub planning_for : Setup → Members → Read Planning
-planning_for s ms = after (planning_in ms) (growing_for s)
 
 -- the ranges of these numbers
 pub record IsRunning (r : Running) : Type 0 where
@@ -225,9 +218,9 @@ abbrev pub settings_for : TargetName → Members → Read Settings
 settings_for t ms =
     after (keyed key.Variant (setup_at t (get_member (codes "variant") ms))) (λ s.
     after (running_in ms) (λ running.
-    after (planning_for s ms) (λ planning.
+    after (planning_in ms) (λ planning.
     after (scenarios_at s (get_member (codes "scenarios") ms)) (λ scenarios.
-    after (choice_in t s ms) (λ choice.
+    after (choice_in t s planning.depth ms) (λ choice.
     Ok (record { choice = choice; campaign = campaign_of running planning scenarios }))))))
 
 -- the same of the target that is named, after the unknown keys

@@ -6,7 +6,7 @@ ghost use Rattle.toml.specs.View.{array_view, table_view, view};
 ghost use Rattle.action_eval.specs.Catalogue.{IsCatalogue};
 ghost use Rattle.campaign_given.specs.Description.{AreCodes, are_codes, are_points, is_label};
 ghost use Rattle.campaign_settings.specs.Lists.{all_in, texts_in};
-ghost use Rattle.campaign_settings.specs.Outside.{count_of, counts_at, label_at, listed_at, names_at};
+ghost use Rattle.campaign_settings.specs.Outside.{count_of, counts_at, hits_beside, label_at, listed_at, names_at, uncounted_at};
 ghost use Rattle.campaign_settings.specs.declared.keys.Key.TheVariants as key;
 ghost use Rattle.campaign_settings.specs.Settings.{RefusedBy, described_by, describing_in, keyed};
 
@@ -159,17 +159,57 @@ fn read_counts(
     Ok(counts)
 }
 
+// A count of 0 for each of so many points, where none may be given.
+fn read_no_counts(
+    alloc: Global,
+    points: usize,
+    value: Option<&Value>,
+) -> Result<Vec<u32>, SettingsFault>
+    ensures ok { IfOk result (λ counts. uncounted_at points (option_map (λ v. view v.now) value.entry) ≡ Ok counts.items) }
+    ensures counts { IfOk result (λ counts. length counts.items ≡ points) }
+    ensures high { IfOk result (λ counts. AllByRecursion (λ n. n ≤ 100000) counts.items) }
+    ensures refused { IfErr result (RefusedBy (keyed key.Hits (uncounted_at points (option_map (λ v. view v.now) value.entry)))) }
+{
+    if value.is_some() {
+        return Err(SettingsFault::OutOfRange(Key::Hits));
+    }
+    Ok(vec![in alloc; 0u32; points]?)
+}
+
+// The counts of so many points, which have to be there without a depth, and may not beside one.
+fn read_hits(
+    alloc: Global,
+    depth: Option<u32>,
+    points: usize,
+    value: Option<&Value>,
+) -> Result<Vec<u32>, SettingsFault>
+    ensures ok { IfOk result (λ counts. hits_beside depth points (option_map (λ v. view v.now) value.entry) ≡ Ok counts.items) }
+    ensures counts { IfOk result (λ counts. length counts.items ≡ points) }
+    ensures high { IfOk result (λ counts. AllByRecursion (λ n. n ≤ 100000) counts.items) }
+    ensures refused { IfErr result (RefusedBy (keyed key.Hits (hits_beside depth points (option_map (λ v. view v.now) value.entry)))) }
+{
+    match depth {
+        None => read_counts(alloc, points, value),
+        Some(_) => read_no_counts(alloc, points, value),
+    }
+}
+
 // ---- the table
 
 // What stands after the label.
-fn read_described(alloc: Global, label: Text, table: &Table) -> Result<Choice, SettingsFault>
+fn read_described(
+    alloc: Global,
+    depth: Option<u32>,
+    label: Text,
+    table: &Table,
+) -> Result<Choice, SettingsFault>
     requires { is_label label ≡ true }
-    ensures ok { IfOk result (λ choice. described_by label (table_view table.now) ≡ Ok choice) }
-    ensures refused { IfErr result (RefusedBy (described_by label (table_view table.now))) }
+    ensures ok { IfOk result (λ choice. described_by depth label (table_view table.now) ≡ Ok choice) }
+    ensures refused { IfErr result (RefusedBy (described_by depth label (table_view table.now))) }
 {
     let codes = read_codes(alloc, value_at(table, "codes"))?;
     let points = read_points(alloc, value_at(table, "points"))?;
-    let hits = read_counts(alloc, points.len(), value_at(table, "hits"))?;
+    let hits = read_hits(alloc, depth, points.len(), value_at(table, "hits"))?;
     Ok(Choice::Outside(Outside {
         label,
         codes,
@@ -178,10 +218,15 @@ fn read_described(alloc: Global, label: Text, table: &Table) -> Result<Choice, S
     }))
 }
 
-pub fn read_outside(alloc: Global, table: &Table) -> Result<Choice, SettingsFault>
-    ensures ok { IfOk result (λ choice. describing_in (table_view table.now) ≡ Ok choice) }
-    ensures refused { IfErr result (RefusedBy (describing_in (table_view table.now))) }
+// The description of a component, beside a depth or without one.
+pub fn read_outside(
+    alloc: Global,
+    depth: Option<u32>,
+    table: &Table,
+) -> Result<Choice, SettingsFault>
+    ensures ok { IfOk result (λ choice. describing_in depth (table_view table.now) ≡ Ok choice) }
+    ensures refused { IfErr result (RefusedBy (describing_in depth (table_view table.now))) }
 {
     let label = keyed(Key::Label, read_label(value_at(table, "label")))?;
-    read_described(alloc, Text::copy_of(alloc, label)?, table)
+    read_described(alloc, depth, Text::copy_of(alloc, label)?, table)
 }

@@ -1,9 +1,8 @@
 //! The numbers of the settings, by what they are for.
 ghost use Rattle.std.specs.Prelude.{◌≡◌, ◌≤◌, Ok, IfOk, IfErr, IfSome, false, length};
 ghost use Rattle.toml.specs.View.{table_view};
-ghost use Rattle.campaign_settings.specs.Settings.{IsPlanning, IsRunning, RefusedBy, campaign_of, crash_states_in, depth_beside, planning_for, planning_in, running_in};
+ghost use Rattle.campaign_settings.specs.Settings.{IsPlanning, IsRunning, RefusedBy, campaign_of, crash_states_in, depth_beside, planning_in, running_in};
 
-use crate::choice::Setup;
 use crate::fault::SettingsFault;
 use crate::keys::Key;
 use crate::tables::keyed;
@@ -120,19 +119,6 @@ fn read_crash_states(table: &Table) -> Result<bool, SettingsFault>
         Key::CrashStates,
         read_boolean(value_at(table, "crash_states"), CRASH_STATES_IF_MISSING),
     )
-}
-
-// Which plans are made for a target.
-pub fn read_planning_for(setup: Setup, table: &Table) -> Result<Planning, SettingsFault>
-    ensures ok { IfOk result (λ planning. planning_for setup (table_view table.now) ≡ Ok planning) }
-    ensures ranges { IfOk result IsPlanning }
-    ensures refused { IfErr result (RefusedBy (planning_for setup (table_view table.now))) }
-{
-    let planning = read_planning(table)?;
-    match setup {
-        Setup::Outside if planning.depth.is_some() => Err(SettingsFault::OutOfRange(Key::Depth)),
-        _ => Ok(planning),
-    }
 }
 
 // The settings of a campaign, by these numbers and its listed scenarios, from no text yet.

@@ -6,7 +6,7 @@ ghost use Rattle.campaign_settings.specs.Own.{given_in, own_settings_in, own_set
 
 use crate::fault::SettingsFault;
 use crate::keys::{Key, Place, TargetName};
-use crate::numbers::{campaign_of, read_planning, read_planning_for, read_running};
+use crate::numbers::{campaign_of, read_planning, read_running};
 use crate::own::{OwnSettings, OwnWords, read_variant, read_words};
 use crate::scenarios::{read_listed, read_scenarios};
 use crate::settings::Settings;
@@ -23,7 +23,8 @@ pub const LIMIT: usize = 1048576;
 impl Settings {
     /// The settings that a text of TOML gives. `Err` is the first fault of the text, in this order: too long, no TOML, an unknown key at the
     /// top, each key as [`Key`] lists them, and in the target's table its unknown key before its keys; or that memory ran out. Pairs beside a
-    /// depth, and a depth of a target from outside, are out of range: that comes after the depth's own fault, and before the keys behind it.
+    /// depth are out of range: that comes after the depth's own fault, and before the keys behind it. Of a target from outside the hits have to
+    /// be there without a depth; beside one any are out of range, as answers tell them, and each count is 0.
     pub fn read(alloc: Global, text: &str) -> Result<Settings, SettingsFault>
         ensures ok { IfOk result (λ settings. settings_of text.now ≡ Ok settings) }
         ensures refused { IfErr result (RefusedBy (settings_of text.now)) }
@@ -126,9 +127,9 @@ fn read_for(alloc: Global, target: TargetName, table: &Table) -> Result<Settings
 {
     let setup = keyed(Key::Variant, read_setup(target, value_at(table, "variant")))?;
     let running = read_running(table)?;
-    let planning = read_planning_for(setup, table)?;
+    let planning = read_planning(table)?;
     let scenarios = read_scenarios(alloc, setup, value_at(table, "scenarios"))?;
-    let choice = read_choice(alloc, target, setup, table)?;
+    let choice = read_choice(alloc, target, setup, planning.depth, table)?;
     Ok(Settings {
         choice,
         campaign: campaign_of(alloc, running, planning, scenarios),

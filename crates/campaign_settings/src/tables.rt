@@ -96,16 +96,21 @@ fn read_commit(
     Ok(Choice::Commit(variant, Transactions::new(participants, transactions)))
 }
 
-// What the target's table says, where it has no unknown key.
-fn read_work(alloc: Global, setup: Setup, table: &Table) -> Result<Choice, SettingsFault>
-    ensures ok { IfOk result (λ choice. work_in setup (table_view table.now) ≡ Ok choice) }
-    ensures refused { IfErr result (RefusedBy (work_in setup (table_view table.now))) }
+// What the target's table says, where it has no unknown key, beside a depth or without one.
+fn read_work(
+    alloc: Global,
+    setup: Setup,
+    depth: Option<u32>,
+    table: &Table,
+) -> Result<Choice, SettingsFault>
+    ensures ok { IfOk result (λ choice. work_in setup depth (table_view table.now) ≡ Ok choice) }
+    ensures refused { IfErr result (RefusedBy (work_in setup depth (table_view table.now))) }
 {
     match setup {
         Setup::Replace(variant) => read_replace(alloc, variant, table),
         Setup::Maildir(variant) => read_maildir(alloc, variant, table),
         Setup::Commit(variant) => read_commit(alloc, variant, table),
-        Setup::Outside => read_outside(alloc, table),
+        Setup::Outside => read_outside(alloc, depth, table),
     }
 }
 
@@ -114,15 +119,16 @@ pub fn read_choice(
     alloc: Global,
     target: TargetName,
     setup: Setup,
+    depth: Option<u32>,
     table: &Table,
 ) -> Result<Choice, SettingsFault>
-    ensures ok { IfOk result (λ choice. choice_in target setup (table_view table.now) ≡ Ok choice) }
-    ensures refused { IfErr result (RefusedBy (choice_in target setup (table_view table.now))) }
+    ensures ok { IfOk result (λ choice. choice_in target setup depth (table_view table.now) ≡ Ok choice) }
+    ensures refused { IfErr result (RefusedBy (choice_in target setup depth (table_view table.now))) }
 {
     let own = keyed(
         Key::Table(target),
         read_table(value_at(table, target.name())),
     )?;
     refuse_unknown(alloc, Place::Within(target), own)?;
-    read_work(alloc, setup, own)
+    read_work(alloc, setup, depth, own)
 }

@@ -1,5 +1,6 @@
 //! The values that settings give.
 
+use crate::own_words::refuses;
 use campaign_main::{CampaignSettings, Choice, CommitVariant, ReplaceVariant, Settings};
 use std::alloc::Global;
 use std::process::Abort;
@@ -67,6 +68,73 @@ fn depths_that_are_given(rt: HostRuntime) -> Result<(), Fail> {
         )?;
         let settings = read(rt.alloc(), text.as_str())?;
         assert_eq!(rt; settings.campaign.depth, Some(depth));
+    }
+    Ok(())
+}
+
+/// Settings of a component that somebody else runs, with these lines before its table and at its end.
+fn outside_text(alloc: Global, top: &str, hits: &str) -> Result<String, Fail> {
+    Ok(format!(in alloc;
+        "target = 'outside'\n{top}\n[outside]\nlabel = 's'\ncodes = []\npoints = ['a', 'b', 'c']\n{hits}\n"
+    )?)
+}
+
+#[test]
+fn a_component_takes_a_depth_without_hits(rt: HostRuntime) -> Result<(), Fail> {
+    for (top, depth) in [("depth = 1", 1), ("pairs = false\ndepth = 64", 64)] {
+        let text = outside_text(rt.alloc(), top, "")?;
+        let settings = read(rt.alloc(), text.as_str())?;
+        assert_eq!(rt; settings.campaign.depth, Some(depth));
+        let Choice::Outside(outside) = &settings.choice else {
+            return Err(Fail::from("another target"));
+        };
+        assert_eq!(rt; outside.points.len(), 3);
+        assert_eq!(rt; outside.hits.as_slice(), [0, 0, 0].as_slice());
+    }
+    Ok(())
+}
+
+#[test]
+fn hits_of_a_component_go_with_no_depth(rt: HostRuntime) -> Result<(), Fail> {
+    let alloc = rt.alloc();
+    for (top, hits, line) in [
+        ("", "", "settings: missing outside.hits"),
+        (
+            "depth = 2",
+            "hits = [0, 0, 0]",
+            "settings: out of range outside.hits",
+        ),
+        (
+            "depth = 2",
+            "hits = [0, 0]",
+            "settings: out of range outside.hits",
+        ),
+        (
+            "depth = 2",
+            "hits = 'none'",
+            "settings: out of range outside.hits",
+        ),
+        (
+            "depth = 2",
+            "hits = 1\nother = 1",
+            "settings: unknown key outside.other",
+        ),
+        (
+            "depth = 2\npairs = true",
+            "hits = 1",
+            "settings: out of range pairs",
+        ),
+        ("depth = 0", "hits = 1", "settings: out of range depth"),
+        ("depth = 65", "hits = 1", "settings: out of range depth"),
+        ("depth = '2'", "hits = 1", "settings: wrong type depth"),
+        (
+            "depth = 2\nscenarios = 1",
+            "hits = 1",
+            "settings: wrong type scenarios",
+        ),
+    ] {
+        let text = outside_text(alloc, top, hits)?;
+        refuses(&rt, alloc, Settings::read(alloc, text.as_str()), line)?;
     }
     Ok(())
 }

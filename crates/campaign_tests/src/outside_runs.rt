@@ -4,7 +4,7 @@ ghost use Rattle.std.specs.Prelude.{◌≡◌, ◌≤◌, length, IfOk};
 use crate::always_broken::AlwaysBroken;
 use crate::running::{reported, settings};
 use crate::three_codes::ThreeCodes;
-use campaign_core::try_one;
+use campaign_core::{Subject, try_one};
 use campaign_given::CampaignSettings;
 use scenario_grammar::{Scenario, parse};
 use std::alloc::Global;
@@ -184,15 +184,12 @@ fn a_broken_target_is_found_by_one_try(rt: HostRuntime) -> Result<(), Fail> {
     let scenario = parse(alloc, "broken::point=return")?;
     let settings = settings(alloc, 1, false, Vec::new(alloc));
     let mut sink = Out::new(Vec::new(alloc));
-    let verdict = try_one(
-        alloc,
-        &mut AlwaysBroken,
-        &(),
-        &settings,
-        0,
-        &scenario,
-        &mut sink,
-    );
+    let subject = Subject {
+        target: &AlwaysBroken,
+        workload: &(),
+        settings: &settings,
+    };
+    let verdict = try_one(alloc, &subject, 0, &scenario, &mut sink);
     assert_eq!(rt; verdict, Ok(Verdict::Fail(0)));
     assert_eq!(rt;
         sink.into_writer().as_slice(),

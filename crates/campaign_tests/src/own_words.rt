@@ -44,7 +44,7 @@ fn words_may_be_missing(rt: HostRuntime) -> Result<(), Fail> {
 }
 
 /// The line with which settings are refused.
-fn refuses<T: Drop>(
+pub fn refuses<T: Drop>(
     rt: &impl Abort,
     alloc: Global,
     read: Result<T, campaign_main::SettingsFault>,

@@ -1,6 +1,6 @@
 //! A reader that goes wrong, and what a command does with readers and writers.
 
-use campaign_main::{Exit, FreeGate, Order, Out, Sink, perform};
+use campaign_main::{Exit, FreeGate, Host, Order, Out, Sink, perform};
 use std::alloc::Global;
 use std::io;
 use std::io::Read;
@@ -50,15 +50,12 @@ pub fn answer<R: Read, H: Threads + Wait + Sync>(
 ) -> Answered {
     let mut output = Out::new(writer);
     let mut faults = Out::new(Vec::new(alloc));
-    let exit = perform(
+    let host = Host {
         rt,
         alloc,
-        order,
-        &FreeGate,
-        reader,
-        &mut output,
-        &mut faults,
-    );
+        gate: &FreeGate,
+    };
+    let exit = perform(&host, order, reader, &mut output, &mut faults);
     let has_failed = output.failed();
     Answered {
         exit,

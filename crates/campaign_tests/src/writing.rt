@@ -2,7 +2,7 @@
 
 use crate::late_sync::{LATE_SYNC, LATE_SYNC_REPORT};
 use crate::streams::{Answered, answer};
-use campaign_main::{Exit, Form, FreeGate, Order, Out, Which, perform, status};
+use campaign_main::{Exit, Form, FreeGate, Host, Order, Out, Which, perform, status};
 use std::alloc::Global;
 use std::process::Abort;
 use std::sync::Wait;
@@ -115,15 +115,18 @@ fn a_line_that_cannot_be_written_changes_no_end(rt: HostRuntime) {
     let mut output = Out::new(Vec::new(rt.alloc()));
     let mut faults = Out::new(Narrow::new(rt.alloc(), 0));
     let mut reader = b"".as_slice();
+    let host = Host {
+        rt: &rt,
+        alloc: rt.alloc(),
+        gate: &FreeGate,
+    };
     let exit = perform(
-        &rt,
-        rt.alloc(),
+        &host,
         &Order::Run {
             form: Form::Whole,
             strict: false,
             recheck: false,
         },
-        &FreeGate,
         &mut reader,
         &mut output,
         &mut faults,

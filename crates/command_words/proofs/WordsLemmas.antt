@@ -31,7 +31,7 @@ use Rattle.clap.specs.declared.parser.matches.SubCommand.{SubCommand}
 use Rattle.clap.proofs.OnLiterals.{clap_on_literals}
 use Rattle.command_words.proofs.HelpLemmas.{NotHelp, no_faults, not-help}
 use Rattle.command_words.proofs.ValueLemmas.{all_have, first-there, level-has}
-use Rattle.command_words.specs.Words.{HasNeeded, IsFaultOf, IsLine, IsLineOf, IsName, IsRefusedFor, Spells, Values, choice_fault, choice_kinds, needs_file, paklour, values_in, values_of, words_fault}
+use Rattle.command_words.specs.Words.{HasNeeded, IsFaultOf, IsLine, IsLineOf, IsName, IsRefusedFor, Spells, Values, choice_fault, choice_kinds, needs_file, number_kinds, paklour, values_in, values_of, words_fault}
 use Rattle.command_words.specs.declared.words.WordsFault.{WordsFault}
 use Rattle.command_words.specs.declared.words.WordsFault.TheVariants.{Refused, Memory}
 
@@ -126,7 +126,23 @@ name-entered words name rows none e =
 -- a parse's values are those among its rows
 values-rows : (f : Found) → values_of f ≡ values_in (rows_of f)
 values-rows f =
-    rw (first_value-rows f (codes "scenario"), first_value-rows f (codes "plan"), first_value-rows f (codes "brief"), first_value-rows f (codes "json"), first_value-rows f (codes "junit"), first_value-rows f (codes "map"), first_value-rows f (codes "page"), first_value-rows f (codes "strict"), first_value-rows f (codes "recheck"), first_value-rows f (codes "progress"), first_value-rows f (codes "progress-plain"), first_value-rows f (codes "file")) refl
+    rw (
+      first_value-rows f (codes "scenario"),
+      first_value-rows f (codes "plan"),
+      first_value-rows f (codes "brief"),
+      first_value-rows f (codes "json"),
+      first_value-rows f (codes "junit"),
+      first_value-rows f (codes "map"),
+      first_value-rows f (codes "page"),
+      first_value-rows f (codes "partial"),
+      first_value-rows f (codes "left"),
+      first_value-rows f (codes "shard"),
+      first_value-rows f (codes "strict"),
+      first_value-rows f (codes "recheck"),
+      first_value-rows f (codes "progress"),
+      first_value-rows f (codes "progress-plain"),
+      first_value-rows f (codes "file"),
+    ) refl
 
 pub line-read : (o : Option (Text × List Row)) (name : Text) (f : Found) (line : Line) → o ≡ Some (name, rows_of f) → IsLineOf name (values_of f) line → IsLine o line
 line-read o name f line e h =
@@ -252,19 +268,16 @@ memory-only T (Err (Refused e)) choice kinds is h = λ _ none. absurd (subst (Is
 
 -- ---- N, read as a number
 
-abbrev NumberKinds : Text → Kinds
-NumberKinds text = value_kinds false (Unsigned 0 65535) text
-
 abbrev FitsPlan : Text → Type 0
 FitsPlan text = IsNumeral 10 (without_leading_plus text) × (digits_value 10 (without_leading_plus text) < 65536)
 
-pub number-read : (text : Text) (n : ℕ) → FitsPlan text × (n ≡ digits_value 10 (without_leading_plus text)) → Spells text n × (NumberKinds text ≡ [])
+pub number-read : (text : Text) (n : ℕ) → FitsPlan text × (n ≡ digits_value 10 (without_leading_plus text)) → Spells text n × (number_kinds text ≡ [])
 number-read text n h =
     let small : digits_value 10 (without_leading_plus text) < 65536 = h.0.1 in
     let fits : IsUnsignedIn 0 65535 text = (h.0.0, omega (arith, small), omega arith, omega (arith, small)) in
     ((h.0.0, sym h.1), ap (λ b. if b then [] else ValueValidation ∷ []) (Accepts-accepts false (Unsigned 0 65535) text fits))
 
-pub number-refused : (text : Text) → ¬ (FitsPlan text) → NumberKinds text ≡ ValueValidation ∷ []
+pub number-refused : (text : Text) → ¬ (FitsPlan text) → number_kinds text ≡ ValueValidation ∷ []
 number-refused text h = of (accepts false (Unsigned 0 65535) text) refl
   where
     of : (b : Bool) → accepts false (Unsigned 0 65535) text ≡ b → (if accepts false (Unsigned 0 65535) text then [] else ValueValidation ∷ []) ≡ ValueValidation ∷ []

@@ -1,5 +1,6 @@
 -- The program's command line: the command that clap builds, and what its matches mean.
-use Rattle.std.specs.Prelude.{◌≡◌, ◌⊎◌, ◌||◌, ◌++◌, ℕ, Bool, List, [], ◌∷◌, true, false, Option, Some, None, Result, Ok, Err, codes, if◌then◌else◌, is_some, option_map, String, string_bytes}
+use Rattle.std.specs.Prelude.{◌≡◌, ◌⊎◌, ◌||◌, ◌&&◌, ◌==◌, ◌<◌, ◌≤◌, ◌++◌, nat_lt, nat_le, ℕ, Bool, List, [], ◌∷◌, true, false, Option, Some, None, Result, Ok, Err, codes, if◌then◌else◌, is_some, option_map, String, string_bytes}
+use Rattle.std.specs.List.{after_first, before_first}
 use Rattle.std.specs.Option.{option_map_or}
 use Rattle.std.specs.Str.{bytes_eq}
 use Rattle.std.specs.Str.Parse.{IsNumeral, digits_value, without_leading_plus}
@@ -11,8 +12,10 @@ use Rattle.clap.specs.declared.builder.action.ArgAction.TheVariants.{SetTrue}
 use Rattle.clap.specs.declared.builder.command.Command.{Command}
 use Rattle.clap.specs.declared.builder.value_parser.ValueParser.TheVariants.{Unsigned}
 use Rattle.clap.specs.declared.error.Error.{Error}
-use Rattle.clap.specs.declared.error.kind.ErrorKind.TheVariants.{ArgumentConflict, DisplayHelp, DisplayVersion, MissingRequiredArgument, OutOfMemory}
+use Rattle.clap.specs.declared.error.kind.ErrorKind.TheVariants.{ArgumentConflict, DisplayHelp, DisplayVersion, MissingRequiredArgument, OutOfMemory, ValueValidation}
 use Rattle.clap.specs.declared.parser.matches.Found.{Found}
+use Rattle.command_words.specs.declared.words.AskedPart.{AskedPart}
+use Rattle.command_words.specs.declared.words.AskedPart.TheVariants as part
 use Rattle.command_words.specs.declared.words.Form.{Form}
 use Rattle.command_words.specs.declared.words.Form.TheVariants.{Whole, Brief, Json, Junit, Page}
 use Rattle.command_words.specs.declared.words.Line.{Line}
@@ -76,6 +79,18 @@ map_rule = flag_rule (codes "map")
 abbrev pub page_rule : Rule
 page_rule = flag_rule (codes "page")
 
+-- --partial, a flag
+abbrev pub partial_rule : Rule
+partial_rule = flag_rule (codes "partial")
+
+-- --left, a flag
+abbrev pub left_rule : Rule
+left_rule = flag_rule (codes "left")
+
+-- --shard K/N
+abbrev pub shard_rule : Rule
+shard_rule = value_rule (codes "shard")
+
 -- --progress, a flag
 abbrev pub progress_rule : Rule
 progress_rule = flag_rule (codes "progress")
@@ -118,13 +133,13 @@ shown_app app = with_rule (with_rule app progress_rule) progress_plain_rule
 abbrev pub rechecked_app : App → App
 rechecked_app app = with_rule app recheck_rule
 
--- a command that takes FILE, which has to be there since standard input has the answers
-abbrev pub question_app : Text → App
-question_app name = with_rule (new_app name) needed_file_rule
+-- a command that asks, for a part of the lines or how many there are; FILE has to be there since standard input has the answers
+abbrev pub asks_app : Text → App
+asks_app name = with_rule (with_rule (with_rule (new_app name) left_rule) shard_rule) needed_file_rule
 
--- a command that writes a report by answers, in one of these forms, or as the map or a page
+-- a command that writes a report by answers, in one of these forms, as the map or a page, or as far as it is known
 abbrev pub told_app : App → App
-told_app app = with_rule (with_rule (formed_app app) map_rule) page_rule
+told_app app = with_rule (with_rule (with_rule (formed_app app) map_rule) page_rule) partial_rule
 
 -- the one of these that writes a report, on which it may be strict
 abbrev pub question_report_app : Text → App
@@ -144,7 +159,7 @@ scenario_commands =
     (scenario_app (codes "try")).top ∷ (shown_app (scenario_app (codes "reduce"))).top ∷ (scenario_app (codes "explain")).top ∷ []
 
 abbrev pub question_commands : List Shape
-question_commands = (question_app (codes "asks")).top ∷ (question_report_app (codes "report")).top ∷ []
+question_commands = (asks_app (codes "asks")).top ∷ (question_report_app (codes "report")).top ∷ []
 
 -- the program without a command, which has a version
 abbrev pub bare_app : App
@@ -170,7 +185,7 @@ spelled word = if bytes_eq word (codes "--progress=plain") then codes "--progres
 abbrev pub spelled_word : {A : Type 0} → String A → Text
 spelled_word word = spelled (string_bytes word)
 
--- the values that a command was given: TEXT, N, `true` where --brief was given, and so of the other flags, and FILE
+-- the values that a command was given: TEXT, N, K/N, `true` where --brief was given, and so of the other flags, and FILE
 pub record Values : Type 0 where
   pub scenario : Option Text
   pub plan : Option Text
@@ -179,6 +194,9 @@ pub record Values : Type 0 where
   pub junit : Option Text
   pub map : Option Text
   pub page : Option Text
+  pub partial : Option Text
+  pub left : Option Text
+  pub shard : Option Text
   pub strict : Option Text
   pub recheck : Option Text
   pub progress : Option Text
@@ -194,6 +212,9 @@ values_in rows = record {
   junit = first_of (codes "junit") rows;
   map = first_of (codes "map") rows;
   page = first_of (codes "page") rows;
+  partial = first_of (codes "partial") rows;
+  left = first_of (codes "left") rows;
+  shard = first_of (codes "shard") rows;
   strict = first_of (codes "strict") rows;
   recheck = first_of (codes "recheck") rows;
   progress = first_of (codes "progress") rows;
@@ -211,6 +232,9 @@ values_of f = record {
   junit = first_value f (codes "junit");
   map = first_value f (codes "map");
   page = first_value f (codes "page");
+  partial = first_value f (codes "partial");
+  left = first_value f (codes "left");
+  shard = first_value f (codes "shard");
   strict = first_value f (codes "strict");
   recheck = first_value f (codes "recheck");
   progress = first_value f (codes "progress");
@@ -251,6 +275,7 @@ named_if value form = if is_set value then form ∷ [] else []
 abbrev pub told_forms : Values → List ToldForm
 told_forms v =
     named_if v.brief told.Brief ++ named_if v.json told.Json ++ named_if v.junit told.Junit ++ named_if v.map told.Map ++ named_if v.page told.Page
+    ++ named_if v.partial told.Partial
 
 -- one of them at most, and whole where none was
 abbrev pub only_form : List ToldForm → Option ToldForm
@@ -280,9 +305,22 @@ IsOrder name v (order.Try which) = (name ≡ codes "try") × IsWhich v which
 IsOrder name v (order.Reduce which) = (name ≡ codes "reduce") × IsWhich v which
 IsOrder name v (order.Explain which) = (name ≡ codes "explain") × IsWhich v which
 
+-- K and N, which a `/` parts, K from 1 to N
+abbrev pub is_slash : ℕ → Bool
+is_slash byte = byte == 47
+
+abbrev pub SpellsShard : Text → ℕ → ℕ → Type 0
+SpellsShard text number of = Spells (before_first is_slash text) number × Spells (after_first is_slash text) of × (0 < number) × (number ≤ of)
+
+-- a command asks for all lines, for each N-th from line K on, or for how many there are
+abbrev pub IsPart : Values → AskedPart → Type 0
+IsPart v part.All = (is_set v.left ≡ false) × (v.shard ≡ None)
+IsPart v (part.Shard number of) = (is_set v.left ≡ false) × ((text : Text) × (v.shard ≡ Some text) × SpellsShard text number of)
+IsPart v part.Left = (is_set v.left ≡ true) × (v.shard ≡ None)
+
 -- the question that a command's name and its values give
 abbrev pub IsQuestion : Text → Values → Question → Type 0
-IsQuestion name v Asks = name ≡ codes "asks"
+IsQuestion name v (Asks part) = (name ≡ codes "asks") × IsPart v part
 IsQuestion name v (Report form strict) = (name ≡ codes "report") × (told_form_of v ≡ Some form) × (strict ≡ is_set v.strict)
 
 -- the order of no command is Run, with the whole report, on the settings that come from standard input, and nothing more is shown
@@ -331,11 +369,15 @@ HasNeeded name file = needs_file name ≡ true → is_some file ≡ true
 
 -- ---- refusals
 
+-- which kind a refusal of a number from 0 to 65535 has
+abbrev pub number_kinds : Text → Kinds
+number_kinds text = value_kinds false (Unsigned 0 65535) text
+
 -- which kind a refusal of TEXT and N has: one of the two has to be there, and N is a number from 0 to 65535
 abbrev pub which_kinds : Option Text → Option Text → Kinds
 which_kinds None None = MissingRequiredArgument ∷ []
 which_kinds (Some text) None = []
-which_kinds None (Some number) = value_kinds false (Unsigned 0 65535) number
+which_kinds None (Some number) = number_kinds number
 which_kinds (Some text) (Some number) = ArgumentConflict ∷ []
 
 -- which kind a refusal of the flags has that name a form: there is none of two of them
@@ -347,11 +389,30 @@ abbrev pub told_form_kinds : Option ToldForm → Kinds
 told_form_kinds (Some form) = []
 told_form_kinds None = ArgumentConflict ∷ []
 
+-- which kind a refusal of --left and K/N has: there is none of the two, K and N are numbers from 0 to 65535, and K is one from 1 to N
+abbrev pub order_kinds : ℕ → ℕ → Kinds
+order_kinds number of = if nat_lt 0 number && nat_le number of then [] else ValueValidation ∷ []
+
+abbrev pub number_in : Text → ℕ
+number_in text = digits_value 10 (without_leading_plus text)
+
+abbrev pub parts_kinds : Text → Text → Kinds
+parts_kinds number of = or_else (number_kinds number) (or_else (number_kinds of) (order_kinds (number_in number) (number_in of)))
+
+abbrev pub shard_kinds : Text → Kinds
+shard_kinds text = parts_kinds (before_first is_slash text) (after_first is_slash text)
+
+abbrev pub part_kinds : Bool → Option Text → Kinds
+part_kinds left None = []
+part_kinds true (Some text) = ArgumentConflict ∷ []
+part_kinds false (Some text) = shard_kinds text
+
 -- the same of a command's name and its values
 abbrev pub choice_kinds : Text → Values → Kinds
 choice_kinds name v =
     if takes_scenario name then which_kinds v.scenario v.plan
     else if bytes_eq name (codes "run") then form_kinds (form_of v)
+    else if bytes_eq name (codes "asks") then part_kinds (is_set v.left) v.shard
     else if bytes_eq name (codes "report") then told_form_kinds (told_form_of v)
     else []
 

@@ -73,6 +73,13 @@ pub const MAP_FORM: &str = "Write the map, an SVG picture";
 
 pub const PAGE_FORM: &str = "Write a page to look at, as HTML; it tells no run hit by hit";
 
+pub const PARTIAL: &str = "Write what is known so far, before all is answered; no report";
+
+pub const LEFT: &str = "Write how many lines ask, as `left 12`, in place of them";
+
+pub const SHARD: &str =
+    "Write each N-th line, from line K on: 1/3, 2/3 and 3/3 are all lines, each once";
+
 pub const STRICT: &str = "Tell on standard error what the report doesn't show, and end with 5 then";
 
 pub const RECHECK: &str =
@@ -115,9 +122,12 @@ pub const ANSWERS: &str = "\
 Somebody else runs the component, as a loop in a shell does, and the settings say so. Standard input
 has the answers so far, up to 268435456 bytes, a line for each run:
   VERDICT<TAB>SCENARIO
+or, where the settings have a depth:
+  VERDICT<TAB>SCENARIO<TAB>HITS
 The verdict is `pass`, `unresolved`, or `fail` and one of the settings' codes. The scenario is
-`none`, the one without faults, or a text as in `paklour help try`. Answers may come in any order,
-and again; two that contradict each other are refused.
+`none`, the one without faults, or a text as in `paklour help try`. The hits are the points of the
+run, in order, as `libc::open;4*libc::write`; `-` for an unresolved run of which nobody knows them.
+Answers may come in any order, and again; two that contradict each other are refused.
 
 `asks` writes scenarios that have no answer, one a line and each once, and nothing where all is
 known; its exit status is 0. `report` writes the report, or that a scenario is `not answered`.
@@ -127,6 +137,8 @@ Example:
   paklour report my.toml < answers
   paklour report --brief my.toml < answers
   paklour report --page my.toml < answers > page.html
+  paklour report --partial my.toml < answers      what is known so far
+  paklour asks --shard 1/3 my.toml < answers      what the first of three machines tries
 with settings as
   target = \"outside\"
   seed = 7
@@ -167,9 +179,10 @@ and the table of the target, with all of its keys:
     label         what the component is, a text of up to 200 bytes
     codes         what may follow `fail` in an answer, up to 64 texts of up to 200 bytes
     points        the names of its points, 1 to 64 texts of up to 200 bytes
-    hits          how often each point is hit without faults, as many numbers from 0 to 100000
+    hits          how often each point is hit without faults, as many numbers from 0 to 100000;
+                  with a depth the answers tell that, and this key is out of range
 With \"outside\" somebody else runs the component: only plans, asks and report take such settings, in
-which variant, workers, max_hits and crash_states are unknown keys, and depth is out of range.
+which variant, workers, max_hits and crash_states are unknown keys. With a depth plans takes none.
 A chunk is a text of up to 4096 bytes. `paklour help try` says what a scenario may hold.
 
 Example:

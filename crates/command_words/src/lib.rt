@@ -2,8 +2,10 @@
 #![tactic(auto)]
 
 mod help;
+mod numbers;
 mod words;
 
 pub use words::{
-    Form, Line, Order, ProgressForm, Question, ToldForm, VERSION, Which, WordsFault, read_words,
+    AskedPart, Form, Line, Order, ProgressForm, Question, ToldForm, VERSION, Which, WordsFault,
+    read_words,
 };

@@ -1,12 +1,11 @@
 ghost use Rattle.std.specs.Prelude.{◌≡◌, ◌↔◌, ◌∷◌, [], IsTrue, Some, None, option_map, is_some, true, false, ◌++◌, IfOk, IfErr, IfSome, OnOk, map, codes, string_bytes};
 ghost use Rattle.clap.specs.Words.{app_of, fault_of, first_value, found_of, new_app, rule_of, subcommand_of, takes};
 ghost use Rattle.clap.specs.declared.builder.command.Command.TheViews.{out-Command as fields_of};
-ghost use Rattle.command_words.specs.Words.{AsksToSee, HasAlso, HasNeeded, IsFaultOf, IsLine, IsLineOf, IsName, IsOrder, IsOrderName, IsQuestion, IsQuestionName, IsRefusedFor, IsScenarioName, IsWhich, Spells, bare_app, campaign_commands, choice_fault, choice_kinds, file_app, file_rule, flag_rule, form_kinds, form_of, formed_app, told_app, told_form_kinds, told_form_of, told_forms, named_if, needed_file_rule, paklour, is_set, progress_form_of, spelled, spelled_word, question_app, question_commands, question_report_app, rechecked_app, report_app, scenario_app, scenario_commands, shown_app, value_rule, values_of, which_kinds, with_commands, words_fault};
+ghost use Rattle.command_words.specs.Words.{AsksToSee, HasAlso, HasNeeded, IsFaultOf, IsLine, IsLineOf, IsName, IsOrder, IsOrderName, IsPart, IsQuestion, IsQuestionName, IsRefusedFor, IsScenarioName, IsWhich, bare_app, campaign_commands, choice_fault, choice_kinds, file_app, file_rule, flag_rule, form_kinds, form_of, formed_app, told_app, told_form_kinds, told_form_of, told_forms, named_if, needed_file_rule, paklour, is_set, part_kinds, progress_form_of, spelled, spelled_word, asks_app, question_commands, question_report_app, rechecked_app, report_app, scenario_app, scenario_commands, shown_app, value_rule, values_of, which_kinds, with_commands, words_fault};
 ghost use Rattle.command_words.specs.declared.words.WordsFault.TheVariants.{Memory};
-ghost use Rattle.clap.specs.Kinds.{value_kinds};
-ghost use Rattle.clap.specs.declared.builder.value_parser.ValueParser.TheVariants.{Unsigned};
 
 use crate::help;
+use crate::numbers::{shard_of, small_number};
 use clap::error::ErrorKind;
 use clap::{Arg, ArgAction, ArgMatches, Command};
 use std::alloc::{AllocError, Global};
@@ -55,6 +54,8 @@ pub enum ToldForm {
     Map,
     /// A page, as HTML.
     Page,
+    /// What is known so far, while something is still to be tried.
+    Partial,
 }
 
 impl ToldForm {
@@ -67,6 +68,7 @@ impl ToldForm {
             ToldForm::Junit => "junit",
             ToldForm::Map => "map",
             ToldForm::Page => "page",
+            ToldForm::Partial => "partial",
         }
     }
 }
@@ -104,11 +106,22 @@ pub enum Order {
     Explain(Which),
 }
 
+/// Which of the lines that ask are written.
+#[derive(Clone, Copy, Debug)]
+pub enum AskedPart {
+    /// All of them.
+    All,
+    /// Those of one of several machines: each `of`-th line, from line `number` on. Lines are counted from 1, and `number` is one from 1 to `of`.
+    Shard { number: u16, of: u16 },
+    /// How many there are.
+    Left,
+}
+
 /// What is asked of the answers on standard input, about a component that somebody else runs.
 #[derive(Clone, Copy, Debug)]
 pub enum Question {
     /// Which scenarios are still to be tried.
-    Asks,
+    Asks(AskedPart),
     /// The campaign's report, in a form. Where `strict` is set, what makes it say less than it seems to is told beside it.
     Report { form: ToldForm, strict: bool },
 }
@@ -322,15 +335,14 @@ fn reduce_command<'a>(alloc: Global) -> Result<Command<'a>, AllocError>
     with_progress(alloc, command)
 }
 
-fn question_command<'a>(
-    alloc: Global,
-    name: &'a str,
-    about: &'a str,
-) -> Result<Command<'a>, AllocError>
-    ensures app { IfOk result (λ command. app_of command ≡ question_app name.entry.now) }
+fn asks_command<'a>(alloc: Global, name: &'a str, about: &'a str) -> Result<Command<'a>, AllocError>
+    ensures app { IfOk result (λ command. app_of command ≡ asks_app name.entry.now) }
     ensures local { IfOk result (λ command. (fields_of command).has_globals ≡ false) }
 {
-    named(alloc, name, about, help::ANSWERS).arg(needed_file_arg(alloc))
+    named(alloc, name, about, help::ANSWERS)
+        .arg(flag_arg(alloc, "left", help::LEFT))?
+        .arg(value_arg(alloc, "shard", "K/N", help::SHARD))?
+        .arg(needed_file_arg(alloc))
 }
 
 fn question_report_command<'a>(
@@ -354,7 +366,8 @@ fn with_told_forms<'a>(alloc: Global, command: Command<'a>) -> Result<Command<'a
 {
     with_forms(alloc, command)?
         .arg(flag_arg(alloc, "map", help::MAP_FORM))?
-        .arg(flag_arg(alloc, "page", help::PAGE_FORM))
+        .arg(flag_arg(alloc, "page", help::PAGE_FORM))?
+        .arg(flag_arg(alloc, "partial", help::PARTIAL))
 }
 
 // The command with one more subcommand.
@@ -404,7 +417,7 @@ fn with_scenarios<'a>(alloc: Global, command: Command<'a>) -> Result<Command<'a>
 fn with_questions<'a>(alloc: Global, command: Command<'a>) -> Result<Command<'a>, AllocError>
     ensures { IfOk result (λ more. app_of more ≡ with_commands (app_of command.entry) question_commands) }
 {
-    let command = with(command, question_command(alloc, "asks", help::ASKS))?;
+    let command = with(command, asks_command(alloc, "asks", help::ASKS))?;
     with(
         command,
         question_report_command(alloc, "report", help::REPORT),
@@ -541,13 +554,47 @@ fn question_of<'a>(
     ensures refused { IfErr result (IsRefusedFor (choice_kinds name.now (values_of (found_of own.now)))) }
 {
     match name {
-        "asks" => Ok(Some(Question::Asks)),
+        "asks" => Ok(Some(Question::Asks(part_of(alloc, own)?))),
         "report" => Ok(Some(Question::Report {
             form: told_form_of(alloc, own)?,
             strict: is_strict(own),
         })),
         _ => Ok(None),
     }
+}
+
+// Which of the lines that ask are to be written.
+fn part_of<'a>(alloc: Global, own: &ArgMatches<'a>) -> Result<AskedPart, WordsFault>
+    ensures ok { IfOk result (IsPart (values_of (found_of own.now))) }
+    ensures taken { IfOk result (λ _. (let v = values_of (found_of own.now) in part_kinds (is_set v.left) v.shard) ≡ []) }
+    ensures refused { IfErr result (IsRefusedFor (let v = values_of (found_of own.now) in part_kinds (is_set v.left) v.shard)) }
+{
+    match (is_set(own, "left"), own.get_str("shard")) {
+        (false, None) => Ok(AskedPart::All),
+        (false, Some(text)) => match shard_of(text) {
+            Some((number, of)) => Ok(AskedPart::Shard { number, of }),
+            None => Err(no_shard(alloc, text)),
+        },
+        (true, None) => Ok(AskedPart::Left),
+        (true, Some(_)) => Err(unfit(
+            alloc,
+            "asks",
+            ErrorKind::ArgumentConflict,
+            "the argument '--left' cannot be used with '--shard <K/N>'",
+        )),
+    }
+}
+
+// The refusal of a K/N that names no part.
+fn no_shard(alloc: Global, text: &str) -> WordsFault
+    ensures { IsRefusedFor (ErrorKind.ValueValidation ∷ []) result }
+{
+    let Ok(message) = format!(in alloc;
+        "invalid value '{text}' for '--shard <K/N>': not K/N with K from 1 to N, and N up to 65535"
+    ) else {
+        return WordsFault::Memory;
+    };
+    unfit(alloc, "asks", ErrorKind::ValueValidation, message.as_str())
 }
 
 // Adds the form where its flag was given.
@@ -575,6 +622,7 @@ fn told_forms<'a>(alloc: Global, own: &ArgMatches<'a>) -> Result<Vec<ToldForm>, 
     add_named(&mut forms, own, "junit", ToldForm::Junit)?;
     add_named(&mut forms, own, "map", ToldForm::Map)?;
     add_named(&mut forms, own, "page", ToldForm::Page)?;
+    add_named(&mut forms, own, "partial", ToldForm::Partial)?;
     Ok(forms)
 }
 
@@ -675,7 +723,7 @@ fn which_of<'a>(alloc: Global, name: &str, own: &ArgMatches<'a>) -> Result<Which
 {
     match (own.get_str("scenario"), own.get_str("plan")) {
         (Some(text), None) => Ok(Which::Scenario(String::from_str(alloc, text)?)),
-        (None, Some(text)) => match plan_number(text) {
+        (None, Some(text)) => match small_number(text) {
             Some(number) => Ok(Which::Plan(number)),
             None => Err(no_number(alloc, name, text)),
         },
@@ -691,17 +739,6 @@ fn which_of<'a>(alloc: Global, name: &str, own: &ArgMatches<'a>) -> Result<Which
             ErrorKind::ArgumentConflict,
             "the argument '--scenario <TEXT>' cannot be used with '--plan <N>'",
         )),
-    }
-}
-
-// The number that N spells, from 0 to 65535.
-fn plan_number(text: &str) -> Option<u16>
-    ensures some { IfSome result (λ n. Spells text.now n × (value_kinds false (Unsigned 0 65535) text.now ≡ [])) }
-    ensures none { result ≡ None → value_kinds false (Unsigned 0 65535) text.now ≡ ErrorKind.ValueValidation ∷ [] }
-{
-    match text.parse::<u16>() {
-        Ok(number) => Some(number),
-        Err(_) => None,
     }
 }
 
@@ -732,6 +769,7 @@ fn unfit(alloc: Global, name: &str, kind: ErrorKind, message: &str) -> WordsFaul
 fn usage(name: &str) -> &'static str {
     match name {
         "run" => "paklour run [OPTIONS] [FILE]",
+        "asks" => "paklour asks [OPTIONS] <FILE>",
         "report" => "paklour report [OPTIONS] <FILE>",
         "try" => "paklour try <--scenario <TEXT>|--plan <N>> [FILE]",
         "explain" => "paklour explain <--scenario <TEXT>|--plan <N>> [FILE]",

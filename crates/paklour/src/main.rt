@@ -5,7 +5,7 @@
 ghost use Rattle.std.specs.Prelude.{◌≡◌, false};
 
 use campaign_main::{
-    Exit, Line, Order, Question, perform, perform_outside, read_words, refuse_words, status,
+    Exit, Host, Line, Order, Question, perform, perform_outside, read_words, refuse_words, status,
     unreadable_settings, unreadable_words,
 };
 use campaign_progress::{Cleared, Progress};
@@ -47,7 +47,12 @@ fn run<H: Threads + Wait + Sync>(rt: &HostRuntime, threads: &H) -> Exit {
             let gate = Progress::new(rt, progress);
             let mut output = Cleared::new(&gate, output);
             let mut faults = Cleared::new(&gate, faults);
-            run_order(rt, threads, &order, &gate, file, &mut output, &mut faults)
+            let host = Host {
+                rt: threads,
+                alloc,
+                gate: &gate,
+            };
+            run_order(rt, &host, &order, file, &mut output, &mut faults)
         }
         Ok(Line::Outside { question, file }) => {
             run_question(rt, &question, file, &mut output, &mut faults)
@@ -59,9 +64,8 @@ fn run<H: Threads + Wait + Sync>(rt: &HostRuntime, threads: &H) -> Exit {
 /// Does what is ordered, by settings from a file or from standard input.
 fn run_order<W: Sink, E: Sink, H: Threads + Wait + Sync, G: Gate>(
     rt: &HostRuntime,
-    threads: &H,
+    host: &Host<'_, G, H>,
     order: &Order,
-    gate: &G,
     file: Option<String>,
     output: &mut W,
     faults: &mut E,
@@ -69,13 +73,12 @@ fn run_order<W: Sink, E: Sink, H: Threads + Wait + Sync, G: Gate>(
     requires output { W.has_failed output.old ≡ false }
     requires faults { E.has_failed faults.old ≡ false }
 {
-    let alloc = rt.alloc();
     let Some(path) = file else {
         let mut input = rt.stdin();
-        return perform(threads, alloc, order, gate, &mut input, output, faults);
+        return perform(host, order, &mut input, output, faults);
     };
     match fs::open(rt, path) {
-        Ok(mut input) => perform(threads, alloc, order, gate, &mut input, output, faults),
+        Ok(mut input) => perform(host, order, &mut input, output, faults),
         Err(error) => unreadable_settings(&error, faults),
     }
 }

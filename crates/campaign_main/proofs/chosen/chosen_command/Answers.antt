@@ -7,8 +7,9 @@ use Rattle.file_replace.specs.Words.{point_names as replace_points}
 use Rattle.maildir_target.specs.Crash.{calls_of as maildir_calls}
 use Rattle.maildir_target.specs.Words.{point_names as maildir_points}
 use Rattle.campaign_main.specs.Commands.{bundled_answer, campaign_for, choice_answer, committing_in, delivering_in, replacing_in}
-use Rattle.campaign_main.specs.Ends.{ComesTo, Noted}
+use Rattle.campaign_main.specs.Ends.{ComesTo}
 use Rattle.campaign_main.specs.Promises.{KeepsPromises}
+use Rattle.campaign_core.specs.Writes.{change}
 use Rattle.campaign_main.proofs.chosen.chosen_command.Goals as goal
 
 pub returns-in-Replace-clause-text : goal.returns-in-Replace-clause-text
@@ -16,18 +17,9 @@ returns-in-Replace-clause-text g c =
     let W = g.W.Sink in
     let order = c.args.order.now in
     let settings = c.args.settings.now in
-    subst (λ chosen. ComesTo (choice_answer order settings chosen) (W.told c.args.output.now) (W.told c.bundled_command.new.output) (W.has_failed c.bundled_command.new.output) c.bundled_command.result) (sym c.in-Replace.is)
-    (subst (λ variant. ComesTo (bundled_answer (replace_calls variant c.in-Replace.work) replace_points settings order (replacing_in settings variant c.in-Replace.work)) (W.told c.args.output.now) (W.told c.bundled_command.new.output) (W.has_failed c.bundled_command.new.output) c.bundled_command.result)
+    subst (λ chosen. ComesTo (choice_answer order settings chosen) (change W c.args.output.now c.bundled_command.new.output) c.bundled_command.result) (sym c.in-Replace.is)
+    (subst (λ variant. ComesTo (bundled_answer (replace_calls variant c.in-Replace.work) replace_points settings order (replacing_in settings variant c.in-Replace.work)) (change W c.args.output.now c.bundled_command.new.output) c.bundled_command.result)
     c.new.ensures c.bundled_command.ensures.text)
-
-pub returns-in-Replace-clause-noted : goal.returns-in-Replace-clause-noted
-returns-in-Replace-clause-noted g c =
-    let E = g.E.Sink in
-    let order = c.args.order.now in
-    let settings = c.args.settings.now in
-    subst (λ chosen. Noted (choice_answer order settings chosen) (E.told c.args.faults.now) (E.told c.bundled_command.new.faults) (E.has_failed c.bundled_command.new.faults) c.bundled_command.result) (sym c.in-Replace.is)
-    (subst (λ variant. Noted (bundled_answer (replace_calls variant c.in-Replace.work) replace_points settings order (replacing_in settings variant c.in-Replace.work)) (E.told c.args.faults.now) (E.told c.bundled_command.new.faults) (E.has_failed c.bundled_command.new.faults) c.bundled_command.result)
-    c.new.ensures c.bundled_command.ensures.noted)
 
 pub returns-in-Replace-clause-promises : goal.returns-in-Replace-clause-promises
 returns-in-Replace-clause-promises g c =
@@ -41,18 +33,9 @@ returns-in-Maildir-clause-text g c =
     let W = g.W.Sink in
     let order = c.args.order.now in
     let settings = c.args.settings.now in
-    subst (λ chosen. ComesTo (choice_answer order settings chosen) (W.told c.args.output.now) (W.told c.bundled_command-in-Maildir.new.output) (W.has_failed c.bundled_command-in-Maildir.new.output) c.bundled_command-in-Maildir.result) (sym c.in-Maildir.is)
-    (subst (λ variant. ComesTo (bundled_answer (maildir_calls variant c.in-Maildir.work) maildir_points settings order (delivering_in settings variant c.in-Maildir.work)) (W.told c.args.output.now) (W.told c.bundled_command-in-Maildir.new.output) (W.has_failed c.bundled_command-in-Maildir.new.output) c.bundled_command-in-Maildir.result)
+    subst (λ chosen. ComesTo (choice_answer order settings chosen) (change W c.args.output.now c.bundled_command-in-Maildir.new.output) c.bundled_command-in-Maildir.result) (sym c.in-Maildir.is)
+    (subst (λ variant. ComesTo (bundled_answer (maildir_calls variant c.in-Maildir.work) maildir_points settings order (delivering_in settings variant c.in-Maildir.work)) (change W c.args.output.now c.bundled_command-in-Maildir.new.output) c.bundled_command-in-Maildir.result)
     c.new-in-Maildir.ensures c.bundled_command-in-Maildir.ensures.text)
-
-pub returns-in-Maildir-clause-noted : goal.returns-in-Maildir-clause-noted
-returns-in-Maildir-clause-noted g c =
-    let E = g.E.Sink in
-    let order = c.args.order.now in
-    let settings = c.args.settings.now in
-    subst (λ chosen. Noted (choice_answer order settings chosen) (E.told c.args.faults.now) (E.told c.bundled_command-in-Maildir.new.faults) (E.has_failed c.bundled_command-in-Maildir.new.faults) c.bundled_command-in-Maildir.result) (sym c.in-Maildir.is)
-    (subst (λ variant. Noted (bundled_answer (maildir_calls variant c.in-Maildir.work) maildir_points settings order (delivering_in settings variant c.in-Maildir.work)) (E.told c.args.faults.now) (E.told c.bundled_command-in-Maildir.new.faults) (E.has_failed c.bundled_command-in-Maildir.new.faults) c.bundled_command-in-Maildir.result)
-    c.new-in-Maildir.ensures c.bundled_command-in-Maildir.ensures.noted)
 
 pub returns-in-Maildir-clause-promises : goal.returns-in-Maildir-clause-promises
 returns-in-Maildir-clause-promises g c =
@@ -66,18 +49,9 @@ returns-in-Commit-clause-text g c =
     let W = g.W.Sink in
     let order = c.args.order.now in
     let settings = c.args.settings.now in
-    subst (λ chosen. ComesTo (choice_answer order settings chosen) (W.told c.args.output.now) (W.told c.bundled_command-in-Commit.new.output) (W.has_failed c.bundled_command-in-Commit.new.output) c.bundled_command-in-Commit.result) (sym c.in-Commit.is)
-    (subst (λ variant. ComesTo (bundled_answer (commit_calls variant c.in-Commit.work) commit_points settings order (committing_in settings variant c.in-Commit.work)) (W.told c.args.output.now) (W.told c.bundled_command-in-Commit.new.output) (W.has_failed c.bundled_command-in-Commit.new.output) c.bundled_command-in-Commit.result)
+    subst (λ chosen. ComesTo (choice_answer order settings chosen) (change W c.args.output.now c.bundled_command-in-Commit.new.output) c.bundled_command-in-Commit.result) (sym c.in-Commit.is)
+    (subst (λ variant. ComesTo (bundled_answer (commit_calls variant c.in-Commit.work) commit_points settings order (committing_in settings variant c.in-Commit.work)) (change W c.args.output.now c.bundled_command-in-Commit.new.output) c.bundled_command-in-Commit.result)
     c.new-in-Commit.ensures c.bundled_command-in-Commit.ensures.text)
-
-pub returns-in-Commit-clause-noted : goal.returns-in-Commit-clause-noted
-returns-in-Commit-clause-noted g c =
-    let E = g.E.Sink in
-    let order = c.args.order.now in
-    let settings = c.args.settings.now in
-    subst (λ chosen. Noted (choice_answer order settings chosen) (E.told c.args.faults.now) (E.told c.bundled_command-in-Commit.new.faults) (E.has_failed c.bundled_command-in-Commit.new.faults) c.bundled_command-in-Commit.result) (sym c.in-Commit.is)
-    (subst (λ variant. Noted (bundled_answer (commit_calls variant c.in-Commit.work) commit_points settings order (committing_in settings variant c.in-Commit.work)) (E.told c.args.faults.now) (E.told c.bundled_command-in-Commit.new.faults) (E.has_failed c.bundled_command-in-Commit.new.faults) c.bundled_command-in-Commit.result)
-    c.new-in-Commit.ensures c.bundled_command-in-Commit.ensures.noted)
 
 pub returns-in-Commit-clause-promises : goal.returns-in-Commit-clause-promises
 returns-in-Commit-clause-promises g c =

@@ -1,45 +1,24 @@
-use Rattle.std.proofs.Common.{◌∙◌, None, ap, false, subst}
-use Rattle.std.specs.Io.KnownBytes.{Appends}
-use Rattle.action_eval.specs.Answers.{given_of}
-use Rattle.run_explained.specs.Explained.{explain_text}
-use Rattle.campaign_core.specs.CommandTexts.{tried, LeavesOnly}
-use Rattle.campaign_core.specs.Headline.{campaign_on}
-use Rattle.target_trait.specs.Verdicts.{is_fail}
-use Rattle.campaign_main.specs.Exit.{concluded}
+use Rattle.std.proofs.Common.{◌∙◌, Global, String, ap, string_bytes}
+use Rattle.campaign_core.specs.Headline.{campaign_in}
+use Rattle.campaign_core.specs.Writes.{change}
+use Rattle.campaign_core.specs.CommandTexts.{explained}
+use Rattle.campaign_main.specs.Commands.{explain_answer}
+use Rattle.campaign_main.proofs.AnswerLemmas.{explain-is, short-up, taken-done, taken-short, tried_verdict}
 use Rattle.campaign_main.specs.declared.fault.CommandFault.TheVariants.{Campaign}
-use Rattle.campaign_main.proofs.AnswerLemmas.{short-up, explain-noted, explain-short, explain-written}
-use Rattle.campaign_main.proofs.NoteLemmas.{err-noted}
 use Rattle.campaign_main.proofs.command.explain_which.Goals as goal
 
-pub returns-clause-text : goal.returns-clause-text
-returns-clause-text g c =
-    let T = g.T.Target in
-    let W = g.W.Sink in
-    let s = c.args.subject.now in
-    let stream = c.in_ok-stream.stream in
-    let scenario = c.in_ok-stream.scenario in
-    explain-written _ _ (stream, scenario) c.in_ok-stream.ensures.ok _ _ _ _
-    (subst (λ t. Appends (W.told c.args.output.now) (W.told c.explain_one.new.sink) (explain_text T.code_text (T.asks t s.workload.now) (given_of scenario T.names s.settings.now.plans.seed stream s.settings.now.max_hits))) c.in_ok-twin.ensures c.in_ok-verdict.ensures.text)
-    c.in_ok-verdict.ensures.sound
-    (c.concluded.ensures ∙ ap (λ b. concluded b false) (c.is_fail.ensures ∙ ap is_fail (c.in_ok-verdict.ensures.verdict
-    ∙ ap (λ t. (tried (campaign_on T t s.workload.now s.settings.now) stream scenario).verdict) c.in_ok-twin.ensures)))
+pub returns : goal.returns
+returns g c =
+    let w = change g.W.Sink c.args.output.now c.explain_one.new.sink in
+    let campaign = campaign_in g.T.Target c.args.subject.now in
+    taken-done (explain_answer campaign) (explained campaign) (tried_verdict campaign) campaign.points (explain-is campaign) _
+    (c.in_ok-stream.stream, c.in_ok-stream.scenario) c.in_ok-stream.ensures.ok w _ _ _ c.in_ok-verdict.ensures.text c.judged.ensures.conclusion c.in_ok-verdict.ensures.verdict
+    (ap (λ (lines : String Global). string_bytes lines) c.judged.ensures.notes ∙ c.in_ok-stream.ensures.notes)
 
-pub returns-in_err-verdict-clause-text : goal.returns-in_err-verdict-clause-text
-returns-in_err-verdict-clause-text g c =
-    let T = g.T.Target in
-    let W = g.W.Sink in
-    let s = c.args.subject.now in
-    let stream = c.in_ok-stream.stream in
-    let scenario = c.in_ok-stream.scenario in
-    short-up _ _ _ _ _ (Campaign c.in_err-verdict.field-0.0) c.from_residual-in_err-verdict.ensures.1
-    (explain-short _ _ (stream, scenario) c.in_ok-stream.ensures.ok _ _ _ _
-    (subst (λ t. LeavesOnly (W.told c.args.output.now) (W.told c.explain_one.new.sink) (W.has_failed c.explain_one.new.sink) (explain_text T.code_text (T.asks t s.workload.now) (given_of scenario T.names s.settings.now.plans.seed stream s.settings.now.max_hits)) c.in_err-verdict.field-0.0) c.in_ok-twin.ensures c.in_err-verdict.ensures.fault))
-
-pub returns-clause-noted : goal.returns-clause-noted
-returns-clause-noted g c =
-    explain-noted _ _ (c.in_ok-stream.stream, c.in_ok-stream.scenario) c.in_ok-stream.ensures.ok None None _ _ _ _
-    (c.as_str.ensures.value ∙ c.in_ok-stream.ensures.notes) c.note.ensures
-
-pub returns-in_err-verdict-clause-noted : goal.returns-in_err-verdict-clause-noted
-returns-in_err-verdict-clause-noted g c =
-    err-noted _ _ _ _ (Campaign c.in_err-verdict.field-0.0) c.from_residual-in_err-verdict.ensures.1 c.requires.faults
+pub returns-in_err-verdict : goal.returns-in_err-verdict
+returns-in_err-verdict g c =
+    let w = change g.W.Sink c.args.output.now c.explain_one.new.sink in
+    let campaign = campaign_in g.T.Target c.args.subject.now in
+    short-up _ w _ (Campaign c.in_err-verdict.field-0.0) c.from_residual-in_err-verdict.ensures.1
+    (taken-short (explain_answer campaign) (explained campaign) (tried_verdict campaign) campaign.points (explain-is campaign) _
+    (c.in_ok-stream.stream, c.in_ok-stream.scenario) c.in_ok-stream.ensures.ok w _ c.in_err-verdict.ensures.fault)

@@ -1,14 +1,26 @@
 use Rattle.std.proofs.Common.{subst}
 use Rattle.campaign_core.specs.Headline.{campaign_on}
+use Rattle.campaign_core.specs.Writes.{change}
 use Rattle.campaign_main.specs.Commands.{order_answer}
 use Rattle.campaign_main.specs.Ends.{TellsAs}
-use Rattle.campaign_main.proofs.EndLemmas.{fault-told}
+use Rattle.campaign_main.proofs.EndLemmas.{outcome-ends, outcome-tells, outcome-whole}
 use Rattle.campaign_main.proofs.own.perform_settings.Goals as goal
 
-pub returns-in-Err-clause-told : goal.returns-in-Err-clause-told
-returns-in-Err-clause-told g c =
-    let E = g.E.Sink in
-    let told = c.unanswered.new.faults in
+pub returns-clause-end : goal.returns-clause-end
+returns-clause-end g c =
+    let w = change g.W.Sink c.args.output.now c.command-outcome.new.output in
+    let v = change g.E.Sink c.broken_off.new.faults c.end_outcome.new.faults in
+    outcome-ends c.command-outcome.result c.end_outcome.result v _ w c.end_outcome.ensures c.command-outcome.ensures.text
+
+pub returns-clause-told : goal.returns-clause-told
+returns-clause-told g c =
+    let w = change g.W.Sink c.args.output.now c.command-outcome.new.output in
+    let new = c.end_outcome.new.faults in
     let answer = order_answer c.args.order.now (campaign_on g.T.Target c.args.target.now c.args.workload.now c.args.settings.now) in
-    subst (λ f. TellsAs c.unanswered.result answer (E.told f) (E.told told) (E.has_failed told)) (c.broken_off.ensures.untold c.in_default.is)
-    (fault-told _ _ _ _ _ _ _ _ _ c.in-Err.fault c.unanswered.result c.in-Err.ensures.noted c.in-Err.ensures.text c.unanswered.ensures)
+    subst (λ f. TellsAs c.end_outcome.result answer (change g.E.Sink f new)) (c.broken_off.ensures.untold c.in_default.is)
+    (outcome-tells c.command-outcome.result c.end_outcome.result (change g.E.Sink c.broken_off.new.faults new) answer w c.end_outcome.ensures c.command-outcome.ensures.text)
+
+pub returns-clause-promises : goal.returns-clause-promises
+returns-clause-promises g c =
+    let v = change g.E.Sink c.broken_off.new.faults c.end_outcome.new.faults in
+    outcome-whole c.command-outcome.result c.end_outcome.result v _ c.end_outcome.ensures c.command-outcome.ensures.promises

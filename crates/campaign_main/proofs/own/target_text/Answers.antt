@@ -1,28 +1,32 @@
-use Rattle.std.proofs.Common.{subst, sym}
+use Rattle.std.proofs.Common.{refl, subst, sym}
 use Rattle.campaign_main.specs.Commands.{Answer}
 use Rattle.campaign_main.specs.Ends.{EndsAs, TellsAs}
 use Rattle.campaign_core.specs.Headline.{campaign_on}
-use Rattle.campaign_main.proofs.EndLemmas.{tells-of}
+use Rattle.campaign_main.proofs.EndLemmas.{refuses-ends, tells-of}
 use Rattle.campaign_main.proofs.OwnLemmas.{own-answered, own-tells}
+use Rattle.campaign_core.specs.Writes.{change}
 use Rattle.campaign_main.proofs.own.target_text.Goals as goal
 
 pub returns-in-Ok-clause-end : goal.returns-in-Ok-clause-end
 returns-in-Ok-clause-end g c =
     let W = g.W.Sink in
     let new = c.perform_settings.new.output in
-    let P : Answer → Type 0 = λ a. EndsAs c.perform_settings.result a (W.told c.args.output.now) (W.told new) (W.has_failed new) in
+    let P : Answer → Type 0 = λ a. EndsAs c.perform_settings.result a (change W c.args.output.now new) in
     subst P (sym (own-answered _ (campaign_on g.T.Target c.args.target.now c.args.workload.now) _ c.in-Ok.settings c.in-Ok.ensures.ok)) c.perform_settings.ensures.end
 
 pub returns-in-Ok-clause-told : goal.returns-in-Ok-clause-told
 returns-in-Ok-clause-told g c =
     let E = g.E.Sink in
-    let old = E.told c.args.faults.now in
-    let new = E.told c.perform_settings.new.faults in
-    let failed = E.has_failed c.perform_settings.new.faults in
-    let P : Answer → Type 0 = λ a. TellsAs c.perform_settings.result a old new failed in
+    let w = change E c.args.faults.now c.perform_settings.new.faults in
+    let P : Answer → Type 0 = λ a. TellsAs c.perform_settings.result a w in
     subst P (sym (own-answered _ (campaign_on g.T.Target c.args.target.now c.args.workload.now) _ c.in-Ok.settings c.in-Ok.ensures.ok)) c.perform_settings.ensures.told
 
 pub returns-in-Err-clause-told : goal.returns-in-Err-clause-told
 returns-in-Err-clause-told g c =
-    tells-of _ _ _ _ _ _ _ c.unset.ensures.end
-    (λ refused. own-tells _ (campaign_on g.T.Target c.args.target.now c.args.workload.now) _ _ _ _ _ refused c.in-Err.fault c.in-Err.ensures.refused c.unset.ensures.memory c.unset.ensures.end)
+    tells-of _ _ _ _ _ c.end_bad_settings.ensures.end
+    (λ refused. own-tells _ (campaign_on g.T.Target c.args.target.now c.args.workload.now) _ _ _ refused c.in-Err.fault c.in-Err.ensures.refused c.end_bad_settings.ensures.memory c.end_bad_settings.ensures.end)
+
+pub returns-in-Err-clause-end : goal.returns-in-Err-clause-end
+returns-in-Err-clause-end g c =
+    let w = change g.W.Sink c.args.output.now c.args.output.now in
+    refuses-ends _ c.end_bad_settings.result _ _ w c.end_bad_settings.ensures.end (refl, c.requires.output)

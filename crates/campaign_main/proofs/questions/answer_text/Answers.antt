@@ -1,22 +1,23 @@
-use Rattle.std.proofs.Common.{IfSome, Result, subst, sym}
+use Rattle.std.proofs.Common.{IfSome, Result, refl, subst, sym}
 use Rattle.campaign_main.specs.Commands.{Refusal}
 use Rattle.campaign_main.specs.Ends.{OnWhole}
 use Rattle.campaign_main.specs.Questions.{EndsQuestion, IsNotAnswered, NotesQuestion, Subject, text_subject}
 use Rattle.campaign_main.proofs.EndLemmas.{refuses-whole}
 use Rattle.campaign_main.proofs.QuestionLemmas.{chosen-is, refused-any, unset-tells, unset-why}
+use Rattle.campaign_core.specs.Writes.{change}
 use Rattle.campaign_main.proofs.questions.answer_text.Goals as goal
 
 pub returns-in-Err-clause-end : goal.returns-in-Err-clause-end
 returns-in-Err-clause-end g c =
-    refused-any c.args.question.now (text_subject c.args.text.now) (g.A.Read.remaining c.args.answers.now) _ c.unset.result _ _ _ (g.W.Sink.told c.args.output.now) _ c.unset.ensures.end c.requires.output
+    refused-any c.args.question.now (text_subject c.args.text.now) (g.A.Read.remaining c.args.answers.now) _ c.end_bad_settings.result _ (change g.W.Sink c.args.output.now c.args.output.now) c.end_bad_settings.ensures.end (refl, c.requires.output)
 
 pub returns-in-Err-clause-cause : goal.returns-in-Err-clause-cause
 returns-in-Err-clause-cause g c =
-    λ refused. unset-why _ _ c.unset.result _ _ _ c.in-Err.fault c.in-Err.ensures.refused c.unset.ensures.memory c.unset.ensures.end _ refused
+    λ refused. unset-why _ _ c.end_bad_settings.result _ c.in-Err.fault c.in-Err.ensures.refused c.end_bad_settings.ensures.memory c.end_bad_settings.ensures.end _ refused
 
 pub returns-in-Err-clause-told : goal.returns-in-Err-clause-told
 returns-in-Err-clause-told g c =
-    unset-tells _ c.args.question.now c.unset.result _ _ _ c.in-Err.fault c.in-Err.ensures.refused c.unset.ensures.memory c.unset.ensures.end
+    unset-tells _ c.args.question.now c.end_bad_settings.result _ c.in-Err.fault c.in-Err.ensures.refused c.end_bad_settings.ensures.memory c.end_bad_settings.ensures.end
 
 pub returns-in-Ok-clause-end : goal.returns-in-Ok-clause-end
 returns-in-Ok-clause-end g c =
@@ -24,11 +25,11 @@ returns-in-Ok-clause-end g c =
     let A = g.A.Read in
     let new = c.answer_choice.new.output in
     let P : Result Subject Refusal → Type 0 =
-    λ r. IfSome (A.remaining c.args.answers.now) (λ b. EndsQuestion c.args.question.now r b c.answer_choice.result (W.told c.args.output.now) (W.told new) (W.has_failed new)) in
+    λ r. IfSome (A.remaining c.args.answers.now) (λ b. EndsQuestion c.args.question.now r b c.answer_choice.result (change W c.args.output.now new)) in
     subst P (sym (chosen-is _ c.in-Ok.settings c.in-Ok.ensures.ok)) c.answer_choice.ensures.end
 
 pub returns-in-Err-clause-noted : goal.returns-in-Err-clause-noted
-returns-in-Err-clause-noted g c = refuses-whole _ c.unset.result _ _ _ _ c.unset.ensures.end
+returns-in-Err-clause-noted g c = refuses-whole _ c.end_bad_settings.result _ _ c.end_bad_settings.ensures.end
 
 pub returns-in-Ok-clause-noted : goal.returns-in-Ok-clause-noted
 returns-in-Ok-clause-noted g c =
@@ -36,7 +37,7 @@ returns-in-Ok-clause-noted g c =
     let A = g.A.Read in
     let new = c.answer_choice.new.faults in
     let P : Result Subject Refusal → Type 0 =
-    λ r. OnWhole c.answer_choice.result (IfSome (A.remaining c.args.answers.now) (λ b. NotesQuestion c.args.question.now r b (E.told c.args.faults.now) (E.told new) (E.has_failed new))) in
+    λ r. OnWhole c.answer_choice.result (IfSome (A.remaining c.args.answers.now) (λ b. NotesQuestion c.args.question.now r b (change E c.args.faults.now new))) in
     subst P (sym (chosen-is _ c.in-Ok.settings c.in-Ok.ensures.ok)) c.answer_choice.ensures.noted
 
 pub returns-in-Ok-clause-cause : goal.returns-in-Ok-clause-cause
@@ -46,5 +47,5 @@ returns-in-Ok-clause-cause g c =
     let A = g.A.Read in
     let new = c.answer_choice.new.faults in
     let P : Result Subject Refusal → Type 0 =
-    λ r. IfSome (A.remaining c.args.answers.now) (λ b. IsNotAnswered c.args.question.now r b (E.told c.args.faults.now) (E.told new) (E.has_failed new)) in
+    λ r. IfSome (A.remaining c.args.answers.now) (λ b. IsNotAnswered c.args.question.now r b (change E c.args.faults.now new)) in
     subst P (sym (chosen-is _ c.in-Ok.settings c.in-Ok.ensures.ok)) (c.answer_choice.ensures.cause refused)

@@ -1,10 +1,15 @@
-use Rattle.std.proofs.Common.{◌≡◌, ◌∙◌, List, ℕ, ap}
+use Rattle.std.proofs.Common.{◌≡◌, ◌∙◌, List, None, ℕ, ap}
 use Rattle.action_eval.specs.Answers.{texts}
 use Rattle.answer_text.specs.Known.{known_by, verdict_in}
 use Rattle.campaign_given.specs.Description.{Description}
 use Rattle.campaign_main.specs.QuestionNotes.{doubts_by}
+use Rattle.outside_campaign.specs.Results.{answers_fault}
+use Rattle.answered_campaigns.specs.declared.fault.QuestionFault.TheVariants.{Outside}
+use Rattle.answered_campaigns.proofs.Asking.{err_is}
+use Rattle.campaign_main.specs.Questions.{IsUnnotedTo}
+use Rattle.campaign_main.proofs.RunLemmas.{answers_unread}
 use Rattle.campaign_main.proofs.StrictLemmas.{answered-is}
-use Rattle.campaign_main.proofs.answer_notes.strict_answered.Goals as goal
+use Rattle.campaign_main.proofs.answer_notes.strict_by_census.Goals as goal
 
 pub returns-clause-ok : goal.returns-clause-ok
 returns-clause-ok c =
@@ -17,3 +22,10 @@ returns-clause-ok c =
     (ap texts c.as_slice-points.ensures.value ∙ c.in_ok-points.ensures ∙ c.as_slice-2.ensures.value ∙ ap (λ (d : Description). d.points) c.outside.view_is)
     (c.as_slice-3.ensures.value ∙ ap (λ (d : Description). d.hits) c.outside.view_is)
     c.new-lines.ensures.bytes c.in_ok-write_doubts.ensures c.in_ok-write_all_unhit.ensures
+
+pub returns-in_err-known-clause-fault : goal.returns-in_err-known-clause-fault
+returns-in_err-known-clause-fault c =
+    let outside = c.args.outside.now in
+    let codes = c.as_slice.ensures.value ∙ ap (λ (d : Description). d.codes) c.outside.view_is in
+    err_is c.from_residual.result (Outside (answers_fault c.in_err-known.field-0.0)) (IsUnnotedTo None (c.args.settings.now, outside) c.args.answers.now)
+    c.from_residual.ensures.1 (answers_unread outside c.args.settings.now 0 c.args.answers.now c.in_err-known.field-0.0 _ codes c.in_err-known.ensures.refused)

@@ -1,0 +1,29 @@
+use Rattle.std.proofs.Common.{◌≡◌, ◌<◌, ◌∙◌, All, Bor, Err, List, ap, length, refl, subst, sym, ℕ}
+use Rattle.std.proofs.lemmas.List.{length-map}
+use Rattle.answered_campaigns.proofs.Asking.{listed_are}
+use Rattle.campaign_main.proofs.RunLemmas.{many_up}
+use Rattle.campaign_main.proofs.StrictLemmas.{runs-is}
+use Rattle.campaign_main.proofs.run_notes.run_doubts.Goals as goal
+
+pub doubts_told-requires : goal.doubts_told-requires
+doubts_told-requires c =
+    let a = c.args.runs.now in
+    listed_are (a, c.args.depth) a c.args.depth c.args.settings.now.plans c.plan_settings.result _ c.grown-plans.result c.in_ok-lists.lists.listed.known.plans
+    c.in_ok-lists.lists.further refl c.plan_settings.ensures.asked c.points.ensures.names c.grown-plans.ensures c.in_ok-lists.ensures.grown c.in_ok-lists.ensures.further
+
+pub returns-clause-ok : goal.returns-clause-ok
+returns-clause-ok c =
+    runs-is _ _ _ c.args.runs.now.points _ _ _ _ _ c.in_ok-doubts.ensures c.points-2.ensures.names (c.as_slice.ensures.value ∙ c.in_ok-places.ensures.told)
+    c.new-lines.ensures.bytes c.in_ok-write_doubts.ensures c.in_ok-write_all_unreached.ensures
+
+pub returns-in_err-lists-clause-many : goal.returns-in_err-lists-clause-many
+returns-in_err-lists-clause-many c =
+    many_up c.args.runs.now c.plan_settings.result c.args.settings.now.plans _ c.from_residual.result c.in_err-lists.field-0.0 c.plan_settings.ensures.asked
+    c.from_residual.ensures.1 (λ e. c.in_err-lists.ensures.many (ap (λ f. Err f) e))
+
+pub write_all_unreached-requires : goal.write_all_unreached-requires
+write_all_unreached-requires c =
+    let names = c.points-2.result.now in
+    let many : length c.args.runs.now.points ≡ length names = ap length (sym c.points-2.ensures.names) ∙ length-map names (λ (n : Bor (List ℕ)). n.now) in
+    subst (λ (m : ℕ). All (λ p. p < m) c.as_slice.result.now) many
+    (subst (λ (xs : List ℕ). All (λ p. p < length c.args.runs.now.points) xs) (sym c.as_slice.ensures.value) c.in_ok-places.ensures.within)

@@ -1,0 +1,96 @@
+How many lines ask, a part of them for each of several machines, and what is known before all is answered.
+
+  $ cat > two.toml << END
+  > target = "outside"
+  > seed = 3
+  > [outside]
+  > label = "two points"
+  > codes = ["lost", "torn"]
+  > points = ["a", "b"]
+  > hits = [2, 1]
+  > END
+  $ asks() { paklour asks "$@" two.toml < answers; }
+  $ : > answers
+  $ asks --left
+  left 10
+  $ asks --shard 1/3
+  none
+  a=1*panic
+  a=1*off->1*panic
+  b=1*panic
+  $ asks --shard 2/3
+  a=1*return
+  a=1*off->1*return
+  b=1*return
+  $ asks --shard 3/3
+  a=return
+  a=1*off->return
+  b=return
+  $ asks --shard 10/64
+  b=1*panic
+  $ asks --shard 11/64
+
+Of however many machines each line is one's, and no other's.
+
+  $ asks > whole
+  $ for machines in 1 2 3 4 7 10 11 64; do
+  >     for machine in $(seq $machines); do asks --shard $machine/$machines; done | sort > parts
+  >     sort whole | cmp - parts
+  > done
+
+What is known so far is no report: plans without an answer may fail too.
+
+  $ paklour report --partial two.toml < answers
+  target two points
+  seed 3
+  answered 0 of 10
+  first so far none
+  $ printf 'pass\tnone\nfail torn\ta=1*return\nunresolved\tb=return\nfail lost\ta=return\n' > answers
+  $ paklour report --partial two.toml < answers
+  target two points
+  seed 3
+  answered 4 of 10
+  known fail torn a=1*return
+  known fail lost a=return
+  known unresolved b=return
+  first so far torn a=1*return
+  [1]
+  $ asks --left
+  left 6
+  $ paklour report two.toml < answers
+  not answered a=1*panic
+  [2]
+
+With a depth the list is known as far as answers tell hits, and so is how many lines ask.
+
+  $ sed -i -e 's/^hits.*//' -e 's/^seed.*/&\ndepth = 1/' two.toml
+  $ printf 'pass\tnone\ta;b\n' > answers
+  $ asks --left
+  left 4
+  $ asks --shard 2/2
+  a=1*panic
+  b=1*panic
+  $ paklour report --partial two.toml < answers
+  target two points
+  seed 3
+  answered 1 of 5 known
+  first so far none
+  $ printf 'unresolved\tb=1*panic\t-\nfail lost\ta=1*return\t2*a;b\n' >> answers
+  $ paklour report --partial two.toml < answers
+  target two points
+  seed 3
+  answered 3 of 6 known
+  known fail lost a=1*return
+  known unresolved b=1*panic
+  first so far lost a=1*return
+  [1]
+
+Where a run breaks with another one nothing is told.
+
+  $ printf 'pass\tb=1*return\ta;a;b\n' | sed 's/a;a/2*a/' >> answers
+  $ paklour report --partial two.toml < answers
+  answers: line 4: hits differ from line 1 at hit 2
+  [2]
+  $ asks --left
+  answers: line 4: hits differ from line 1 at hit 2
+  [2]

@@ -1,0 +1,295 @@
+Campaigns with a depth on components that somebody else runs: plans grow from the hits that answers tell.
+
+A thousand made components, whose next hit is drawn once for all from the answers so far: the list of plans, the report and its causes are worked out in the
+script by the definitions alone, and so is the line that is refused where a component breaks.
+
+  $ "$TESTDIR/made_campaigns.py" 1000
+  1000 campaigns of 32016 plans, 0 differ
+
+One by hand. Without faults it hits `a` and `b`; where one fails, `c` cleans up, and a panic ends it. The first failure behind a failure that is lost is that of
+`a`, whose clean-up fails.
+
+  $ cat > three.toml << END
+  > target = "outside"
+  > depth = 2
+  > [outside]
+  > label = "three points"
+  > codes = ["lost"]
+  > points = ["a", "b", "c"]
+  > END
+  $ line() { printf '%s\t%s\t%s\n' "$@"; }
+  $ paklour asks three.toml < /dev/null
+  none
+  $ line pass none 'a;b' > answers
+  $ paklour asks three.toml < answers
+  a=1*return
+  a=1*panic
+  b=1*return
+  b=1*panic
+
+No level waits for the one before, and the report waits for the first plan in order.
+
+  $ line pass 'b=1*return' 'a;b;c' >> answers; line pass 'a=1*return' 'a;c' >> answers
+  $ paklour asks three.toml < answers
+  a=1*panic
+  b=1*panic
+  a=1*return;c=1*return
+  a=1*return;c=1*panic
+  b=1*return;c=1*return
+  b=1*return;c=1*panic
+  $ paklour report three.toml < answers
+  not answered a=1*panic
+  [2]
+  $ line unresolved 'a=1*panic' 'a' >> answers; line pass 'b=1*panic' 'a;b' >> answers
+  $ line 'fail lost' ' a = 1*return ; c=1*return' 'a;c' >> answers; line pass 'a=1*return;c=1*panic' 'a;c' >> answers
+  $ line pass 'b=1*return;c=1*return' 'a;b;c' >> answers; line pass 'b=1*return;c=1*panic' 'a;b;c' >> answers
+  $ paklour asks three.toml < answers
+  $ paklour report three.toml < answers
+  target three points
+  seed 0
+  clean pass
+  census a 1
+  census b 1
+  census c 0
+  depth 2
+  level 0 1
+  level 1 4
+  level 2 4
+  onward 0
+  beyond 0
+  reached a 1
+  reached b 1
+  reached c 1
+  plans 9
+  verdict 0 pass
+  verdict 1 pass
+  verdict 2 unresolved
+  verdict 3 pass
+  verdict 4 pass
+  verdict 5 fail lost
+  verdict 6 pass
+  verdict 7 pass
+  verdict 8 pass
+  first 5 lost
+  scenario a=1*return;c=1*return
+  reduced a=1*return;c=1*return
+  tests 3
+  causes 1
+  cause 5 lost a=1*return;c=1*return
+  [1]
+  $ paklour report --strict three.toml < answers 2>&1 > /dev/null
+  strict: 1 of 9 plans unresolved
+  [1]
+
+To depth 1 the same answers do, with nothing behind them: `a` isn't hit again after its failure, nor is `b`.
+
+  $ sed 's/depth = 2/depth = 1/' three.toml > one.toml
+  $ paklour asks one.toml < answers
+  $ paklour report --brief one.toml < answers | grep -E '^(level|onward|beyond|reached c|plans|counts|first|causes)'
+  level 0 1
+  level 1 4
+  onward 0
+  beyond 4
+  reached c 1
+  plans 5
+  counts pass 4 unresolved 1
+  first none
+  causes 0
+
+Hits in a row, and a fault from then on, which is asked where its point is hit again.
+
+  $ cat > row.toml << END
+  > target = "outside"
+  > depth = 1
+  > [outside]
+  > label = "a row"
+  > codes = []
+  > points = ["a"]
+  > END
+  $ { line pass none '2*a'; line pass a=1*return '3*a'; line pass 'a=1*off->1*return' '2*a'; } > answers
+  $ { line pass a=1*panic 'a'; line pass 'a=1*off->1*panic' '2*a'; } >> answers
+  $ paklour asks row.toml < answers
+  a=return
+  $ line pass a=return '2*a' >> answers
+  $ paklour report --brief row.toml < answers
+  target a row
+  seed 0
+  clean pass
+  census a 2
+  depth 1
+  level 0 1
+  level 1 4
+  onward 1
+  beyond 4
+  reached a 3
+  plans 6
+  counts pass 6 unresolved 0
+  first none
+  causes 0
+
+Where nothing is hit there is one plan; where too much is, the list is refused before its first plan with a fault is asked.
+
+  $ line pass none '' | paklour report --brief row.toml | grep -E '^(level|plans)'
+  level 0 1
+  level 1 0
+  plans 1
+  $ line pass none '32767*a' | paklour asks row.toml | wc -l
+  65534
+  $ line pass none '32768*a' | paklour asks row.toml
+  too many plans
+  [2]
+
+What is wrong with a line
+-------------------------
+
+  $ told() { line "$@" | paklour asks three.toml; }
+  $ printf 'pass\tnone\n' | paklour asks three.toml
+  answers: line 1: no hits
+  [2]
+  $ told pass none 'a;d'
+  answers: line 1: unknown point
+  [2]
+  $ told pass none 'a;'
+  answers: line 1: unknown point
+  [2]
+  $ told pass none 'a; b'
+  answers: line 1: unknown point
+  [2]
+  $ told pass none 'a;a'
+  answers: line 1: not joined
+  [2]
+  $ told pass none '2*a;3*a'
+  answers: line 1: not joined
+  [2]
+  $ told pass none '1*a'
+  answers: line 1: bad count
+  [2]
+  $ told pass none '02*a'
+  answers: line 1: bad count
+  [2]
+  $ told pass none '*a'
+  answers: line 1: bad count
+  [2]
+  $ told pass none '4294967296*a'
+  answers: line 1: bad count
+  [2]
+  $ told pass 'd=retrun' 'a;a'
+  answers: line 1: UnknownTask entry 1 term 1
+  [2]
+  $ { line pass 'b=1*return' 'a;b'; line pass ' b=1*return' 'a;b;c'; } | paklour asks three.toml
+  answers: line 2: contradicts line 1
+  [2]
+  $ { line pass 'b=1*return' 'a;b'; line unresolved ' b=1*return' 'a;b'; } | paklour asks three.toml
+  answers: line 2: contradicts line 1
+  [2]
+
+Without a depth nobody asks for hits.
+
+  $ printf '%s\n' 'target = "outside"' '[outside]' 'label = "x"' 'codes = []' 'points = ["a"]' 'hits = [1]' > flat.toml
+  $ line pass none a | paklour asks flat.toml
+  answers: line 1: control byte
+  [2]
+
+A component that doesn't do the same twice
+------------------------------------------
+
+A run goes as the one that it grew from, up to its last fault: where it hits another point, and where it ends before. What comes behind the fault is its own.
+
+  $ broken() { { line pass none 'a;b'; line "$@"; } > broken; paklour asks three.toml < broken; paklour report three.toml < broken; }
+  $ broken pass 'b=1*return' 'c;b'
+  answers: line 2: hits differ from line 1 at hit 1
+  answers: line 2: hits differ from line 1 at hit 1
+  [2]
+  $ broken pass 'b=1*return' 'a;c;b'
+  answers: line 2: hits differ from line 1 at hit 2
+  answers: line 2: hits differ from line 1 at hit 2
+  [2]
+  $ broken pass 'b=1*panic' 'a'
+  answers: line 2: fault not met
+  answers: line 2: fault not met
+  [2]
+  $ broken pass 'a=1*return' ''
+  answers: line 2: fault not met
+  answers: line 2: fault not met
+  [2]
+  $ broken unresolved 'a=1*return' 'a;c;b' 2>&1 | head -n 1
+  a=1*panic
+
+The first of them by the plans' order is told, whatever the lines' order; and none before the run that it grew from is known.
+
+  $ { line pass 'b=1*return;c=1*return' 'a;b'; line pass 'b=1*return' 'a;b;c'; line pass 'b=1*panic' 'b'; line pass none 'a;b'; } > broken
+  $ paklour asks three.toml < broken
+  answers: line 3: hits differ from line 4 at hit 1
+  [2]
+  $ sed '3d' broken | paklour asks three.toml
+  answers: line 1: fault not met
+  [2]
+  $ sed '3,4d' broken | paklour asks three.toml
+  none
+
+Hits that nobody knows
+----------------------
+
+A run without them has no children; once nothing else is left to ask, its line is told. Another verdict than `unresolved` tells hits.
+
+  $ told pass none -
+  answers: line 1: unknown point
+  [2]
+  $ { line pass none 'a;b'; line unresolved 'a=1*return' -; } > unknown
+  $ paklour asks three.toml < unknown
+  a=1*panic
+  b=1*return
+  b=1*panic
+  $ { line pass a=1*panic a; line pass b=1*return 'a;b'; line pass b=1*panic 'a;b'; } >> unknown
+  $ paklour asks three.toml < unknown
+  answers: line 2: hits unknown
+  [2]
+  $ paklour report three.toml < unknown
+  answers: line 2: hits unknown
+  [2]
+  $ { sed 2d unknown; line unresolved 'a=1*return' a; } | paklour report --brief three.toml | grep -E '^(plans|counts)'
+  plans 5
+  counts pass 4 unresolved 1
+
+So it goes in the loop, where a run takes too long and nobody knows its hits; without its line it is tried again, and nothing else is.
+
+  $ cat > try.sh << 'END'
+  > #!/bin/sh
+  > echo "$1" >> tried
+  > [ "$1" != b=1*return ] || [ ! -e slow ] || sleep 60
+  > case $1 in
+  > none | 'b=1*panic') hits='a;b' ;;
+  > 'a=1*panic') hits=a ;;
+  > a=*) hits='a;c' ;;
+  > *) hits='a;b;c' ;;
+  > esac
+  > [ "$1" = 'a=1*return;c=1*return' ] && verdict='fail lost' || verdict=pass
+  > printf '%s\t%s\t%s\n' "$verdict" "$1" "$hits"
+  > END
+  $ chmod +x try.sh
+  $ loop() { "$TESTDIR/../outside/loop" -j 1 --seconds 5 --brief three.toml looped ./try.sh; }
+  $ touch slow
+  $ loop
+  loop: ended after 5 seconds: b=1*return
+  answers: line 4: hits unknown
+  [2]
+  $ rm slow tried
+  $ sed -i '/\t-$/d' looped
+  $ loop | grep -E '^(counts|first|cause)'
+  counts pass 8 unresolved 0 lost 1
+  first 5 lost
+  causes 1
+  cause 5 lost a=1*return;c=1*return
+  $ cat tried
+  b=1*return
+  b=1*return;c=1*return
+  b=1*return;c=1*panic
+  a=1*return;c=1*return
+
+And where it doesn't do the same twice.
+
+  $ rm looped
+  $ sed -i "s/^none | /'b=1*panic') hits='c;b' ;;\n&/" try.sh
+  $ loop
+  answers: line 5: hits differ from line 1 at hit 1
+  [2]
