@@ -5,7 +5,7 @@
 #                 alone, and with all
 #   FAULTS_SYNC   names: a sync of a file makes its name last too; and the library's other variables
 #   TRACE         a file that takes the run's trace
-#   HITS          where it is set, the line ends with a tab and the run's hits in order, as `census --hits` tells them
+#   HITS          where it is set, as outside/loop does with a depth, the line ends with a tab and the run's hits in order, as `census --hits` tells them
 #   SHOW          where it is set, what the program said, and each verdict's state, on standard error
 here=$(mktemp -d) || exit 2
 trap 'leave' EXIT

@@ -1,20 +1,22 @@
 #!/usr/bin/env python3
-"""grown.py DEPTH TRY [POINT=KIND,KIND..]..: a grown campaign over a try.sh, level by level: each plan with one more fault, at each hit of
+"""grown.py [--report] DEPTH TRY [POINT=KIND,KIND..]..: a grown campaign over a try.sh, level by level: each plan with one more fault, at each hit of
 its own run after its last fault. TRY gets a scenario, writes its verdict, and leaves the run's trace in the file TRACE. Kinds of
 faults are return and panic where a point isn't named, and return at power::keep. Writes the sizes of the levels, onward, how
-many plans there are, the first failure of each code, and the causes."""
+many plans there are, the first failure of each code, and the causes; with --report lines as a report of `paklour` has them: the sizes, what
+is beyond, each point that is reached, the verdict of each plan, and the causes."""
 import os, subprocess, sys, tempfile
 
-depth, command = int(sys.argv[1]), sys.argv[2]
-kinds = {"power::keep": ["return"], **{word.split("=")[0]: word.split("=")[1].split(",") for word in sys.argv[3:]}}
+words = [word for word in sys.argv[1:] if word != "--report"]
+depth, command = int(words[0]), words[1]
+kinds = {"power::keep": ["return"], **{word.split("=")[0]: word.split("=")[1].split(",") for word in words[2:]}}
+catalogue = "open read write fsync ftruncate rename link unlink mkdir rmdir symlink".split()
+order = ["libc::" + name for name in catalogue] + ["power::keep"]
 trace = os.path.join(tempfile.mkdtemp(), "trace")
 runs = {}
 
 
 def scenario(plan):
     """A plan is a tuple of (point, ordinal, fault, endless); an entry for each point as it comes first in the catalogue."""
-    catalogue = "open read write fsync ftruncate rename link unlink mkdir rmdir symlink".split()
-    order = ["libc::" + name for name in catalogue] + ["power::keep"]
     entries = []
     for point in sorted({fault[0] for fault in plan}, key=order.index):
         terms, at = [], 0
@@ -69,9 +71,22 @@ while len(levels) <= depth:
     levels.append([child for plan in levels[-1] for child in children(plan)])
 onward = [endless for plan in levels[-1] for endless in made_endless(plan)] if depth else []
 plans = sum(levels, []) + onward
-print("levels", *map(len, levels), "onward", len(onward), "plans", len(plans))
+told = "--report" in sys.argv
+if told:
+    for number, level in enumerate(levels):
+        print("level", number, len(level))
+    print("onward", len(onward))
+    print("beyond", sum(len(children(plan)) for plan in levels[-1]))
+    for point in order:
+        most = max(sum(hit[0] == point for hit in run(plan)[1]) for plan in plans)
+        if most:
+            print("reached", point, most)
+    for number, plan in enumerate(plans):
+        print("verdict", number, run(plan)[0])
+else:
+    print("levels", *map(len, levels), "onward", len(onward), "plans", len(plans))
 failing = [(number, plan) for number, plan in enumerate(plans) if run(plan)[0].startswith("fail ")]
-for code in sorted({run(plan)[0] for _, plan in failing}):
+for code in [] if told else sorted({run(plan)[0] for _, plan in failing}):
     number, plan = next((number, plan) for number, plan in failing if run(plan)[0] == code)
     print("first", number, code.split()[1], scenario(plan))
 for number, plan in failing:

@@ -10,10 +10,10 @@ cat > "$0.in"
 [ -z "${REFUSES-}" ] || { [ "$1" = asks ] && { echo 'settings: unknown key what' >&2; exit 2; }; }
 [ -z "${NOTE-}" ] || [ "$brief" ] || echo "$NOTE" >&2
 case $1 in
-asks) cut -f 2 "$0.in" | grep -vxF -f - "$2" | head -n "${ROUND:-3}" ;;
+asks) cut -f 2 "$0.in" | grep -vxF -f - "$2" | grep -v depth | head -n "${ROUND:-3}" ;;
 report)
-    [ -z "$brief" ] || sed -n 's/^fail \(.*\)\t/ fail \1 /p' "$0.in" | awk '{ print "verdict " NR $0 }'
-    [ -n "$brief" ] || { cut -f 2 "$0.in" | LC_ALL=C sort | paste -s -d ' '; sed -n 's/^\(fail .*\)\t.*/ \1/p' "$0.in" | awk '{ print "verdict " NR $0 }'; }
+    [ -z "$brief" ] || sed -n 's/^fail \([^\t]*\)\t\([^\t]*\).*/ fail \1 \2/p' "$0.in" | awk '{ print "verdict " NR $0 }'
+    [ -n "$brief" ] || { cut -f 2 "$0.in" | LC_ALL=C sort | paste -s -d ' '; sed -n 's/^\(fail [^\t]*\)\t.*/ \1/p' "$0.in" | awk '{ print "verdict " NR $0 }'; }
     grep -q '^fail' "$0.in" && { echo 'first 1 lost of all'; echo 'reduced e=off'; exit 1; }
     [ -z "$strict" ] || { echo 'strict: no hits without faults' >&2; exit 5; } ;;
 esac
@@ -143,6 +143,48 @@ loop fails_again > "$here/said" 2>&1
 is 'where all fail again, nothing is told' '1 ' "$? $(told)"
 rm "$here/answers"
 
+# With a depth, answers tell hits: TRY is asked for them.
+printf '%s\n' '#!/bin/sh' 'printf "pass\t%s\t%s\n" "$1" "${HITS-none}"' > "$here/bin/tells_hits"
+cat > "$here/bin/ends" <<'END'
+#!/bin/sh
+# Answers as it is ended.
+trap 'printf "unresolved\t%s\tlibc::open\n" "$1"; exit' TERM
+sleep 30 &
+wait
+END
+# Fails with hits that are others the second time; and d=off always with the same.
+cat > "$here/bin/drifts" <<'END'
+#!/bin/sh
+hits=a
+[ "$1" = d=off ] || ! mkdir "$0.$1" 2> "$0.said" || hits=2*a
+printf 'fail lost of all\t%s\t%s\n' "$1" "$hits"
+END
+chmod +x "$here/bin/tells_hits" "$here/bin/ends" "$here/bin/drifts"
+HITS=before
+export HITS
+PATH="$here/bin:$PATH" ./loop "$here/three" "$here/answers" "$here/bin/tells_hits" > "$here/said" 2>&1
+is 'without a depth no hits are asked for' none "$(cut -f 3 "$here/answers" | sort -u)"
+unset HITS
+rm "$here/answers"
+for line in 'depth = 2' '  "depth"	=2'; do
+    { cat "$here/three"; echo "$line"; } > "$here/deep"
+    PATH="$here/bin:$PATH" ./loop "$here/deep" "$here/answers" "$here/bin/tells_hits" > "$here/said" 2>&1
+    is "with $line they are" yes "$(cut -f 3 "$here/answers" | sort -u)"
+    rm "$here/answers"
+done
+{ cat "$here/three"; echo 'depth = 2'; } > "$here/deep"
+PATH="$here/bin:$PATH" ./loop --seconds 1 "$here/deep" "$here/answers" "$here/bin/hangs" > "$here/said" 2> "$here/told"
+is 'of a run that was ended nobody knows the hits' 'unresolved	a=off	-' "$(grep 'a=off' "$here/answers")"
+rm "$here/answers" "$here"/bin/hangs.*.pid
+PATH="$here/bin:$PATH" ./loop --seconds 1 "$here/deep" "$here/answers" "$here/bin/ends" > "$here/said" 2> "$here/told"
+is 'unless it tells them' 'unresolved	a=off	libc::open' "$(grep 'a=off' "$here/answers")"
+is 'and then nothing else is told' '' "$(grep ended "$here/told")"
+rm "$here/answers"
+printf '%s\n' d=off e=off 'depth = 2' > "$here/deep"
+PATH="$here/bin:$PATH" ./loop "$here/deep" "$here/answers" "$here/bin/drifts" > "$here/said" 2> "$here/told"
+is 'a second run with other hits is told' '5 loop: other hits: 2*a, then a: e=off' "$? $(cat "$here/told")"
+rm "$here/answers"
+
 # Lines that no single write takes stay whole.
 long=$(head -c 60000 /dev/zero | tr '\0' x)
 for number in 1 2 3 4 5 6 7 8; do echo "n$number=print($long)"; done > "$here/long"
@@ -176,6 +218,9 @@ END
         --sshlogin "$here/bin/enters first" --sshlogin "$here/bin/enters second" 2> "$here/faults")"
     is 'that both did some' "7 first second" "$(cat "$here/first/where" "$here/second/where" | wc -l) $(
         cat "$here/first/where" "$here/second/where" | sort -u | sed 's|.*/||' | paste -s -d ' ')"
+    rm "$here/answers"
+    is 'and are asked for hits' yes "$(PATH="$here/bin:$PATH" ./loop -j 1 --engine parallel "$here/deep" "$here/answers" "$here/bin/tells_hits" \
+        -- --sshlogin "$here/bin/enters first" --sshlogin "$here/bin/enters second" > "$here/said" 2> "$here/faults"; cut -f 3 "$here/answers" | sort -u)"
     rm "$here/answers"
     unset ROUND
     stopped 'GNU parallel is ended with the loop' TERM '' --engine parallel

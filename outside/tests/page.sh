@@ -18,8 +18,13 @@ gcc -o "$here/page/save" "$here/page/save.c"
 # tried PAKLOUR SCENARIO: what the page's try.sh writes there, what it tells, and its status
 tried() { (cd "$here/page" && PAKLOUR=$1 ./try.sh "$2" 2>&1; echo "$?") | tr '\t' ' ' | grep -v '^ERROR: ld.so' | paste -s -d , ; }
 
-is 'the page with the shim' 'pass none,0' "$(tried "$outside/.." none)"
-is 'its flaw' 'fail lost libc::fsync=1*return,0' "$(tried "$outside/.." 'libc::fsync=1*return')"
+clean='2*libc::open;libc::write;libc::fsync;libc::rename;libc::fsync'
+is 'the page with the shim' "pass none $clean,0" "$(tried "$outside/.." none)"
+is 'its flaw' "fail lost libc::fsync=1*return $clean,0" "$(tried "$outside/.." 'libc::fsync=1*return')"
+is 'a run that it ends tells its hits up to there' 'unresolved libc::write=pause 2*libc::open;libc::write,0' "$(tried "$outside/.." 'libc::write=pause')"
+mkdir "$here/hasty" && printf '#!/bin/sh\nshift 3\nexec %s -s KILL 1 "$@"\n' "$(command -v timeout)" > "$here/hasty/timeout" && chmod +x "$here/hasty/timeout"
+is 'one that is killed too' 'unresolved libc::write=sleep(20000) 2*libc::open;libc::write,0' \
+    "$(PATH="$here/hasty:$PATH" tried "$outside/.." 'libc::write=sleep(20000)' | sed 's/^Killed,//')"
 is 'without PAKLOUR it ends with 2' 2 "$(tried '' 'libc::fsync=1*return' | sed 's/.*,//')"
 is 'with a wrong path too' 2 "$(tried "$here/none" 'libc::fsync=1*return' | sed 's/.*,//')"
 mkdir -p "$here/half/outside/out" && cp out/powercut "$here/half/outside/out"

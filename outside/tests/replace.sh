@@ -1,39 +1,54 @@
-# File replacement in C under the plans of examples/replace/outside.toml, and its verdicts beside those of the bundled file
-# replacement with the same workload. Sourced by `test`. examples/replace/plans and the reports beside it are worked out by
-# hand: the plans by the rules of plans, the verdicts by the protocol.
+# File replacement in C, grown two faults deep by examples/replace/outside.toml, and its verdicts beside those of the bundled file
+# replacement with the same workload. Sourced by `test`. tests/grown.py works the lists out anew, from the traces of its own runs; what the bundled
+# target has was worked out by hand, by the protocol.
 #
-# The C program opens the folder first, and to the C library the sync of the file and of the folder are one point: with
-# late_sync the folder's comes first. A Return of the bundled target leaves half a chunk, as HALF does here.
+# The C program opens the folder first, and to the C library the sync of the file and of the folder are one point. So level 1 has two plans more,
+# which fail before anything is done and have no children, and each later number is two higher. A Return of the bundled target leaves half a
+# chunk, as HALF does here.
 #
 #   site of the protocol   bundled plans   plans here
-#   open the folder                        1, 2, 3
-#   create                 1, 2, 3         4, 5, 6
-#   write 1                4, 5, 6         7, 8, 9; 22 leaves half a chunk, as 4 does
-#   write 2                7, 8, 9         10, 11, 12; 23 as 7
-#   sync                   10, 11, 12      13, 14, 15; with late_sync 16, 17, 18
-#   rename                 13, 14, 15      19, 20, 21
-#   sync_dir               16, 17, 18      16, 17, 18; with late_sync 13, 14, 15
+#   open the folder                        1, 2
+#   create                 1, 2            3, 4
+#   write 1                3, 4            5, 6; the first listed plan leaves half a chunk, as 3 does
+#   write 2                5, 6            7, 8; the second listed plan as 5
+#   sync                   7, 8            9, 10; with late_sync 13, 14
+#   rename                 9, 10           11, 12; with late_sync 9, 10
+#   sync_dir               11, 12          13, 14; with late_sync 11, 12
 #
-# The bundled target's failures, all torn: late_sync 10, 11 and 12; ignore_sync 10 and 11; retry_write 4; of the sound
-# variant none. Where the tables agree, so do the failures here: 16, 17 and 18; 13; 22. They don't agree on ignore_sync's 11,
-# a sync that fails from then on: here it fails the folder's sync too (14), so nothing is promised.
+# The bundled target's levels 0 to 2, onward, beyond and causes: sound 1, 12, 8, 0, 0, none; late_sync 1, 12, 6, 0, 0, the sync, 11 and 12;
+# ignore_sync 1, 12, 10, 0, 2, the sync, 7; retry_write 1, 12, 22, 1, 20, half a first chunk, 3.
+sizes() { sed -n 's/^\(level [0-9]*\|onward\|beyond\) //p' "examples/replace/$1.report" | paste -s -d ' '; }
+causes() { sed -n 's/^cause \([0-9]*\) .*/\1/p' "examples/replace/$1.report" | paste -s -d ' '; }
+listed() { sed -n 's/^verdict [0-9]* //p' "examples/replace/$1.report" | tail -n 2 | paste -s -d ,; }
+is 'replace sound, beside the bundled target' '1 14 8 0 0,,pass,pass' "$(sizes sound),$(causes sound),$(listed sound)"
+is 'replace late_sync' '1 14 6 0 0,13 14,pass,pass' "$(sizes late_sync),$(causes late_sync),$(listed late_sync)"
+is 'replace ignore_sync' '1 14 10 0 2,9,pass,pass' "$(sizes ignore_sync),$(causes ignore_sync),$(listed ignore_sync)"
+is 'replace retry_write' '1 14 22 1 20,,fail torn,pass' "$(sizes retry_write),$(causes retry_write),$(listed retry_write)"
 
-# campaign FLAW: each plan that doesn't pass, with its number, and how many were tried
-campaign() {
-    while read -r _ number scenario; do
-        FLAW=$1 examples/replace/try.sh "$scenario" < /dev/null | sed "s/^/$number	/"
-    done < examples/replace/plans | awk -F '\t' '$2 != "pass"; END { print NR " plans" }' | paste -s -d ,
+# list_of FLAW: the lines of the report that its list and its runs tell, but for the two listed plans
+list_of() {
+    plans=$(sed -n 's/^plans //p' "examples/replace/$1.report")
+    grep -E '^(level|onward|beyond|verdict|cause) |^reached .* [1-9]' "examples/replace/$1.report" |
+        grep -v -e "^verdict $((plans - 1)) " -e "^verdict $((plans - 2)) "
 }
 
-# told FLAW: the same of the stored report
-told() {
-    sed -n 's/^verdict //p' "examples/replace/$1.report" | while read -r number verdict; do
-        printf '%s\t%s\t%s\n' "$number" "$verdict" "$(sed -n "s/^plan $number //p" examples/replace/plans)"
-    done | awk -F '\t' '$2 != "pass"; END { print NR " plans" }' | paste -s -d ,
+# verdicts FLAW SCENARIO..: the verdicts alone, in order
+verdicts() {
+    flaw=$1
+    shift
+    for scenario in "$@"; do
+        FLAW=$flaw examples/replace/try.sh "$scenario" | cut -f 1
+    done | paste -s -d ,
 }
 
 for flaw in sound late_sync ignore_sync retry_write; do
-    is "replace $flaw, its plans" "$(told $flaw)" "$(campaign $flaw)"
+    is "replace $flaw, its list and its runs" "$(list_of $flaw)" "$(FLAW=$flaw tests/grown.py --report 2 examples/replace/try.sh)"
+    is "replace $flaw, half a chunk" "$(listed $flaw)" "$(verdicts $flaw 'libc::write=1*return(HALF)' 'libc::write=1*off->1*return(HALF)')"
+done
+# With crash states, by examples/replace/keep.toml; those reports are in brief.
+for flaw in rename_first in_place; do
+    is "replace $flaw, crash states" "$(grep -E '^(level|onward|beyond|cause) |^reached .* [1-9]' "examples/replace/$flaw.report")" \
+        "$(STATES=keep FLAW=$flaw tests/grown.py --report 2 examples/replace/try.sh | grep -v '^verdict')"
 done
 
 # The bundled target's other worked rows: old contents that are empty, and what each run asks.
@@ -48,7 +63,8 @@ REPLACEMENTS='ne w , fir st' TRACE=$here/trace examples/replace/try.sh 'libc::wr
 is 'replace twice, what was left is cleared' 'open open write unlink unlink open write write fsync rename fsync' "$(asked)"
 is 'and passes' 'pass	libc::write=1*return;libc::unlink=1*return' "$(cat "$here/said")"
 TRACE=$here/trace examples/replace/try.sh none > "$here/said"
-is 'the census of replace is that of its settings' "$(grep -E '^(points|hits)' examples/replace/outside.toml)" "$(./census "$here/trace")"
+is 'the census of replace' 'points = ["libc::open", "libc::write", "libc::fsync", "libc::rename"],hits = [2, 2, 2, 1]' "$(./census "$here/trace" | paste -s -d ,)"
+is 'and its hits in order' '2*libc::open;2*libc::write;libc::fsync;libc::rename;libc::fsync' "$(./census --hits "$here/trace")"
 is 'replace, with its hits' 'pass	none	2*libc::open;2*libc::write;libc::fsync;libc::rename;libc::fsync' "$(HITS=yes examples/replace/try.sh none)"
 keep='libc::fsync=1*return;power::keep=3*off->1*return'
 is 'and those of the cut' "fail torn	$keep	2*libc::open;2*libc::write;libc::rename;libc::fsync;4*power::keep" \
@@ -57,15 +73,6 @@ is 'replace, the scenario in FAILPOINTS' 'fail torn	libc::fsync=1*return' \
     "$(FAILPOINTS='libc::fsync=1*return' FLAW=ignore_sync examples/replace/try.sh)"
 is 'replace under a pause is unresolved' 'unresolved	libc::write=pause' "$(examples/replace/try.sh 'libc::write=pause')"
 is 'replace under a refused scenario is unresolved' 'unresolved	libc::write=retrun' "$(examples/replace/try.sh 'libc::write=retrun' 2> "$here/faults")"
-
-# verdicts FLAW SCENARIO..: the verdicts alone, in order
-verdicts() {
-    flaw=$1
-    shift
-    for scenario in "$@"; do
-        FLAW=$flaw examples/replace/try.sh "$scenario" | cut -f 1
-    done | paste -s -d ,
-}
 
 # What has no plan of its own.
 is 'replace retry_write, two halves in turn' 'pass,pass,fail torn' "$(verdicts retry_write 'libc::write=2*return(HALF)' \

@@ -93,6 +93,15 @@ printf '1\tstore::flush\t1\tgo\tx\n2\tlibc::read\t1\tgo\tx\n3\tstore::flush\t2\t
 is 'points of others come last' 'points = ["libc::read", "store::flush"]
 hits = [1, 2]' "$(./census "$here/mixed")"
 
+# With a depth a fault may lead to any point of the library, and then to those of the trace.
+files='"libc::open", "libc::read", "libc::write", "libc::fsync", "libc::ftruncate", "libc::rename", "libc::link", "libc::unlink", "libc::mkdir"'
+files="$files, \"libc::rmdir\", \"libc::symlink\""
+is 'the points of settings with a depth' "points = [$files, \"store::flush\"]" "$(./census --points "$here/mixed")"
+is 'with those of sockets' "points = [$files, \"libc::connect\", \"libc::accept\", \"libc::send\", \"libc::recv\", \"store::flush\"]" \
+    "$(FAULTS_SOCKETS=1 ./census --points "$here/mixed")"
+printf '1\tlibc::write\t1\tgo\tx\n2\tpower::keep\t1\tgo\tx\n3\tb\t1\tgo\tx\n' > "$here/cut"
+is 'and what a power cut asks last' "points = [$files, \"b\", \"power::keep\"]" "$(./census --points "$here/cut")"
+
 # The hits of a run, as an answer tells them.
 try none mkdir b create a write b write c fsync rename a sub/b folder . fsync
 is 'the hits of a run, those of one point in a row together' \

@@ -9,17 +9,25 @@ database() {
     is "sqlite $name" "$expected	$scenario" "$(env "$@" examples/sqlite/try.sh "$scenario")"
 }
 
-# same_census SETTINGS [VARIABLE=VALUE..]: whether this SQLite's run without faults is that of the settings
+# same_census SETTINGS [VARIABLE=VALUE..]: whether this SQLite's run without faults is that of the settings, or of the report
 same_census() {
     settings=examples/sqlite/$1
     shift
     env "$@" TRACE="$here/trace" examples/sqlite/try.sh none > "$here/said"
-    [ "$(grep -E '^(points|hits)' "$settings")" = "$(./census "$here/trace")" ]
+    case $settings in
+    *.report) [ "$(sed -n 's/^census //p' "$settings" | grep -v ' 0$')" = "$(counted "$here/trace")" ] ;;
+    *) [ "$(grep -E '^(points|hits)' "$settings")" = "$(./census "$here/trace")" ] ;;
+    esac
+}
+
+# counted TRACE: each point with its hits, in the library's order
+counted() {
+    ./census "$1" | tr -d '",[]' | cut -d ' ' -f 3- | awk 'NR == 1 { split($0, names, " "); next } { for (i = 1; i <= NF; i++) print names[i], $i }'
 }
 
 if ! command -v sqlite3 > "$here/said" || ! command -v stdbuf > "$here/said"; then
     echo 'skipped sqlite: sqlite3 or stdbuf is not installed'
-elif ! same_census full.toml || ! same_census extra.toml SYNC=EXTRA || ! same_census wal.toml JOURNAL=WAL; then
+elif ! same_census full.toml || ! same_census extra.report SYNC=EXTRA || ! same_census wal.toml JOURNAL=WAL; then
     echo 'skipped sqlite: another SQLite than that of the settings'
 else
     database 'FULL without faults' none 'fail lost'
@@ -46,15 +54,17 @@ else
     # Any part of what is pending: the plans of one fault, three of which fail, the first in none of the four states. The
     # journal's name lasts and its removal doesn't, as the folder was never opened for its sync.
     first='libc::open=2*off->return'
+    SYNC=EXTRA TRACE=$here/trace examples/sqlite/try.sh none > "$here/said"
+    ./census "$here/trace" > "$here/extra.toml"
     is 'sqlite EXTRA, one fault, each pending change' "fail lost $first
 fail lost libc::open=3*off->1*return
 fail lost libc::open=3*off->return" \
-        "$(tests/plans.py examples/sqlite/extra.toml | sed -n 1,82p | SYNC=EXTRA STATES=each xargs -d '\n' -n 1 examples/sqlite/try.sh |
+        "$(tests/plans.py "$here/extra.toml" | SYNC=EXTRA STATES=each xargs -d '\n' -n 1 examples/sqlite/try.sh |
             tr '\t' ' ' | grep -v '^pass')"
     database 'EXTRA, the first new one, in the four states' "$first" pass SYNC=EXTRA
     database 'EXTRA, the first new one, by the change that it keeps' "$first;power::keep=1*return" 'fail lost' SYNC=EXTRA STATES=keep
     database 'EXTRA, the first new one, nothing kept' "$first" pass SYNC=EXTRA STATES=keep
-    # With pairs there are twelve, of 784; these beside the three.
+    # Of two faults there are more; some of them.
     for plan in 'libc::open=2*off->1*return->1*return' 'libc::open=3*off->1*return;libc::fsync=1*off->1*return' \
         'libc::open=3*off->1*return;libc::fsync=4*off->1*return' 'libc::open=3*off->1*return;libc::fsync=4*off->1*panic'; do
         database "EXTRA, a pair" "$plan" 'fail lost' SYNC=EXTRA STATES=each

@@ -6,7 +6,7 @@
 #   REPLACEMENTS   lists of chunks without blanks, a comma between two lists: ne w
 #   STATES         the states after a power cut that are judged: lasting; keep is what the scenario says of power::keep
 #   TRACE          a file that takes the run's trace
-#   HITS           where it is set, the line ends with a tab and the run's hits in order, as `census --hits` tells them
+#   HITS           where it is set, as outside/loop does with a depth, the line ends with a tab and the run's hits in order, as `census --hits` tells them
 # With STATES=keep a campaign grows over what a cut may keep (../../tests/grown.py): two faults deep FLAW=rename_first has 4 causes, the first
 # `libc::fsync=1*return;power::keep=3*off->1*return` (the name, and none of its bytes), FLAW=in_place 23, the first
 # `libc::open=1*off->1*return;power::keep=1*return` (the old name is gone). In `lasting` both pass every plan.

@@ -10,7 +10,7 @@
 #   RECOVER        yes: after the cut, by what the scenario says of power::keep, the run goes on: SQLite opens the database
 #                  again under the scenario, commits one transaction more, and the power is cut a second time
 #   TRACE          a file that takes the run's trace
-#   HITS           where it is set, the line ends with a tab and the run's hits in order, as `census --hits` tells them
+#   HITS           where it is set, as outside/loop does with a depth, the line ends with a tab and the run's hits in order, as `census --hits` tells them
 # corrupt: the integrity check finds something. half: a transaction has one of its rows. lost: a transaction that was
 # acknowledged isn't there.
 # Found in SQLite 3.40.1, one transaction, in the four states (docs/FOUND.md). Plans of one fault:
@@ -24,12 +24,13 @@
 #     strace -o calls -P "$PWD" -e trace=openat,fdatasync -e inject=openat:error=EIO:when=2 \
 #         sqlite3 db "PRAGMA synchronous=EXTRA; INSERT INTO t VALUES(1); SELECT 'done'"
 #     cat calls                     # one sync of the folder, one open that failed; `done` all the same
-# With pairs EXTRA has 784 plans: 777 pass, 4 are lost and 3 corrupt. The first that is corrupt is `libc::open=2*off->1*return;libc::write=9*off->1*panic`: the
-# folder can't be opened for its sync after the journal is made. SQLite goes on, and dies while it writes pages: the pages last, the journal's name doesn't.
-# With `libc::fsync=1*off->1*return` in place of the open it is the same.
-# STATES=each fails 12 of them. `libc::open=2*off->return` passes in the four states: pending at its end are `1 create db-journal` and `2 unlink db-journal`,
-# and if the name lasts and its removal doesn't (`;power::keep=1*return`, STATES=keep), the journal is hot when the database is opened again, and the
-# transaction that was acknowledged is rolled back.
+# Three faults deep, as extra.toml has it, EXTRA has 1,119 plans, and no run has room for a fourth: 896 pass, 222 are corrupt and 1 is lost. The first that is
+# corrupt is `libc::open=2*off->1*return;libc::write=9*off->1*panic`: the folder can't be opened for its sync after the journal is made. SQLite goes on, and dies
+# while it writes pages: the pages last, the journal's name doesn't. With `libc::fsync=1*off->1*return` in place of the open it is the same. Of the 217 causes 7
+# have one fault or two; in 210 SQLite fails while it rolls back, 204 times at a call that its run without faults doesn't have.
+# `libc::open=2*off->return` passes in the four states and fails with STATES=each: pending at its end are `1 create db-journal` and
+# `2 unlink db-journal`, and if the name lasts and its removal doesn't (`;power::keep=1*return`, STATES=keep), the journal is hot when the database is
+# opened again, and the transaction that was acknowledged is rolled back.
 # With RECOVER=yes STATES=keep a scenario's faults go on in recovery: of 150 plans of one fault 3 are lost, all by a folder that can't be opened for its sync,
 # in the second transaction also: `libc::open=7*off->1*return`. Two faults deep it is 5,877 plans and 49 causes, all lost, and each with an open that fails.
 # In `libc::write=9*off->1*panic->1*off->1*return` SQLite dies at its tenth write, and the second write of the roll-back fails; it passes, as the next one
