@@ -24,3 +24,4 @@ pub mod LeftFaults
 pub mod Rigged
 pub mod LaidChains
 pub mod MayAct
+pub mod Arguments

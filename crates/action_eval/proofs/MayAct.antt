@@ -1,8 +1,6 @@
 -- Where a point's hits come to nothing no more, something may come of the next one.
-use Rattle.std.proofs.Common.{◌≡◌, ℕ, zero, suc, ◌+◌, ◌-◌, ◌*◌, ◌<◌, ◌≤◌, ◌&&◌, cond, not, eqb, leb, Bool, true, false, List, [], ◌∷◌, ◌++◌, length, map, take, drop, slice_index, get_or, Option, Some, None, is_some, count_by, refl, ap, sym, ◌∙◌, arith, subst, zero-add, add-zero, length-append}
-use Rattle.std.specs.List.{slice_range}
+use Rattle.std.proofs.Common.{◌≡◌, ℕ, zero, suc, ◌+◌, ◌-◌, ◌*◌, ◌<◌, ◌≤◌, ◌&&◌, cond, not, eqb, leb, Bool, true, false, List, [], ◌∷◌, ◌++◌, length, map, take, slice_index, get_or, Option, Some, None, is_some, refl, ap, sym, ◌∙◌, arith, subst, zero-add, add-zero, length-append}
 use Rattle.std.specs.Option.{option_map_or}
-use Rattle.std.proofs.Math.ListN.{get_or-append}
 use Rattle.std.proofs.Math.Seq.{get_or-append_seam}
 use Rattle.std.proofs.lemmas.Bool.Decides.{nat_tests}
 use Rattle.std.proofs.lemmas.List.Sums.{count_by-le-length}

@@ -15,7 +15,7 @@ use Rattle.action_eval.specs.declared.rig.Rig.{Rig}
 use Rattle.action_eval.specs.declared.rig.Kind.{Kind}
 use Rattle.action_eval.specs.declared.rig.Kind.TheVariants.{OnceReturn, OnwardReturn, OncePanic}
 use Rattle.action_eval.specs.Catalogue.{IsCatalogue, HasDistinct}
-use Rattle.action_eval.specs.Rigging.{chain_from, terms_at, done_after, rigged, offs, term_of, entry, entries_from, rigging, full}
+use Rattle.action_eval.specs.Rigging.{chain_from, terms_at, done_after, rigged, offs, term_of, entry, entries_from, rigging, full, HasLawfulText, HaveLawfulTexts}
 
 -- what was built and what is left are the whole, also after one step
 pub goes_on : {A : Type 0} (old new here rest whole : List A) → old ++ (here ++ rest) ≡ whole → new ≡ old ++ here → new ++ rest ≡ whole
@@ -48,20 +48,22 @@ offs_lawful_case : (n : ℕ) (b : Bool) → n < 2 ^ 32 → AreLawful (cond b [] 
 offs_lawful_case n true h = tt
 offs_lawful_case n false h = (off_lawful n h, tt)
 
-term_lawful : (kind : Kind) → AreLawful (term_of kind ∷ [])
-term_lawful OnceReturn = (refl, tt)
-term_lawful OnwardReturn = (refl, tt)
-term_lawful OncePanic = (refl, tt)
+term_lawful : (kind : Kind) → HasLawfulText kind → AreLawful (term_of kind ∷ [])
+term_lawful (OnceReturn None) h = (refl, tt)
+term_lawful (OnceReturn (Some text)) h = (h.0, tt)
+term_lawful (OnwardReturn None) h = (refl, tt)
+term_lawful (OnwardReturn (Some text)) h = (h.0, tt)
+term_lawful OncePanic h = (refl, tt)
 
-terms_lawful_case : (done : ℕ) (r : Rig) (b : Bool) → r.site.hit < 2 ^ 32 → AreLawful (cond b (rigged done r) [])
-terms_lawful_case done r true h =
+terms_lawful_case : (done : ℕ) (r : Rig) (b : Bool) → r.site.hit < 2 ^ 32 → HasLawfulText r.kind → AreLawful (cond b (rigged done r) [])
+terms_lawful_case done r true h k =
     let n = r.site.hit - done - 1 in
-    both_lawful (offs n) (term_of r.kind ∷ []) (offs_lawful_case n (n == 0) (omega (arith, h))) (term_lawful r.kind)
-terms_lawful_case done r false h = tt
+    both_lawful (offs n) (term_of r.kind ∷ []) (offs_lawful_case n (n == 0) (omega (arith, h))) (term_lawful r.kind k)
+terms_lawful_case done r false h k = tt
 
-chain_lawful : (p done : ℕ) (rs : List Rig) → AreSmall rs → AreLawful (chain_from p done rs)
-chain_lawful p done [] h = tt
-chain_lawful p done (r ∷ rs) h = both_lawful (terms_at p done r) _ (terms_lawful_case done r (r.site.point == p) h.0) (chain_lawful p (done_after p done r) rs h.1)
+chain_lawful : (p done : ℕ) (rs : List Rig) → AreSmall rs → HaveLawfulTexts rs → AreLawful (chain_from p done rs)
+chain_lawful p done [] h k = tt
+chain_lawful p done (r ∷ rs) h k = both_lawful (terms_at p done r) _ (terms_lawful_case done r (r.site.point == p) h.0 k.0) (chain_lawful p (done_after p done r) rs h.1 k.1)
 
 -- few terms
 offs_few : (n : ℕ) → length (offs n) ≤ 1
@@ -103,8 +105,8 @@ offs_no_fault : (n : ℕ) → faults_in (offs n) ≡ 0
 offs_no_fault n = elim (n == 0) as (λ b. faults_in (cond b [] (full (Some n) task.Off ∷ [])) ≡ 0) [ true ↦ refl | false ↦ refl ]
 
 one_fault : (kind : Kind) → faults_in (term_of kind ∷ []) ≡ 1
-one_fault OnceReturn = refl
-one_fault OnwardReturn = refl
+one_fault (OnceReturn text) = refl
+one_fault (OnwardReturn text) = refl
 one_fault OncePanic = refl
 
 rigged_fault : (done : ℕ) (r : Rig) → faults_in (rigged done r) ≡ 1
@@ -192,31 +194,37 @@ offs_width_case : (n : ℕ) (b : Bool) → n < 2 ^ 32 → width (cond b [] (full
 offs_width_case n true h = omega arith
 offs_width_case n false h = omega (arith, off_width n h)
 
-once_width : (k : Task) → length (task_text k) ≤ 6 → term_width (full (Some 1) k) ≤ 10
+once_width : (k : Task) → length (task_text k) ≤ 40 → term_width (full (Some 1) k) ≤ 44
 unfolding share_text
 once_width k h =
     omega (arith, width_parts (full (Some 1) k), length-append (decimal 1) (42 ∷ []), length-decimal-le 1 1 (omega arith) (omega arith) (omega arith), h)
 
-onward_width : (k : Task) → length (task_text k) ≤ 6 → term_width (full None k) ≤ 10
+onward_width : (k : Task) → length (task_text k) ≤ 40 → term_width (full None k) ≤ 44
 unfolding share_text
 onward_width k h = omega (arith, width_parts (full None k), h)
 
-term_of_width : (kind : Kind) → width (term_of kind ∷ []) ≤ 10
-term_of_width OnceReturn = omega (arith, once_width (task.Return None) (omega arith))
-term_of_width OnwardReturn = omega (arith, onward_width (task.Return None) (omega arith))
-term_of_width OncePanic = omega (arith, once_width (task.Panic None) (omega arith))
+-- a return with a text
+return_width : (text : List ℕ) → length text ≤ 32 → length (task_text (task.Return (Some text))) ≤ 40
+return_width text h = omega (arith, length-append text (41 ∷ []), h)
 
-terms_width_case : (done : ℕ) (r : Rig) (b : Bool) → r.site.hit < 2 ^ 32 → width (cond b (rigged done r) []) ≤ 26 * cond b 1 0
-terms_width_case done r true h =
+term_of_width : (kind : Kind) → HasLawfulText kind → width (term_of kind ∷ []) ≤ 44
+term_of_width (OnceReturn None) h = omega (arith, once_width (task.Return None) (omega arith))
+term_of_width (OnceReturn (Some text)) h = omega (arith, once_width (task.Return (Some text)) (return_width text h.1))
+term_of_width (OnwardReturn None) h = omega (arith, onward_width (task.Return None) (omega arith))
+term_of_width (OnwardReturn (Some text)) h = omega (arith, onward_width (task.Return (Some text)) (return_width text h.1))
+term_of_width OncePanic h = omega (arith, once_width (task.Panic None) (omega arith))
+
+terms_width_case : (done : ℕ) (r : Rig) (b : Bool) → r.site.hit < 2 ^ 32 → HasLawfulText r.kind → width (cond b (rigged done r) []) ≤ 60 * cond b 1 0
+terms_width_case done r true h k =
     let n = r.site.hit - done - 1 in
-    omega (arith, width_both (offs n) (term_of r.kind ∷ []), offs_width_case n (n == 0) (omega (arith, h)), term_of_width r.kind)
-terms_width_case done r false h = omega arith
+    omega (arith, width_both (offs n) (term_of r.kind ∷ []), offs_width_case n (n == 0) (omega (arith, h)), term_of_width r.kind k)
+terms_width_case done r false h k = omega arith
 
-chain_width : (p done : ℕ) (rs : List Rig) → AreSmall rs → width (chain_from p done rs) ≤ 26 * at p rs
-chain_width p done [] h = omega arith
-chain_width p done (r ∷ rs) h =
-    let here = terms_width_case done r (r.site.point == p) h.0 in
-    let more = chain_width p (done_after p done r) rs h.1 in
+chain_width : (p done : ℕ) (rs : List Rig) → AreSmall rs → HaveLawfulTexts rs → width (chain_from p done rs) ≤ 60 * at p rs
+chain_width p done [] h k = omega arith
+chain_width p done (r ∷ rs) h k =
+    let here = terms_width_case done r (r.site.point == p) h.0 k.0 in
+    let more = chain_width p (done_after p done r) rs h.1 k.1 in
     omega (arith, width_both (terms_at p done r) (chain_from p (done_after p done r) rs), here, more)
 
 more_width : (ts : List Term) → length (flat_map (λ u. 45 ∷ 62 ∷ term_text u) ts) ≡ width ts
@@ -239,12 +247,13 @@ entry_width : (name : List ℕ) (ts : List Term) → all_width (entry name ts) �
 entry_width name [] = omega arith
 entry_width name (t ∷ ts) = omega (arith, length-append name (61 ∷ chain_text (t ∷ ts)), text_width t ts)
 
-entries_width : (p : ℕ) (names : List (List ℕ)) (rs : List Rig) → AreSmall rs → AllByRecursion (λ name. length name ≤ 200) names → all_width (entries_from p names rs) ≤ 200 * length names + 26 * above p rs
-entries_width p [] rs h k = omega arith
-entries_width p (name ∷ names) rs h k =
+entries_width : (p : ℕ) (names : List (List ℕ)) (rs : List Rig) → AreSmall rs → HaveLawfulTexts rs → AllByRecursion (λ name. length name ≤ 200) names
+    → all_width (entries_from p names rs) ≤ 200 * length names + 60 * above p rs
+entries_width p [] rs h t k = omega arith
+entries_width p (name ∷ names) rs h t k =
     let here = entry_width name (chain_from p 0 rs) in
-    let more = entries_width (p + 1) names rs h k.1 in
-    omega (arith, all_width_both (entry name (chain_from p 0 rs)) (entries_from (p + 1) names rs), here, more, chain_width p 0 rs h, at_above p rs, k.0)
+    let more = entries_width (p + 1) names rs h t k.1 in
+    omega (arith, all_width_both (entry name (chain_from p 0 rs)) (entries_from (p + 1) names rs), here, more, chain_width p 0 rs h t, at_above p rs, k.0)
 
 more_entries : (es : Entries) → length (flat_map (λ f. 59 ∷ entry_text f) es) ≡ all_width es
 more_entries [] = refl
@@ -299,17 +308,17 @@ short_chain : (a n : ℕ) → a ≤ 2 * n → n ≤ 64 → a ≤ 256
 short_chain a n h k = omega arith
 
 -- rigged hits make a scenario
-pub rigging_keeps : (names : List (List ℕ)) (rs : List Rig) → IsCatalogue names → length rs ≤ 64 → AreSmall rs → IsScenario (rigging names rs)
+pub rigging_keeps : (names : List (List ℕ)) (rs : List Rig) → IsCatalogue names → length rs ≤ 64 → AreSmall rs → HaveLawfulTexts rs → IsScenario (rigging names rs)
 unfolding rigging
-rigging_keeps names rs c few small = record {
+rigging_keeps names rs c few small texts = record {
   few_entries = omega (arith, entries_few 0 names rs, c.few);
   no_empty_chain = entries_all (λ e. 0 < length e.1) (λ _. Unit {0}) rs (λ n p _ h. h) 0 names (any names);
   short_chains = entries_all (λ e. length e.1 ≤ 256) (λ _. Unit {0}) rs (λ n p _ _. short_chain (length (chain_from p 0 rs)) (length rs) (chain_few p 0 rs) few) 0 names (any names);
   distinct_names = entries_distinct 0 names rs c.distinct;
   lawful_names = entries_all (λ e. is_name e.0 ≡ true) (λ n. is_name n ≡ true) rs (λ n p h _. h) 0 names c.lawful;
-  lawful_terms = entries_all (λ e. AreLawful e.1) (λ _. Unit {0}) rs (λ n p _ _. chain_lawful p 0 rs small) 0 names (any names);
+  lawful_terms = entries_all (λ e. AreLawful e.1) (λ _. Unit {0}) rs (λ n p _ _. chain_lawful p 0 rs small texts) 0 names (any names);
   few_faults = omega (arith, entries_faults 0 names rs, above_few 0 rs, few);
-  short_text = omega (arith, printed_width (entries_from 0 names rs), entries_width 0 names rs small c.short, above_few 0 rs, few, c.few);
+  short_text = omega (arith, printed_width (entries_from 0 names rs), entries_width 0 names rs small texts c.short, above_few 0 rs, few, c.few);
 }
 
 none_keep : IsScenario []

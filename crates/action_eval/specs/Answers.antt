@@ -36,47 +36,27 @@ did (Some t) = t.now
 
 -- the answer where a task acts
 abbrev pub reply_of : Task → Reply
-reply_of task.Off = Go
 reply_of (task.Return text) = Return text
-reply_of (task.Sleep n) = Go
 reply_of (task.Panic text) = Halt
-reply_of (task.Print text) = Go
 reply_of task.Pause = Halt
-reply_of task.Yield = Go
-reply_of (task.Delay n) = Go
+reply_of _ = Go
 
 -- what stops the run where a task acts
 abbrev pub stop_of : Task → Option Stop
-stop_of task.Off = None
-stop_of (task.Return text) = None
-stop_of (task.Sleep n) = None
 stop_of (task.Panic text) = Some stop.Panic
-stop_of (task.Print text) = None
 stop_of task.Pause = Some stop.Paused
-stop_of task.Yield = None
-stop_of (task.Delay n) = None
+stop_of _ = None
 
 -- the milliseconds of a task that acts
 abbrev pub millis_of : Task → ℕ
-millis_of task.Off = 0
-millis_of (task.Return text) = 0
 millis_of (task.Sleep n) = n
-millis_of (task.Panic text) = 0
-millis_of (task.Print text) = 0
-millis_of task.Pause = 0
-millis_of task.Yield = 0
 millis_of (task.Delay n) = n
+millis_of _ = 0
 
 -- the notes of a task that acts at a point
 abbrev pub notes_of_task : ℕ → Task → List Note
-notes_of_task p task.Off = []
-notes_of_task p (task.Return text) = []
-notes_of_task p (task.Sleep n) = []
-notes_of_task p (task.Panic text) = []
 notes_of_task p (task.Print text) = record { point = p; text = text } ∷ []
-notes_of_task p task.Pause = []
-notes_of_task p task.Yield = []
-notes_of_task p (task.Delay n) = []
+notes_of_task p _ = []
 
 -- what a run is given
 pub record Given : Type 0 where

@@ -1,10 +1,12 @@
 -- The scenario in which faults are rigged for hits of points: entries in catalogue order, and one chain for all rigged hits of a point.
-use Rattle.std.specs.Prelude.{ℕ, ◌+◌, ◌-◌, ◌^◌, ◌<◌, ◌≤◌, length, ◌==◌, if◌then◌else◌, List, [], ◌∷◌, ◌++◌, Option, Some, None}
+use Rattle.std.specs.Prelude.{◌≡◌, ℕ, ◌+◌, ◌-◌, ◌^◌, ◌<◌, ◌≤◌, length, ◌==◌, if◌then◌else◌, Bool, true, false, List, [], ◌∷◌, ◌++◌, Option, Some, None}
 use Rattle.std.specs.List.{AllByRecursion}
+use Rattle.std.specs.Option.{IfSome}
+use Rattle.std.specs.Str.{bytes_eq}
 use Rattle.scenario_values.specs.declared.term.Term.{Term}
 use Rattle.scenario_values.specs.declared.term.Task.{Task}
 use Rattle.scenario_values.specs.declared.term.Task.TheVariants as task
-use Rattle.scenario_values.specs.Scenario.{Entries}
+use Rattle.scenario_values.specs.Scenario.{Entries, is_argument}
 use Rattle.action_eval.specs.declared.rig.Site.{Site}
 use Rattle.action_eval.specs.declared.rig.Rig.{Rig}
 use Rattle.action_eval.specs.declared.rig.Kind.{Kind}
@@ -18,10 +20,10 @@ full count what = record { share = 1000000; count = count; task = what }
 abbrev pub offs : ℕ → List Term
 offs n = if n == 0 then [] else (full (Some n) task.Off ∷ [])
 
--- what is done at a rigged hit: `1*return`, `return` (from then on) or `1*panic`
+-- what is done at a rigged hit: `1*return` or `1*return(TEXT)`, `return` or `return(TEXT)` (from then on), or `1*panic`
 abbrev pub term_of : Kind → Term
-term_of OnceReturn = full (Some 1) (task.Return None)
-term_of OnwardReturn = full None (task.Return None)
+term_of (OnceReturn text) = full (Some 1) (task.Return text)
+term_of (OnwardReturn text) = full None (task.Return text)
 term_of OncePanic = full (Some 1) (task.Panic None)
 
 -- the terms of a rigged hit, after `done` hits of its point
@@ -54,9 +56,33 @@ entries_from p (name ∷ names) rigs = entry name (chain_from p 0 rigs) ++ entri
 abbrev pub most_rigs : ℕ
 most_rigs = 64
 
+-- and their texts have at most so many bytes
+abbrev pub most_text : ℕ
+most_text = 32
+
+-- with which text a hit fails, if with one
+abbrev pub text_of : Kind → Option (List ℕ)
+text_of (OnceReturn text) = text
+text_of (OnwardReturn text) = text
+text_of OncePanic = None
+
+-- it may stand in a scenario, and is short
+abbrev pub HasLawfulText : Kind → Type 0
+HasLawfulText kind = IfSome (text_of kind) (λ text. (is_argument text ≡ true) × (length text ≤ most_text))
+
+abbrev pub HaveLawfulTexts : List Rig → Type 0
+HaveLawfulTexts rigs = AllByRecursion (λ r. HasLawfulText r.kind) rigs
+
 -- rigged hits of which a scenario can be made
 abbrev pub CanBeRigged : List Rig → Type 0
-CanBeRigged rigs = (length rigs ≤ most_rigs) × AllByRecursion (λ r. r.site.hit < 2 ^ 32) rigs
+CanBeRigged rigs = (length rigs ≤ most_rigs) × AllByRecursion (λ r. r.site.hit < 2 ^ 32) rigs × HaveLawfulTexts rigs
+
+-- whether two returns have the same text, or none
+abbrev pub is_same_text : Option (List ℕ) → Option (List ℕ) → Bool
+is_same_text None None = true
+is_same_text None (Some text) = false
+is_same_text (Some text) None = false
+is_same_text (Some text) (Some other) = bytes_eq text other
 
 -- the scenario of rigged hits, over a catalogue of names
 unfoldable pub rigging : List (List ℕ) → List Rig → Entries

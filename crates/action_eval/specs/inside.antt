@@ -4,3 +4,4 @@ pub mod Laid
 pub mod Layout
 pub mod Session
 pub mod Quiet
+pub mod Arguments

@@ -2,6 +2,7 @@
 #![tactic(auto)]
 
 mod answer;
+mod argument;
 mod counts;
 mod draws;
 mod found;
@@ -14,12 +15,13 @@ mod session;
 mod terms;
 
 pub use answer::{Answer, Note, Stop};
+pub use argument::{Argument, is_same_text};
 pub use laws::{
     clean_until_a_fault_acts, dropped_faults_never_act, dropped_terms_never_act,
     faults_left_by_tidying, history_of_a_part, keep_of_tidied, keep_then_tidy,
     tidied_without_a_fault, tidy_keeps_meaning,
 };
 pub use replay::{Answered, history, name_of};
-pub use rig::{Kind, Rig, Site};
+pub use rig::{Kind, Rig, Site, have_lawful_texts};
 pub use rigging::{Rigging, push_chain};
 pub use session::{Room, Session};

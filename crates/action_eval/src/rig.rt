@@ -1,4 +1,8 @@
 //! Hits that faults are planned at.
+ghost use Rattle.std.specs.Prelude.{◌≡◌};
+ghost use Rattle.action_eval.specs.Rigging.{text_of, HasLawfulText, HaveLawfulTexts};
+
+use crate::argument::Argument;
 
 /// A hit of a point.
 #[derive(Clone, Copy, Debug, PartialEq, Eq)]
@@ -10,19 +14,50 @@ pub struct Site {
 }
 
 /// What is done at a rigged hit.
-#[derive(Clone, Copy, Debug, PartialEq, Eq)]
+#[derive(Clone, Copy, Debug)]
 pub enum Kind {
-    /// It fails, and no other.
-    OnceReturn,
-    /// It fails, and so does each later hit of the point.
-    OnwardReturn,
+    /// It fails, with this text if there is one, and no other.
+    OnceReturn(Argument),
+    /// It fails so, and so does each later hit of the point.
+    OnwardReturn(Argument),
     /// The component stops there.
     OncePanic,
 }
 
 /// A hit at which something is done.
-#[derive(Clone, Copy, Debug, PartialEq, Eq)]
+#[derive(Clone, Copy, Debug)]
 pub struct Rig {
     pub site: Site,
     pub kind: Kind,
+}
+
+impl Kind {
+    /// With which text it fails, if with one.
+    pub fn text(self) -> Argument
+        ensures { result ≡ text_of self }
+    {
+        match self {
+            Kind::OnceReturn(text) | Kind::OnwardReturn(text) => text,
+            Kind::OncePanic => Argument::none(),
+        }
+    }
+
+    /// Whether its text may stand in a scenario, if it has one. It may.
+    fn is_lawful(&self) -> bool
+        ensures { HasLawfulText self.now }
+    {
+        match self {
+            Kind::OnceReturn(text) | Kind::OnwardReturn(text) => text.is_lawful(),
+            Kind::OncePanic => true,
+        }
+    }
+}
+
+/// Tells that the texts of rigged hits may stand in a scenario.
+pub fn have_lawful_texts(rigs: &[Rig])
+    ensures { HaveLawfulTexts rigs.now }
+{
+    for rig in rigs {
+        let _ = rig.kind.is_lawful();
+    }
 }

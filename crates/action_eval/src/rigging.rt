@@ -5,42 +5,54 @@ ghost use Rattle.action_eval.specs.Catalogue.{IsCatalogue, HasDistinct};
 ghost use Rattle.action_eval.specs.Rigging.{term_of, offs, terms_at, done_after, chain_from, rigging, CanBeRigged, rigged_as};
 ghost use Rattle.action_eval.specs.inside.Laid.{joined, sizes_of, laid, AreSizes};
 ghost use Rattle.scenario_values.specs.Scenario.{IsScenario};
+ghost use Rattle.scenario_values.specs.declared.term.Task.TheVariants as task;
 ghost use Rattle.std.specs.List.{slice_range};
 ghost use Rattle.action_eval.specs.inside.Layout.{IsLayout};
 ghost use Rattle.action_eval.specs.inside.Session.{terms_of};
 
+use crate::argument::Argument;
 use crate::counts::push_counts;
 use crate::found::{Found, Layout, Span, first_head};
 use crate::rig::{Kind, Rig};
 use crate::terms::FULL_SHARE;
-use scenario_values::{Task, Term};
+use scenario_values::{Task, Term, Text};
 use std::alloc::{AllocError, Global};
 use std::marker::Model;
 
-/// The term of a rigged hit.
-fn term_of(kind: Kind) -> Term
-    ensures { result ≡ term_of kind }
+/// The task of a return with this text, or none.
+fn return_of(alloc: Global, text: &Argument) -> Result<Task, AllocError>
+    ensures { IfOk result (λ what. what ≡ task.Return text.now) }
+{
+    match text.as_str() {
+        Some(text) => Ok(Task::Return(Some(Text::copy_of(alloc, text)?))),
+        None => Ok(Task::Return(None)),
+    }
+}
+
+/// The term of a rigged hit. An error means that memory was refused.
+fn term_of(alloc: Global, kind: &Kind) -> Result<Term, AllocError>
+    ensures { IfOk result (λ term. term ≡ term_of kind.now) }
 {
     let count = match kind {
-        Kind::OnwardReturn => None,
-        Kind::OnceReturn | Kind::OncePanic => Some(1),
+        Kind::OnwardReturn(_) => None,
+        Kind::OnceReturn(_) | Kind::OncePanic => Some(1),
     };
     let task = match kind {
-        Kind::OnceReturn | Kind::OnwardReturn => Task::Return(None),
+        Kind::OnceReturn(text) | Kind::OnwardReturn(text) => return_of(alloc, text)?,
         Kind::OncePanic => Task::Panic(None),
     };
-    Term {
+    Ok(Term {
         share: FULL_SHARE,
         count,
         task,
-    }
+    })
 }
 
 /// Adds the terms of a rigged hit of this number and kind, after some hits of its point.
 // Most rigged hits that are walked are of other points; those are passed over within the loop.
 #[inline(never)]
-fn push_rigged(terms: &mut Vec<Term>, done: u32, hit: u32, kind: Kind) -> Result<(), AllocError>
-    ensures { OnOk result (terms.new.items ≡ terms.old.items ++ offs (hit - done - 1) ++ term_of kind ∷ []) }
+fn push_rigged(terms: &mut Vec<Term>, done: u32, hit: u32, kind: &Kind) -> Result<(), AllocError>
+    ensures { OnOk result (terms.new.items ≡ terms.old.items ++ offs (hit - done - 1) ++ term_of kind.now ∷ []) }
 {
     let between = hit.saturating_sub(done).saturating_sub(1);
     if between > 0 {
@@ -50,7 +62,8 @@ fn push_rigged(terms: &mut Vec<Term>, done: u32, hit: u32, kind: Kind) -> Result
             task: Task::Off,
         })?;
     }
-    terms.push(term_of(kind))?;
+    let term = term_of(*terms.allocator(), kind)?;
+    terms.push(term)?;
     Ok(())
 }
 
@@ -63,7 +76,7 @@ fn push_at(terms: &mut Vec<Term>, point: u32, done: u32, rig: &Rig) -> Result<u3
     if rig.site.point != point {
         return Ok(done);
     }
-    push_rigged(terms, done, rig.site.hit, rig.kind)?;
+    push_rigged(terms, done, rig.site.hit, &rig.kind)?;
     Ok(rig.site.hit)
 }
 
@@ -151,6 +164,7 @@ pub struct Rigging<'a> {
 impl<'a> Model for Rigging<'a> {
     ghost use Rattle.std.specs.Prelude.{map};
     ghost use Rattle.scenario_values.specs.Scenario.{IsScenario};
+    ghost use Rattle.scenario_values.specs.declared.term.Task.TheVariants as task;
     ghost use Rattle.action_eval.specs.Catalogue.{HasDistinct};
     ghost use Rattle.action_eval.specs.Rigging.{Rigged};
     ghost use Rattle.action_eval.specs.inside.Laid.{laid, AreSizes};

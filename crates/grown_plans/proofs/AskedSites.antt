@@ -7,7 +7,7 @@ use Rattle.action_eval.specs.declared.rig.Site.{Site}
 use Rattle.action_eval.specs.declared.rig.Rig.{Rig}
 use Rattle.action_eval.specs.declared.rig.Kind.{Kind}
 use Rattle.action_eval.specs.declared.rig.Kind.TheVariants.{OnwardReturn}
-use Rattle.action_eval.specs.Rigging.{rig}
+use Rattle.action_eval.specs.Rigging.{rig, text_of}
 use Rattle.action_eval.specs.Answers.{Given, Run, Hit, Reply, start, hit, replies, is_cut_short, history_of, asked, reply_of}
 use Rattle.target_trait.specs.declared.judgement.Judgement.TheVariants.{Kept}
 use Rattle.target_trait.specs.Play.{Move, Ask, Done, IsWithin, move_in}
@@ -120,7 +120,7 @@ hit_again t r rs g same =
 goes_onward : (t : Subject) (plan : List Rig) → NeedsNoSeed t plan → GoesOnwardByAsked t plan
 goes_onward t [] same seed stream = refl
 goes_onward t (r ∷ rs) same seed stream =
-    ap (λ b. cond (is_once_return r.kind && b) ((rig r.site OnwardReturn ∷ rs) ∷ []) [])
+    ap (λ b. cond (is_once_return r.kind && b) ((rig r.site (OnwardReturn (text_of r.kind)) ∷ rs) ∷ []) [])
     (hit_again t r rs (given_for t (r ∷ rs) seed stream) (same seed stream))
 
 pub goes_onward_by_asked : (t : Subject) → IsLawful t → (n : ℕ) → AllByRecursion (GoesOnwardByAsked t) (level t n)

@@ -21,8 +21,8 @@ use Rattle.grown_plans.proofs.Paths.{replies_of, IsPath, AnsweredBy, same_path}
 use Rattle.grown_plans.proofs.PlayedRuns.{run_path, run_judged}
 use Rattle.grown_plans.proofs.Riggings.{CanAct, reply_here, reply_there, same_site}
 use Rattle.grown_plans.proofs.PlanRuns.{answers_of, plan_path, plan_answered, plan_judged, rigs_answered, rigs_path, rigs_unpaused}
-use Rattle.grown_plans.proofs.Faults.{noted, faults, faults_length, IsPlain, acts_once, can_act, faults_answer, faults_among, noted_kind}
-use Rattle.grown_plans.proofs.Levels.{IsGrown, level_grown, plain_kinds, in_level}
+use Rattle.grown_plans.proofs.Faults.{noted, faults, faults_length, acts_once, can_act, faults_answer, faults_among, noted_kind}
+use Rattle.grown_plans.proofs.Levels.{IsGrown, level_grown, in_level}
 use Rattle.grown_plans.proofs.Apart.{RunApart, level_in_levels, levels_run_apart}
 
 -- ---- the plan of a run
@@ -30,11 +30,11 @@ use Rattle.grown_plans.proofs.Apart.{RunApart, level_in_levels, levels_run_apart
 pub whole_can : (t : Subject) (ms : List Met) → IsPath t.asks t.limit [] ms → CanAct (faults [] ms)
 whole_can t ms p = can_act (faults [] ms) ms (faults_among t.asks t.limit ms [] (subst (λ (x : List Met). IsPath t.asks t.limit [] x) (sym (append-nil ms)) p))
 
-pub whole_run : (t : Subject) → IsLawful t → (ms : List Met) → IsPath t.asks t.limit [] ms → AllByRecursion (λ m. IsPlain m.reply) ms → run_of_plan t (faults [] ms) ≡ ms
-whole_run t l ms p plain =
+pub whole_run : (t : Subject) → IsLawful t → (ms : List Met) → IsPath t.asks t.limit [] ms → run_of_plan t (faults [] ms) ≡ ms
+whole_run t l ms p =
     let plan : List Rig = faults [] ms in
     same_path t.asks (answers_of plan) t.limit [] (run_of_plan t plan) ms (plan_path t plan) p (plan_answered t l plan (whole_can t ms p))
-    (faults_answer t.asks t.limit ms [] (subst (λ (x : List Met). IsPath t.asks t.limit [] x) (sym (append-nil ms)) p) plain)
+    (faults_answer t.asks t.limit ms [] (subst (λ (x : List Met). IsPath t.asks t.limit [] x) (sym (append-nil ms)) p))
 
 pub case_path : (t : Subject) (c : FaultCase t) → IsPath t.asks t.limit [] (run_in t c)
 case_path t c = run_path t.asks (given_of c.scenario t.names c.seed c.stream t.limit) c.unpaused
@@ -46,7 +46,7 @@ is_tried t l c plan can e =
 pub case_plan : (t : Subject) → IsLawful t → (c : FaultCase t) → IsTried t c (faults [] (run_in t c))
 case_plan t l c =
     let ms : List Met = run_in t c in
-    is_tried t l c (faults [] ms) (whole_can t ms (case_path t c)) (whole_run t l ms (case_path t c) (plain_kinds t.kinds ms c.of_kinds))
+    is_tried t l c (faults [] ms) (whole_can t ms (case_path t c)) (whole_run t l ms (case_path t c))
 
 pub case_in_level : (t : Subject) → IsLawful t → (c : FaultCase t) → Contains (level t (acting (run_in t c))) (faults [] (run_in t c))
 case_in_level t l c = in_level t l (acting (run_in t c)) (run_in t c) (case_path t c) c.of_kinds (faults_length (run_in t c))

@@ -1,5 +1,5 @@
 -- The faults that act in a run, the last one first: as a plan they have this run.
-use Rattle.std.proofs.Common.{◌≡◌, ℕ, zero, suc, ◌+◌, ◌<◌, ◌≤◌, ◌==◌, ◌&&◌, nat_le, ◌⊎◌, inl, inr, Bool, true, false, cond, Some, None, List, [], ◌∷◌, ◌++◌, length, refl, ap, sym, ◌∙◌, subst, arith, append_assoc}
+use Rattle.std.proofs.Common.{◌≡◌, ℕ, zero, suc, ◌+◌, ◌<◌, ◌≤◌, ◌==◌, ◌&&◌, nat_le, ◌⊎◌, inl, inr, Bool, true, false, cond, Some, List, [], ◌∷◌, ◌++◌, length, refl, ap, sym, ◌∙◌, subst, arith, append_assoc}
 use Rattle.std.specs.List.{AllByRecursion, fold}
 use Rattle.std.proofs.lemmas.Bool.Decides.{nat_tests}
 use Rattle.std.proofs.lemmas.List.{append-nil}
@@ -20,7 +20,7 @@ use Rattle.grown_plans.proofs.PlanRuns.{answers_of}
 
 abbrev pub noted : Site → Reply → List Rig → List Rig
 noted s Go rigs = rigs
-noted s (Return text) rigs = rig s OnceReturn ∷ rigs
+noted s (Return text) rigs = rig s (OnceReturn text) ∷ rigs
 noted s Halt rigs = rig s OncePanic ∷ rigs
 
 -- these faults, and those that act at further hits
@@ -51,13 +51,6 @@ faults_length_from n rigs (m ∷ ms) e = faults_length_from (n + cond (is_fault 
 -- there are as many as there are hits at which a fault acts
 pub faults_length : (ms : List Met) → length (faults [] ms) ≡ acting ms
 faults_length ms = faults_length_from 0 [] ms refl
-
--- a return has no text
-abbrev pub IsPlain : Reply → Type 0
-IsPlain Go = Unit {0}
-IsPlain (Return None) = Unit {0}
-IsPlain (Return (Some text)) = ⊥
-IsPlain Halt = Unit {0}
 
 -- ---- where one fault acts
 
@@ -95,14 +88,13 @@ once_apart r t a b n p k e = by_tests (r.site.point == p) (r.site.hit == k) refl
 
 pub noted_there : (s t : Site) (r : Reply) (rigs : List Rig) → (s ≡ t → ⊥) → answers_of (noted s r rigs) t ≡ answers_of rigs t
 noted_there s t Go rigs n = refl
-noted_there s t (Return text) rigs n = reply_there t.point t.hit (rig s OnceReturn) rigs (acts_not s t OnceReturn refl n)
+noted_there s t (Return text) rigs n = reply_there t.point t.hit (rig s (OnceReturn text)) rigs (acts_not s t (OnceReturn text) refl n)
 noted_there s t Halt rigs n = reply_there t.point t.hit (rig s OncePanic) rigs (acts_not s t OncePanic refl n)
 
-noted_here : (s : Site) (r : Reply) (rigs : List Rig) → IsPlain r → answers_of rigs s ≡ Go → answers_of (noted s r rigs) s ≡ r
-noted_here s Go rigs plain e = e
-noted_here s (Return None) rigs plain e = reply_here s.point s.hit (rig s OnceReturn) rigs (acts_self s OnceReturn refl)
-noted_here s (Return (Some text)) rigs plain e = absurd plain
-noted_here s Halt rigs plain e = reply_here s.point s.hit (rig s OncePanic) rigs (acts_self s OncePanic refl)
+noted_here : (s : Site) (r : Reply) (rigs : List Rig) → answers_of rigs s ≡ Go → answers_of (noted s r rigs) s ≡ r
+noted_here s Go rigs e = e
+noted_here s (Return text) rigs e = reply_here s.point s.hit (rig s (OnceReturn text)) rigs (acts_self s (OnceReturn text) refl)
+noted_here s Halt rigs e = reply_here s.point s.hit (rig s OncePanic) rigs (acts_self s OncePanic refl)
 
 -- ---- the faults of a run answer as the run
 
@@ -115,21 +107,21 @@ later_fresh asks n before m ms k p =
     all_weaker (λ x. Fresh x.site (before ++ m ∷ [])) (λ x. x.site ≡ m.site → ⊥) (λ x f same. (all_right (λ y. y.site ≡ x.site → ⊥) before (m ∷ []) f).0 (sym same)) ms
     (path_fresh asks n (before ++ m ∷ []) ms k p)
 
-faults_answer_from : (asks : List Reply → Move) (n : ℕ) (before : List Met) (rigs : List Rig) (b ms : List Met) → Numbered before → IsPath asks n before (b ++ ms) → AllByRecursion (λ m. IsPlain m.reply) b
+faults_answer_from : (asks : List Reply → Move) (n : ℕ) (before : List Met) (rigs : List Rig) (b ms : List Met) → Numbered before → IsPath asks n before (b ++ ms)
     → ((s : Site) → Fresh s before → answers_of rigs s ≡ Go) → AnsweredBy (answers_of (faults rigs b)) b
-faults_answer_from asks n before rigs [] ms k p plain quiet = tt
-faults_answer_from asks zero before rigs (m ∷ b) ms k p plain quiet = absurd p
-faults_answer_from asks (suc n) before rigs (m ∷ b) ms k p plain quiet =
+faults_answer_from asks n before rigs [] ms k p quiet = tt
+faults_answer_from asks zero before rigs (m ∷ b) ms k p quiet = absurd p
+faults_answer_from asks (suc n) before rigs (m ∷ b) ms k p quiet =
     let more = numbered_more before m (next_is asks before m.site p.0).1 k in
     let fresh = next_fresh asks before m.site k p.0 in (
-      sym (faults_there (noted m.site m.reply rigs) b m.site (all_left (λ x. x.site ≡ m.site → ⊥) b ms (later_fresh asks n before m (b ++ ms) more p.1)) ∙ noted_here m.site m.reply rigs plain.0 (quiet m.site fresh)),
-      faults_answer_from asks n (before ++ m ∷ []) (noted m.site m.reply rigs) b ms more p.1 plain.1
+      sym (faults_there (noted m.site m.reply rigs) b m.site (all_left (λ x. x.site ≡ m.site → ⊥) b ms (later_fresh asks n before m (b ++ ms) more p.1)) ∙ noted_here m.site m.reply rigs (quiet m.site fresh)),
+      faults_answer_from asks n (before ++ m ∷ []) (noted m.site m.reply rigs) b ms more p.1
           (λ s f. noted_there m.site s m.reply rigs (all_right (λ y. y.site ≡ s → ⊥) before (m ∷ []) f).0 ∙ quiet s (all_left (λ y. y.site ≡ s → ⊥) before (m ∷ []) f)),
     )
 
 -- the first hits of a run are answered as their faults as a plan answer them
-pub faults_answer : (asks : List Reply → Move) (n : ℕ) (b ms : List Met) → IsPath asks n [] (b ++ ms) → AllByRecursion (λ m. IsPlain m.reply) b → AnsweredBy (answers_of (faults [] b)) b
-faults_answer asks n b ms p plain = faults_answer_from asks n [] [] b ms tt p plain (λ s f. refl)
+pub faults_answer : (asks : List Reply → Move) (n : ℕ) (b ms : List Met) → IsPath asks n [] (b ++ ms) → AnsweredBy (answers_of (faults [] b)) b
+faults_answer asks n b ms p = faults_answer_from asks n [] [] b ms tt p (λ s f. refl)
 
 -- ---- they can act together
 
@@ -168,7 +160,7 @@ among_new rigs before m kind once some fresh a =
 
 noted_among : (rigs : List Rig) (before : List Met) (m : Met) (r : Reply) → 0 < m.site.hit → Fresh m.site before → AreAmong rigs before → AreAmong (noted m.site r rigs) (before ++ m ∷ [])
 noted_among rigs before m Go some fresh a = among_more rigs before m a
-noted_among rigs before m (Return text) some fresh a = among_new rigs before m OnceReturn refl some fresh a
+noted_among rigs before m (Return text) some fresh a = among_new rigs before m (OnceReturn text) refl some fresh a
 noted_among rigs before m Halt some fresh a = among_new rigs before m OncePanic refl some fresh a
 
 pub some_hit : (asks : List Reply → Move) (before : List Met) (s : Site) → next_of asks before ≡ Some s → 0 < s.hit
@@ -215,7 +207,7 @@ first_case : (rigs : List Rig) (m : Met) (ms : List Met) (reply : Reply) (r : Ri
     → (AllGo (m ∷ ms) × (rigs ≡ r ∷ rs)) ⊎ EndsIn rigs (m ∷ ms) r rs
 first_case rigs m ms Go r rs is go e = inl ((is, go), e)
 first_case rigs m ms (Return text) r rs is go e =
-    let one : rig m.site OnceReturn ≡ r = cc in
+    let one : rig m.site (OnceReturn text) ≡ r = cc in
     let rest : rigs ≡ rs = cc in
     inr (record { b = []; m = m; a = ms; split = refl; earlier = rest; last = ap (λ (x : Reply). noted m.site x rs) is ∙ ap (λ (x : Rig). x ∷ rs) one; site = ap (λ (x : Rig). x.site) one; still = go })
 first_case rigs m ms Halt r rs is go e =
@@ -240,7 +232,7 @@ faults_more rigs (m ∷ ms) =
 
 reply_none : (m : Met) (r : Reply) (rigs : List Rig) (ms : List Met) → length (faults (noted m.site r rigs) ms) ≤ length rigs → r ≡ Go
 reply_none m Go rigs ms h = refl
-reply_none m (Return text) rigs ms h = let more = faults_more (rig m.site OnceReturn ∷ rigs) ms in absurd (omega (arith, more, h))
+reply_none m (Return text) rigs ms h = let more = faults_more (rig m.site (OnceReturn text) ∷ rigs) ms in absurd (omega (arith, more, h))
 reply_none m Halt rigs ms h = let more = faults_more (rig m.site OncePanic ∷ rigs) ms in absurd (omega (arith, more, h))
 
 -- no more faults than before: each further hit goes on
@@ -260,15 +252,10 @@ faults_onto rigs (m ∷ ms) =
   where
     noted_onto : (s : Site) (r : Reply) (rs : List Rig) → (e : List Rig) × (noted s r rs ≡ e ++ rs)
     noted_onto s Go rs = ([], refl)
-    noted_onto s (Return text) rs = (rig s OnceReturn ∷ [], refl)
+    noted_onto s (Return text) rs = (rig s (OnceReturn text) ∷ [], refl)
     noted_onto s Halt rs = (rig s OncePanic ∷ [], refl)
 
 pub noted_kind : (s : Site) (kind : Kind) (rigs : List Rig) → is_onward kind ≡ false → noted s (reply_by kind) rigs ≡ rig s kind ∷ rigs
-noted_kind s OnceReturn rigs e = refl
-noted_kind s OnwardReturn rigs e = absurd cc
+noted_kind s (OnceReturn text) rigs e = refl
+noted_kind s (OnwardReturn text) rigs e = absurd cc
 noted_kind s OncePanic rigs e = refl
-
-pub plain_kind : (kind : Kind) → IsPlain (reply_by kind)
-plain_kind OnceReturn = tt
-plain_kind OnwardReturn = tt
-plain_kind OncePanic = tt

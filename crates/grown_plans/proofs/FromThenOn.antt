@@ -1,5 +1,5 @@
 -- Each case in which fewer than d faults act and then a return from then on has the run of one grown plan.
-use Rattle.std.proofs.Common.{◌≡◌, ℕ, suc, ◌+◌, ◌<◌, ◌≤◌, ◌==◌, ◌||◌, ◌⊎◌, inl, inr, Bool, true, false, cond, None, List, [], ◌∷◌, ◌++◌, length, refl, ap, sym, ◌∙◌, subst, arith, append_assoc}
+use Rattle.std.proofs.Common.{◌≡◌, ℕ, suc, ◌+◌, ◌<◌, ◌≤◌, ◌==◌, ◌||◌, ◌⊎◌, inl, inr, Bool, true, false, cond, Option, List, [], ◌∷◌, ◌++◌, length, refl, ap, sym, ◌∙◌, subst, arith, append_assoc}
 use Rattle.std.specs.Prelude.{Contains}
 use Rattle.std.specs.List.{AllByRecursion, list_any}
 use Rattle.std.proofs.lemmas.Bool.{cases_lt}
@@ -18,7 +18,7 @@ use Rattle.grown_plans.proofs.Paths.{IsPath, Numbered, Fresh, AnsweredBy, times_
 use Rattle.grown_plans.proofs.Riggings.{CanAct, reply_here, reply_there}
 use Rattle.grown_plans.proofs.PlanRuns.{answers_of, plan_path, plan_answered}
 use Rattle.grown_plans.proofs.Faults.{noted, noted_length, faults, faults_both, faults_none, faults_length, AllGo, faults_answer, AreAmong, faults_among, among_quiet}
-use Rattle.grown_plans.proofs.Levels.{hits_after_split, plain_kinds, begins, in_level}
+use Rattle.grown_plans.proofs.Levels.{hits_after_split, begins, in_level}
 use Rattle.grown_plans.proofs.Apart.{level_in_levels}
 use Rattle.grown_plans.proofs.Cases.{case_path, case_plan, case_in_level, is_tried, no_two_tried}
 use Rattle.grown_plans.proofs.Onward.{from_then, acts_from, acts_not_yet, are_earlier, onward_can, before_onward, First, first_of_any, runs_nothing_twice}
@@ -67,12 +67,12 @@ any_in : {A : Type 0} (test : A → Bool) (xs : List A) (y : A) (ys : List A) �
 any_in test [] y ys e = ap (λ b. b || list_any test ys) e
 any_in test (x ∷ xs) y ys e = ap (λ b. test x || b) (any_in test xs y ys e) ∙ or_true (test x)
 
-returns_here : (b : Bool) (r : Reply) → r ≡ cond b (Return None) Go → is_fault r ≡ true → b ≡ true
-returns_here true r e h = refl
-returns_here false r e h = sym (ap is_fault e) ∙ h
+returns_here : (text : Option (List ℕ)) (b : Bool) (r : Reply) → r ≡ cond b (Return text) Go → is_fault r ≡ true → b ≡ true
+returns_here text true r e h = refl
+returns_here text false r e h = sym (ap is_fault e) ∙ h
 
-as_case : (b c : Bool) (r : Reply) → b ≡ c → r ≡ cond b (Return None) Go → r ≡ cond c (Return None) Go
-as_case b c r e h = h ∙ ap (λ x. cond x (Return None) Go) e
+as_case : (text : Option (List ℕ)) (b c : Bool) (r : Reply) → b ≡ c → r ≡ cond b (Return text) Go → r ≡ cond c (Return text) Go
+as_case text b c r e h = h ∙ ap (λ x. cond x (Return text) Go) e
 
 self_is : (p : ℕ) → (p == p) ≡ true
 self_is p = grind (arith, nat_tests)
@@ -84,25 +84,25 @@ is_point : (p q : ℕ) → p ≡ q → (p == q) ≡ true
 is_point p q e = grind (arith, nat_tests, e)
 
 -- a hit after the fault's
-after_case : (rs : List Rig) (b : List Met) (s : Site) (z : Met) (x : Bool) → (z.site.point == s.point) ≡ x → s.hit ≡ times_met s.point b + 1 → AreAmong rs b
-    → z.reply ≡ cond (z.site.point == s.point) (Return None) Go → Fresh z.site b → times_met z.site.point b < z.site.hit → z.reply ≡ answers_of (from_then s ∷ rs) z.site
-after_case rs b s z true e hit a r fresh later =
+after_case : (text : Option (List ℕ)) (rs : List Rig) (b : List Met) (s : Site) (z : Met) (x : Bool) → (z.site.point == s.point) ≡ x → s.hit ≡ times_met s.point b + 1 → AreAmong rs b
+    → z.reply ≡ cond (z.site.point == s.point) (Return text) Go → Fresh z.site b → times_met z.site.point b < z.site.hit → z.reply ≡ answers_of (from_then text s ∷ rs) z.site
+after_case text rs b s z true e hit a r fresh later =
     let same : s.point ≡ z.site.point = sym (same_point z.site.point s.point e) in
     let times : times_met s.point b ≡ times_met z.site.point b = ap (λ p. times_met p b) same in
-    as_case (z.site.point == s.point) true z.reply e r ∙ sym (reply_here z.site.point z.site.hit (from_then s) rs (acts_from s z.site.point z.site.hit same (omega (arith, later, hit, times))))
-after_case rs b s z false e hit a r fresh later =
-    as_case (z.site.point == s.point) false z.reply e r
-    ∙ sym (reply_there z.site.point z.site.hit (from_then s) rs (acts_not_yet s z.site.point z.site.hit (λ same. absurd (let yes : (z.site.point == s.point) ≡ true = is_point z.site.point s.point (sym same) in let no : true ≡ false = sym yes ∙ e in cc)))
+    as_case text (z.site.point == s.point) true z.reply e r ∙ sym (reply_here z.site.point z.site.hit (from_then text s) rs (acts_from text s z.site.point z.site.hit same (omega (arith, later, hit, times))))
+after_case text rs b s z false e hit a r fresh later =
+    as_case text (z.site.point == s.point) false z.reply e r
+    ∙ sym (reply_there z.site.point z.site.hit (from_then text s) rs (acts_not_yet text s z.site.point z.site.hit (λ same. absurd (let yes : (z.site.point == s.point) ≡ true = is_point z.site.point s.point (sym same) in let no : true ≡ false = sym yes ∙ e in cc)))
     ∙ among_quiet rs b z.site a fresh)
 
-all_after : (rs : List Rig) (b : List Met) (s : Site) (ms : List Met) → s.hit ≡ times_met s.point b + 1 → AreAmong rs b → ReturnsOnward s.point ms → AllByRecursion (λ (z : Met). Fresh z.site b) ms
-    → AllByRecursion (λ (z : Met). times_met z.site.point b < z.site.hit) ms → AnsweredBy (answers_of (from_then s ∷ rs)) ms
-all_after rs b s [] hit a r f h = tt
-all_after rs b s (z ∷ ms) hit a r f h = (after_case rs b s z (z.site.point == s.point) refl hit a r.0 f.0 h.0, all_after rs b s ms hit a r.1 f.1 h.1)
+all_after : (text : Option (List ℕ)) (rs : List Rig) (b : List Met) (s : Site) (ms : List Met) → s.hit ≡ times_met s.point b + 1 → AreAmong rs b → ReturnsOnward text s.point ms → AllByRecursion (λ (z : Met). Fresh z.site b) ms
+    → AllByRecursion (λ (z : Met). times_met z.site.point b < z.site.hit) ms → AnsweredBy (answers_of (from_then text s ∷ rs)) ms
+all_after text rs b s [] hit a r f h = tt
+all_after text rs b s (z ∷ ms) hit a r f h = (after_case text rs b s z (z.site.point == s.point) refl hit a r.0 f.0 h.0, all_after text rs b s ms hit a r.1 f.1 h.1)
 
-go_where_none : (p : ℕ) (ms : List Met) → ReturnsOnward p ms → AllByRecursion (λ (m : Met). (m.site.point == p) ≡ false) ms → AllGo ms
-go_where_none p [] r n = tt
-go_where_none p (m ∷ ms) r n = (as_case (m.site.point == p) false m.reply n.0 r.0, go_where_none p ms r.1 n.1)
+go_where_none : (text : Option (List ℕ)) (p : ℕ) (ms : List Met) → ReturnsOnward text p ms → AllByRecursion (λ (m : Met). (m.site.point == p) ≡ false) ms → AllGo ms
+go_where_none text p [] r n = tt
+go_where_none text p (m ∷ ms) r n = (as_case text (m.site.point == p) false m.reply n.0 r.0, go_where_none text p ms r.1 n.1)
 
 in_case : (plan : List Rig) (b : Bool) → b ≡ true → Contains (cond b (plan ∷ []) []) plan
 in_case plan true e = contains_head plan []
@@ -116,14 +116,14 @@ record Turned (t : Subject) (d : ℕ) (ms : List Met) : Type 0 where
   can : CanAct plan
   runs : run_of_plan t plan ≡ ms
 
-turned_at : (t : Subject) → IsLawful t → (d : ℕ) (ms b : List Met) (m : Met) (a : List Met) → IsPath t.asks t.limit [] ms → IsOfKinds t.kinds ms → ms ≡ b ++ m ∷ a → m.reply ≡ Return None → length (faults [] b) + 1 ≡ d
-    → ReturnsOnward m.site.point a → First (λ (z : Met). z.site.point == m.site.point) a → Turned t d ms
+turned_at : (t : Subject) → IsLawful t → (d : ℕ) (text : Option (List ℕ)) (ms b : List Met) (m : Met) (a : List Met) → IsPath t.asks t.limit [] ms → IsOfKinds t.kinds ms → ms ≡ b ++ m ∷ a → m.reply ≡ Return text → length (faults [] b) + 1 ≡ d
+    → ReturnsOnward text m.site.point a → First (λ (z : Met). z.site.point == m.site.point) a → Turned t d ms
 unfolding onward
-turned_at t l d ms b m a way kinds split ret count on f =
+turned_at t l d text ms b m a way kinds split ret count on f =
     let s : Site = m.site in
     let rs : List Rig = faults [] b in
-    let leaf : List Rig = rig s OnceReturn ∷ rs in
-    let plan : List Rig = from_then s ∷ rs in
+    let leaf : List Rig = rig s (OnceReturn text) ∷ rs in
+    let plan : List Rig = from_then text s ∷ rs in
     let x : List Met = f.front in
     let two : Met = f.one in
     let path : IsPath t.asks t.limit [] (b ++ m ∷ a) = subst (λ (l : List Met). IsPath t.asks t.limit [] l) split way in
@@ -132,11 +132,11 @@ turned_at t l d ms b m a way kinds split ret count on f =
     let hit : s.hit ≡ times_met s.point b + 1 = hit_is t.asks t.limit b m a path in
     let num : Numbered b = path_numbered t.asks t.limit [] b (m ∷ a) tt path in
     let among : AreAmong rs b = faults_among t.asks t.limit b (m ∷ a) path in
-    let can : CanAct plan = onward_can rs b s (omega (arith, hit)) fresh (are_earlier rs b s num hit among) among in
-    let front : AnsweredBy (answers_of plan) b = before_onward rs b s num hit (faults_answer t.asks t.limit b (m ∷ a) path (plain_kinds t.kinds b (all_left _ b (m ∷ a) of))) in
-    let mine : answers_of plan s ≡ Return None = reply_here s.point s.hit (from_then s) rs (acts_from s s.point s.hit refl (omega arith)) in
+    let can : CanAct plan = onward_can text rs b s (omega (arith, hit)) fresh (are_earlier rs b s num hit among) among in
+    let front : AnsweredBy (answers_of plan) b = before_onward text rs b s num hit (faults_answer t.asks t.limit b (m ∷ a) path) in
+    let mine : answers_of plan s ≡ Return text = reply_here s.point s.hit (from_then text s) rs (acts_from text s s.point s.hit refl (omega arith)) in
     let back : AnsweredBy (answers_of plan) a =
-    all_after rs b s a hit among on (rest_fresh t.asks t.limit b (m ∷ a) path).1 (rest_later t.asks t.limit b (m ∷ a) path).1
+    all_after text rs b s a hit among on (rest_fresh t.asks t.limit b (m ∷ a) path).1 (rest_later t.asks t.limit b (m ∷ a) path).1
     in
     let answered : AnsweredBy (answers_of plan) (b ++ m ∷ a) = all_append (λ z. z.reply ≡ answers_of plan z.site) b (m ∷ a) front (ret ∙ sym mine, back) in
     let runs : run_of_plan t plan ≡ b ++ m ∷ a = same_path t.asks (answers_of plan) t.limit [] (run_of_plan t plan) (b ++ m ∷ a) (plan_path t plan) path (plan_answered t l plan can) answered in
@@ -144,9 +144,9 @@ turned_at t l d ms b m a way kinds split ret count on f =
     let whole : b ++ m ∷ a ≡ begin ++ two ∷ f.back = ap (λ (l : List Met). b ++ m ∷ l) f.split ∙ sym (append_assoc b (m ∷ x) (two ∷ f.back)) in
     let path' : IsPath t.asks t.limit [] (begin ++ two ∷ f.back) = subst (λ (l : List Met). IsPath t.asks t.limit [] l) whole path in
     let of' : IsOfKinds t.kinds begin = all_left _ begin (two ∷ f.back) (subst (IsOfKinds t.kinds) whole of) in
-    let go : AllGo x = go_where_none s.point x (all_left _ x (two ∷ f.back) (subst (ReturnsOnward s.point) f.split on)) f.earlier in
+    let go : AllGo x = go_where_none text s.point x (all_left _ x (two ∷ f.back) (subst (ReturnsOnward text s.point) f.split on)) f.earlier in
     let told : faults [] begin ≡ leaf = faults_both [] b (m ∷ x) ∙ ap (λ (r : Reply). faults (noted s r rs) x) ret ∙ faults_none leaf x go in
-    let st = begins t l begin two f.back path' (plain_kinds t.kinds begin of') in
+    let st = begins t l begin two f.back path' in
     let next : Met = met two.site Go in
     let run : run_of_plan t leaf ≡ begin ++ next ∷ st.rest = ap (run_of_plan t) (sym told) ∙ st.whole in
     let own : faults [] (run_of_plan t leaf) ≡ leaf = ap (faults []) run ∙ faults_both [] begin (next ∷ st.rest) ∙ ap (λ (r : List Rig). faults r (next ∷ st.rest)) told ∙ faults_none leaf (next ∷ st.rest) (refl, st.still) in
@@ -164,33 +164,33 @@ turned_at t l d ms b m a way kinds split ret count on f =
       runs = runs ∙ sym split;
     }
 
-later_part : (p : ℕ) (m : Met) (ms b : List Met) (n : Met) (a : List Met) → m.site.point ≡ p → m.reply ≡ Return None → ReturnsOnward p ms → m ∷ ms ≡ b ++ n ∷ a → is_fault n.reply ≡ true
-    → (n.site.point ≡ p) × (n.reply ≡ Return None) × ReturnsOnward p a
-later_part p m ms b n a point ret on split acts =
-    let whole : ReturnsOnward p (m ∷ ms) = (ret ∙ sym (ap (λ x. cond x (Return None) Go) (is_point m.site.point p point)), on) in
-    let part : ReturnsOnward p (n ∷ a) = all_right _ b (n ∷ a) (subst (ReturnsOnward p) split whole) in
-    let here : (n.site.point == p) ≡ true = returns_here (n.site.point == p) n.reply part.0 acts in
-    (same_point n.site.point p here, as_case (n.site.point == p) true n.reply here part.0, part.1)
+later_part : (text : Option (List ℕ)) (p : ℕ) (m : Met) (ms b : List Met) (n : Met) (a : List Met) → m.site.point ≡ p → m.reply ≡ Return text → ReturnsOnward text p ms → m ∷ ms ≡ b ++ n ∷ a → is_fault n.reply ≡ true
+    → (n.site.point ≡ p) × (n.reply ≡ Return text) × ReturnsOnward text p a
+later_part text p m ms b n a point ret on split acts =
+    let whole : ReturnsOnward text p (m ∷ ms) = (ret ∙ sym (ap (λ x. cond x (Return text) Go) (is_point m.site.point p point)), on) in
+    let part : ReturnsOnward text p (n ∷ a) = all_right _ b (n ∷ a) (subst (ReturnsOnward text p) split whole) in
+    let here : (n.site.point == p) ≡ true = returns_here text (n.site.point == p) n.reply part.0 acts in
+    (same_point n.site.point p here, as_case text (n.site.point == p) true n.reply here part.0, part.1)
 
-turned : (t : Subject) → IsLawful t → (d : ℕ) (ms before after : List Met) (m : Met) → IsPath t.asks t.limit [] ms → IsOfKinds t.kinds ms → ms ≡ before ++ m ∷ after → m.reply ≡ Return None → acting before < d
-    → ReturnsOnward m.site.point after → d < acting ms → Turned t d ms
-turned t l d ms before after m way kinds split ret few on many =
+turned : (t : Subject) → IsLawful t → (d : ℕ) (text : Option (List ℕ)) (ms before after : List Met) (m : Met) → IsPath t.asks t.limit [] ms → IsOfKinds t.kinds ms → ms ≡ before ++ m ∷ after → m.reply ≡ Return text → acting before < d
+    → ReturnsOnward text m.site.point after → d < acting ms → Turned t d ms
+turned t l d text ms before after m way kinds split ret few on many =
     let p : ℕ = m.site.point in
     let early : List Rig = faults [] before in
     let all : faults [] ms ≡ faults early (m ∷ after) = ap (faults []) split ∙ faults_both [] before (m ∷ after) in
     let more : length (faults early (m ∷ after)) ≡ acting ms = ap (λ (r : List Rig). length r) (sym all) ∙ faults_length ms in
     let less : length early ≡ acting before = faults_length before in
     let cut = cut_at d early (m ∷ after) (omega (arith, less, few)) (omega (arith, more, many)) in
-    let part = later_part p m after cut.b cut.m cut.a refl ret on cut.split cut.acts in
+    let part = later_part text p m after cut.b cut.m cut.a refl ret on cut.split cut.acts in
     let b : List Met = before ++ cut.b in
     let whole : ms ≡ b ++ cut.m ∷ cut.a = split ∙ ap (λ (l : List Met). before ++ l) cut.split ∙ sym (append_assoc before cut.b (cut.m ∷ cut.a)) in
     let count : length (faults [] b) + 1 ≡ d = ap (λ (r : List Rig). length r + 1) (faults_both [] before cut.b) ∙ cut.count in
-    let on' : ReturnsOnward cut.m.site.point cut.a = subst (λ q. ReturnsOnward q cut.a) (sym part.0) part.2 in
+    let on' : ReturnsOnward text cut.m.site.point cut.a = subst (λ q. ReturnsOnward text q cut.a) (sym part.0) part.2 in
     elim (first_or_none (λ (z : Met). z.site.point == cut.m.site.point) cut.a (list_any (λ (z : Met). z.site.point == cut.m.site.point) cut.a) refl) [
-      | inl f ↦ turned_at t l d ms b cut.m cut.a way kinds whole part.1 count on' f
+      | inl f ↦ turned_at t l d text ms b cut.m cut.a way kinds whole part.1 count on' f
       | inr none ↦
-          let go : AllGo cut.a = go_where_none cut.m.site.point cut.a on' none in
-          let leaf : List Rig = rig cut.m.site OnceReturn ∷ faults [] b in
+          let go : AllGo cut.a = go_where_none text cut.m.site.point cut.a on' none in
+          let leaf : List Rig = rig cut.m.site (OnceReturn text) ∷ faults [] b in
           let told : faults [] ms ≡ leaf =
           ap (faults []) whole ∙ faults_both [] b (cut.m ∷ cut.a) ∙ ap (λ (r : Reply). faults (noted cut.m.site r (faults [] b)) cut.a) part.1 ∙ faults_none leaf cut.a go
           in
@@ -200,11 +200,11 @@ turned t l d ms before after m way kinds split ret few on many =
     ]
 
 pub tries_onward : (t : Subject) → IsLawful t → (d : ℕ) → TriesOnward t d
-tries_onward t l d c before after m split ret few on =
+tries_onward t l d c before after m text split ret few on =
     let ms : List Met = run_in t c in
     elim (cases_lt d (acting ms)) [
       | inl many ↦
-          let k = turned t l d ms before after m (case_path t c) c.of_kinds split ret few on many in
+          let k = turned t l d text ms before after m (case_path t c) c.of_kinds split ret few on many in
           one_of (IsTried t c) (grown t d) k.plan (Contains-append_right (levels t d) (onward t d) k.plan k.in') (is_tried t l c k.plan k.can k.runs) (no_two_tried t c (grown t d) (runs_nothing_twice t l d))
       | inr within ↦
           one_of (IsTried t c) (grown t d) (faults [] ms) (Contains-append_left (levels t d) (onward t d) (faults [] ms) (level_in_levels t d (acting ms) (faults [] ms) (omega (arith, within)) (case_in_level t l c)))

@@ -1,54 +1,61 @@
 -- The children of a plan as they are kept, over any kinds of faults.
-use Rattle.std.proofs.Common.{◌≡◌, ℕ, ◌<◌, ◌≤◌, ◌*◌, Bool, true, false, cond, Option, List, [], ◌∷◌, ◌++◌, map, length, get_or, refl, ap, ◌∙◌, arith}
+use Rattle.std.proofs.Common.{◌≡◌, ℕ, ◌<◌, ◌≤◌, ◌*◌, Bool, true, false, cond, Option, None, List, [], ◌∷◌, ◌++◌, map, length, get_or, refl, ap, ◌∙◌, arith}
 use Rattle.std.specs.List.{flat_map, AllByRecursion}
 use Rattle.std.proofs.lemmas.List.{map-append, length-append, length-map}
 use Rattle.action_eval.specs.declared.rig.Site.{Site}
 use Rattle.action_eval.specs.declared.rig.Rig.{Rig}
 use Rattle.action_eval.specs.declared.rig.Kind.{Kind}
 use Rattle.action_eval.specs.declared.rig.Kind.TheVariants.{OnceReturn, OncePanic}
-use Rattle.action_eval.specs.Rigging.{rig}
+use Rattle.action_eval.specs.Rigging.{rig, HasLawfulText}
 use Rattle.plan_gen.specs.RiggedAnswers.{is_onward}
-use Rattle.grown_plans.specs.GrownPlans.{is_cut, kinds_at}
+use Rattle.grown_plans.specs.GrownPlans.{is_cut, usual_at}
 use Rattle.grown_plans.specs.Promises.{EachTwo}
 use Rattle.grown_plans.specs.Kept.{Grew, GrewFrom, grew, plan_of, kept_at}
 use Rattle.grown_plans.proofs.Members.{all_append}
 
 -- ---- the kinds where nothing else is said
 
-differ : OnceReturn ≡ OncePanic → ⊥
+differ : OnceReturn None ≡ OncePanic → ⊥
 differ e = cc
 
 abbrev chosen : Bool → List Kind
-chosen b = cond b (OnceReturn ∷ []) (OnceReturn ∷ OncePanic ∷ [])
+chosen b = cond b (OnceReturn None ∷ []) (OnceReturn None ∷ OncePanic ∷ [])
 
-pub usual_once : (cut : Option ℕ) (point : ℕ) → AllByRecursion (λ kind. is_onward kind ≡ false) (kinds_at cut point)
+pub usual_once : (cut : Option ℕ) (point : ℕ) → AllByRecursion (λ kind. is_onward kind ≡ false) (usual_at cut point)
 usual_once cut point = by_choice (is_cut cut point)
   where
     by_choice : (b : Bool) → AllByRecursion (λ kind. is_onward kind ≡ false) (chosen b)
     by_choice true = (refl, tt)
     by_choice false = (refl, (refl, tt))
 
-pub usual_apart : (cut : Option ℕ) (point : ℕ) → EachTwo (λ (j k : Kind). j ≡ k → ⊥) (kinds_at cut point)
+pub usual_apart : (cut : Option ℕ) (point : ℕ) → EachTwo (λ (j k : Kind). j ≡ k → ⊥) (usual_at cut point)
 usual_apart cut point = by_choice (is_cut cut point)
   where
     by_choice : (b : Bool) → EachTwo (λ (j k : Kind). j ≡ k → ⊥) (chosen b)
     by_choice true = (tt, tt)
     by_choice false = ((differ, tt), (tt, tt))
 
-usual_two : (cut : Option ℕ) (point : ℕ) → length (kinds_at cut point) ≤ 2
+pub usual_texts : (cut : Option ℕ) (point : ℕ) → AllByRecursion HasLawfulText (usual_at cut point)
+usual_texts cut point = by_choice (is_cut cut point)
+  where
+    by_choice : (b : Bool) → AllByRecursion HasLawfulText (chosen b)
+    by_choice true = (tt, tt)
+    by_choice false = (tt, (tt, tt))
+
+usual_two : (cut : Option ℕ) (point : ℕ) → length (usual_at cut point) ≤ 2
 usual_two cut point = by_choice (is_cut cut point)
   where
     by_choice : (b : Bool) → length (chosen b) ≤ 2
     by_choice true = omega arith
     by_choice false = omega arith
 
-pub at_most_two : (cut : Option ℕ) (n : ℕ) (sites : List Site) → length (flat_map (kept_at (kinds_at cut) n) sites) ≤ 2 * length sites
+pub at_most_two : (cut : Option ℕ) (n : ℕ) (sites : List Site) → length (flat_map (kept_at (usual_at cut) n) sites) ≤ 2 * length sites
 at_most_two cut n [] = omega arith
 at_most_two cut n (s ∷ ss) =
-    let here = length-map (kinds_at cut s.point) (λ kind. grew n (rig s kind)) in
+    let here = length-map (usual_at cut s.point) (λ kind. grew n (rig s kind)) in
     let two = usual_two cut s.point in
     let rest = at_most_two cut n ss in
-    let whole = length-append (kept_at (kinds_at cut) n s) (flat_map (kept_at (kinds_at cut) n) ss) in
+    let whole = length-append (kept_at (usual_at cut) n s) (flat_map (kept_at (usual_at cut) n) ss) in
     omega (arith, here, two, rest, whole)
 
 -- ---- any kinds

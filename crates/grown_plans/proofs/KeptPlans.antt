@@ -4,7 +4,7 @@ use Rattle.std.specs.Prelude.{Result, Ok, Err, OnOk, is_ok, Bool, true, false, c
 use Rattle.std.proofs.lemmas.List.{append-nil, length-append, get_or_append_left, get_or-append-add}
 use Rattle.action_eval.specs.declared.rig.Rig.{Rig}
 use Rattle.action_eval.specs.declared.rig.Kind.TheVariants.{OnwardReturn}
-use Rattle.action_eval.specs.Rigging.{rig}
+use Rattle.action_eval.specs.Rigging.{rig, text_of}
 use Rattle.grown_plans.specs.GrownPlans.{is_once_return}
 use Rattle.grown_plans.specs.AskedPoints.{is_last_return, from_then_on}
 use Rattle.grown_plans.specs.Kept.{Grew, GrewFrom, grew, plan_of, plans_from}
@@ -172,7 +172,7 @@ no_return_last now gs n child fault is before lt some read at other =
     no_return child.fault (ap (λ (f : Rig). is_once_return f.kind) (sym at) ∙ other) (get_or now n []) (get_or now child.parent []) (kept_as now gs n child is before lt some read).0
 
 pub return_last : (now : List (List Rig)) (gs : List Grew) (n : ℕ) (child new : Grew) (fault : Rig) → plans_from ([] ∷ []) gs ≡ now → AreBefore 1 gs → n < length now → 0 < n
-    → child ≡ get_or gs (n - 1) child → fault ≡ child.fault → is_once_return fault.kind ≡ true → new ≡ grew child.parent (rig child.fault.site OnwardReturn)
+    → child ≡ get_or gs (n - 1) child → fault ≡ child.fault → is_once_return fault.kind ≡ true → new ≡ grew child.parent (rig child.fault.site (OnwardReturn (text_of child.fault.kind)))
     → (is_last_return (get_or now n []) ≡ true) × (new.parent < length now) × (plan_of now new ≡ from_then_on (get_or now n []))
 return_last now gs n child new fault is before lt some read at same kept =
     let found = kept_as now gs n child is before lt some read in (

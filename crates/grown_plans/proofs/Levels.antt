@@ -19,7 +19,7 @@ use Rattle.grown_plans.proofs.Members.{all_weaker, all_append, all_left, all_rig
 use Rattle.grown_plans.proofs.Paths.{IsPath, Fresh, AnsweredBy, parted, met_is, path_part, path_head, hit_fresh, rest_fresh}
 use Rattle.grown_plans.proofs.Riggings.{CanAct, reply_here, reply_there, same_site}
 use Rattle.grown_plans.proofs.PlanRuns.{answers_of, plan_path, plan_answered}
-use Rattle.grown_plans.proofs.Faults.{noted, faults, faults_both, faults_none, AllGo, IsPlain, acts_self, acts_not, faults_answer, AreAmong, can_act, among_more, among_new, some_hit, faults_among, among_quiet, EndsIn, last_fault, all_go, noted_kind, plain_kind}
+use Rattle.grown_plans.proofs.Faults.{noted, faults, faults_both, faults_none, AllGo, acts_self, acts_not, faults_answer, AreAmong, can_act, among_more, among_new, some_hit, faults_among, among_quiet, EndsIn, last_fault, all_go, noted_kind}
 
 -- ---- the hits after the last fault
 
@@ -158,10 +158,6 @@ level_grown t l (suc n) = all_flat (IsGrown t (suc n)) (children t) (level t n) 
 
 -- ---- each run of n faults is that of a plan of level n
 
-pub plain_kinds : (kinds : ℕ → List Kind) (ms : List Met) → IsOfKinds kinds ms → AllByRecursion (λ m. IsPlain m.reply) ms
-plain_kinds kinds ms k =
-    all_weaker _ (λ m. IsPlain m.reply) (λ m h. elim h [ inl e ↦ subst IsPlain (sym e) tt | inr f ↦ subst IsPlain (sym f.2) (plain_kind f.0) ]) ms k
-
 go_kinds : (kinds : ℕ → List Kind) (ms : List Met) → AllGo ms → IsOfKinds kinds ms
 go_kinds kinds ms a = all_weaker (λ m. m.reply ≡ Go) _ (λ m e. inl e) ms a
 
@@ -171,12 +167,12 @@ pub record Begins (t : Subject) (b : List Met) (m : Met) : Type 0 where
   pub whole : run_of_plan t (faults [] b) ≡ b ++ met m.site Go ∷ rest
   pub still : AllGo rest
 
-pub begins : (t : Subject) → IsLawful t → (b : List Met) (m : Met) (a : List Met) → IsPath t.asks t.limit [] (b ++ m ∷ a) → AllByRecursion (λ m. IsPlain m.reply) b → Begins t b m
-begins t l b m a path plain =
+pub begins : (t : Subject) → IsLawful t → (b : List Met) (m : Met) (a : List Met) → IsPath t.asks t.limit [] (b ++ m ∷ a) → Begins t b m
+begins t l b m a path =
     let plan : List Rig = faults [] b in
     let among : AreAmong plan b = faults_among t.asks t.limit b (m ∷ a) path in
     let can : CanAct plan = can_act plan b among in
-    let front : AnsweredBy (answers_of plan) b = faults_answer t.asks t.limit b (m ∷ a) path plain in
+    let front : AnsweredBy (answers_of plan) b = faults_answer t.asks t.limit b (m ∷ a) path in
     let parts = parted t.asks (answers_of plan) t.limit [] b m a (run_of_plan t plan) path (plan_path t plan) front (plan_answered t l plan can) in
     let quiet : answers_of plan m.site ≡ Go = among_quiet plan b m.site among (hit_fresh t.asks t.limit b m a path) in
     let whole : run_of_plan t plan ≡ b ++ met m.site Go ∷ parts.0 = parts.1 ∙ ap (λ (r : Reply). b ++ met m.site r ∷ parts.0) quiet in
@@ -206,11 +202,9 @@ in_level_by t l n further ms path kinds (r ∷ rs) len e = elim (last_fault [] m
   where
     found : EndsIn [] ms r rs → Contains (flat_map (children t) (level t n)) (r ∷ rs)
     found h =
-        let plain : AllByRecursion (λ m. IsPlain m.reply) ms = plain_kinds t.kinds ms kinds in
         let p : IsPath t.asks t.limit [] (h.b ++ h.m ∷ h.a) = subst (λ (x : List Met). IsPath t.asks t.limit [] x) h.split path in
         let ks : IsOfKinds t.kinds (h.b ++ h.m ∷ h.a) = subst (IsOfKinds t.kinds) h.split kinds in
-        let pl : AllByRecursion (λ m. IsPlain m.reply) (h.b ++ h.m ∷ h.a) = subst (AllByRecursion (λ m. IsPlain m.reply)) h.split plain in
-        let st = begins t l h.b h.m h.a p (all_left (λ m. IsPlain m.reply) h.b (h.m ∷ h.a) pl) in
+        let st = begins t l h.b h.m h.a p in
         let hit : Met = met h.m.site Go in
         let run : List Met = run_of_plan t (faults [] h.b) in
         let still : AllGo (hit ∷ st.rest) = (refl, st.still) in

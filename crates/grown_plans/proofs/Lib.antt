@@ -18,3 +18,4 @@ pub mod CutPoints
 pub mod FirstHits
 pub mod Rigged
 pub mod Merges
+pub mod ListedKinds

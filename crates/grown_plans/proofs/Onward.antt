@@ -1,21 +1,21 @@
 -- Plans whose last fault acts from then on: their runs have more faults than levels tell, and their leaf is told by the first of them.
-use Rattle.std.proofs.Common.{◌≡◌, ℕ, suc, ◌+◌, ◌<◌, ◌≤◌, ◌==◌, ◌&&◌, ◌||◌, nat_le, inl, inr, Bool, true, false, cond, None, List, [], ◌∷◌, ◌++◌, length, refl, ap, sym, ◌∙◌, subst, arith, append_assoc, length-append}
+use Rattle.std.proofs.Common.{◌≡◌, ℕ, suc, ◌+◌, ◌<◌, ◌≤◌, ◌==◌, ◌&&◌, ◌||◌, nat_le, inl, inr, Bool, true, false, cond, Option, List, [], ◌∷◌, ◌++◌, length, refl, ap, sym, ◌∙◌, subst, arith, append_assoc, length-append}
 use Rattle.std.specs.List.{AllByRecursion, list_any}
 use Rattle.std.proofs.lemmas.Bool.{cases_lt}
 use Rattle.std.proofs.lemmas.Bool.Decides.{nat_tests}
 use Rattle.action_eval.specs.declared.rig.Site.{Site}
 use Rattle.action_eval.specs.declared.rig.Rig.{Rig}
 use Rattle.action_eval.specs.declared.rig.Kind.{Kind}
-use Rattle.action_eval.specs.declared.rig.Kind.TheVariants.{OnceReturn, OnwardReturn, OncePanic}
+use Rattle.action_eval.specs.declared.rig.Kind.TheVariants.{OnceReturn, OnwardReturn}
 use Rattle.action_eval.specs.Answers.{Reply, Go, Return}
-use Rattle.action_eval.specs.Rigging.{rig}
+use Rattle.action_eval.specs.Rigging.{rig, text_of}
 use Rattle.plan_gen.specs.RiggedAnswers.{is_onward, acts_at, reply_by}
 use Rattle.grown_plans.specs.Runs.{Met, met}
 use Rattle.grown_plans.specs.GrownPlans.{Subject, run_of_plan, hits_after, is_once_return, is_hit_again, onward_of, level, levels, onward, grown}
 use Rattle.grown_plans.specs.Promises.{EachTwo, IsLawful, RunsNothingTwice, NeedsNoSeed}
 use Rattle.grown_plans.proofs.Members.{all_weaker, all_append, all_left, all_right, all_both, all_flat, two_append, two_flat, two_weaker, two_with}
 use Rattle.grown_plans.proofs.Paths.{IsPath, Numbered, Fresh, AnsweredBy, times_met, times_both, parted, path_numbered, hit_fresh, rest_fresh, hit_is}
-use Rattle.grown_plans.proofs.Riggings.{CanAct, ActApart, reply_here, reply_there}
+use Rattle.grown_plans.proofs.Riggings.{CanAct, ActApart, reply_here, reply_there, kind_once}
 use Rattle.grown_plans.proofs.PlanRuns.{answers_of, plan_path, plan_answered, needs_no_seed}
 use Rattle.grown_plans.proofs.Faults.{noted, faults, faults_both, faults_none, faults_onto, AllGo, acts_self, acts_not, acts_once, AreAmong, can_act, faults_among, among_quiet, EndsIn, last_fault}
 use Rattle.grown_plans.proofs.Levels.{IsGrown, hits_after_split, level_grown}
@@ -23,11 +23,11 @@ use Rattle.grown_plans.proofs.Apart.{Differ, RunApart, IsGrownTo, levels_grown, 
 
 -- ---- what a fault from then on answers
 
-abbrev pub from_then : Site → Rig
-from_then s = rig s OnwardReturn
+abbrev pub from_then : Option (List ℕ) → Site → Rig
+from_then text s = rig s (OnwardReturn text)
 
-pub acts_from : (s : Site) (p k : ℕ) → s.point ≡ p → s.hit ≤ k → acts_at p k (from_then s) ≡ true
-acts_from s p k e h =
+pub acts_from : (text : Option (List ℕ)) (s : Site) (p k : ℕ) → s.point ≡ p → s.hit ≤ k → acts_at p k (from_then text s) ≡ true
+acts_from text s p k e h =
     let x : (s.point == p) ≡ true = grind (arith, nat_tests, e) in
     let y : nat_le s.hit k ≡ true = grind (arith, nat_tests, h) in
     ap (λ b. b && nat_le s.hit k) x ∙ y
@@ -38,8 +38,8 @@ not_yet_case s p k true e h =
     grind (arith, nat_tests, less)
 not_yet_case s p k false e h = refl
 
-pub acts_not_yet : (s : Site) (p k : ℕ) → (s.point ≡ p → k < s.hit) → acts_at p k (from_then s) ≡ false
-acts_not_yet s p k h = not_yet_case s p k (s.point == p) refl h
+pub acts_not_yet : (text : Option (List ℕ)) (s : Site) (p k : ℕ) → (s.point ≡ p → k < s.hit) → acts_at p k (from_then text s) ≡ false
+acts_not_yet text s p k h = not_yet_case s p k (s.point == p) refl h
 
 -- faults at earlier hits of its point, or at other points, act nowhere with it
 abbrev pub IsEarlier : Site → Rig → Type 0
@@ -56,8 +56,8 @@ apart_case s x p k true true false e f h earlier t = refl
 apart_case s x p k true false c e f h earlier t = absurd cc
 apart_case s x p k false b c e f h earlier t = absurd cc
 
-onward_apart : (s : Site) (x : Rig) → is_onward x.kind ≡ false → IsEarlier s x → ActApart (from_then s) x
-onward_apart s x once earlier p k e = acts_once x.site x.kind p k once ∙ apart_case s x p k (s.point == p) (nat_le s.hit k) (x.site.point == p) refl refl refl earlier e
+onward_apart : (text : Option (List ℕ)) (s : Site) (x : Rig) → is_onward x.kind ≡ false → IsEarlier s x → ActApart (from_then text s) x
+onward_apart text s x once earlier p k e = acts_once x.site x.kind p k once ∙ apart_case s x p k (s.point == p) (nat_le s.hit k) (x.site.point == p) refl refl refl earlier e
 
 -- the faults among the hits before a hit are earlier ones of its point, or of other points
 pub are_earlier : (rs : List Rig) (b : List Met) (s : Site) → Numbered b → s.hit ≡ times_met s.point b + 1 → AreAmong rs b → AllByRecursion (IsEarlier s) rs
@@ -73,20 +73,20 @@ are_earlier rs b s num hit a =
           omega (arith, at, times, hit, more)) b num))
     ]) rs a.met
 
-pub onward_can : (rs : List Rig) (b : List Met) (s : Site) → 0 < s.hit → Fresh s b → AllByRecursion (IsEarlier s) rs → AreAmong rs b → CanAct (from_then s ∷ rs)
-onward_can rs b s some fresh earlier a =
+pub onward_can : (text : Option (List ℕ)) (rs : List Rig) (b : List Met) (s : Site) → 0 < s.hit → Fresh s b → AllByRecursion (IsEarlier s) rs → AreAmong rs b → CanAct (from_then text s ∷ rs)
+onward_can text rs b s some fresh earlier a =
     let can : CanAct rs = can_act rs b a in
     record {
       some = (some, a.some);
       sites_apart = (all_weaker (λ r. Fresh r.site b → ⊥) (λ t. s ≡ t.site → ⊥) (λ r n same. n (subst (λ z. Fresh z b) same fresh)) rs a.met, a.sites_apart);
-      act_apart = (all_weaker (λ x. (is_onward x.kind ≡ false) × IsEarlier s x) (ActApart (from_then s)) (λ x h. onward_apart s x h.0 h.1) rs (all_both _ _ rs a.once earlier), can.act_apart);
+      act_apart = (all_weaker (λ x. (is_onward x.kind ≡ false) × IsEarlier s x) (ActApart (from_then text s)) (λ x h. onward_apart text s x h.0 h.1) rs (all_both _ _ rs a.once earlier), can.act_apart);
     }
 
 -- before it, hits are answered as without it
-pub before_onward : (rs : List Rig) (b : List Met) (s : Site) → Numbered b → s.hit ≡ times_met s.point b + 1 → AnsweredBy (answers_of rs) b → AnsweredBy (answers_of (from_then s ∷ rs)) b
-before_onward rs b s num hit a =
-    all_weaker (λ (m : Met). (m.reply ≡ answers_of rs m.site) × (m.site.hit ≤ times_met m.site.point b)) (λ (m : Met). m.reply ≡ answers_of (from_then s ∷ rs) m.site)
-    (λ m h. h.0 ∙ sym (reply_there m.site.point m.site.hit (from_then s) rs (acts_not_yet s m.site.point m.site.hit
+pub before_onward : (text : Option (List ℕ)) (rs : List Rig) (b : List Met) (s : Site) → Numbered b → s.hit ≡ times_met s.point b + 1 → AnsweredBy (answers_of rs) b → AnsweredBy (answers_of (from_then text s ∷ rs)) b
+before_onward text rs b s num hit a =
+    all_weaker (λ (m : Met). (m.reply ≡ answers_of rs m.site) × (m.site.hit ≤ times_met m.site.point b)) (λ (m : Met). m.reply ≡ answers_of (from_then text s ∷ rs) m.site)
+    (λ m h. h.0 ∙ sym (reply_there m.site.point m.site.hit (from_then text s) rs (acts_not_yet text s m.site.point m.site.hit
     (λ same.
     let le : m.site.hit ≤ times_met m.site.point b = h.1 in
     let times : times_met m.site.point b ≡ times_met s.point b = ap (λ p. times_met p b) (sym same) in
@@ -151,20 +151,16 @@ pub record IsOnwardOf (t : Subject) (leaf plan : List Rig) : Type 0 where
 not_point : (p q : ℕ) → (q == p) ≡ false → p ≡ q → ⊥
 not_point p q e same = let yes : (q == p) ≡ true = grind (arith, nat_tests, same) in absurd (let no : true ≡ false = sym yes ∙ e in cc)
 
-return_kind : (k : Kind) → is_once_return k ≡ true → k ≡ OnceReturn
-return_kind OnceReturn e = refl
-return_kind OnwardReturn e = absurd cc
-return_kind OncePanic e = absurd cc
-
-once_return : (k : Kind) → k ≡ OnceReturn → is_onward k ≡ false
+once_return : (k : Kind) → k ≡ OnceReturn (text_of k) → is_onward k ≡ false
 once_return k e = ap is_onward e
 
-onward_runs : (t : Subject) → IsLawful t → (n : ℕ) (r : Rig) (rs : List Rig) → IsGrown t n (r ∷ rs) → r.kind ≡ OnceReturn → (h : EndsIn [] (run_of_plan t (r ∷ rs)) r rs)
-    → First (λ (m : Met). m.site.point == r.site.point) h.a → IsOnwardOf t (r ∷ rs) (from_then r.site ∷ rs)
+onward_runs : (t : Subject) → IsLawful t → (n : ℕ) (r : Rig) (rs : List Rig) → IsGrown t n (r ∷ rs) → r.kind ≡ OnceReturn (text_of r.kind) → (h : EndsIn [] (run_of_plan t (r ∷ rs)) r rs)
+    → First (λ (m : Met). m.site.point == r.site.point) h.a → IsOnwardOf t (r ∷ rs) (from_then (text_of r.kind) r.site ∷ rs)
 onward_runs t l n r rs g kind h f =
     let leaf : List Rig = r ∷ rs in
     let s : Site = r.site in
-    let plan : List Rig = from_then s ∷ rs in
+    let text = text_of r.kind in
+    let plan : List Rig = from_then text s ∷ rs in
     let x : List Met = f.front in
     let two : Met = f.one in
     let whole : List Met = h.b ++ h.m ∷ h.a in
@@ -175,24 +171,24 @@ onward_runs t l n r rs g kind h f =
     let some : 0 < s.hit = omega (arith, hit) in
     let num : Numbered h.b = path_numbered t.asks t.limit [] h.b (h.m ∷ h.a) tt path in
     let among : AreAmong rs h.b = subst (λ (z : List Rig). AreAmong z h.b) h.earlier (faults_among t.asks t.limit h.b (h.m ∷ h.a) path) in
-    let can : CanAct plan = onward_can rs h.b s some fresh (are_earlier rs h.b s num hit among) among in
+    let can : CanAct plan = onward_can text rs h.b s some fresh (are_earlier rs h.b s num hit among) among in
     let once : is_onward r.kind ≡ false = once_return r.kind kind in
     let front : AnsweredBy (answers_of rs) h.b =
     all_weaker (λ (m : Met). (m.reply ≡ answers_of leaf m.site) × (m.site ≡ s → ⊥)) (λ (m : Met). m.reply ≡ answers_of rs m.site)
     (λ m k. k.0 ∙ reply_there m.site.point m.site.hit r rs (acts_not s m.site r.kind once (λ e. k.1 (sym e)))) h.b (all_both _ _ h.b (all_left (λ m. m.reply ≡ answers_of leaf m.site) h.b (h.m ∷ h.a) answered) fresh)
     in
-    let first : AnsweredBy (answers_of plan) h.b = before_onward rs h.b s num hit front in
-    let at : h.m.reply ≡ Return None =
+    let first : AnsweredBy (answers_of plan) h.b = before_onward text rs h.b s num hit front in
+    let at : h.m.reply ≡ Return text =
     (all_right (λ m. m.reply ≡ answers_of leaf m.site) h.b (h.m ∷ h.a) answered).0 ∙ ap (answers_of leaf) h.site ∙ reply_here s.point s.hit r rs (acts_self s r.kind once) ∙ ap reply_by kind
     in
-    let mine : answers_of plan s ≡ Return None = reply_here s.point s.hit (from_then s) rs (acts_from s s.point s.hit refl (omega arith)) in
+    let mine : answers_of plan s ≡ Return text = reply_here s.point s.hit (from_then text s) rs (acts_from text s s.point s.hit refl (omega arith)) in
     let second : h.m.reply ≡ answers_of plan h.m.site = at ∙ sym mine ∙ ap (answers_of plan) (sym h.site) in
     let still : AllGo (x ++ two ∷ f.back) = subst AllGo f.split h.still in
     let path' : IsPath t.asks t.limit [] (h.b ++ h.m ∷ (x ++ two ∷ f.back)) = subst (λ (ms : List Met). IsPath t.asks t.limit [] (h.b ++ h.m ∷ ms)) f.split path in
     let new : AllByRecursion (λ (m : Met). Fresh m.site h.b) (h.m ∷ (x ++ two ∷ f.back)) = rest_fresh t.asks t.limit h.b (h.m ∷ (x ++ two ∷ f.back)) path' in
     let third : AnsweredBy (answers_of plan) x =
     all_weaker (λ (m : Met). (m.reply ≡ Go) × ((m.site.point == s.point) ≡ false) × Fresh m.site h.b) (λ (m : Met). m.reply ≡ answers_of plan m.site)
-    (λ m k. k.0 ∙ sym (reply_there m.site.point m.site.hit (from_then s) rs (acts_not_yet s m.site.point m.site.hit (λ same. absurd (not_point s.point m.site.point k.1 same))) ∙ among_quiet rs h.b m.site among k.2)) x
+    (λ m k. k.0 ∙ sym (reply_there m.site.point m.site.hit (from_then text s) rs (acts_not_yet text s m.site.point m.site.hit (λ same. absurd (not_point s.point m.site.point k.1 same))) ∙ among_quiet rs h.b m.site among k.2)) x
     (three x (all_left (λ m. m.reply ≡ Go) x (two ∷ f.back) still) f.earlier (all_left (λ m. Fresh m.site h.b) x (two ∷ f.back) new.1))
     in
     let begin : List Met = h.b ++ h.m ∷ x in
@@ -204,12 +200,12 @@ onward_runs t l n r rs g kind h f =
     let more : times_met two.site.point begin ≡ times_met two.site.point h.b + times_met two.site.point (h.m ∷ x) = times_both two.site.point h.b (h.m ∷ x) in
     let before : times_met s.point h.b ≡ times_met two.site.point h.b = ap (λ p. times_met p h.b) point in
     let later : s.hit ≤ two.site.hit = omega (arith, again, more, before, hit) in
-    let returns : answers_of plan two.site ≡ Return None = reply_here two.site.point two.site.hit (from_then s) rs (acts_from s two.site.point two.site.hit point later) in
-    let run : run_of_plan t plan ≡ begin ++ met two.site (Return None) ∷ parts.0 = parts.1 ∙ ap (λ (a : Reply). begin ++ met two.site a ∷ parts.0) returns in
+    let returns : answers_of plan two.site ≡ Return text = reply_here two.site.point two.site.hit (from_then text s) rs (acts_from text s two.site.point two.site.hit point later) in
+    let run : run_of_plan t plan ≡ begin ++ met two.site (Return text) ∷ parts.0 = parts.1 ∙ ap (λ (a : Reply). begin ++ met two.site a ∷ parts.0) returns in
     let told : faults [] begin ≡ leaf =
     faults_both [] h.b (h.m ∷ x) ∙ ap (λ (z : List Rig). faults (noted h.m.site h.m.reply z) x) h.earlier ∙ ap (λ (z : List Rig). faults z x) h.last ∙ faults_none leaf x (all_left (λ m. m.reply ≡ Go) x (two ∷ f.back) still)
     in
-    let onto = faults_onto (rig two.site OnceReturn ∷ leaf) parts.0 in
+    let onto = faults_onto (rig two.site (OnceReturn text) ∷ leaf) parts.0 in
     let (b, past, rest, parents, own, calm) = g.prefix in
     let own_path : IsPath t.asks t.limit [] (b ++ met s (reply_by r.kind) ∷ rest) = subst (λ (ms : List Met). IsPath t.asks t.limit [] ms) own (plan_path t leaf) in
     let same : b ≡ h.b =
@@ -218,20 +214,20 @@ onward_runs t l n r rs g kind h f =
     record {
       can = can;
       further = onto.0;
-      next = rig two.site OnceReturn;
+      next = rig two.site (OnceReturn text);
       alike = (
         h.b,
         h.m,
         met s Go,
-        x ++ met two.site (Return None) ∷ parts.0,
+        x ++ met two.site (Return text) ∷ parts.0,
         past,
-        run ∙ append_assoc h.b (h.m ∷ x) (met two.site (Return None) ∷ parts.0),
+        run ∙ append_assoc h.b (h.m ∷ x) (met two.site (Return text) ∷ parts.0),
         parents ∙ ap (λ (l : List Met). l ++ met s Go ∷ past) same,
         h.site,
         refl,
         can_rest r rs g.can,
       );
-      tells = ap (faults []) run ∙ faults_both [] begin (met two.site (Return None) ∷ parts.0) ∙ ap (λ (z : List Rig). faults (rig two.site OnceReturn ∷ z) parts.0) told ∙ onto.1;
+      tells = ap (faults []) run ∙ faults_both [] begin (met two.site (Return text) ∷ parts.0) ∙ ap (λ (z : List Rig). faults (rig two.site (OnceReturn text) ∷ z) parts.0) told ∙ onto.1;
     }
   where
     three : (xs : List Met) → AllGo xs → AllByRecursion (λ m. (m.site.point == r.site.point) ≡ false) xs → AllByRecursion (λ (m : Met). Fresh m.site h.b) xs
@@ -245,7 +241,7 @@ both_so true false e = absurd cc
 both_so false b e = absurd cc
 
 onward_case : (t : Subject) → IsLawful t → (n : ℕ) (r : Rig) (rs : List Rig) → IsGrown t n (r ∷ rs) → (b : Bool) → (is_once_return r.kind && is_hit_again r.site (run_of_plan t (r ∷ rs))) ≡ b
-    → AllByRecursion (IsOnwardOf t (r ∷ rs)) (cond b ((from_then r.site ∷ rs) ∷ []) [])
+    → AllByRecursion (IsOnwardOf t (r ∷ rs)) (cond b ((from_then (text_of r.kind) r.site ∷ rs) ∷ []) [])
 onward_case t l n r rs g false e = tt
 onward_case t l n r rs g true e = elim (last_fault [] (run_of_plan t (r ∷ rs)) r rs g.runs) [
   | inl h ↦ absurd (let no : [] ≡ r ∷ rs = h.1 in cc)
@@ -255,7 +251,7 @@ onward_case t l n r rs g true e = elim (last_fault [] (run_of_plan t (r ∷ rs))
       let fresh : Fresh r.site h.b = subst (λ z. Fresh z h.b) h.site (hit_fresh t.asks t.limit h.b h.m h.a path) in
       let after : hits_after r.site (run_of_plan t (r ∷ rs)) ≡ h.a = ap (hits_after r.site) h.split ∙ hits_after_split r.site h.b h.m h.a fresh h.site in
       let any : list_any (λ (m : Met). m.site.point == r.site.point) h.a ≡ true = ap (list_any (λ (m : Met). m.site.point == r.site.point)) (sym after) ∙ both.1 in
-      (onward_runs t l n r rs g (return_kind r.kind both.0) h (first_of_any (λ (m : Met). m.site.point == r.site.point) h.a any), tt)
+      (onward_runs t l n r rs g (kind_once r.kind both.0) h (first_of_any (λ (m : Met). m.site.point == r.site.point) h.a any), tt)
 ]
 
 onwards_of : (t : Subject) → IsLawful t → (n : ℕ) (plan : List Rig) → IsGrown t n plan → AllByRecursion (IsOnwardOf t plan) (onward_of t plan)
@@ -282,7 +278,7 @@ one_each_case t plan false = tt
 
 one_each : (t : Subject) (plan : List Rig) → EachTwo (RunApart t) (onward_of t plan)
 one_each t [] = tt
-one_each t (r ∷ rs) = one_each_case t (from_then r.site ∷ rs) (is_once_return r.kind && is_hit_again r.site (run_of_plan t (r ∷ rs)))
+one_each t (r ∷ rs) = one_each_case t (from_then (text_of r.kind) r.site ∷ rs) (is_once_return r.kind && is_hit_again r.site (run_of_plan t (r ∷ rs)))
 
 onward_apart_each : (t : Subject) → IsLawful t → (d : ℕ) → EachTwo (RunApart t) (onward t d)
 unfolding onward

@@ -65,8 +65,8 @@ calm_off : Calm task.Off
 calm_off e = absurd cc
 
 calm_full : (kind : Kind) → Calm (term_of kind).task
-calm_full OnceReturn e = absurd cc
-calm_full OnwardReturn e = absurd cc
+calm_full (OnceReturn text) e = absurd cc
+calm_full (OnwardReturn text) e = absurd cc
 calm_full OncePanic e = absurd cc
 
 calm_offs : (b : Bool) (n : ℕ) (rest : List Term) → CalmChain rest → CalmChain (cond b [] (full (Some n) task.Off ∷ []) ++ rest)

@@ -6,7 +6,7 @@ use Rattle.action_eval.specs.declared.rig.Site.{Site}
 use Rattle.action_eval.specs.declared.rig.Rig.{Rig}
 use Rattle.action_eval.specs.declared.rig.Kind.{Kind}
 use Rattle.action_eval.specs.declared.rig.Kind.TheVariants.{OnwardReturn}
-use Rattle.action_eval.specs.Rigging.{rig}
+use Rattle.action_eval.specs.Rigging.{rig, text_of}
 use Rattle.target_trait.specs.Outcomes.{outcome}
 use Rattle.plan_gen.specs.LoopRuns.{times}
 use Rattle.grown_plans.specs.GrownPlans.{Subject, given_for, children, is_once_return, onward_of, run_of_plan}
@@ -50,7 +50,7 @@ goes_onward plan asked = is_last_return plan && is_asked_again plan asked
 -- the plan with its last fault from then on
 abbrev pub from_then_on : List Rig → List Rig
 from_then_on [] = []
-from_then_on (r ∷ rs) = rig r.site OnwardReturn ∷ rs
+from_then_on (r ∷ rs) = rig r.site (OnwardReturn (text_of r.kind)) ∷ rs
 
 abbrev pub onward_if : Bool → List Rig → List (List Rig)
 onward_if goes plan = if goes then from_then_on plan ∷ [] else []

@@ -8,7 +8,7 @@ use Rattle.action_eval.specs.declared.rig.Site.{Site}
 use Rattle.action_eval.specs.declared.rig.Rig.{Rig}
 use Rattle.action_eval.specs.declared.rig.Kind.{Kind}
 use Rattle.action_eval.specs.declared.rig.Kind.TheVariants.{OnceReturn, OnwardReturn, OncePanic}
-use Rattle.action_eval.specs.Rigging.{rig, rigging}
+use Rattle.action_eval.specs.Rigging.{rig, rigging, text_of, is_same_text}
 use Rattle.target_trait.specs.Play.{Move}
 use Rattle.plan_gen.specs.PlanList.{Asked, storm_part}
 use Rattle.plan_gen.specs.RiggedAnswers.{is_onward}
@@ -30,13 +30,34 @@ abbrev pub is_cut : Option ℕ → ℕ → Bool
 is_cut None point = false
 is_cut (Some cut) point = point == cut
 
--- where nothing else is said: a return and a panic; at the point of a power cut a return alone, which keeps a write. Any other answer there loses it,
--- as without a fault.
-abbrev pub kinds_at : Option ℕ → ℕ → List Kind
-kinds_at cut point = if is_cut cut point then OnceReturn ∷ [] else (OnceReturn ∷ OncePanic ∷ [])
+-- where nothing else is said: a return without a text, and a panic; at the point of a power cut a return alone, which keeps a write. Any other answer there
+-- loses it, as without a fault.
+abbrev pub usual_at : Option ℕ → ℕ → List Kind
+usual_at cut point = if is_cut cut point then OnceReturn None ∷ [] else (OnceReturn None ∷ OncePanic ∷ [])
 
 abbrev pub usual_kinds : List (List ℕ) → ℕ → List Kind
-usual_kinds names = kinds_at (cut_point names)
+usual_kinds names = usual_at (cut_point names)
+
+-- the kinds that are listed for a point, in the order of the points; none where nothing is said of it
+abbrev pub listed_at : List (List Kind) → ℕ → List Kind
+listed_at [] point = []
+listed_at (kinds ∷ rest) zero = kinds
+listed_at (kinds ∷ rest) (suc point) = listed_at rest point
+
+abbrev pub or_usual : List Kind → List Kind → List Kind
+or_usual [] usual = usual
+or_usual (kind ∷ kinds) usual = kind ∷ kinds
+
+-- which kinds are tried, by where the point of a power cut stands and the kinds that are listed
+pub record Tried : Type 0 where
+  pub cut : Option ℕ
+  pub listed : List (List Kind)
+
+abbrev pub tried_over : List (List ℕ) → List (List Kind) → Tried
+tried_over names listed = record { cut = cut_point names; listed = listed }
+
+abbrev pub kinds_at : Tried → ℕ → List Kind
+kinds_at tried point = or_usual (listed_at tried.listed point) (usual_at tried.cut point)
 
 abbrev pub usual_subject : (List Reply → Move) → List (List ℕ) → ℕ → Subject
 usual_subject asks names limit = record { asks = asks; names = names; limit = limit; kinds = usual_kinds names }
@@ -56,17 +77,19 @@ in_order [] = []
 in_order (r ∷ rs) = placed r (in_order rs)
 
 abbrev pub is_once_return : Kind → Bool
-is_once_return OnceReturn = true
-is_once_return OnwardReturn = false
+is_once_return (OnceReturn text) = true
+is_once_return (OnwardReturn text) = false
 is_once_return OncePanic = false
 
--- a return just before one from then on is a part of that: `1*return->return` is `return`
+-- a return just before one from then on, with the same text, is a part of that: `1*return->return` is `return`
 abbrev pub is_part : Rig → Rig → Bool
-is_part r t = is_once_return r.kind && is_onward t.kind && (r.site.point == t.site.point) && (r.site.hit + 1 == t.site.hit)
+is_part r t =
+    is_once_return r.kind && is_onward t.kind && is_same_text (text_of r.kind) (text_of t.kind)
+    && (r.site.point == t.site.point) && (r.site.hit + 1 == t.site.hit)
 
 abbrev pub merged_onto : Rig → List Rig → List Rig
 merged_onto r [] = r ∷ []
-merged_onto r (t ∷ ts) = if is_part r t then rig r.site OnwardReturn ∷ ts else (r ∷ t ∷ ts)
+merged_onto r (t ∷ ts) = if is_part r t then rig r.site t.kind ∷ ts else (r ∷ t ∷ ts)
 
 abbrev pub merged : List Rig → List Rig
 merged [] = []
@@ -122,11 +145,11 @@ levels t (suc d) = levels t d ++ level t (suc d)
 abbrev pub is_hit_again : Site → List Met → Bool
 is_hit_again s ms = list_any (λ m. m.site.point == s.point) (hits_after s ms)
 
--- a plan whose last fault is a return, with this fault from then on, where its point is hit once more
+-- a plan whose last fault is a return, with this fault from then on, with its text, where its point is hit once more
 abbrev pub onward_of : Subject → List Rig → List (List Rig)
 onward_of t [] = []
 onward_of t (r ∷ rs) =
-    if is_once_return r.kind && is_hit_again r.site (run_of_plan t (r ∷ rs)) then (rig r.site OnwardReturn ∷ rs) ∷ [] else []
+    if is_once_return r.kind && is_hit_again r.site (run_of_plan t (r ∷ rs)) then (rig r.site (OnwardReturn (text_of r.kind)) ∷ rs) ∷ [] else []
 
 unfoldable pub onward : Subject → ℕ → List (List Rig)
 onward t d = flat_map (onward_of t) (level t d)

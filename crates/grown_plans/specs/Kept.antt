@@ -29,8 +29,11 @@ abbrev pub GrewFrom : ℕ → List Grew → Type 0
 GrewFrom n gs = AllByRecursion (λ g. g.parent < n) gs
 
 -- a plan's children, by the points that its run asked, as they are kept
+abbrev pub kept_of : ℕ → Site → List Kind → List Grew
+kept_of number s kinds = map (λ kind. grew number (rig s kind)) kinds
+
 abbrev pub kept_at : (ℕ → List Kind) → ℕ → Site → List Grew
-kept_at kinds number s = map (λ kind. grew number (rig s kind)) (kinds s.point)
+kept_at kinds number s = kept_of number s (kinds s.point)
 
 abbrev pub kept_children : (ℕ → List Kind) → ℕ → List Rig → List ℕ → List Grew
 kept_children kinds number plan asked = flat_map (kept_at kinds number) (sites_past plan (sites_from [] asked))

@@ -1,10 +1,10 @@
 -- What a campaign of grown plans promises.
-use Rattle.std.specs.Prelude.{◌≡◌, ◌≢◌, ℕ, suc, ◌≤◌, ◌<◌, ◌==◌, ◌⊎◌, if◌then◌else◌, List, [], ◌∷◌, ◌++◌, map, length, false, None, Contains}
+use Rattle.std.specs.Prelude.{◌≡◌, ◌≢◌, ℕ, suc, ◌≤◌, ◌<◌, ◌==◌, ◌⊎◌, if◌then◌else◌, Option, List, [], ◌∷◌, ◌++◌, map, length, false, Contains}
 use Rattle.std.specs.List.{AllByRecursion}
 use Rattle.scenario_values.specs.Scenario.{Entries}
 use Rattle.action_eval.specs.Answers.{Reply, Go, Return, given_of}
 use Rattle.action_eval.specs.Catalogue.{IsCatalogue}
-use Rattle.action_eval.specs.Rigging.{rigging}
+use Rattle.action_eval.specs.Rigging.{rigging, HasLawfulText}
 use Rattle.action_eval.specs.declared.rig.Rig.{Rig}
 use Rattle.action_eval.specs.declared.rig.Kind.{Kind}
 use Rattle.target_trait.specs.Play.{IsWithin}
@@ -31,16 +31,23 @@ pub record IsOfOne {A : Type 0} (P : A → Type 0) (xs : List A) : Type 0 where
   pub is : P one
   pub no_other : AllByRecursion (λ x. P x → ⊥) (before ++ after)
 
--- it keeps the laws of a target, and the kinds of faults at a point act once, none listed twice. That no question follows a halt isn't
--- needed: where one does, it has children as any other.
+-- it keeps the laws of a target, and the kinds of faults at a point act once, none listed twice, with texts that may stand in a scenario. That no
+-- question follows a halt isn't needed: where one does, it has children as any other.
 pub record IsLawful (t : Subject) : Type 0 where
   pub catalogue : IsCatalogue t.names
   pub within : (answers : List Reply) → IsWithin (length t.names) (t.asks answers)
   pub once : (point : ℕ) → AllByRecursion (λ kind. is_onward kind ≡ false) (t.kinds point)
   pub apart : (point : ℕ) → EachTwo (λ a b. a ≢ b) (t.kinds point)
+  pub texts : (point : ℕ) → AllByRecursion HasLawfulText (t.kinds point)
+
+-- the same of kinds by themselves
+pub record CanBeTried (kinds : List Kind) : Type 0 where
+  pub once : AllByRecursion (λ kind. is_onward kind ≡ false) kinds
+  pub apart : EachTwo (λ a b. a ≢ b) kinds
+  pub texts : AllByRecursion HasLawfulText kinds
 
 -- each fault that acts in a run is of a kind that is tried at its point. By the usual kinds a return has no text: what a text stands for
--- is a kind of its own.
+-- is a kind of its own, tried where it is listed.
 abbrev pub IsOfKinds : (ℕ → List Kind) → List Met → Type 0
 IsOfKinds kinds ms = AllByRecursion (λ m. (m.reply ≡ Go) ⊎ ((kind : Kind) × Contains (kinds m.site.point) kind × (m.reply ≡ reply_by kind))) ms
 
@@ -91,16 +98,16 @@ SkipsNothing t d = (c : FaultCase t) → acting (run_in t c) ≤ d → IsOfOne (
 abbrev pub RunsNothingTwice : Subject → ℕ → Type 0
 RunsNothingTwice t d = EachTwo (λ a b. run_of_plan t a ≢ run_of_plan t b) (grown t d)
 
--- from a hit on, each hit of its point returns and every other one goes on
-abbrev pub ReturnsOnward : ℕ → List Met → Type 0
-ReturnsOnward point ms = AllByRecursion (λ m. m.reply ≡ (if m.site.point == point then Return None else Go)) ms
+-- from a hit on, each hit of its point returns, with the same text or none, and every other one goes on
+abbrev pub ReturnsOnward : Option (List ℕ) → ℕ → List Met → Type 0
+ReturnsOnward text point ms = AllByRecursion (λ m. m.reply ≡ (if m.site.point == point then Return text else Go)) ms
 
 -- from then on: of each case in which fewer than d faults act and then a return from then on, exactly one grown plan has the hits,
 -- the answers and the verdict
 abbrev pub TriesOnward : Subject → ℕ → Type 0
 TriesOnward t d =
-    (c : FaultCase t) (before after : List Met) (m : Met) → run_in t c ≡ before ++ m ∷ after → m.reply ≡ Return None → acting before < d
-    → ReturnsOnward m.site.point after → IsOfOne (IsTried t c) (grown t d)
+    (c : FaultCase t) (before after : List Met) (m : Met) (text : Option (List ℕ)) → run_in t c ≡ before ++ m ∷ after → m.reply ≡ Return text
+    → acting before < d → ReturnsOnward text m.site.point after → IsOfOne (IsTried t c) (grown t d)
 
 -- least: where no plan of levels 0 to d fails with a code, no case with at most d acting faults does, and no scenario of at most d rigged
 -- hits: so whatever is left out of a first failure of level d + 1, it doesn't fail with its code

@@ -1,10 +1,10 @@
 -- The run of a case: its hits, and how each was answered.
-use Rattle.std.specs.Prelude.{◌≢◌, ℕ, ◌+◌, ◌==◌, suc, Bool, true, false, List, [], ◌∷◌, ◌++◌, Some, count_by}
+use Rattle.std.specs.Prelude.{◌≢◌, ℕ, ◌+◌, ◌==◌, Bool, true, false, List, [], ◌∷◌, ◌++◌, Some, count_by}
 use Rattle.action_eval.specs.declared.answer.Stop.TheVariants as stop
 use Rattle.action_eval.specs.declared.rig.Site.{Site}
-use Rattle.action_eval.specs.Answers.{Given, Hit, Reply, Go, Return, Halt, start, reply_of, history_of, stopped}
+use Rattle.action_eval.specs.Answers.{Given, Hit, Reply, Go, Return, Halt, reply_of, history_of, stopped}
 use Rattle.target_trait.specs.Play.{Move}
-use Rattle.target_trait.specs.Outcomes.{play}
+use Rattle.target_trait.specs.Outcomes.{whole_play}
 
 -- a hit of a run, its point and which hit of this point it is from 1 on, and its answer
 pub record Met : Type 0 where
@@ -26,11 +26,11 @@ met_after before (h ∷ hs) = met_after (before ++ met (site_after before h.poin
 -- the run of what asks under what is given: the hits of its play. The hit past the limit isn't among them: it is no fault, and nobody
 -- was asked.
 unfoldable pub run : (List Reply → Move) → Given → List Met
-run asks g = met_after [] (history_of (play (suc g.limit) asks (start g)))
+run asks g = met_after [] (history_of (whole_play asks g))
 
 -- no pause stopped it
 abbrev pub IsUnpaused : (List Reply → Move) → Given → Type 0
-IsUnpaused asks g = stopped (play (suc g.limit) asks (start g)) ≢ Some stop.Paused
+IsUnpaused asks g = stopped (whole_play asks g) ≢ Some stop.Paused
 
 -- a fault acts at a hit that isn't answered Go
 abbrev pub is_fault : Reply → Bool

@@ -145,7 +145,7 @@ impl Begun {
 /// that memory was refused.
 pub fn count_children(
     begun: &mut Begun,
-    kinds: Kinds,
+    kinds: &Kinds<'_>,
     parent: usize,
     plan: &[Rig],
     asked: &[u32],
@@ -154,7 +154,7 @@ pub fn count_children(
     requires serves { Serves begun.old parent plan.now asked.now }
     requires points { AllByRecursion (λ p. p < 64) asked.now }
     requires few { length asked.now < 2 ^ 32 }
-    ensures children { IfOk result (λ growing. (number : ℕ) → growing.children ≡ length (kept_children (kinds_at kinds) number plan.now asked.now)) }
+    ensures children { IfOk result (λ growing. (number : ℕ) → growing.children ≡ length (kept_children (kinds_at kinds.now) number plan.now asked.now)) }
     ensures again { IfOk result (λ growing. growing.is_again ≡ is_asked_again plan.now asked.now) }
     ensures counts { OnOk result (AreCounts begun.new.whole.items asked.now) }
     ensures begun { OnOk result (IsBegun begun.new parent plan.now asked.now) }

@@ -1,6 +1,6 @@
 //! Plans that grew, in few bytes each.
 ghost use Rattle.std.specs.Prelude.{◌≡◌, ◌<◌, ◌^◌};
-ghost use Rattle.action_eval.specs.Rigging.{rig};
+ghost use Rattle.action_eval.specs.Rigging.{rig, text_of};
 ghost use Rattle.action_eval.specs.declared.rig.Kind.TheVariants.{OnwardReturn};
 ghost use Rattle.grown_plans.specs.Kept.{grew};
 
@@ -9,7 +9,7 @@ use std::marker::Model;
 use std::mem::size_of;
 
 /// What is kept of a plan that grew: its parent's number, below 65536, and the fault that was added to it. A fault's point is one of at most
-/// 64. It takes 8 bytes.
+/// 64. It takes 44 bytes, with the text of a return.
 #[derive(Clone, Copy, Debug)]
 pub struct Child {
     hit: u32,
@@ -18,7 +18,7 @@ pub struct Child {
     kind: Kind,
 }
 
-const _: () = prove!(size_of::<Child>() == 8);
+const _: () = prove!(size_of::<Child>() == 44);
 
 impl Model for Child {
     ghost use Rattle.grown_plans.specs.Kept.{Grew};
@@ -72,12 +72,12 @@ impl Child {
         }
     }
 
-    /// The same with its fault from then on.
+    /// The same with its fault from then on, a return with the text that it has.
     pub(crate) fn from_then_on(self) -> Self
-        ensures { result ≡ grew self.parent (rig self.fault.site OnwardReturn) }
+        ensures { result ≡ grew self.parent (rig self.fault.site (OnwardReturn (text_of self.fault.kind))) }
     {
         Child {
-            kind: Kind::OnwardReturn,
+            kind: Kind::OnwardReturn(self.kind.text()),
             ..self
         }
     }

@@ -2,14 +2,14 @@
 ghost use Rattle.std.specs.Prelude.{◌≡◌, ℕ, ◌+◌, ◌<◌, ◌^◌, ◌++◌, ◌∷◌, [], List, length, slice_index_or, IfOk, OnOk};
 ghost use Rattle.std.specs.List.{AllByRecursion};
 ghost use Rattle.grown_plans.specs.AskedPoints.{AreCounts, is_point_of, is_asked_again};
-ghost use Rattle.grown_plans.specs.GrownPlans.{kinds_at};
-ghost use Rattle.grown_plans.specs.Kept.{kept_at, kept_children};
+ghost use Rattle.grown_plans.specs.GrownPlans.{kinds_at, usual_at};
+ghost use Rattle.grown_plans.specs.Kept.{kept_at, kept_of, kept_children};
 ghost use Rattle.grown_plans.specs.inside.Counted.{is_site_of, next_site};
 
 use crate::child::Child;
 use crate::counts::count_none;
 use crate::kinds::Kinds;
-use action_eval::{Kind, Rig, Site};
+use action_eval::{Argument, Kind, Rig, Site};
 use std::alloc::AllocError;
 
 /// The next hit of a point, which is counted.
@@ -44,21 +44,55 @@ fn is_of_last(plan: &[Rig], point: u32) -> bool
     }
 }
 
-/// Adds what grows at a hit: a return, and a panic where that is another run.
-fn add_at(
+/// Adds what grows at a hit where nothing else is listed: a return, and a panic where that is another run.
+fn add_usual(
     children: &mut Vec<Child>,
-    kinds: Kinds,
+    kinds: &Kinds<'_>,
     number: usize,
     site: Site,
 ) -> Result<(), AllocError>
     requires { (number < 2 ^ 16) × (site.point < 2 ^ 8) }
-    ensures { OnOk result (children.new.items ≡ children.old.items ++ kept_at (kinds_at kinds) number site) }
+    ensures { OnOk result (children.new.items ≡ children.old.items ++ kept_of number site (usual_at kinds.now.cut site.point)) }
 {
-    children.push(Child::new(number, site, Kind::OnceReturn))?;
+    children.push(Child::new(number, site, Kind::OnceReturn(Argument::none())))?;
     if !kinds.is_cut(site.point) {
         children.push(Child::new(number, site, Kind::OncePanic))?;
     }
     Ok(())
+}
+
+/// Adds what grows at a hit, by the kinds that are listed.
+fn add_listed(
+    children: &mut Vec<Child>,
+    listed: &[Kind],
+    number: usize,
+    site: Site,
+) -> Result<(), AllocError>
+    requires { (number < 2 ^ 16) × (site.point < 2 ^ 8) }
+    ensures { OnOk result (children.new.items ≡ children.old.items ++ kept_of number site listed.now) }
+{
+    for kind in listed {
+        children.push(Child::new(number, site, *kind))?;
+    }
+    Ok(())
+}
+
+/// Adds what grows at a hit, in each way that is tried at its point.
+fn add_at(
+    children: &mut Vec<Child>,
+    kinds: &Kinds<'_>,
+    number: usize,
+    site: Site,
+) -> Result<(), AllocError>
+    requires { (number < 2 ^ 16) × (site.point < 2 ^ 8) }
+    ensures { OnOk result (children.new.items ≡ children.old.items ++ kept_at (kinds_at kinds.now) number site) }
+{
+    let listed = kinds.listed_at(site.point);
+    if listed.is_empty() {
+        add_usual(children, kinds, number, site)
+    } else {
+        add_listed(children, listed, number, site)
+    }
 }
 
 /// Adds the children of the plan of this number, which has these faults, by the points that its run asked, and counts how often it asked
@@ -68,7 +102,7 @@ fn add_at(
 pub fn add_children(
     children: &mut Vec<Child>,
     counts: &mut Vec<u32>,
-    kinds: Kinds,
+    kinds: &Kinds<'_>,
     number: usize,
     plan: &[Rig],
     asked: &[u32],
@@ -76,7 +110,7 @@ pub fn add_children(
     requires number { number < 2 ^ 16 }
     requires points { AllByRecursion (λ p. p < 64) asked.now }
     requires few { length asked.now < 2 ^ 32 }
-    ensures children { OnOk result (children.new.items ≡ children.old.items ++ kept_children (kinds_at kinds) number plan.now asked.now) }
+    ensures children { OnOk result (children.new.items ≡ children.old.items ++ kept_children (kinds_at kinds.now) number plan.now asked.now) }
     ensures counts { OnOk result (AreCounts counts.new.items asked.now) }
     ensures again { IfOk result (λ is_again. is_again ≡ is_asked_again plan.now asked.now) }
 {

@@ -1,29 +1,34 @@
 //! The kinds of faults that are tried at each point.
-ghost use Rattle.std.specs.Prelude.{◌≡◌, codes, flat_map, length, position};
+ghost use Rattle.std.specs.Prelude.{◌≡◌, ◌<◌, ◌≤◌, ◌^◌, [], codes, flat_map, length, map, position};
+ghost use Rattle.std.specs.List.{AllByRecursion};
 ghost use Rattle.std.specs.Str.{bytes_eq};
 ghost use Rattle.action_eval.specs.Answers.{texts};
-ghost use Rattle.grown_plans.specs.GrownPlans.{cut_point, is_cut, kinds_at};
+ghost use Rattle.grown_plans.specs.GrownPlans.{is_cut, kinds_at, listed_at, tried_over, usual_at};
 
+use action_eval::Kind;
 use std::marker::Model;
 
 /// The name of the point at which a power cut asks which pending writes it keeps.
 const CUT: &str = "power::keep";
 
-/// Which kinds of faults are tried at each point: a return and a panic; where a power cut asks which pending writes it keeps a return alone, which keeps
-/// one.
-#[derive(Clone, Copy, Debug)]
-pub struct Kinds {
+/// Which kinds of faults are tried at each point, and in which order: those that are listed for it. Where none are, a return without a text and a
+/// panic; where a power cut asks which pending writes it keeps a return alone, which keeps one.
+#[derive(Debug, Drop)]
+pub struct Kinds<'a> {
     cut: Option<usize>,
+    listed: &'a [Vec<Kind>],
 }
 
-impl Model for Kinds {
-    ghost use Rattle.std.specs.Prelude.{Option, ℕ};
+impl<'a> Model for Kinds<'a> {
+    ghost use Rattle.std.specs.Prelude.{◌≤◌, map, length};
+    ghost use Rattle.std.specs.List.{AllByRecursion};
+    ghost use Rattle.grown_plans.specs.GrownPlans.{Tried};
 
-    ghost Value = { Option ℕ };
+    ghost Value = { Tried };
 
-    ghost view = { λ k. k.cut };
+    ghost view = { λ k. record { cut = k.cut; listed = map (λ kinds. kinds.items) k.listed.now } };
 
-    ghost inverse = { λ cut. record { cut = cut } };
+    ghost invariant = { λ k. AllByRecursion (λ kinds. length kinds.items ≤ 8) k.listed.now };
 }
 
 /// Whether a point of this name is that of a power cut.
@@ -40,26 +45,46 @@ fn cut_point(catalogue: &[&str]) -> Option<usize>
     catalogue.iter().position(|name| is_cut_name(name))
 }
 
-impl Kinds {
-    /// The kinds over a catalogue.
+impl<'a> Kinds<'a> {
+    /// The usual kinds over a catalogue.
     pub fn of(catalogue: &[&str]) -> Self
-        ensures { result ≡ cut_point (texts catalogue.now) }
+        ensures { result ≡ tried_over (texts catalogue.now) [] }
+    {
+        Kinds::with(catalogue, &[])
+    }
+
+    /// The kinds that are listed, at most 8 for each point in the order of the catalogue; where a list is empty or missing, the usual ones.
+    pub fn with(catalogue: &[&str], listed: &'a [Vec<Kind>]) -> Self
+        requires { AllByRecursion (λ kinds. length kinds.items ≤ 8) listed.now }
+        ensures { result ≡ tried_over (texts catalogue.now) (map (λ kinds. kinds.items) listed.now) }
     {
         Kinds {
             cut: cut_point(catalogue),
+            listed,
         }
     }
 
     /// Whether a point is that of a power cut.
-    pub(crate) fn is_cut(self, point: u32) -> bool
-        ensures { result ≡ is_cut self point }
+    pub(crate) fn is_cut(&self, point: u32) -> bool
+        ensures { result ≡ is_cut self.now.cut point }
     {
         self.cut == Some(point as usize)
     }
 
-    /// How many faults are tried at hits of these points.
-    pub(crate) fn count(self, points: &[u32]) -> usize
-        ensures { result ≡ length (flat_map (kinds_at self) points.now) }
+    /// The kinds that are listed for a point; none where nothing is said of it.
+    pub(crate) fn listed_at(&self, point: u32) -> &[Kind]
+        ensures kinds { result.now ≡ listed_at self.now.listed point }
+        ensures few { length result.now ≤ 8 }
+    {
+        match self.listed.get(point as usize) {
+            Some(kinds) => kinds.as_slice(),
+            None => &[],
+        }
+    }
+
+    /// How many faults are tried at hits of these points where nothing is listed.
+    fn count_usual(&self, points: &[u32]) -> usize
+        ensures { result ≡ length (flat_map (usual_at self.now.cut) points.now) }
     {
         let Some(cut) = self.cut else {
             return 2 * points.len();
@@ -69,5 +94,35 @@ impl Kinds {
             .filter(|point| **point as usize == cut)
             .count();
         2 * points.len() - cuts
+    }
+
+    /// How many faults are tried at a hit of a point.
+    fn count_at(&self, point: u32) -> usize
+        ensures count { result ≡ length (kinds_at self.now point) }
+        ensures few { result ≤ 8 }
+    {
+        let listed = self.listed_at(point).len();
+        if listed > 0 {
+            listed
+        } else if self.is_cut(point) {
+            1
+        } else {
+            2
+        }
+    }
+
+    /// How many faults are tried at hits of these points.
+    pub(crate) fn count(&self, points: &[u32]) -> usize
+        requires { length points.now < 2 ^ 32 }
+        ensures { result ≡ length (flat_map (kinds_at self.now) points.now) }
+    {
+        if self.listed.is_empty() {
+            return self.count_usual(points);
+        }
+        let mut count = 0;
+        for point in points {
+            count += self.count_at(*point);
+        }
+        count
     }
 }

@@ -1,17 +1,25 @@
-//! Laws of grown plans, as contracts of functions that do nothing. All but the first are of every subject that is lawful, whatever it asks,
+//! Laws of grown plans, as contracts of functions that do nothing. All but the first two are of every subject that is lawful, whatever it asks,
 //! for every limit of hits.
-ghost use Rattle.std.specs.Prelude.{ℕ, ◌<◌, ◌≤◌, ◌^◌};
+ghost use Rattle.std.specs.Prelude.{ℕ, ◌<◌, ◌≤◌, ◌^◌, List};
 ghost use Rattle.std.specs.List.{AllByRecursion};
 ghost use Rattle.action_eval.specs.Rigging.{CanBeRigged};
+ghost use Rattle.action_eval.specs.declared.rig.Kind.{Kind};
 ghost use Rattle.grown_plans.specs.AskedPoints.{AsksLikeParent, GrowsByAsked, GoesOnwardByAsked, ReachesByAsked, AsksWithin};
-ghost use Rattle.grown_plans.specs.GrownPlans.{Subject, usual_subject, rigs_of, level, grown};
-ghost use Rattle.grown_plans.specs.Promises.{IsLawful, NeedsNoSeed, KeepsPrefix, SkipsNothing, RunsNothingTwice, TriesOnward, IsLeast, IsWhole, HasCauses};
+ghost use Rattle.grown_plans.specs.GrownPlans.{Subject, kinds_at, tried_over, usual_subject, rigs_of, level, grown};
+ghost use Rattle.grown_plans.specs.Promises.{CanBeTried, IsLawful, NeedsNoSeed, KeepsPrefix, SkipsNothing, RunsNothingTwice, TriesOnward, IsLeast, IsWhole, HasCauses};
 
 use target_trait::Target;
 
 /// Every target is a lawful subject for the usual kinds of faults, a return and a panic, at every limit of hits.
 pub fn each_target_is_a_lawful_subject<T: Target>()
     ensures { (setup : T) (workload : T.Workload) (limit : ℕ) → IsLawful (usual_subject (T.asks setup workload) T.names limit) }
+{}
+
+/// Where kinds are listed for points, and what a lawful subject asks of its kinds holds of each list, it holds of the kinds at each point: of the
+/// listed ones, and of the usual ones where none are.
+pub fn listed_kinds_can_be_tried()
+    ensures { (names : List (List ℕ)) (listed : List (List Kind)) → AllByRecursion CanBeTried listed
+        → (point : ℕ) → CanBeTried (kinds_at (tried_over names listed) point) }
 {}
 
 /// The run of a grown plan is the same under every seed and stream number.

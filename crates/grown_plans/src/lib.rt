@@ -19,7 +19,8 @@ pub use laws::{
     each_plan_grows_by_what_was_asked, each_plan_keeps_its_parents_prefix, each_plan_needs_no_seed,
     each_run_asks_like_its_parents, each_run_is_told_by_what_was_asked,
     each_target_is_a_lawful_subject, faults_from_then_on_are_tried,
-    first_failures_have_least_faults, nothing_is_run_twice, nothing_is_skipped,
+    first_failures_have_least_faults, listed_kinds_can_be_tried, nothing_is_run_twice,
+    nothing_is_skipped,
 };
 pub use list::GrownPlans;
 pub use rigs::rigs_of;

@@ -12,7 +12,7 @@ use std::marker::Model;
 /// Plans that grow from each other's runs: the plan without faults, and others, each of which has one fault more than a plan before it. A
 /// plan's number is its place, from 0. Contracts see the list of the plans, each as the list of its faults, the last one to act first.
 ///
-/// It keeps 8 bytes a plan.
+/// It keeps 44 bytes a plan.
 #[derive(Debug, Drop)]
 pub struct GrownPlans {
     children: Vec<Child>,
@@ -67,7 +67,8 @@ impl GrownPlans {
         let mut number = number;
         while number > 0 {
             let child = self.children[number - 1];
-            faults.push(child.fault())?;
+            let Rig { site, kind } = child.fault();
+            faults.push(Rig { site, kind })?;
             number = child.parent();
         }
         Ok(())
@@ -99,8 +100,8 @@ impl GrownPlans {
         }
         let child = children[number - 1];
         match child.fault().kind {
-            Kind::OnceReturn => Some(child.from_then_on()),
-            Kind::OnwardReturn | Kind::OncePanic => None,
+            Kind::OnceReturn(_) => Some(child.from_then_on()),
+            Kind::OnwardReturn(_) | Kind::OncePanic => None,
         }
     }
 }

@@ -6,7 +6,7 @@ use Rattle.plan_gen.specs.LoopRuns.{times}
 use Rattle.grown_plans.specs.GrownPlans.{Subject, most}
 use Rattle.action_eval.specs.declared.rig.Site.{Site}
 use Rattle.grown_plans.specs.AskedPoints.{sites_from, sites_after, sites_past}
-use Rattle.grown_plans.specs.GrownPlans.{kinds_at}
+use Rattle.grown_plans.specs.GrownPlans.{Tried, cut_point, kinds_at, tried_over, usual_at}
 use Rattle.grown_plans.specs.Kept.{Grew, GrewFrom, plan_of, kept_children}
 use Rattle.grown_plans.proofs.KeptChildren.{at_most_two}
 use Rattle.grown_plans.proofs.Members.{all_append}
@@ -216,13 +216,17 @@ past_few : (plan : List Rig) (xs : List Site) → length (sites_past plan xs) �
 past_few [] xs = omega arith
 past_few (r ∷ rs) xs = after_few r.site xs
 
-pub kept_few : (cut : Option ℕ) (n : ℕ) (plan : List Rig) (asked : List ℕ) → length (kept_children (kinds_at cut) n plan asked) ≤ 2 * length asked
+pub kept_few : (cut : Option ℕ) (n : ℕ) (plan : List Rig) (asked : List ℕ) → length (kept_children (usual_at cut) n plan asked) ≤ 2 * length asked
 kept_few cut n plan asked =
     let sites = sites_from [] asked in
     let few = past_few plan sites in
     let all = sites_few [] asked in
     let twice = at_most_two cut n (sites_past plan sites) in
     omega (arith, few, all, twice)
+
+-- the same over the kinds of a target
+pub children_few : (kinds : Tried) (names : List (List ℕ)) → kinds ≡ tried_over names [] → (n : ℕ) (plan : List Rig) (asked : List ℕ) → length (kept_children (kinds_at kinds) n plan asked) ≤ 2 * length asked
+children_few kinds names is n plan asked = subst (λ (k : Tried). length (kept_children (kinds_at k) n plan asked) ≤ 2 * length asked) (sym is) (kept_few (cut_point names) n plan asked)
 
 -- ---- as many verdicts as plans
 

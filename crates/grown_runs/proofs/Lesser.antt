@@ -5,7 +5,7 @@ use Rattle.std.specs.List.{AllByRecursion, list_all}
 use Rattle.std.proofs.lemmas.List.{get_or-map, length-map}
 use Rattle.std.proofs.lemmas.List.Folds.{list_all_at, list_all_more}
 use Rattle.action_eval.specs.declared.rig.Rig.{Rig}
-use Rattle.action_eval.specs.Rigging.{CanBeRigged}
+use Rattle.action_eval.specs.Rigging.{HasLawfulText, CanBeRigged}
 use Rattle.grown_plans.specs.Promises.{lesser}
 
 abbrev pub without : ℕ → List Rig → List Rig
@@ -66,8 +66,11 @@ without_all P (r ∷ rs) (suc i) all = (all.0, without_all P rs i all.1)
 
 pub left_can : (rs : List Rig) (i : ℕ) (less : List Rig) → i < length rs → less ≡ slice_range rs 0 i ++ slice_range rs (i + 1) (length rs) → CanBeRigged rs → CanBeRigged less
 left_can rs i less lt is can =
-    subst CanBeRigged (sym (is ∙ slices_are rs i lt))
-    (let short = without_length rs i in let few = can.0 in omega (arith, short, few), without_all (λ (r : Rig). r.site.hit < 4294967296) rs i can.1)
+    subst CanBeRigged (sym (is ∙ slices_are rs i lt)) (
+      let short = without_length rs i in let few = can.0 in omega (arith, short, few),
+      without_all (λ (r : Rig). r.site.hit < 4294967296) rs i can.1,
+      without_all (λ (r : Rig). HasLawfulText r.kind) rs i can.2,
+    )
 
 -- ---- none of them fails so far
 

@@ -9,7 +9,7 @@ use Rattle.grown_plans.specs.GrownPlans.{cut_point, usual_subject}
 use Rattle.grown_plans.specs.Promises.{IsLawful}
 use Rattle.grown_plans.proofs.Members.{all_weaker}
 use Rattle.grown_plans.proofs.AskedSites.{asked_within}
-use Rattle.grown_plans.proofs.KeptChildren.{usual_apart, usual_once}
+use Rattle.grown_plans.proofs.KeptChildren.{usual_apart, usual_once, usual_texts}
 
 pub usual_lawful : (asks : List Reply → Move) (names : List (List ℕ)) (limit : ℕ) → IsCatalogue names → ((answers : List Reply) → IsWithin (length names) (asks answers))
     → IsLawful (usual_subject asks names limit)
@@ -18,6 +18,7 @@ usual_lawful asks names limit lawful within = record {
   within = within;
   once = usual_once (cut_point names);
   apart = usual_apart (cut_point names);
+  texts = usual_texts (cut_point names);
 }
 
 -- each point that a run asks is below the most that a catalogue has

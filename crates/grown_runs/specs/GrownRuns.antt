@@ -4,7 +4,7 @@ use Rattle.std.specs.List.{flat_map, list_all, range_with_len}
 use Rattle.action_eval.specs.declared.rig.Rig.{Rig}
 use Rattle.action_eval.specs.Answers.{given_of}
 use Rattle.action_eval.specs.Rigging.{rigging}
-use Rattle.target_trait.specs.Outcomes.{Told, outcome}
+use Rattle.target_trait.specs.Outcomes.{Told, outcome, verdict_in, whole_play}
 use Rattle.target_trait.specs.declared.judgement.Verdict.{Verdict}
 use Rattle.target_trait.specs.declared.judgement.Verdict.TheVariants as verdict
 use Rattle.plan_gen.specs.LoopRuns.{times}
@@ -29,9 +29,13 @@ told_of_rigs t seed stream rigs = outcome t.asks (given_of (rigging t.names rigs
 abbrev pub told : Subject → ℕ → ℕ → List Rig → Told
 told t seed n plan = told_of_rigs t seed n (rigs_of plan)
 
+-- its verdict
+abbrev pub verdict_by : Subject → ℕ → ℕ → List Rig → Verdict
+verdict_by t seed stream rigs = verdict_in t.asks (whole_play t.asks (given_of (rigging t.names rigs) t.names seed stream t.limit))
+
 -- a plan's verdict, with its number as the stream number
 abbrev pub verdict_at : Subject → ℕ → ℕ → List Rig → List Verdict
-verdict_at t seed n plan = (told t seed n plan).verdict ∷ []
+verdict_at t seed n plan = verdict_by t seed n (rigs_of plan) ∷ []
 
 -- its children, as they are kept
 abbrev pub children_at : Subject → ℕ → ℕ → List Rig → List Grew
@@ -59,7 +63,7 @@ fails_with code verdict.Unresolved = false
 
 -- no list of rigged hits with one left out fails with the code
 abbrev pub is_least : Subject → ℕ → ℕ → ℕ → List Rig → Bool
-is_least t seed stream code rigs = list_all (λ less. not (fails_with code (told_of_rigs t seed stream less).verdict)) (lesser rigs)
+is_least t seed stream code rigs = list_all (λ less. not (fails_with code (verdict_by t seed stream less))) (lesser rigs)
 
 -- a plan that fails, as a cause by its number and its code: without any one of its faults it doesn't fail with the code
 abbrev pub cause_by : Subject → ℕ → ℕ → List Rig → Verdict → List (ℕ × ℕ)
@@ -73,4 +77,4 @@ causes_by n None = []
 causes_by n (Some code) = (n, code) ∷ []
 
 abbrev pub cause_at : Subject → ℕ → ℕ → List Rig → List (ℕ × ℕ)
-cause_at t seed n plan = cause_by t seed n (rigs_of plan) (told t seed n plan).verdict
+cause_at t seed n plan = cause_by t seed n (rigs_of plan) (verdict_by t seed n (rigs_of plan))

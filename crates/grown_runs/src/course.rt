@@ -1,8 +1,8 @@
 //! What all runs of a part of a list share.
 ghost use Rattle.std.specs.Prelude.{◌≡◌, ℕ, ◌≤◌, ◌<◌, ◌^◌, [], All, length, slice_index_or};
 ghost use Rattle.std.proofs.Props.{props};
-ghost use Rattle.action_eval.specs.Rigging.{most_rigs};
-ghost use Rattle.grown_plans.specs.GrownPlans.{cut_point, rigs_of};
+ghost use Rattle.action_eval.specs.Rigging.{most_rigs, HasLawfulText};
+ghost use Rattle.grown_plans.specs.GrownPlans.{tried_over, rigs_of};
 
 use grown_plans::{GrownPlans, Kinds};
 use target_trait::Target;
@@ -58,17 +58,18 @@ pub struct GrownCourse<'a, T: Target> {
     pub workload: &'a T::Workload,
     pub plans: &'a GrownPlans,
     /// The kinds of faults over the target's catalogue.
-    pub kinds: Kinds,
+    pub kinds: Kinds<'a>,
     pub limits: Limits,
     pub part: Part,
     /// The number of the part's first plan.
     pub first: usize,
     /// The part ends before this number.
     pub end: usize,
-    ghost of_target: { kinds ≡ cut_point T.names } by { Prim.hlevel props },
+    ghost of_target: { kinds ≡ tried_over T.names [] } by { Prim.hlevel props },
     ghost in_order: { first ≤ end },
     ghost within: { end ≤ length plans.now },
     ghost few: { length plans.now ≤ 65536 },
     ghost few_rigs: { (n : ℕ) → n < length plans.now → length (rigs_of (slice_index_or plans.now n [])) ≤ most_rigs },
     ghost small_rigs: { (n : ℕ) → n < length plans.now → All (λ r. r.site.hit < 2 ^ 32) (rigs_of (slice_index_or plans.now n [])) },
+    ghost lawful_texts: { (n : ℕ) → n < length plans.now → All (λ r. HasLawfulText r.kind) (rigs_of (slice_index_or plans.now n [])) } by { Prim.hlevel props },
 }

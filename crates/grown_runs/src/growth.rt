@@ -71,7 +71,7 @@ struct Descent {
 /// How a plan with these faults grows, by the points that its run asked, which are counted. The children of a level that isn't the last one are
 /// kept.
 fn grow_one(
-    kinds: Kinds,
+    kinds: &Kinds<'_>,
     kept: &mut Vec<Child>,
     begun: &mut Begun,
     descent: Descent,
@@ -83,8 +83,9 @@ fn grow_one(
     requires serves { Serves begun.old descent.parent plan.now asked.now }
     requires points { AllByRecursion (λ p. p < 64) asked.now }
     requires few { length asked.now < 2 ^ 32 }
-    ensures kept { OnOk result (kept.new.items ≡ kept.old.items ++ if_inner descent.place (kept_children (kinds_at kinds) descent.number plan.now asked.now)) }
-    ensures many { IfOk result (λ growing. growing.children ≡ length (kept_children (kinds_at kinds) descent.number plan.now asked.now)) }
+    ensures kept { OnOk result (kept.new.items ≡ kept.old.items
+        ++ if_inner descent.place (kept_children (kinds_at kinds.now) descent.number plan.now asked.now)) }
+    ensures many { IfOk result (λ growing. growing.children ≡ length (kept_children (kinds_at kinds.now) descent.number plan.now asked.now)) }
     ensures again { IfOk result (λ growing. growing.is_again ≡ is_asked_again plan.now asked.now) }
     ensures counts { OnOk result (AreCounts begun.new.whole.items asked.now) }
     ensures begun { OnOk result (MovesOn begun.old begun.new descent.parent plan.now asked.now) }
@@ -177,7 +178,7 @@ fn run_one<T: Target>(
     };
     let asked = buffers.asked.as_slice();
     let children = &mut growth.children;
-    let kinds = course.kinds;
+    let kinds = &course.kinds;
     let growing = grow_one(kinds, children, begun, descent, faults.as_slice(), asked)?;
     growth.verdicts.push(verdict)?;
     growth.child_count += growing.children as u64;

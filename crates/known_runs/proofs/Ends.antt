@@ -5,15 +5,16 @@ use Rattle.std.specs.List.{AllByRecursion, filter}
 use Rattle.action_eval.specs.declared.rig.Rig.{Rig}
 use Rattle.action_eval.specs.declared.rig.Kind.{Kind}
 use Rattle.action_eval.specs.declared.rig.Kind.TheVariants.{OnceReturn, OnwardReturn, OncePanic}
-use Rattle.action_eval.specs.Rigging.{rig}
+use Rattle.action_eval.specs.Rigging.{rig, text_of}
 use Rattle.grown_plans.specs.GrownPlans.{Subject, run_of_plan, hits_past, children, is_once_return, is_hit_again, onward_of, level, levels, onward, grown}
 use Rattle.grown_plans.specs.Promises.{EachTwo, IsLawful}
-use Rattle.grown_plans.proofs.Members.{all_weaker, all_append, all_left, all_right, all_flat, all_by_contains, all_contains, two_weaker}
+use Rattle.grown_plans.proofs.Members.{all_weaker, all_append, all_both, all_left, all_right, all_flat, all_by_contains, all_contains, two_weaker}
 use Rattle.grown_plans.proofs.Apart.{level_in_levels}
 use Rattle.grown_plans.proofs.Onward.{runs_nothing_twice}
-use Rattle.known_runs.specs.Known.{KnownRuns, Told, hits_of}
+use Rattle.known_runs.specs.Known.{KnownRuns, Told, hits_of, hits_told}
 use Rattle.known_runs.specs.KnownPart.{are_told, is_reached, is_reached_onward, known_part, once_of, to_run}
-use Rattle.known_runs.specs.Promises.{EndsSeen, EndsWhole, RunsEachOnce}
+use Rattle.known_runs.specs.Unseen.{is_unseen, is_without_hits, unseen}
+use Rattle.known_runs.specs.Promises.{EndsWhole, RunsEachOnce}
 use Rattle.known_runs.proofs.Listed.{filter_all, children_reached}
 
 -- ---- members that pass a test
@@ -26,7 +27,7 @@ held {A} p Q (x ∷ xs) a = by_test (held p Q xs) (p x) refl a
     by_test rest true e h = ((λ f. h.0), rest h.1)
     by_test rest false e h = ((λ f. absurd (let no_test : false ≡ true = sym e ∙ f in cc)), rest h)
 
-none_left : {A : Type 0} (p : A → Bool) (xs : List A) → filter p xs ≡ [] → AllByRecursion (λ x. p x ≡ false) xs
+pub none_left : {A : Type 0} (p : A → Bool) (xs : List A) → filter p xs ≡ [] → AllByRecursion (λ x. p x ≡ false) xs
 none_left p [] e = tt
 none_left {A} p (x ∷ xs) e = by_test (none_left p xs) (p x) refl e
   where
@@ -46,9 +47,14 @@ both : (a b : Bool) → a ≡ true → b ≡ true → (a && b) ≡ true
 both true b e f = f
 both false b e f = absurd cc
 
-told_none : (o : Option Told) → is_none o ≡ false → are_told o ≡ true
-told_none None e = absurd cc
-told_none (Some told) e = refl
+-- what is told of a run, and not without its hits, is told with them
+with_hits : (o : Option Told) → is_none o ≡ false → is_without_hits o ≡ false → are_told (hits_told o) ≡ true
+with_hits None e f = absurd cc
+with_hits (Some told) e f = by_hits told.hits f
+  where
+    by_hits : (o : Option (List ℕ)) → is_none o ≡ false → are_told o ≡ true
+    by_hits None h = absurd cc
+    by_hits (Some hits) h = refl
 
 -- ---- the whole list
 
@@ -80,16 +86,16 @@ of_leaf t known (r ∷ rs) told reached = by_kind r.kind refl (is_hit_again r.si
     P : List (List Rig) → Type 0
     P ys = AllByRecursion (λ y. is_reached_onward known y ≡ true) ys
 
-    by_again : (b : Bool) → is_reached_onward known (rig r.site OnwardReturn ∷ rs) ≡ true → AllByRecursion (λ y. is_reached_onward known y ≡ true) (cond b ((rig r.site OnwardReturn ∷ rs) ∷ []) [])
+    by_again : (b : Bool) → is_reached_onward known (rig r.site (OnwardReturn (text_of r.kind)) ∷ rs) ≡ true → AllByRecursion (λ y. is_reached_onward known y ≡ true) (cond b ((rig r.site (OnwardReturn (text_of r.kind)) ∷ rs) ∷ []) [])
     by_again true e = (e, tt)
     by_again false e = tt
 
-    by_kind : (kind : Kind) → r.kind ≡ kind → (b : Bool) → AllByRecursion (λ y. is_reached_onward known y ≡ true) (cond (is_once_return r.kind && b) ((rig r.site OnwardReturn ∷ rs) ∷ []) [])
-    by_kind OnceReturn e b =
-        let once : once_of (rig r.site OnwardReturn ∷ rs) ≡ r ∷ rs = ap (λ (k : Kind). rig r.site k ∷ rs) (sym e) in
+    by_kind : (kind : Kind) → r.kind ≡ kind → (b : Bool) → AllByRecursion (λ y. is_reached_onward known y ≡ true) (cond (is_once_return r.kind && b) ((rig r.site (OnwardReturn (text_of r.kind)) ∷ rs) ∷ []) [])
+    by_kind (OnceReturn text) e b =
+        let once : once_of (rig r.site (OnwardReturn (text_of r.kind)) ∷ rs) ≡ r ∷ rs = ap (λ (k : Kind). rig r.site k ∷ rs) (ap (λ (k : Kind). OnceReturn (text_of k)) e ∙ sym e) in
         by_again (is_once_return r.kind && b)
         (ap (λ (p : List Rig). are_told (hits_of known p) && is_reached known p) once ∙ both (are_told (hits_of known (r ∷ rs))) (is_reached known (r ∷ rs)) told reached)
-    by_kind OnwardReturn e b = rw e tt
+    by_kind (OnwardReturn text) e b = rw e tt
     by_kind OncePanic e b = rw e tt
 
 onward_reached : (t : Subject) (d : ℕ) (known : KnownRuns) → HasHits t d known → AllByRecursion (λ plan. is_reached_onward known plan ≡ true) (onward t d)
@@ -101,41 +107,39 @@ onward_reached t d known h =
     let one : is_reached known plan ≡ true = all_contains (λ (p : List Rig). is_reached known p ≡ true) (level t d) plan reached c in
     of_leaf t known plan (h plan (level_in_levels t d d plan (omega arith) c) one) one))
 
-has_hits : (t : Subject) (d : ℕ) (known : KnownRuns) → to_run t d known ≡ [] → ((plan : List Rig) → are_told (known plan) ≡ are_told (hits_of known plan)) → HasHits t d known
-has_hits t d known e each plan c reached =
-    let all : AllByRecursion (λ p. is_none (known p) ≡ false) (known_part t d known) = none_left (λ (p : List Rig). is_none (known p)) (known_part t d known) e in
-    let front : AllByRecursion (λ p. is_none (known p) ≡ false) (filter (is_reached known) (levels t d)) =
-    all_left (λ (p : List Rig). is_none (known p) ≡ false) (filter (is_reached known) (levels t d)) (filter (is_reached_onward known) (onward t d)) all
+-- the hits of each known plan are told
+pub all_seen : (t : Subject) (d : ℕ) (known : KnownRuns) → to_run t d known ≡ [] → unseen t d known ≡ [] → AllByRecursion (λ plan. are_told (hits_of known plan) ≡ true) (known_part t d known)
+all_seen t d known e f =
+    all_weaker (λ (plan : List Rig). (is_none (known plan) ≡ false) × (is_unseen known plan ≡ false)) (λ (plan : List Rig). are_told (hits_of known plan) ≡ true)
+    (λ plan h. with_hits (known plan) h.0 h.1) (known_part t d known)
+    (all_both (λ (plan : List Rig). is_none (known plan) ≡ false) (λ (plan : List Rig). is_unseen known plan ≡ false) (known_part t d known)
+    (none_left (λ (plan : List Rig). is_none (known plan)) (known_part t d known) e) (none_left (is_unseen known) (known_part t d known) f))
+
+has_hits : (t : Subject) (d : ℕ) (known : KnownRuns) → to_run t d known ≡ [] → unseen t d known ≡ [] → HasHits t d known
+has_hits t d known e f plan c reached =
+    let front : AllByRecursion (λ p. are_told (hits_of known p) ≡ true) (filter (is_reached known) (levels t d)) =
+    all_left (λ (p : List Rig). are_told (hits_of known p) ≡ true) (filter (is_reached known) (levels t d)) (filter (is_reached_onward known) (onward t d)) (all_seen t d known e f)
     in
-    let told = all_contains (λ (p : List Rig). is_reached known p ≡ true → is_none (known p) ≡ false) (levels t d) plan (held (is_reached known) (λ (p : List Rig). is_none (known p) ≡ false) (levels t d) front) c in
-    sym (each plan) ∙ told_none (known plan) (told reached)
+    all_contains (λ (p : List Rig). is_reached known p ≡ true → are_told (hits_of known p) ≡ true) (levels t d) plan
+    (held (is_reached known) (λ (p : List Rig). are_told (hits_of known p) ≡ true) (levels t d) front) c reached
 
 whole_by : (t : Subject) (d : ℕ) (known : KnownRuns) → HasHits t d known → known_part t d known ≡ grown t d
 whole_by t d known h =
     ap (λ (x : List (List Rig)). x ++ filter (is_reached_onward known) (onward t d)) (filter_all (is_reached known) true (levels t d) (levels_reached t d known h d (omega arith)))
     ∙ ap (λ (x : List (List Rig)). levels t d ++ x) (filter_all (is_reached_onward known) true (onward t d) (onward_reached t d known h))
 
-pub ends_seen : (t : Subject) (d : ℕ) (known : KnownRuns) → EndsSeen t d known
-ends_seen t d known all =
-    let front : AllByRecursion (λ p. are_told (hits_of known p) ≡ true) (filter (is_reached known) (levels t d)) =
-    all_left (λ (p : List Rig). are_told (hits_of known p) ≡ true) (filter (is_reached known) (levels t d)) (filter (is_reached_onward known) (onward t d)) all
-    in
-    let h : HasHits t d known =
-    λ plan c reached. all_contains (λ (p : List Rig). is_reached known p ≡ true → are_told (hits_of known p) ≡ true) (levels t d) plan
-    (held (is_reached known) (λ (p : List Rig). are_told (hits_of known p) ≡ true) (levels t d) front) c reached
-    in
+pub ends_whole : (t : Subject) (d : ℕ) (known : KnownRuns) → EndsWhole t d known
+ends_whole t d known e f =
+    let h : HasHits t d known = has_hits t d known e f in
     record {
       list = whole_by t d known h;
       levels = λ n le. ap length (filter_all (is_reached known) true (level t n) (level_reached t d known h n le));
       onward_size = ap length (filter_all (is_reached_onward known) true (onward t d) (onward_reached t d known h));
     }
 
-pub ends_whole : (t : Subject) (d : ℕ) (known : KnownRuns) → EndsWhole t d known
-ends_whole t d known e each = whole_by t d known (has_hits t d known e each)
-
 -- ---- each plan once
 
-two_filtered : {A : Type 0} (R : A → A → Type 0) (p : A → Bool) (xs : List A) → EachTwo R xs → EachTwo R (filter p xs)
+pub two_filtered : {A : Type 0} (R : A → A → Type 0) (p : A → Bool) (xs : List A) → EachTwo R xs → EachTwo R (filter p xs)
 two_filtered R p [] e = tt
 two_filtered {A} R p (x ∷ xs) e = by_test (p x) (two_filtered R p xs e.1)
   where
@@ -143,7 +147,7 @@ two_filtered {A} R p (x ∷ xs) e = by_test (p x) (two_filtered R p xs e.1)
     by_test true rest = (filtered p (R x) xs e.0, rest)
     by_test false rest = rest
 
-two_parts : {A : Type 0} (R : A → A → Type 0) (p q : A → Bool) (xs ys : List A) → EachTwo R (xs ++ ys) → EachTwo R (filter p xs ++ filter q ys)
+pub two_parts : {A : Type 0} (R : A → A → Type 0) (p q : A → Bool) (xs ys : List A) → EachTwo R (xs ++ ys) → EachTwo R (filter p xs ++ filter q ys)
 two_parts R p q [] ys e = two_filtered R q ys e
 two_parts {A} R p q (x ∷ xs) ys e = by_test (p x) (two_parts R p q xs ys e.1)
   where

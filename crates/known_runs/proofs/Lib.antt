@@ -4,4 +4,5 @@ pub mod Walked
 pub mod Steps
 pub mod Kept
 pub mod Ends
+pub mod Seen
 pub mod Breaking

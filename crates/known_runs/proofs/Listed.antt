@@ -6,7 +6,7 @@ use Rattle.std.proofs.lemmas.List.Elements.{filter-append, Contains-append_left}
 use Rattle.action_eval.specs.declared.rig.Rig.{Rig}
 use Rattle.action_eval.specs.declared.rig.Kind.{Kind}
 use Rattle.action_eval.specs.declared.rig.Kind.TheVariants.{OnceReturn, OnwardReturn, OncePanic}
-use Rattle.action_eval.specs.Rigging.{rig}
+use Rattle.action_eval.specs.Rigging.{rig, text_of}
 use Rattle.grown_plans.specs.Runs.{Met}
 use Rattle.grown_plans.specs.GrownPlans.{Subject, run_of_plan, hits_past, grown_at, children, is_once_return, is_hit_again, onward_of, level, levels, onward, grown}
 use Rattle.grown_plans.specs.AskedPoints.{GrowsByAsked, GoesOnwardByAsked, children_by, onward_by}
@@ -107,7 +107,7 @@ onward_part t d known (r ∷ rs) a c goes = by_kind r.kind refl
     never : (kind : Kind) → r.kind ≡ kind → is_once_return kind ≡ false → filter (is_reached_onward known) (onward_of t (r ∷ rs)) ≡ cond (is_reached known (r ∷ rs)) (onward_told (r ∷ rs) (hits_of known (r ∷ rs))) []
     never kind e f =
         let not_once : is_once_return r.kind ≡ false = ap is_once_return e ∙ f in
-        ap (λ (b : Bool). filter (is_reached_onward known) (cond (b && is_hit_again r.site (run_of_plan t (r ∷ rs))) ((rig r.site OnwardReturn ∷ rs) ∷ []) [])) not_once
+        ap (λ (b : Bool). filter (is_reached_onward known) (cond (b && is_hit_again r.site (run_of_plan t (r ∷ rs))) ((rig r.site (OnwardReturn (text_of r.kind)) ∷ rs) ∷ []) [])) not_once
         ∙ sym (none_either (is_reached known (r ∷ rs))) ∙ ap (λ (x : List (List Rig)). cond (is_reached known (r ∷ rs)) x []) (by_told (hits_of known (r ∷ rs)) not_once)
       where
         by_told : (o : Option (List ℕ)) → is_once_return r.kind ≡ false → [] ≡ onward_told (r ∷ rs) o
@@ -115,12 +115,12 @@ onward_part t d known (r ∷ rs) a c goes = by_kind r.kind refl
         by_told (Some hits) e = rw e refl
 
     by_kind : (kind : Kind) → r.kind ≡ kind → filter (is_reached_onward known) (onward_of t (r ∷ rs)) ≡ cond (is_reached known (r ∷ rs)) (onward_told (r ∷ rs) (hits_of known (r ∷ rs))) []
-    by_kind OnceReturn e =
-        let once : once_of (rig r.site OnwardReturn ∷ rs) ≡ r ∷ rs = ap (λ (k : Kind). rig r.site k ∷ rs) (sym e) in
-        filter_one (is_reached_onward known) (rig r.site OnwardReturn ∷ rs) (is_once_return r.kind && is_hit_again r.site (run_of_plan t (r ∷ rs)))
+    by_kind (OnceReturn text) e =
+        let once : once_of (rig r.site (OnwardReturn (text_of r.kind)) ∷ rs) ≡ r ∷ rs = ap (λ (k : Kind). rig r.site k ∷ rs) (ap (λ (k : Kind). OnceReturn (text_of k)) e ∙ sym e) in
+        filter_one (is_reached_onward known) (rig r.site (OnwardReturn (text_of r.kind)) ∷ rs) (is_once_return r.kind && is_hit_again r.site (run_of_plan t (r ∷ rs)))
         ∙ ap (λ (p : List Rig). cond (are_told (hits_of known p) && is_reached known p) (onward_of t (r ∷ rs)) []) once
         ∙ by_hits (hits_of known (r ∷ rs)) (is_reached known (r ∷ rs)) (onward_of t (r ∷ rs)) (onward_told (r ∷ rs)) refl grows
-    by_kind OnwardReturn e = never OnwardReturn e refl
+    by_kind (OnwardReturn text) e = never (OnwardReturn text) e refl
     by_kind OncePanic e = never OncePanic e refl
 
 pub onward_is : (t : Subject) → IsLawful t → (d : ℕ) (known : KnownRuns) → Agrees t d known

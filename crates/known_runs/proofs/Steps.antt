@@ -6,7 +6,7 @@ use Rattle.action_eval.specs.declared.rig.Site.{Site}
 use Rattle.action_eval.specs.declared.rig.Rig.{Rig}
 use Rattle.target_trait.specs.declared.judgement.Verdict.{Verdict}
 use Rattle.plan_gen.specs.RiggedAnswers.{AreInOrder, acts_at}
-use Rattle.grown_plans.specs.GrownPlans.{Subject, grown, kinds_at}
+use Rattle.grown_plans.specs.GrownPlans.{Subject, grown, usual_at}
 use Rattle.grown_plans.specs.AskedPoints.{from_then_on, is_last_return, onward_if, sites_from, sites_past}
 use Rattle.grown_plans.specs.Kept.{Grew, kept_at, kept_children}
 use Rattle.grown_plans.specs.Promises.{IsLawful, verdict_of_rigs}
@@ -28,13 +28,13 @@ twice : (s : Site) (o later : Option Rig) → acting_by s o (acting_by s o later
 twice s None later = refl
 twice s (Some r) later = refl
 
-acting_sites : (rigs : List Rig) (n : ℕ) (ss : List Site) → first_acting rigs (grew_at (flat_map (kept_at (kinds_at None) n) ss)) ≡ first_acting rigs ss
+acting_sites : (rigs : List Rig) (n : ℕ) (ss : List Site) → first_acting rigs (grew_at (flat_map (kept_at (usual_at None) n) ss)) ≡ first_acting rigs ss
 acting_sites rigs n [] = refl
 acting_sites rigs n (s ∷ ss) =
-    twice s (find (acts_at s.point s.hit) rigs) (first_acting rigs (grew_at (flat_map (kept_at (kinds_at None) n) ss))) ∙ ap (acting_by s (find (acts_at s.point s.hit) rigs)) (acting_sites rigs n ss)
+    twice s (find (acts_at s.point s.hit) rigs) (first_acting rigs (grew_at (flat_map (kept_at (usual_at None) n) ss))) ∙ ap (acting_by s (find (acts_at s.point s.hit) rigs)) (acting_sites rigs n ss)
 
 -- what acts next, by the children that grew
-pub acting_children : (rigs plan : List Rig) (hits : List ℕ) → next_of (first_acting rigs (grew_at (kept_children (kinds_at None) 0 plan hits))) ≡ next_told rigs plan (Some hits)
+pub acting_children : (rigs plan : List Rig) (hits : List ℕ) → next_of (first_acting rigs (grew_at (kept_children (usual_at None) 0 plan hits))) ≡ next_told rigs plan (Some hits)
 acting_children rigs plan hits = ap next_of (acting_sites rigs 0 (sites_past plan (sites_from [] hits)))
 
 -- ---- the loop
@@ -129,16 +129,16 @@ turned plan onward o e again is =
 seen_hits : (known : KnownRuns) (plan : List Rig) (hits : List ℕ) (s : Look) (v : Verdict) → s ≡ look.Seen v → IsLook (known plan) hits s → known plan ≡ Some (told v (Some hits))
 seen_hits known plan hits s v is h = subst (λ (x : Look). IsLook (known plan) hits x) is h
 
-next_seen : (known : KnownRuns) (rigs plan : List Rig) (hits : List ℕ) (v : Verdict) (children : List Grew) → known plan ≡ Some (told v (Some hits)) → children ≡ kept_children (kinds_at None) 0 plan hits
+next_seen : (known : KnownRuns) (rigs plan : List Rig) (hits : List ℕ) (v : Verdict) (children : List Grew) → known plan ≡ Some (told v (Some hits)) → children ≡ kept_children (usual_at None) 0 plan hits
     → next_told rigs plan (hits_of known plan) ≡ next_of (first_acting rigs (grew_at children))
 next_seen known rigs plan hits v children k kept =
     ap (λ (o : Option Told). next_told rigs plan (hits_told o)) k ∙ sym (acting_children rigs plan hits) ∙ ap (λ (gs : List Grew). next_of (first_acting rigs (grew_at gs))) (sym kept)
 
-pub sees_acts : (known : KnownRuns) (rigs plan : List Rig) (hits : List ℕ) (s : Look) (v : Verdict) (children : List Grew) (r : Rig) → s ≡ look.Seen v → IsLook (known plan) hits s → children ≡ kept_children (kinds_at None) 0 plan hits
+pub sees_acts : (known : KnownRuns) (rigs plan : List Rig) (hits : List ℕ) (s : Look) (v : Verdict) (children : List Grew) (r : Rig) → s ≡ look.Seen v → IsLook (known plan) hits s → children ≡ kept_children (usual_at None) 0 plan hits
     → Some r ≡ first_acting rigs (grew_at children) → next_told rigs plan (hits_of known plan) ≡ Acts r
 sees_acts known rigs plan hits s v children r is h kept acts = next_seen known rigs plan hits v children (seen_hits known plan hits s v is h) kept ∙ ap next_of (sym acts)
 
-pub sees_end : (known : KnownRuns) (rigs plan : List Rig) (hits : List ℕ) (s : Look) (v : Verdict) (children : List Grew) → s ≡ look.Seen v → IsLook (known plan) hits s → children ≡ kept_children (kinds_at None) 0 plan hits
+pub sees_end : (known : KnownRuns) (rigs plan : List Rig) (hits : List ℕ) (s : Look) (v : Verdict) (children : List Grew) → s ≡ look.Seen v → IsLook (known plan) hits s → children ≡ kept_children (usual_at None) 0 plan hits
     → None ≡ first_acting rigs (grew_at children) → (next_told rigs plan (hits_of known plan) ≡ Nothing) × (verdict_told (known plan) ≡ Some v)
 sees_end known rigs plan hits s v children is h kept none =
     let k = seen_hits known plan hits s v is h in (next_seen known rigs plan hits v children k kept ∙ ap next_of (sym none), ap verdict_told k)
@@ -149,12 +149,12 @@ once_more : (b x : Bool) → (b && (b && x)) ≡ (b && x)
 once_more true x = refl
 once_more false x = refl
 
-alike_sites : (rigs others : List Rig) (n : ℕ) (ss : List Site) → do_alike rigs others (grew_at (flat_map (kept_at (kinds_at None) n) ss)) ≡ do_alike rigs others ss
+alike_sites : (rigs others : List Rig) (n : ℕ) (ss : List Site) → do_alike rigs others (grew_at (flat_map (kept_at (usual_at None) n) ss)) ≡ do_alike rigs others ss
 alike_sites rigs others n [] = refl
 alike_sites rigs others n (s ∷ ss) =
-    once_more (is_alike (doing rigs s) (doing others s)) (do_alike rigs others (grew_at (flat_map (kept_at (kinds_at None) n) ss))) ∙ ap (λ (b : Bool). is_alike (doing rigs s) (doing others s) && b) (alike_sites rigs others n ss)
+    once_more (is_alike (doing rigs s) (doing others s)) (do_alike rigs others (grew_at (flat_map (kept_at (usual_at None) n) ss))) ∙ ap (λ (b : Bool). is_alike (doing rigs s) (doing others s) && b) (alike_sites rigs others n ss)
 
-pub sees_alike : (known : KnownRuns) (rigs plan : List Rig) (hits : List ℕ) (s : Look) (v : Verdict) (children : List Grew) (b : Bool) → s ≡ look.Seen v → IsLook (known plan) hits s → children ≡ kept_children (kinds_at None) 0 [] hits
+pub sees_alike : (known : KnownRuns) (rigs plan : List Rig) (hits : List ℕ) (s : Look) (v : Verdict) (children : List Grew) (b : Bool) → s ≡ look.Seen v → IsLook (known plan) hits s → children ≡ kept_children (usual_at None) 0 [] hits
     → do_alike rigs plan (grew_at children) ≡ b → cond b (Some v) None ≡ verdict_at known (if_alike rigs plan (hits_of known plan))
 sees_alike known rigs plan hits s v children b is h kept alike =
     let k = seen_hits known plan hits s v is h in

@@ -1,6 +1,6 @@
 -- A walk over known runs comes to the plan whose run rigged hits have.
-use Rattle.std.proofs.Common.{◌≡◌, ℕ, zero, suc, ◌+◌, ◌≤◌, ◌==◌, ◌&&◌, Bool, true, false, cond, List, [], ◌∷◌, ◌++◌, map, refl, ap, sym, ◌∙◌, subst, arith, append_assoc}
-use Rattle.std.specs.Prelude.{Contains, Option, Some, None, find, not, option_map}
+use Rattle.std.proofs.Common.{◌≡◌, ℕ, zero, suc, ◌+◌, ◌≤◌, ◌==◌, ◌&&◌, Bool, true, false, cond, Option, List, [], ◌∷◌, ◌++◌, map, refl, ap, sym, ◌∙◌, subst, arith, append_assoc}
+use Rattle.std.specs.Prelude.{Contains, Option, Some, None, find, option_map}
 use Rattle.std.specs.Option.{option_map_or}
 use Rattle.std.specs.List.{AllByRecursion}
 use Rattle.std.proofs.lemmas.List.Elements.{Contains-append_left, Contains-append_right}
@@ -9,8 +9,8 @@ use Rattle.action_eval.specs.declared.rig.Site.{Site}
 use Rattle.action_eval.specs.declared.rig.Rig.{Rig}
 use Rattle.action_eval.specs.declared.rig.Kind.{Kind}
 use Rattle.action_eval.specs.declared.rig.Kind.TheVariants.{OnceReturn, OnwardReturn, OncePanic}
-use Rattle.action_eval.specs.Answers.{Reply, Go, given_of}
-use Rattle.action_eval.specs.Rigging.{rig, rigging}
+use Rattle.action_eval.specs.Answers.{Reply, Go, Return, given_of}
+use Rattle.action_eval.specs.Rigging.{rig, rigging, is_same_text}
 use Rattle.target_trait.specs.Outcomes.{judged}
 use Rattle.plan_gen.specs.RiggedAnswers.{AreInOrder, acts_at, reply_by, rigged_reply}
 use Rattle.grown_plans.specs.Runs.{Met, met, run}
@@ -20,14 +20,14 @@ use Rattle.grown_plans.specs.Promises.{IsLawful, KeepsPrefix}
 use Rattle.grown_plans.proofs.Members.{all_weaker, all_append, all_both, all_contains, contains_head, contains_tail, contains_map, contains_flat}
 use Rattle.grown_plans.proofs.Paths.{IsPath, Fresh, AnsweredBy, replies_of, hit_fresh, same_path}
 use Rattle.grown_plans.proofs.PlanRuns.{plan_answered, plan_path, plan_judged, rigs_answered, rigs_judged, rigs_path}
-use Rattle.grown_plans.proofs.Riggings.{CanAct}
+use Rattle.grown_plans.proofs.Riggings.{CanAct, same_text}
 use Rattle.grown_plans.proofs.Onward.{grown_can}
 use Rattle.grown_plans.proofs.Levels.{IsGrown, hits_after_split, level_grown}
 use Rattle.grown_plans.proofs.Apart.{level_in_levels}
 use Rattle.grown_plans.proofs.AskedSites.{goes_onward_by_asked, sites_of}
 use Rattle.known_runs.specs.Known.{Agrees, KnownRuns, hits_of}
 use Rattle.known_runs.specs.ToldPart.{onward_told}
-use Rattle.known_runs.specs.Walks.{acting_by, alike_of, do_alike, doing, first_acting, if_alike, is_alike, is_return, next_of, next_told, once, onward_walked, walk_on, walk_from}
+use Rattle.known_runs.specs.Walks.{acting_by, alike_of, do_alike, doing, first_acting, if_alike, are_alike, is_alike, next_of, next_told, once, onward_walked, walk_on, walk_from}
 use Rattle.known_runs.specs.Promises.{IsRunOf, WalksRight}
 use Rattle.known_runs.proofs.Sites.{asked_told, hits_true, past_told, sites_told}
 
@@ -53,8 +53,8 @@ found (x ∷ rigs) s r e = by_test (found rigs s r) (acts_at s.point s.hit x) re
     by_test later false h k = let f = later k in record { in' = contains_tail x r rigs f.in'; acts = f.acts }
 
 once_reply : (k : Kind) → reply_by k ≡ reply_by (once k)
-once_reply OnceReturn = refl
-once_reply OnwardReturn = refl
+once_reply (OnceReturn text) = refl
+once_reply (OnwardReturn text) = refl
 once_reply OncePanic = refl
 
 record FirstAt (rigs : List Rig) (ms : List Met) (r : Rig) : Type 0 where
@@ -226,15 +226,18 @@ record Came (t : Subject) (d : ℕ) (rigs plan : List Rig) : Type 0 where
 
 -- ---- the plan from then on
 
-kinds_reply : (a b : Kind) → cond (is_return a) (is_return b) (not (is_return b)) ≡ true → reply_by a ≡ reply_by b
-kinds_reply OnceReturn OnceReturn e = refl
-kinds_reply OnceReturn OnwardReturn e = refl
-kinds_reply OnceReturn OncePanic e = absurd cc
-kinds_reply OnwardReturn OnceReturn e = refl
-kinds_reply OnwardReturn OnwardReturn e = refl
-kinds_reply OnwardReturn OncePanic e = absurd cc
-kinds_reply OncePanic OnceReturn e = absurd cc
-kinds_reply OncePanic OnwardReturn e = absurd cc
+texts_reply : (a b : Option (List ℕ)) → is_same_text a b ≡ true → Return a ≡ Return b
+texts_reply a b e = ap (λ (text : Option (List ℕ)). Return text) (same_text a b e)
+
+kinds_reply : (a b : Kind) → are_alike a b ≡ true → reply_by a ≡ reply_by b
+kinds_reply (OnceReturn x) (OnceReturn y) e = texts_reply x y e
+kinds_reply (OnceReturn x) (OnwardReturn y) e = texts_reply x y e
+kinds_reply (OnceReturn x) OncePanic e = absurd cc
+kinds_reply (OnwardReturn x) (OnceReturn y) e = texts_reply x y e
+kinds_reply (OnwardReturn x) (OnwardReturn y) e = texts_reply x y e
+kinds_reply (OnwardReturn x) OncePanic e = absurd cc
+kinds_reply OncePanic (OnceReturn y) e = absurd cc
+kinds_reply OncePanic (OnwardReturn y) e = absurd cc
 kinds_reply OncePanic OncePanic e = refl
 
 abbrev reply_found : Option Rig → Reply

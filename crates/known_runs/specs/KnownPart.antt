@@ -3,7 +3,7 @@ use Rattle.std.specs.Prelude.{ℕ, ◌&&◌, Bool, true, false, List, [], ◌∷
 use Rattle.std.specs.List.{filter}
 use Rattle.action_eval.specs.declared.rig.Rig.{Rig}
 use Rattle.action_eval.specs.declared.rig.Kind.TheVariants.{OnceReturn}
-use Rattle.action_eval.specs.Rigging.{rig}
+use Rattle.action_eval.specs.Rigging.{rig, text_of}
 use Rattle.grown_plans.specs.GrownPlans.{Subject, levels, onward}
 use Rattle.known_runs.specs.Known.{KnownRuns, hits_of}
 
@@ -19,7 +19,7 @@ is_reached known (r ∷ rs) = are_told (hits_of known rs) && is_reached known rs
 -- the plan from which one with its last fault from then on comes: that with this fault once
 abbrev pub once_of : List Rig → List Rig
 once_of [] = []
-once_of (r ∷ rs) = rig r.site OnceReturn ∷ rs
+once_of (r ∷ rs) = rig r.site (OnceReturn (text_of r.kind)) ∷ rs
 
 abbrev pub is_reached_onward : KnownRuns → List Rig → Bool
 is_reached_onward known plan = are_told (hits_of known (once_of plan)) && is_reached known (once_of plan)

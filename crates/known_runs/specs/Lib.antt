@@ -5,5 +5,7 @@ pub mod ToldPart
 pub mod KnownPlans
 pub mod Walks
 pub mod Breaks
+pub mod Unseen
+pub mod SeenPromises
 pub mod Promises
 pub mod inside

@@ -1,5 +1,5 @@
 -- What known runs tell of every subject that agrees with them.
-use Rattle.std.specs.Prelude.{◌≡◌, ◌≢◌, ℕ, ◌+◌, ◌≤◌, length, true, List, [], Some, map, Contains}
+use Rattle.std.specs.Prelude.{◌≡◌, ◌≢◌, ℕ, ◌+◌, ◌≤◌, length, List, [], Some, map, Contains}
 use Rattle.std.specs.List.{AllByRecursion, filter}
 use Rattle.action_eval.specs.declared.rig.Rig.{Rig}
 use Rattle.action_eval.specs.Answers.{given_of}
@@ -8,9 +8,11 @@ use Rattle.plan_gen.specs.RiggedAnswers.{AreInOrder}
 use Rattle.grown_plans.specs.Runs.{run}
 use Rattle.grown_plans.specs.GrownPlans.{Subject, run_of_plan, grown, level, onward}
 use Rattle.grown_plans.specs.Promises.{EachTwo, verdict_of_rigs, verdict_of_plan}
-use Rattle.known_runs.specs.Known.{KnownRuns, hits_of}
-use Rattle.known_runs.specs.KnownPart.{are_told, is_reached_onward, known_part, to_run}
+use Rattle.known_runs.specs.Known.{KnownRuns}
+use Rattle.known_runs.specs.KnownPart.{is_reached_onward, known_part, to_run}
 use Rattle.known_runs.specs.KnownPlans.{level_size}
+use Rattle.known_runs.specs.Unseen.{unseen}
+use Rattle.known_runs.specs.SeenPromises.{KeepsPromisesAsSeen}
 use Rattle.known_runs.specs.Walks.{once, walk}
 
 -- rigged hits have the run and the verdict of a plan, under every seed and stream number
@@ -25,20 +27,19 @@ WalksRight t d known =
     (rigs plan : List Rig) → AreInOrder (map (λ r. r.site) rigs) → AllByRecursion (λ r. Contains (t.kinds r.site.point) (once r.kind)) rigs
     → walk known rigs d ≡ Some plan → Contains (grown t d) plan × IsRunOf t rigs plan
 
--- where nothing of the part that is known is left to be run, and the hits of each run that is told are, this part is the whole list
-abbrev pub EndsWhole : Subject → ℕ → KnownRuns → Type 0
-EndsWhole t d known =
-    to_run t d known ≡ [] → ((plan : List Rig) → are_told (known plan) ≡ are_told (hits_of known plan)) → known_part t d known ≡ grown t d
-
 -- the part that is known is the whole list, each level of it and the one after the last
 pub record IsWholeList (t : Subject) (d : ℕ) (known : KnownRuns) : Type 0 where
   pub list : known_part t d known ≡ grown t d
   pub levels : (n : ℕ) → n ≤ d + 1 → level_size t known n ≡ length (level t n)
   pub onward_size : length (filter (is_reached_onward known) (onward t d)) ≡ length (onward t d)
 
--- so it is where the hits of each plan of the part that is known are told
-abbrev pub EndsSeen : Subject → ℕ → KnownRuns → Type 0
-EndsSeen t d known = AllByRecursion (λ plan. are_told (hits_of known plan) ≡ true) (known_part t d known) → IsWholeList t d known
+-- so it is where nothing of it is left to be run, and the hits of each run are told
+abbrev pub EndsWhole : Subject → ℕ → KnownRuns → Type 0
+EndsWhole t d known = to_run t d known ≡ [] → unseen t d known ≡ [] → IsWholeList t d known
+
+-- the promises, as far as runs were seen
+abbrev pub EndsAsSeen : Subject → ℕ → KnownRuns → Type 0
+EndsAsSeen t d known = to_run t d known ≡ [] → KeepsPromisesAsSeen t d known
 
 -- no plan is to be run twice
 abbrev pub RunsEachOnce : Subject → ℕ → KnownRuns → Type 0

@@ -1,22 +1,22 @@
 -- What rigged hits come to, by runs that are known: from the plan without faults a walk follows which rigged hit acts next in the run of the
 -- plan that it has come to. Where more act than plans have faults, it may end at the plan with its last fault from then on.
-use Rattle.std.specs.Prelude.{ℕ, zero, suc, Bool, true, false, not, if◌then◌else◌, List, [], ◌∷◌, Option, None, Some, find, option_map}
+use Rattle.std.specs.Prelude.{ℕ, zero, suc, ◌&&◌, Bool, true, false, not, if◌then◌else◌, List, [], ◌∷◌, Option, None, Some, find, option_map}
 use Rattle.std.specs.List.{list_all}
 use Rattle.action_eval.specs.declared.rig.Site.{Site}
 use Rattle.action_eval.specs.declared.rig.Rig.{Rig}
 use Rattle.action_eval.specs.declared.rig.Kind.{Kind}
 use Rattle.action_eval.specs.declared.rig.Kind.TheVariants.{OnceReturn, OnwardReturn, OncePanic}
-use Rattle.action_eval.specs.Rigging.{rig}
+use Rattle.action_eval.specs.Rigging.{rig, text_of, is_same_text}
 use Rattle.plan_gen.specs.RiggedAnswers.{acts_at}
 use Rattle.grown_plans.specs.AskedPoints.{sites_from, sites_past}
 use Rattle.target_trait.specs.declared.judgement.Verdict.{Verdict}
 use Rattle.known_runs.specs.Known.{KnownRuns, Told, hits_of}
 use Rattle.known_runs.specs.ToldPart.{onward_told}
 
--- what a fault does at one hit at which it acts: one from then on returns
+-- what a fault does at one hit at which it acts: one from then on returns, with its text
 abbrev pub once : Kind → Kind
-once OnceReturn = OnceReturn
-once OnwardReturn = OnceReturn
+once (OnceReturn text) = OnceReturn text
+once (OnwardReturn text) = OnceReturn text
 once OncePanic = OncePanic
 
 -- at the first of these hits at which a rigged one acts, what it does there
@@ -55,15 +55,19 @@ abbrev pub doing : List Rig → Site → Option Kind
 doing rigs s = option_map (λ r. r.kind) (find (acts_at s.point s.hit) rigs)
 
 abbrev pub is_return : Kind → Bool
-is_return OnceReturn = true
-is_return OnwardReturn = true
+is_return (OnceReturn text) = true
+is_return (OnwardReturn text) = true
 is_return OncePanic = false
+
+-- two faults are answered alike: both return with the same text, or both stop
+abbrev pub are_alike : Kind → Kind → Bool
+are_alike a b = if is_return a then is_return b && is_same_text (text_of a) (text_of b) else not (is_return b)
 
 abbrev pub is_alike : Option Kind → Option Kind → Bool
 is_alike None None = true
 is_alike None (Some b) = false
 is_alike (Some a) None = false
-is_alike (Some a) (Some b) = if is_return a then is_return b else not (is_return b)
+is_alike (Some a) (Some b) = are_alike a b
 
 -- rigged hits do the same at each of these hits as others
 abbrev pub do_alike : List Rig → List Rig → List Site → Bool

@@ -56,7 +56,7 @@ impl Workspace {
 /// that fault.
 fn add_children_of<T: RunTable>(
     table: &T,
-    kinds: Kinds,
+    kinds: &Kinds<'_>,
     plans: &GrownPlans,
     number: usize,
     workspace: &mut Workspace,
@@ -64,7 +64,7 @@ fn add_children_of<T: RunTable>(
 ) -> Result<bool, AllocError>
     requires within { number < length plans.now }
     requires few { length plans.now ≤ 65536 }
-    ensures children { OnOk result (children.new.items ≡ children.old.items ++ kept_known (kinds_at kinds) (T.known table.now) plans.now number) }
+    ensures children { OnOk result (children.new.items ≡ children.old.items ++ kept_known (kinds_at kinds.now) (T.known table.now) plans.now number) }
     ensures again { IfOk result (λ is_again. is_again ≡ again_known (T.known table.now) plans.now number) }
 {
     plans.faults_of(number, &mut workspace.faults)?;
@@ -82,13 +82,13 @@ fn add_children_of<T: RunTable>(
 fn children_from<T: RunTable>(
     alloc: Global,
     table: &T,
-    kinds: Kinds,
+    kinds: &Kinds<'_>,
     plans: &GrownPlans,
     first: usize,
 ) -> Result<Vec<Child>, AllocError>
     requires within { first ≤ length plans.now }
     requires few { length plans.now ≤ 65536 }
-    ensures { IfOk result (λ children. children.items ≡ kept_over (kinds_at kinds) (T.known table.now) plans.now first (length plans.now - first)) }
+    ensures { IfOk result (λ children. children.items ≡ kept_over (kinds_at kinds.now) (T.known table.now) plans.now first (length plans.now - first)) }
 {
     let mut children = Vec::new(alloc);
     let mut workspace = Workspace::new(alloc);
@@ -113,7 +113,7 @@ fn check_room(most: usize, plans: usize, more: usize) -> Result<(), KnownFault>
 fn add_level<T: RunTable>(
     alloc: Global,
     table: &T,
-    kinds: Kinds,
+    kinds: &Kinds<'_>,
     plans: &mut GrownPlans,
     last: usize,
     most: usize,
@@ -122,10 +122,10 @@ fn add_level<T: RunTable>(
     requires few { length plans.old ≤ 65536 }
     ensures next { IfOk result (λ next. next ≡ length plans.old) }
     ensures added { OnOk result (plans.new
-        ≡ plans.old ++ map (plan_of plans.old) (kept_over (kinds_at kinds) (T.known table.now) plans.old last (length plans.old - last))) }
+        ≡ plans.old ++ map (plan_of plans.old) (kept_over (kinds_at kinds.now) (T.known table.now) plans.old last (length plans.old - last))) }
     ensures few { OnOk result (length plans.new ≤ most) }
     ensures many { IsErrOf result KnownFault.TooManyPlans
-        → most < length plans.old + length (kept_over (kinds_at kinds) (T.known table.now) plans.old last (length plans.old - last)) }
+        → most < length plans.old + length (kept_over (kinds_at kinds.now) (T.known table.now) plans.old last (length plans.old - last)) }
 {
     let end = plans.len();
     let children = children_from(alloc, table, kinds, plans, last)?;
@@ -160,7 +160,7 @@ fn push_onward(
 fn onward_from<T: RunTable>(
     alloc: Global,
     table: &T,
-    kinds: Kinds,
+    kinds: &Kinds<'_>,
     plans: &GrownPlans,
     first: usize,
 ) -> Result<Vec<Child>, AllocError>
@@ -184,13 +184,13 @@ fn onward_from<T: RunTable>(
 fn count_children<T: RunTable>(
     alloc: Global,
     table: &T,
-    kinds: Kinds,
+    kinds: &Kinds<'_>,
     plans: &GrownPlans,
     first: usize,
 ) -> Result<u64, AllocError>
     requires within { first ≤ length plans.now }
     requires few { length plans.now ≤ 65536 }
-    ensures { IfOk result (λ count. count ≡ length (kept_over (kinds_at kinds) (T.known table.now) plans.now first (length plans.now - first))) }
+    ensures { IfOk result (λ count. count ≡ length (kept_over (kinds_at kinds.now) (T.known table.now) plans.now first (length plans.now - first))) }
 {
     let mut children = Vec::new(alloc);
     let mut workspace = Workspace::new(alloc);
@@ -228,15 +228,15 @@ fn push_size(sizes: &mut Vec<u32>, size: usize) -> Result<(), AllocError>
 fn grow_levels<T: RunTable>(
     alloc: Global,
     table: &T,
-    kinds: Kinds,
+    kinds: &Kinds<'_>,
     depth: u32,
     most: usize,
 ) -> Result<Levels, KnownFault>
     requires some { 0 < most }
     requires few { most ≤ 65536 }
-    ensures levels { IfOk result (AreLevels (kinds_at kinds) (T.known table.now) depth) }
+    ensures levels { IfOk result (AreLevels (kinds_at kinds.now) (T.known table.now) depth) }
     ensures few { IfOk result (λ levels. length levels.plans ≤ most) }
-    ensures many { IsErrOf result KnownFault.TooManyPlans → most < length (levels_known (kinds_at kinds) (T.known table.now) depth) }
+    ensures many { IsErrOf result KnownFault.TooManyPlans → most < length (levels_known (kinds_at kinds.now) (T.known table.now) depth) }
 {
     let mut plans = GrownPlans::new(alloc);
     let mut sizes = Vec::new(alloc);
@@ -266,7 +266,7 @@ pub struct KnownPlans {
 fn with_onward<T: RunTable>(
     alloc: Global,
     table: &T,
-    kinds: Kinds,
+    kinds: &Kinds<'_>,
     levels: Levels,
     beyond: u64,
     most: usize,
@@ -300,17 +300,17 @@ fn with_onward<T: RunTable>(
 pub fn known_plans<T: RunTable>(
     alloc: Global,
     table: &T,
-    kinds: Kinds,
+    kinds: &Kinds<'_>,
     depth: u32,
     most: usize,
 ) -> Result<KnownPlans, KnownFault>
     requires { most ≤ 65536 }
-    ensures known { IfOk result (λ known. (t : Subject) → IsLawful t → t.kinds ≡ kinds_at kinds → Agrees t depth (T.known table.now)
+    ensures known { IfOk result (λ known. (t : Subject) → IsLawful t → t.kinds ≡ kinds_at kinds.now → Agrees t depth (T.known table.now)
         → AreKnown t depth (T.known table.now) known) }
-    ensures grown { IfOk result (λ known. known.plans ≡ part_known (kinds_at kinds) (T.known table.now) depth) }
+    ensures grown { IfOk result (λ known. known.plans ≡ part_known (kinds_at kinds.now) (T.known table.now) depth) }
     ensures short { IfOk result (λ known. AllByRecursion (λ plan. length plan ≤ depth) known.plans) }
     ensures few { IfOk result (λ known. length known.plans ≤ most) }
-    ensures many { IsErrOf result KnownFault.TooManyPlans → most < length (part_known (kinds_at kinds) (T.known table.now) depth) }
+    ensures many { IsErrOf result KnownFault.TooManyPlans → most < length (part_known (kinds_at kinds.now) (T.known table.now) depth) }
 {
     if most == 0 {
         return Err(KnownFault::TooManyPlans);

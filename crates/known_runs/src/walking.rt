@@ -3,18 +3,18 @@ ghost use Rattle.std.specs.Prelude.{◌≡◌, ◌∷◌, ◌<◌, ◌^◌, ℕ,
 ghost use Rattle.std.specs.List.{AllByRecursion};
 ghost use Rattle.plan_gen.specs.RiggedAnswers.{AreInOrder, acts_at};
 ghost use Rattle.grown_plans.specs.AskedPoints.{is_asked_again};
-ghost use Rattle.grown_plans.specs.GrownPlans.{Subject, kinds_at};
+ghost use Rattle.grown_plans.specs.GrownPlans.{Subject, usual_at};
 ghost use Rattle.grown_plans.specs.Kept.{kept_children};
 ghost use Rattle.grown_plans.specs.Promises.{IsLawful, verdict_of_rigs};
 ghost use Rattle.known_runs.specs.Known.{Agrees, hits_of};
 ghost use Rattle.known_runs.specs.ToldPart.{onward_told};
-ghost use Rattle.known_runs.specs.Walks.{do_alike, first_acting, if_alike, is_alike, is_return, once, onward_walked, verdict_at, verdict_walked};
+ghost use Rattle.known_runs.specs.Walks.{do_alike, first_acting, if_alike, are_alike, is_alike, is_return, once, onward_walked, verdict_at, verdict_walked};
 ghost use Rattle.known_runs.specs.inside.Grown.{again_told};
 ghost use Rattle.known_runs.specs.inside.WalkSteps.{IsOnward, IsStep, grew_at, verdict_ended};
 
 use crate::growing::Workspace;
 use crate::table::{Look, RunTable};
-use action_eval::{Kind, Rig, Site};
+use action_eval::{Kind, Rig, Site, is_same_text};
 use grown_plans::{Child, Kinds, add_children};
 use std::alloc::{AllocError, Global};
 use target_trait::Verdict;
@@ -35,8 +35,8 @@ fn acts_at(rig: &Rig, site: Site) -> bool
     ensures { result ≡ acts_at site.point site.hit rig.now }
 {
     let is_there = match rig.kind {
-        Kind::OnwardReturn => rig.site.hit <= site.hit,
-        Kind::OnceReturn | Kind::OncePanic => rig.site.hit == site.hit,
+        Kind::OnwardReturn(_) => rig.site.hit <= site.hit,
+        Kind::OnceReturn(_) | Kind::OncePanic => rig.site.hit == site.hit,
     };
     rig.site.point == site.point && is_there
 }
@@ -58,7 +58,7 @@ fn once(kind: Kind) -> Kind
     ensures { result ≡ once kind }
 {
     match kind {
-        Kind::OnceReturn | Kind::OnwardReturn => Kind::OnceReturn,
+        Kind::OnceReturn(text) | Kind::OnwardReturn(text) => Kind::OnceReturn(text),
         Kind::OncePanic => Kind::OncePanic,
     }
 }
@@ -87,11 +87,11 @@ fn put_children(
 ) -> Result<bool, AllocError>
     requires points { AllByRecursion (λ p. p < 64) hits.now }
     requires few { length hits.now < 2 ^ 32 }
-    ensures children { OnOk result (children.new.items ≡ kept_children (kinds_at None) 0 plan.now hits.now) }
+    ensures children { OnOk result (children.new.items ≡ kept_children (usual_at None) 0 plan.now hits.now) }
     ensures again { IfOk result (λ is_again. is_again ≡ is_asked_again plan.now hits.now) }
 {
     children.clear();
-    add_children(children, counts, Kinds::of(&[]), 0, plan, hits)
+    add_children(children, counts, &Kinds::of(&[]), 0, plan, hits)
 }
 
 /// What follows a plan, with its faults, the last one to act first.
@@ -121,8 +121,22 @@ fn next_step<T: RunTable>(
 fn put_first(plan: &mut Vec<Rig>, fault: Rig) -> Result<(), AllocError>
     ensures { OnOk result (plan.new.items ≡ fault ∷ plan.old.items) }
 {
-    plan.insert(0, fault)?;
+    let Rig { site, kind } = fault;
+    plan.insert(0, Rig { site, kind })?;
     Ok(())
+}
+
+/// Whether two faults are answered alike.
+fn are_alike(one: &Kind, other: &Kind) -> bool
+    ensures { result ≡ are_alike one.now other.now }
+{
+    let text = one.text();
+    let others = other.text();
+    if is_return(one) {
+        is_return(other) && is_same_text(&text, &others)
+    } else {
+        !is_return(other)
+    }
 }
 
 /// Whether two faults do the same at a hit, where they act there.
@@ -130,17 +144,17 @@ fn is_alike(one: Option<Kind>, other: Option<Kind>) -> bool
     ensures { result ≡ is_alike one other }
 {
     match (one, other) {
-        (Some(one), Some(other)) => is_return(one) == is_return(other),
+        (Some(one), Some(other)) => are_alike(&one, &other),
         (None, None) => true,
         _ => false,
     }
 }
 
-fn is_return(kind: Kind) -> bool
-    ensures { result ≡ is_return kind }
+fn is_return(kind: &Kind) -> bool
+    ensures { result ≡ is_return kind.now }
 {
     match kind {
-        Kind::OnceReturn | Kind::OnwardReturn => true,
+        Kind::OnceReturn(_) | Kind::OnwardReturn(_) => true,
         Kind::OncePanic => false,
     }
 }
@@ -211,7 +225,7 @@ fn put_onward<T: RunTable>(
     let Some((last, earlier)) = plan.split_first() else {
         return Ok(false);
     };
-    if !matches!(last.kind, Kind::OnceReturn) {
+    if !matches!(last.kind, Kind::OnceReturn(_)) {
         return Ok(false);
     }
     if !is_asked_again(table, plan, workspace, children)? {
@@ -220,7 +234,7 @@ fn put_onward<T: RunTable>(
     onward.clear();
     onward.push(Rig {
         site: last.site,
-        kind: Kind::OnwardReturn,
+        kind: Kind::OnwardReturn(last.kind.text()),
     })?;
     onward.extend_from_slice(earlier)?;
     Ok(true)

@@ -85,8 +85,8 @@ full_offs_case n true = tt
 full_offs_case n false = (refl, tt)
 
 full_term : (kind : Kind) → IsFull (term_of kind ∷ [])
-full_term OnceReturn = (refl, tt)
-full_term OnwardReturn = (refl, tt)
+full_term (OnceReturn text) = (refl, tt)
+full_term (OnwardReturn text) = (refl, tt)
 full_term OncePanic = (refl, tt)
 
 full_rigged : (r : Rig) → IsFull (rigged 0 r)

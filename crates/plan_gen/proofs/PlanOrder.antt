@@ -1,5 +1,5 @@
 -- The plans that aren't listed are of rigged hits in order.
-use Rattle.std.proofs.Common.{◌≡◌, ℕ, zero, suc, ◌+◌, ◌<◌, ◌≤◌, inl, inr, Bool, true, false, cond, List, [], ◌∷◌, ◌++◌, map, take, refl, ap, sym, subst, arith}
+use Rattle.std.proofs.Common.{◌≡◌, ℕ, zero, suc, ◌+◌, ◌<◌, ◌≤◌, inl, inr, Bool, true, false, cond, None, List, [], ◌∷◌, ◌++◌, map, take, refl, ap, sym, subst, arith}
 use Rattle.std.specs.Prelude.{zip, filter}
 use Rattle.std.specs.List.{AllByRecursion, range_with_len, flat_map}
 use Rattle.scenario_values.specs.Scenario.{Entries}
@@ -78,13 +78,13 @@ counted (s ∷ ss) o = (o.0, counted ss o.2)
 -- ---- plans of one site, and of two
 
 one_site : (names : List (List ℕ)) (s : Site) → 0 < s.hit → AllByRecursion (IsOfHits names) (site_plans names s)
-one_site names s h = ((rig s OnceReturn ∷ [], (refl, (h, tt, tt))), ((rig s OnwardReturn ∷ [], (refl, (h, tt, tt))), ((rig s OncePanic ∷ [], (refl, (h, tt, tt))), tt)))
+one_site names s h = ((rig s (OnceReturn None) ∷ [], (refl, (h, tt, tt))), ((rig s (OnwardReturn None) ∷ [], (refl, (h, tt, tt))), ((rig s OncePanic ∷ [], (refl, (h, tt, tt))), tt)))
 
 abbrev TwoInOrder : Site × Site → Type 0
 TwoInOrder p = AreInOrder (p.0 ∷ p.1 ∷ [])
 
 two_sites : (names : List (List ℕ)) (p : Site × Site) → TwoInOrder p → AllByRecursion (IsOfHits names) (pair_plans names p)
-two_sites names p o = ((rig p.0 OnceReturn ∷ rig p.1 OnceReturn ∷ [], (refl, o)), ((rig p.0 OnceReturn ∷ rig p.1 OncePanic ∷ [], (refl, o)), tt))
+two_sites names p o = ((rig p.0 (OnceReturn None) ∷ rig p.1 (OnceReturn None) ∷ [], (refl, o)), ((rig p.0 (OnceReturn None) ∷ rig p.1 OncePanic ∷ [], (refl, o)), tt))
 
 with_each : (a : Site) (rest : List Site) → 0 < a.hit → AllByRecursion (λ t. IsBefore a t) rest → AreInOrder rest → AllByRecursion (λ b. TwoInOrder (a, b)) rest
 with_each a [] h before o = tt

@@ -1,5 +1,5 @@
 -- What the chain of a point does, hit after hit, where hits are rigged.
-use Rattle.std.proofs.Common.{◌≡◌, ℕ, zero, suc, ◌+◌, ◌-◌, ◌<◌, ◌≤◌, ◌==◌, ◌&&◌, inl, inr, nat_le, Bool, true, false, cond, Some, None, List, [], ◌∷◌, ◌++◌, map, refl, ap, sym, ◌∙◌, arith}
+use Rattle.std.proofs.Common.{◌≡◌, ℕ, zero, suc, ◌+◌, ◌-◌, ◌<◌, ◌≤◌, ◌==◌, ◌&&◌, inl, inr, nat_le, Bool, true, false, cond, Option, Some, None, List, [], ◌∷◌, ◌++◌, map, refl, ap, sym, ◌∙◌, arith}
 use Rattle.std.specs.Prelude.{find}
 use Rattle.std.specs.Option.{option_map_or}
 use Rattle.std.specs.List.{AllByRecursion}
@@ -102,17 +102,18 @@ once_does word p n r rs k c is once same here rest (x ∷ xs) =
     ∙ ap (λ t. (t, x) ∷ tasks (r ∷ rs) p (n + 1) xs) (sym task_is)
 
 -- a term without a count acts at each hit
-onward_does : (word : ℕ → ℕ) (p n : ℕ) (s : Site) (rs : List Rig) (c : List Term) → s.point ≡ p → s.hit ≤ n + 1 → Does word (full None (task.Return None) ∷ c) (rig s OnwardReturn ∷ rs) p n
-onward_does word p n s rs c same here [] = refl
-onward_does word p n s rs c same here (x ∷ xs) =
+onward_does : (word : ℕ → ℕ) (p n : ℕ) (s : Site) (text : Option (List ℕ)) (rs : List Rig) (c : List Term) → s.point ≡ p → s.hit ≤ n + 1
+    → Does word (full None (task.Return text) ∷ c) (rig s (OnwardReturn text) ∷ rs) p n
+onward_does word p n s text rs c same here [] = refl
+onward_does word p n s text rs c same here (x ∷ xs) =
     let le : nat_le s.hit (n + 1) ≡ true = grind (arith, nat_tests, here) in
-    let task_is : rigged_task (rig s OnwardReturn ∷ rs) p (n + 1) ≡ task.Return None = ap (λ b. first_of b (rig s OnwardReturn) rs p (n + 1)) (acts_here p (n + 1) (rig s OnwardReturn) same le) in
-    ap (λ l. (task.Return None, x) ∷ l) (onward_does word p (n + 1) s rs c same (omega (arith, here)) xs)
-    ∙ ap (λ t. (t, x) ∷ tasks (rig s OnwardReturn ∷ rs) p (n + 1) xs) (sym task_is)
+    let task_is : rigged_task (rig s (OnwardReturn text) ∷ rs) p (n + 1) ≡ task.Return text = ap (λ b. first_of b (rig s (OnwardReturn text)) rs p (n + 1)) (acts_here p (n + 1) (rig s (OnwardReturn text)) same le) in
+    ap (λ l. (task.Return text, x) ∷ l) (onward_does word p (n + 1) s text rs c same (omega (arith, here)) xs)
+    ∙ ap (λ t. (t, x) ∷ tasks (rig s (OnwardReturn text) ∷ rs) p (n + 1) xs) (sym task_is)
 
 term_does : (word : ℕ → ℕ) (p n : ℕ) (s : Site) (kind : Kind) (rs : List Rig) (c : List Term) → s.point ≡ p → s.hit ≡ n + 1 → Does word c rs p s.hit → Does word (term_of kind ∷ c) (rig s kind ∷ rs) p n
-term_does word p n s OnceReturn rs c same here rest = once_does word p n (rig s OnceReturn) rs (task.Return None) c refl refl same here rest
-term_does word p n s OnwardReturn rs c same here rest = onward_does word p n s rs c same (omega (arith, here))
+term_does word p n s (OnceReturn text) rs c same here rest = once_does word p n (rig s (OnceReturn text)) rs (task.Return text) c refl refl same here rest
+term_does word p n s (OnwardReturn text) rs c same here rest = onward_does word p n s text rs c same (omega (arith, here))
 term_does word p n s OncePanic rs c same here rest = once_does word p n (rig s OncePanic) rs (task.Panic None) c refl refl same here rest
 
 -- so many hits in which nothing is done, and then the rigged one

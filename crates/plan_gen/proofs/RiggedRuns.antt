@@ -123,8 +123,8 @@ reply_case None = refl
 reply_case (Some r) = kind_case r.kind
   where
     kind_case : (kind : Kind) → reply_of (term_of kind).task ≡ reply_by kind
-    kind_case OnceReturn = refl
-    kind_case OnwardReturn = refl
+    kind_case (OnceReturn text) = refl
+    kind_case (OnwardReturn text) = refl
     kind_case OncePanic = refl
 
 all_come_after : (p : ℕ) (rs : List Rig) → AreInOrder (map (λ (r : Rig). r.site) rs) → ComeAfter p 0 rs

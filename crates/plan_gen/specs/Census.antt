@@ -1,9 +1,9 @@
 -- The census of a target, and the sites that faults are planned at.
 use Rattle.std.specs.Prelude.{ℕ, ◌+◌, ◌==◌, List, [], ◌∷◌, ◌++◌, map, length, count_by}
 use Rattle.std.specs.List.{range_with_len}
-use Rattle.action_eval.specs.Answers.{Reply, given_of}
+use Rattle.action_eval.specs.Answers.{Reply, asked, given_of}
 use Rattle.target_trait.specs.Play.{Move}
-use Rattle.target_trait.specs.Outcomes.{outcome}
+use Rattle.target_trait.specs.Outcomes.{whole_play}
 use Rattle.action_eval.specs.declared.rig.Site.{Site}
 
 -- how often each point is asked, in catalogue order
@@ -12,7 +12,7 @@ counts_of points asked = map (λ p. count_by (λ q. q == p) asked) (range_with_l
 
 -- the census: how often the play of the empty scenario, with stream number 0, asks each point of the catalogue
 abbrev pub census_of : (List Reply → Move) → List (List ℕ) → ℕ → ℕ → List ℕ
-census_of asks names seed limit = counts_of (length names) (outcome asks (given_of [] names seed 0 limit)).asked
+census_of asks names seed limit = counts_of (length names) (asked (whole_play asks (given_of [] names seed 0 limit)))
 
 -- the hits of a point, from 1 to its count
 abbrev pub sites_at : ℕ → ℕ → List Site

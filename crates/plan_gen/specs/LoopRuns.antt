@@ -1,5 +1,5 @@
 -- How often a point is asked; and what the runs of the census by a loop show, which private contracts cite.
-use Rattle.std.specs.Prelude.{◌≡◌, ℕ, ◌<◌, ◌==◌, nat_le, if◌then◌else◌, Bool, List, [], ◌∷◌, count_by, length}
+use Rattle.std.specs.Prelude.{◌≡◌, ℕ, ◌<◌, ◌==◌, nat_le, if◌then◌else◌, Bool, None, List, [], ◌∷◌, count_by, length}
 use Rattle.scenario_values.specs.Scenario.{Entries}
 use Rattle.action_eval.specs.Answers.{Reply, given_of}
 use Rattle.target_trait.specs.Play.{Move}
@@ -17,7 +17,7 @@ unfoldable pub times_of : (List Reply → Move) → List (List ℕ) → ℕ → 
 times_of asks names seed limit s p = times p (outcome asks (given_of s names seed 0 limit)).asked
 
 abbrev pub loop_kind : Bool → Kind
-loop_kind onward = if onward then OnwardReturn else OnceReturn
+loop_kind onward = if onward then OnwardReturn None else OnceReturn None
 
 -- a rigged hit is met just where the clean run has it
 abbrev pub IsMetAlike : (List Reply → Move) → List (List ℕ) → ℕ → ℕ → Kind → Type 0

@@ -1,6 +1,6 @@
 -- The list of plans: the empty plan; each site alone; each two sites; storms; listed scenarios. The parts, their order and the limits are
 -- this project's own.
-use Rattle.std.specs.Prelude.{ℕ, ◌+◌, ◌/◌, ◌%◌, ◌==◌, nat_lt, if◌then◌else◌, Bool, List, [], ◌∷◌, ◌++◌, map, filter, zip, take, flat_map, length}
+use Rattle.std.specs.Prelude.{ℕ, ◌+◌, ◌/◌, ◌%◌, ◌==◌, nat_lt, if◌then◌else◌, Bool, None, List, [], ◌∷◌, ◌++◌, map, filter, zip, take, flat_map, length}
 use Rattle.std.specs.List.{range_with_len}
 use Rattle.scenario_values.specs.Scenario.{Entries}
 use Rattle.action_eval.specs.Words.{word}
@@ -19,19 +19,19 @@ most_plans = 65536
 abbrev pub first_stream : ℕ
 first_stream = 4294967296
 
--- each site alone, in each of these ways
+-- each site alone, in each of these ways; returns have no text
 abbrev pub alone : List Kind
-alone = OnceReturn ∷ OnwardReturn ∷ OncePanic ∷ []
+alone = OnceReturn None ∷ OnwardReturn None ∷ OncePanic ∷ []
 
 abbrev pub site_plans : List (List ℕ) → Site → List Entries
 site_plans names s = map (λ kind. rigging names (rig s kind ∷ [])) alone
 
 -- two sites, the first failing once, the second in each of these ways
 abbrev pub second : List Kind
-second = OnceReturn ∷ OncePanic ∷ []
+second = OnceReturn None ∷ OncePanic ∷ []
 
 abbrev pub pair_plans : List (List ℕ) → Site × Site → List Entries
-pair_plans names p = map (λ kind. rigging names (rig p.0 OnceReturn ∷ rig p.1 kind ∷ [])) second
+pair_plans names p = map (λ kind. rigging names (rig p.0 (OnceReturn None) ∷ rig p.1 kind ∷ [])) second
 
 -- each two, in order of the first and then of the second
 abbrev pub pairs_of : List Site → List (Site × Site)
@@ -48,7 +48,7 @@ is_taken rate s = nat_lt (s.1 % 1000) rate
 
 -- what a word does at a site that it takes
 abbrev pub storm_kind : ℕ → Kind
-storm_kind w = if w / 1000 % 8 == 0 then OncePanic else OnceReturn
+storm_kind w = if w / 1000 % 8 == 0 then OncePanic else OnceReturn None
 
 -- the rigged hits of a storm, by its words: of the sites that are taken, the first so many
 abbrev pub storm_by : (ℕ → ℕ) → ℕ → List Site → List Rig

@@ -1,5 +1,5 @@
 -- What a rigging means: how each hit is answered under the scenario of rigged hits.
-use Rattle.std.specs.Prelude.{◌≡◌, ℕ, ◌+◌, ◌<◌, ◌==◌, ◌&&◌, ◌⊎◌, nat_le, if◌then◌else◌, Bool, true, false, List, [], ◌∷◌, None, find, map, length}
+use Rattle.std.specs.Prelude.{◌≡◌, ℕ, ◌+◌, ◌<◌, ◌==◌, ◌&&◌, ◌⊎◌, nat_le, if◌then◌else◌, Bool, true, false, List, [], ◌∷◌, find, map, length}
 use Rattle.std.specs.Option.{option_map_or}
 use Rattle.std.specs.List.{AllByRecursion}
 use Rattle.scenario_values.specs.Scenario.{Entries}
@@ -21,8 +21,8 @@ AreInOrder [] = Unit {0}
 AreInOrder (s ∷ ss) = (0 < s.hit) × AllByRecursion (λ t. IsBefore s t) ss × AreInOrder ss
 
 abbrev pub is_onward : Kind → Bool
-is_onward OnceReturn = false
-is_onward OnwardReturn = true
+is_onward (OnceReturn text) = false
+is_onward (OnwardReturn text) = true
 is_onward OncePanic = false
 
 -- a rigged hit acts at hit k of point p where it is that hit; one that fails onward acts at each later hit of its point, too
@@ -31,8 +31,8 @@ acts_at p k r = (r.site.point == p) && (if is_onward r.kind then nat_le r.site.h
 
 -- the answer where a rigged hit acts
 abbrev pub reply_by : Kind → Reply
-reply_by OnceReturn = Return None
-reply_by OnwardReturn = Return None
+reply_by (OnceReturn text) = Return text
+reply_by (OnwardReturn text) = Return text
 reply_by OncePanic = Halt
 
 -- the answer of hit k of point p: that of the first rigged hit that acts there; where none does, the run goes on

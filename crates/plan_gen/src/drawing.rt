@@ -1,21 +1,46 @@
 //! What the plans of a list are drawn from, and what is kept of each.
-ghost use Rattle.std.specs.Prelude.{◌≡◌, ◌≤◌, ◌∷◌, [], true, length, IfOk, OnOk};
+ghost use Rattle.std.specs.Prelude.{◌≡◌, ◌≤◌, ◌∷◌, [], true, None, length, IfOk, OnOk};
 ghost use Rattle.action_eval.specs.Answers.{texts};
 ghost use Rattle.action_eval.specs.Catalogue.{IsCatalogue};
 ghost use Rattle.action_eval.specs.declared.rig.Kind.TheVariants.{OnceReturn};
-ghost use Rattle.action_eval.specs.Rigging.{rig, rigged_as};
+ghost use Rattle.action_eval.specs.Rigging.{rig, rigged_as, HasLawfulText, HaveLawfulTexts};
 ghost use Rattle.plan_gen.specs.PlanList.{most_plans};
-ghost use Rattle.plan_gen.specs.inside.Drawn.{drawn};
+ghost use Rattle.plan_gen.specs.inside.Drawn.{drawn, kind_of};
 
 use crate::names::have_same_names;
 use crate::packed::PackedSite;
 use crate::rigging::{empty_scenario, scenario_of};
 use crate::storms::storm;
-use action_eval::{Kind, Rig, Rigging};
+use action_eval::{Argument, Kind, Rig, Rigging};
 use scenario_values::Scenario;
 use std::alloc::{AllocError, Global};
 use std::marker::Model;
 use std::mem::size_of;
+
+/// What a list's plan does at a site. Its returns have no text, so that a plan is kept in 8 bytes.
+#[derive(Clone, Copy, Debug)]
+pub enum PlainKind {
+    /// It fails, and no other.
+    OnceReturn,
+    /// It fails, and so does each later hit of the point.
+    OnwardReturn,
+    /// The component stops there.
+    OncePanic,
+}
+
+impl PlainKind {
+    /// The kind of fault.
+    fn kind(self) -> Kind
+        ensures kind { result ≡ kind_of self }
+        ensures text { HasLawfulText result }
+    {
+        match self {
+            PlainKind::OnceReturn => Kind::OnceReturn(Argument::none()),
+            PlainKind::OnwardReturn => Kind::OnwardReturn(Argument::none()),
+            PlainKind::OncePanic => Kind::OncePanic,
+        }
+    }
+}
 
 /// What a list keeps of a plan that isn't a listed scenario.
 #[derive(Clone, Copy, Debug)]
@@ -23,9 +48,9 @@ pub enum Source {
     /// No hit is rigged.
     Empty,
     /// One rigged hit.
-    One(PackedSite, Kind),
+    One(PackedSite, PlainKind),
     /// Two of them, of which the first fails once, and this is done at the second.
-    Two(PackedSite, PackedSite, Kind),
+    Two(PackedSite, PackedSite, PlainKind),
     /// The storm of this number.
     Storm(u32),
 }
@@ -33,10 +58,14 @@ pub enum Source {
 const _: () = prove!(size_of::<Source>() == 8);
 
 /// The rigged hits of a plan that has two.
-fn two_rigs(first: PackedSite, second: PackedSite, kind: Kind) -> [Rig; 2]
-    ensures { result ≡ rig first OnceReturn ∷ rig second kind ∷ [] }
+fn two_rigs(first: PackedSite, second: PackedSite, plain: PlainKind) -> [Rig; 2]
+    ensures rigs { result ≡ rig first (OnceReturn None) ∷ rig second (kind_of plain) ∷ [] }
+    ensures texts { HaveLawfulTexts result }
 {
-    [first.rig(Kind::OnceReturn), second.rig(kind)]
+    [
+        first.rig(Kind::OnceReturn(Argument::none())),
+        second.rig(plain.kind()),
+    ]
 }
 
 /// What all plans of a list share: the points, their sites, and the seed and rate of storms. Whoever runs a storm draws its rigged hits, by
@@ -98,9 +127,9 @@ impl<'a> Drawing<'a> {
     {
         match source {
             Source::Empty => rigging.load(catalogue, &[]),
-            Source::One(site, kind) => rigging.load(catalogue, &[site.rig(kind)]),
-            Source::Two(first, second, kind) => {
-                rigging.load(catalogue, &two_rigs(first, second, kind))
+            Source::One(site, plain) => rigging.load(catalogue, &[site.rig(plain.kind())]),
+            Source::Two(first, second, plain) => {
+                rigging.load(catalogue, &two_rigs(first, second, plain))
             }
             Source::Storm(number) => {
                 let sites = self.sites.as_slice();
@@ -116,9 +145,13 @@ impl<'a> Drawing<'a> {
     {
         match source {
             Source::Empty => Ok(empty_scenario(alloc)),
-            Source::One(site, kind) => scenario_of(alloc, self.catalogue, &[site.rig(kind)]),
-            Source::Two(first, second, kind) => {
-                scenario_of(alloc, self.catalogue, &two_rigs(first, second, kind))
+            Source::One(site, plain) => scenario_of(
+                alloc,
+                self.catalogue,
+                &[site.rig(plain.kind())],
+            ),
+            Source::Two(first, second, plain) => {
+                scenario_of(alloc, self.catalogue, &two_rigs(first, second, plain))
             }
             Source::Storm(number) => {
                 let sites = self.sites.as_slice();

@@ -2,11 +2,11 @@
 ghost use Rattle.std.specs.Prelude.{◌≡◌, ◌≤◌, ◌<◌, ◌∷◌, [], nat_le, length, IfOk};
 ghost use Rattle.plan_gen.specs.LoopRuns.{IsMetAlike, loop_kind, times_of};
 ghost use Rattle.plan_gen.specs.Census.{census_of};
-ghost use Rattle.action_eval.specs.Rigging.{rig, rigging};
+ghost use Rattle.action_eval.specs.Rigging.{rig, rigging, HasLawfulText};
 
 use crate::census::{Census, count_of};
 use crate::rigging::scenario_of;
-use action_eval::{Kind, Rig, Site};
+use action_eval::{Argument, Kind, Rig, Site};
 use std::alloc::{AllocError, Global};
 use target_trait::{Case, Target, run_case};
 
@@ -20,10 +20,12 @@ fn meets<T: Target>(
     max_hits: u32,
     rig: Rig,
 ) -> Result<bool, AllocError>
+    requires { HasLawfulText rig.kind }
     ensures met { IfOk result (λ met. met ≡ nat_le rig.site.hit
         (times_of (T.asks target.old workload.now) T.names seed max_hits (rigging T.names (rig ∷ [])) rig.site.point)) }
     ensures setup { target.new ≡ target.old }
 {
+    let site = rig.site;
     let scenario = scenario_of(alloc, T::catalogue(), &[rig])?;
     let case = Case {
         scenario: &scenario,
@@ -32,7 +34,7 @@ fn meets<T: Target>(
         max_hits,
     };
     let outcome = run_case(alloc, target, workload, &case)?;
-    Ok(rig.site.hit <= count_of(outcome.asked.as_slice(), rig.site.point))
+    Ok(site.hit <= count_of(outcome.asked.as_slice(), site.point))
 }
 
 /// How often a point is asked: its hits are rigged in turn, until a run doesn't meet one.
@@ -46,6 +48,7 @@ fn count_by_loop<T: Target>(
     kind: Kind,
 ) -> Result<u32, AllocError>
     requires point { point < length T.names }
+    requires text { HasLawfulText kind }
     requires law { IsMetAlike (T.asks target.old workload.now) T.names seed max_hits kind }
     ensures count { IfOk result (λ count. count ≡ times_of (T.asks target.old workload.now) T.names seed max_hits [] point) }
     ensures setup { target.new ≡ target.old }
@@ -67,12 +70,13 @@ fn count_by_loop<T: Target>(
 
 /// What is done at a hit that a loop rigs.
 fn kind_of(onward: bool) -> Kind
-    ensures { result ≡ loop_kind onward }
+    ensures kind { result ≡ loop_kind onward }
+    ensures text { HasLawfulText result }
 {
     if onward {
-        Kind::OnwardReturn
+        Kind::OnwardReturn(Argument::none())
     } else {
-        Kind::OnceReturn
+        Kind::OnceReturn(Argument::none())
     }
 }
 

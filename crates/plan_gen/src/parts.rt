@@ -5,18 +5,17 @@ ghost use Rattle.plan_gen.specs.declared.drawing.Source.TheVariants.{Storm};
 ghost use Rattle.plan_gen.specs.inside.Drawn.{site_sources, pair_sources};
 ghost use Rattle.plan_gen.specs.PlanList.{pairs_of};
 
-use crate::drawing::Source;
+use crate::drawing::{PlainKind, Source};
 use crate::packed::PackedSite;
-use action_eval::Kind;
 use std::alloc::AllocError;
 
 /// Adds the plans of a site.
 fn add_site(sources: &mut Vec<Source>, site: PackedSite) -> Result<(), AllocError>
     ensures { OnOk result (sources.new.items ≡ sources.old.items ++ site_sources site) }
 {
-    sources.push(Source::One(site, Kind::OnceReturn))?;
-    sources.push(Source::One(site, Kind::OnwardReturn))?;
-    sources.push(Source::One(site, Kind::OncePanic))?;
+    sources.push(Source::One(site, PlainKind::OnceReturn))?;
+    sources.push(Source::One(site, PlainKind::OnwardReturn))?;
+    sources.push(Source::One(site, PlainKind::OncePanic))?;
     Ok(())
 }
 
@@ -38,8 +37,8 @@ fn add_pair(
 ) -> Result<(), AllocError>
     ensures { OnOk result (sources.new.items ≡ sources.old.items ++ pair_sources (first, second)) }
 {
-    sources.push(Source::Two(first, second, Kind::OnceReturn))?;
-    sources.push(Source::Two(first, second, Kind::OncePanic))?;
+    sources.push(Source::Two(first, second, PlainKind::OnceReturn))?;
+    sources.push(Source::Two(first, second, PlainKind::OncePanic))?;
     Ok(())
 }
 

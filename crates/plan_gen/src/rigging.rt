@@ -6,7 +6,7 @@ ghost use Rattle.indexmap.specs.IndexMap.{insert_all};
 ghost use Rattle.action_eval.specs.Answers.{texts};
 ghost use Rattle.action_eval.specs.Catalogue.{IsCatalogue};
 ghost use Rattle.scenario_values.specs.Scenario.{entries_of};
-ghost use Rattle.action_eval.specs.Rigging.{chain_from, entry, rigging, most_rigs};
+ghost use Rattle.action_eval.specs.Rigging.{chain_from, entry, rigging, most_rigs, HaveLawfulTexts};
 
 use action_eval::{Rig, push_chain};
 use indexmap::IndexMap;
@@ -62,6 +62,7 @@ pub fn scenario_of(alloc: Global, catalogue: &[&str], rigs: &[Rig]) -> Result<Sc
     requires lawful { IsCatalogue (texts catalogue.now) }
     requires few { length rigs.now ≤ most_rigs }
     requires small { AllByRecursion (λ r. r.site.hit < 2 ^ 32) rigs.now }
+    requires texts { HaveLawfulTexts rigs.now }
     ensures { IfOk result (λ s. s ≡ rigging (texts catalogue.now) rigs.now) }
 {
     let entries = rigged_entries(alloc, catalogue, rigs)?;

@@ -3,10 +3,10 @@ ghost use Rattle.std.specs.Prelude.{◌≡◌, ◌++◌, ◌∷◌, [], ◌%◌,
 ghost use Rattle.std.specs.List.{AllByRecursion};
 ghost use Rattle.action_eval.specs.Words.{seed_bytes, at_word};
 ghost use Rattle.plan_gen.specs.PlanList.{most_plans, storm_kind, storm};
-ghost use Rattle.action_eval.specs.Rigging.{rig, most_rigs};
+ghost use Rattle.action_eval.specs.Rigging.{rig, most_rigs, HasLawfulText, HaveLawfulTexts};
 
 use crate::packed::PackedSite;
-use action_eval::{Kind, Rig};
+use action_eval::{Argument, Kind, Rig};
 use rand_chacha::ChaCha8Rng;
 use rand_core::SeedableRng;
 use rand_core::utils::NextWord;
@@ -40,12 +40,13 @@ fn generator(seed: u64, stream: u64) -> ChaCha8Rng
 
 /// What a word does at a site that it takes.
 fn storm_kind(word: u32) -> Kind
-    ensures { result ≡ storm_kind word }
+    ensures kind { result ≡ storm_kind word }
+    ensures text { HasLawfulText result }
 {
     if word / 1000 % 8 == 0 {
         Kind::OncePanic
     } else {
-        Kind::OnceReturn
+        Kind::OnceReturn(Argument::none())
     }
 }
 
@@ -58,6 +59,7 @@ fn add_taken(rigs: &mut Vec<Rig>, word: u32, site: PackedSite)
     ensures room { vec_capacity rigs.new ≡ vec_capacity rigs.old }
     ensures few { length rigs.old.items ≤ most_rigs → length rigs.new.items ≤ most_rigs }
     ensures small { AllByRecursion (λ r. r.site.hit < 2 ^ 32) rigs.old.items → AllByRecursion (λ r. r.site.hit < 2 ^ 32) rigs.new.items }
+    ensures texts { HaveLawfulTexts rigs.old.items → HaveLawfulTexts rigs.new.items }
 {
     if rigs.len() < MOST_SITES {
         rigs.push_reserved(site.rig(storm_kind(word)));
@@ -73,6 +75,7 @@ fn draw(rigs: &mut Vec<Rig>, rate: u32, word: u32, site: &PackedSite)
     ensures room { vec_capacity rigs.new ≡ vec_capacity rigs.old }
     ensures few { length rigs.old.items ≤ most_rigs → length rigs.new.items ≤ most_rigs }
     ensures small { AllByRecursion (λ r. r.site.hit < 2 ^ 32) rigs.old.items → AllByRecursion (λ r. r.site.hit < 2 ^ 32) rigs.new.items }
+    ensures texts { HaveLawfulTexts rigs.old.items → HaveLawfulTexts rigs.new.items }
 {
     if word % 1000 < rate {
         add_taken(rigs, word, *site);
@@ -94,6 +97,7 @@ pub fn storm(
     ensures rigs { OnOk result (rigs.new.items ≡ storm seed rate sites.now number) }
     ensures few { OnOk result (length rigs.new.items ≤ most_rigs) }
     ensures small { OnOk result (AllByRecursion (λ r. r.site.hit < 2 ^ 32) rigs.new.items) }
+    ensures texts { OnOk result (HaveLawfulTexts rigs.new.items) }
     ensures err { OnErr result (rigs.new.items ≡ []) }
 {
     rigs.clear();

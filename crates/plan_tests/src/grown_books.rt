@@ -8,7 +8,7 @@ ghost use Rattle.grown_plans.specs.GrownPlans.{rigs_of};
 
 use crate::courses::{book, has, row, settings};
 use crate::one_step::OneStep;
-use action_eval::{Kind, Rigging, Site};
+use action_eval::{Argument, Kind, Rigging, Site};
 use campaign_plans::{CampaignPlans, RigLists};
 use file_replace::{Replace, TORN, Variant};
 use grown_plans::{Child, GrownPlans};
@@ -29,10 +29,10 @@ fn grown(alloc: Global) -> Result<GrownPlans, AllocError>
     let sync_dir = Site { point: 5, hit: 1 };
     let mut plans = GrownPlans::new(alloc);
     plans.add(&[
-        Child::new(0, sync, Kind::OnceReturn),
+        Child::new(0, sync, Kind::OnceReturn(Argument::none())),
         Child::new(0, sync, Kind::OncePanic),
     ])?;
-    plans.add(&[Child::new(1, sync_dir, Kind::OnceReturn)])?;
+    plans.add(&[Child::new(1, sync_dir, Kind::OnceReturn(Argument::none()))])?;
     Ok(plans)
 }
 

@@ -11,6 +11,8 @@ mod courses;
 #[cfg(test)]
 mod grown_books;
 #[cfg(test)]
+mod listed_kinds;
+#[cfg(test)]
 mod loading;
 #[cfg(test)]
 mod one_step;

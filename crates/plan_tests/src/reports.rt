@@ -73,6 +73,7 @@ fn tells_each_finding_in_order(rt: HostRuntime) -> Result<(), Fail> {
         clean: Verdict::Pass,
         census: &[0, 1, 2, 1, 1, 1, 0],
         verdicts: &verdicts,
+        unmet: 0,
         findings: findings(rt.alloc())?,
         growth: None,
     };

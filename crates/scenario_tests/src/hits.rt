@@ -38,6 +38,14 @@ fn words_of(stream: u64) -> ChaCha8Rng {
     generator
 }
 
+/// The letter of a return: the first one of its text, where it has one.
+fn letter_of(text: Option<&str>) -> char {
+    match text {
+        Some(text) => text.chars().next().unwrap_or('R'),
+        None => 'R',
+    }
+}
+
 /// The answers of hits of a point, a letter each, as far as the session goes.
 pub fn answers(
     alloc: Global,
@@ -54,7 +62,7 @@ pub fn answers(
         }
         letters.push(match session.hit(point)? {
             Answer::Go => 'G',
-            Answer::Return(_) => 'R',
+            Answer::Return(text) => letter_of(text),
             Answer::Halt => 'H',
         })?;
     }

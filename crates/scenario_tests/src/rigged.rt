@@ -2,8 +2,8 @@
 ghost use Rattle.std.specs.Prelude.{◌<◌, length};
 
 use crate::hits::answers;
-use action_eval::{Kind, Rig, Rigging, Session, Site};
-use scenario_grammar::parse;
+use action_eval::{Argument, Kind, Rig, Rigging, Session, Site, have_lawful_texts};
+use scenario_grammar::{is_argument, parse};
 use std::alloc::Global;
 use std::process::Abort;
 use std::test::Fail;
@@ -19,6 +19,15 @@ fn rig(point: u32, hit: u32, kind: Kind) -> Rig {
     Rig {
         site: Site { point, hit },
         kind,
+    }
+}
+
+/// A text of a return; none, where it can't be one.
+fn argument(text: &str) -> Argument {
+    if is_argument(text) {
+        Argument::of(text).unwrap_or(Argument::none())
+    } else {
+        Argument::none()
     }
 }
 
@@ -50,7 +59,9 @@ fn both(
     scenario: &str,
     letters: [&str; 2],
 ) -> Result<(), Fail> {
-    rigging.load(&POINTS, &[first, second])?;
+    let rigs = [first, second];
+    have_lawful_texts(&rigs);
+    rigging.load(&POINTS, &rigs)?;
     assert_eq!(rt; over(alloc, rigging, OPEN)?.as_str(), letters[0]);
     assert_eq!(rt; over(alloc, rigging, WRITE)?.as_str(), letters[1]);
     assert_eq!(rt; under(alloc, scenario, OPEN)?.as_str(), letters[0]);
@@ -65,7 +76,7 @@ fn rigged_hits_are_answered_as_their_scenario_says(rt: HostRuntime) -> Result<()
         &rt,
         rt.alloc(),
         &mut rigging,
-        rig(OPEN, 2, Kind::OnceReturn),
+        rig(OPEN, 2, Kind::OnceReturn(Argument::none())),
         rig(WRITE, 3, Kind::OncePanic),
         "open=1*off->1*return;write=2*off->1*panic",
         ["GRGG", "GGH"],
@@ -74,9 +85,28 @@ fn rigged_hits_are_answered_as_their_scenario_says(rt: HostRuntime) -> Result<()
         &rt,
         rt.alloc(),
         &mut rigging,
-        rig(WRITE, 1, Kind::OnceReturn),
-        rig(WRITE, 3, Kind::OnwardReturn),
+        rig(WRITE, 1, Kind::OnceReturn(Argument::none())),
+        rig(WRITE, 3, Kind::OnwardReturn(Argument::none())),
         "write=1*return->1*off->return",
         ["GGGG", "RGRR"],
+    )?;
+    both(
+        &rt,
+        rt.alloc(),
+        &mut rigging,
+        rig(OPEN, 1, Kind::OnceReturn(argument("EIO"))),
+        rig(OPEN, 2, Kind::OnwardReturn(argument("DROP"))),
+        "open=1*return(EIO)->return(DROP)",
+        ["EDDD", "GGGG"],
     )
+}
+
+#[test]
+fn texts_of_more_than_32_bytes_are_refused(rt: HostRuntime) {
+    let longest = "a text that has just 32 bytes...";
+    assert!(rt; is_argument(longest));
+    assert!(rt; Argument::of(longest).is_some());
+    let longer = "a text that has just 33 bytes....";
+    assert!(rt; is_argument(longer));
+    assert!(rt; Argument::of(longer).is_none());
 }

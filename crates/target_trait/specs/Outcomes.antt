@@ -35,6 +35,19 @@ verdict_of (Some stop.Panic) move = judged move
 verdict_of (Some stop.Paused) move = verdict.Unresolved
 verdict_of (Some stop.Limit) move = verdict.Unresolved
 
+-- the verdict of a run of what asks
+abbrev pub verdict_in : (List Reply → Move) → Run → Verdict
+verdict_in asks r = verdict_of (stopped r) (asks (replies r))
+
+-- the whole play of what asks, under what is given. The hit past the limit cuts the run short, so a play has at most limit + 1 hits.
+abbrev pub whole_play : (List Reply → Move) → Given → Run
+whole_play asks g = play (suc g.limit) asks (start g)
+
+-- the verdict of a case: of what is asked, the names of the points, the seed, the limit, the stream number and the scenario. All that
+-- stands above targets speaks of verdicts by this one word.
+unfoldable pub verdict_with : (List Reply → Move) → List (List ℕ) → ℕ → ℕ → ℕ → Entries → Verdict
+verdict_with asks names seed limit stream scenario = verdict_in asks (whole_play asks (given_of scenario names seed stream limit))
+
 -- what is told of a run; the hit past the limit isn't among the points asked
 pub record Told : Type 0 where
   pub verdict : Verdict
@@ -45,21 +58,16 @@ pub record Told : Type 0 where
 
 abbrev pub told : (List Reply → Move) → Run → Told
 told asks r = record {
-  verdict = verdict_of (stopped r) (asks (replies r));
+  verdict = verdict_in asks r;
   asked = asked r;
   notes = notes_of (history_of r);
   millis = total_millis (history_of r);
   words = words_of (history_of r);
 }
 
--- the outcome: what is told of the whole play. The hit past the limit cuts the run short, so a play has at most limit + 1 hits.
+-- the outcome: what is told of the whole play
 abbrev pub outcome : (List Reply → Move) → Given → Told
-outcome asks g = told asks (play (suc g.limit) asks (start g))
-
--- the verdict of a case: of what is asked, the names of the points, the seed, the limit, the stream number and the scenario. All that
--- stands above targets speaks of verdicts by this one word.
-unfoldable pub verdict_with : (List Reply → Move) → List (List ℕ) → ℕ → ℕ → ℕ → Entries → Verdict
-verdict_with asks names seed limit stream scenario = (outcome asks (given_of scenario names seed stream limit)).verdict
+outcome asks g = told asks (whole_play asks g)
 
 -- two scenarios have the same verdict under everything that asks, every catalogue, seed, limit and stream number
 abbrev pub SameVerdicts : Entries → Entries → Type 0

@@ -1,13 +1,16 @@
 -- What a list of plans keeps: what all share, for each plan its rigged hits or its storm's number, and the listed scenarios.
-use Rattle.std.specs.Prelude.{ℕ, if◌then◌else◌, List, [], ◌∷◌, ◌++◌, map, flat_map}
+use Rattle.std.specs.Prelude.{ℕ, if◌then◌else◌, None, List, [], ◌∷◌, ◌++◌, map, flat_map}
 use Rattle.std.specs.List.{range_with_len}
 use Rattle.scenario_values.specs.Scenario.{Entries}
 use Rattle.action_eval.specs.declared.rig.Site.{Site}
-use Rattle.action_eval.specs.declared.rig.Kind.TheVariants.{OnceReturn}
+use Rattle.action_eval.specs.declared.rig.Kind.{Kind}
+use Rattle.action_eval.specs.declared.rig.Kind.TheVariants as kind
 use Rattle.action_eval.specs.Rigging.{rig, rigging}
+use Rattle.plan_gen.specs.declared.drawing.PlainKind.{PlainKind}
+use Rattle.plan_gen.specs.declared.drawing.PlainKind.TheVariants.{OnceReturn, OnwardReturn, OncePanic}
 use Rattle.plan_gen.specs.declared.drawing.Source.{Source}
 use Rattle.plan_gen.specs.declared.drawing.Source.TheVariants.{Empty, One, Two, Storm}
-use Rattle.plan_gen.specs.PlanList.{Asked, alone, second, pairs_of, storm}
+use Rattle.plan_gen.specs.PlanList.{Asked, pairs_of, storm}
 
 -- what all plans share: the points' names, their sites, and the seed and rate of storms
 pub record Shared : Type 0 where
@@ -16,11 +19,17 @@ pub record Shared : Type 0 where
   pub seed : ℕ
   pub rate : ℕ
 
+-- a kind of fault that has no text
+abbrev pub kind_of : PlainKind → Kind
+kind_of OnceReturn = kind.OnceReturn None
+kind_of OnwardReturn = kind.OnwardReturn None
+kind_of OncePanic = kind.OncePanic
+
 -- the scenario of a plan
 abbrev pub drawn : Shared → Source → Entries
 drawn shared Empty = []
-drawn shared (One site kind) = rigging shared.names (rig site kind ∷ [])
-drawn shared (Two first second kind) = rigging shared.names (rig first OnceReturn ∷ rig second kind ∷ [])
+drawn shared (One site plain) = rigging shared.names (rig site (kind_of plain) ∷ [])
+drawn shared (Two first second plain) = rigging shared.names (rig first (kind.OnceReturn None) ∷ rig second (kind_of plain) ∷ [])
 drawn shared (Storm number) = rigging shared.names (storm shared.seed shared.rate shared.sites number)
 
 -- the plans of a list
@@ -29,10 +38,10 @@ plans_of shared sources listed = map (drawn shared) sources ++ listed
 
 -- what is kept of the plans of a site, and of two sites
 abbrev pub site_sources : Site → List Source
-site_sources s = map (λ kind. One s kind) alone
+site_sources s = map (λ plain. One s plain) (OnceReturn ∷ OnwardReturn ∷ OncePanic ∷ [])
 
 abbrev pub pair_sources : Site × Site → List Source
-pair_sources p = map (λ kind. Two p.0 p.1 kind) second
+pair_sources p = map (λ plain. Two p.0 p.1 plain) (OnceReturn ∷ OncePanic ∷ [])
 
 -- and of all plans that aren't listed scenarios
 abbrev pub sources_of : Asked → List Site → List Source

@@ -7,7 +7,7 @@ use Rattle.grown_plans.proofs.FirstHits.{counted, no_last_children, no_last_agai
 use Rattle.grown_plans.proofs.begun.count_children.Goals as goal
 
 pub returns-in_default-clause-children : goal.returns-in_default-clause-children
-returns-in_default-clause-children c = λ number. c.count.ensures ∙ no_last_children (kinds_at c.args.kinds) number c.args.plan.now c.args.asked.now (sym c.last_site.ensures ∙ search rules)
+returns-in_default-clause-children c = λ number. c.count.ensures ∙ no_last_children (kinds_at c.args.kinds.now) number c.args.plan.now c.args.asked.now (sym c.last_site.ensures ∙ search rules)
 
 pub returns-in_default-clause-again : goal.returns-in_default-clause-again
 returns-in_default-clause-again c = no_last_again c.args.plan.now c.args.asked.now (sym c.last_site.ensures ∙ search rules)
@@ -20,8 +20,8 @@ returns-clause-children c = λ number.
     let left = length-drop after asked in
     let rest : take (length asked - after) (drop after asked) ≡ drop after asked = take_all (length asked - after) (drop after asked) (omega (arith, left)) in
     c.count-2.ensures
-    ∙ ap (λ l. length (flat_map (kinds_at c.args.kinds) l)) rest
-    ∙ last_children (kinds_at c.args.kinds) number c.args.plan.now asked _ after c.in-Some.site last
+    ∙ ap (λ l. length (flat_map (kinds_at c.args.kinds.now) l)) rest
+    ∙ last_children (kinds_at c.args.kinds.now) number c.args.plan.now asked _ after c.in-Some.site last
     (ends_of c.args.plan.now asked _ c.in-Some.site last c.in_ok-move_to.ensures.ends) c.min-after.ensures
 
 pub returns-clause-again : goal.returns-clause-again

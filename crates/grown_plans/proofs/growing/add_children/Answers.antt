@@ -31,13 +31,13 @@ loop-point-preserved c =
     let sites : sites_from before (drop i asked) ≡ s ∷ xs =
     sites_ahead asked i 0 c.loop-point-test.true ∙ ap (λ (x : Site). x ∷ xs) (sym told.0) in
     let plan = c.args.plan.now in
-    let whole : List Grew = c.args.children.now.items ++ kept_children (kinds_at c.args.kinds) c.args.number plan asked in
+    let whole : List Grew = c.args.children.now.items ++ kept_children (kinds_at c.args.kinds.now) c.args.number plan asked in
     let inv = c.loop-point.invariant in
     let now = c.if-is_past in
     elim c.if-is_past.branch [
       | then-is_past+in_ok-add_at+then-is_again w ↦
           let kept =
-          kept_past (kinds_at c.args.kinds) c.args.number plan c.loop-point.is_past now.is_past c.loop-point.is_again now.is_again c.loop-point.children.items now.children.items whole
+          kept_past (kinds_at c.args.kinds.now) c.args.number plan c.loop-point.is_past now.is_past c.loop-point.is_again now.is_again c.loop-point.children.items now.children.items whole
           (is_asked_again plan asked) s _ xs sites w.if-is_past.true w.is_past-is (ap (λ v. v.items) w.children-is ∙ w.in_ok-add_at.ensures)
           (again_still c.loop-point.is_again now.is_again (is_point_of plan s.point) w.if-is_again.true w.is_again-is) (inv.built, inv.again, inv.begun) in
           record { counts = counts; built = kept.0; again = kept.1; begun = kept.2 }
@@ -45,13 +45,13 @@ loop-point-preserved c =
           let more : now.is_again ≡ is_point_of plan s.point =
           w.is_again-is ∙ w.is_of_last-is_again.ensures ∙ ap (λ (x : Site). is_point_of plan x.point) (sym told.0) in
           let kept =
-          kept_past (kinds_at c.args.kinds) c.args.number plan c.loop-point.is_past now.is_past c.loop-point.is_again now.is_again c.loop-point.children.items now.children.items whole
+          kept_past (kinds_at c.args.kinds.now) c.args.number plan c.loop-point.is_past now.is_past c.loop-point.is_again now.is_again c.loop-point.children.items now.children.items whole
           (is_asked_again plan asked) s _ xs sites w.if-is_past.true w.is_past-is (ap (λ v. v.items) w.children-is ∙ w.in_ok-add_at.ensures)
           (again_now c.loop-point.is_again now.is_again (is_point_of plan s.point) w.if-is_again.false more) (inv.built, inv.again, inv.begun) in
           record { counts = counts; built = kept.0; again = kept.1; begun = kept.2 }
       | else-is_past w ↦
           let kept =
-          kept_before (kinds_at c.args.kinds) c.args.number plan c.loop-point.is_past now.is_past c.loop-point.is_again now.is_again c.loop-point.children.items now.children.items whole
+          kept_before (kinds_at c.args.kinds.now) c.args.number plan c.loop-point.is_past now.is_past c.loop-point.is_again now.is_again c.loop-point.children.items now.children.items whole
           (is_asked_again plan asked) s _ xs sites w.if-is_past.false (w.is_past-is ∙ w.is_last-is_past.ensures) (ap (λ v. v.items) w.children-is)
           w.is_again-is (inv.built, inv.again, inv.begun) in
           record { counts = counts; built = kept.0; again = kept.1; begun = kept.2 }

@@ -1,5 +1,5 @@
 use Rattle.grown_plans.specs.GrownPlans.{cut_point}
-use Rattle.grown_plans.proofs.KeptChildren.{usual_apart, usual_once}
+use Rattle.grown_plans.proofs.KeptChildren.{usual_apart, usual_once, usual_texts}
 use Rattle.grown_plans.proofs.laws.each_target_is_a_lawful_subject.Goals as goal
 
 pub returns : goal.returns
@@ -8,4 +8,5 @@ returns g c setup workload limit = record {
   within = g.met.T.Target.within setup workload;
   once = usual_once (cut_point g.T.Target.names);
   apart = usual_apart (cut_point g.T.Target.names);
+  texts = usual_texts (cut_point g.T.Target.names);
 }

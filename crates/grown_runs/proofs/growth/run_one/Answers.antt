@@ -2,9 +2,9 @@ use Rattle.std.proofs.Common.{◌≡◌, ◌++◌, ◌∷◌, ◌+◌, ◌<◌, 
 use Rattle.std.proofs.lemmas.List.{length-append}
 use Rattle.std.proofs.lemmas.List.Elements.{recursion_from_All}
 use Rattle.action_eval.specs.declared.rig.Rig.{Rig}
-use Rattle.action_eval.specs.Rigging.{CanBeRigged}
+use Rattle.action_eval.specs.Rigging.{CanBeRigged, HasLawfulText}
 use Rattle.plan_gen.specs.LoopRuns.{times}
-use Rattle.grown_plans.specs.GrownPlans.{Subject, kinds_at, rigs_of}
+use Rattle.grown_plans.specs.GrownPlans.{Subject, Tried, kinds_at, rigs_of}
 use Rattle.grown_plans.specs.Kept.{kept_children, plan_of}
 use Rattle.grown_plans.specs.AskedPoints.{is_last_return, is_asked_again, onward_if}
 use Rattle.grown_runs.specs.GrownRuns.{told, told_of_rigs, children_at, cause_by}
@@ -13,14 +13,14 @@ use Rattle.grown_plans.specs.Begun.{AreOrdinals, Serves}
 use Rattle.grown_runs.specs.inside.Beginnings.{MovesOn}
 use Rattle.grown_runs.proofs.Begins.{ordinals, serves_next, tells_next}
 use Rattle.grown_runs.proofs.Numbers.{asked_few}
-use Rattle.grown_runs.proofs.Growing.{growth_next, kept_few}
+use Rattle.grown_runs.proofs.Growing.{growth_next, children_few}
 use Rattle.grown_runs.proofs.growth.run_one.Goals as goal
 
 pub run-requires : goal.run-requires
 run-requires g c =
     let course = c.args.course.now in
     subst CanBeRigged (sym (c.as_slice-rigs.ensures.value ∙ c.in_ok-rigs_of.ensures ∙ ap rigs_of (c.as_slice.ensures.value ∙ c.in_ok-faults_of.ensures)))
-    (course.few_rigs c.args.number c.requires.within, recursion_from_All (λ (r : Rig). r.site.hit < 4294967296) _ (course.small_rigs c.args.number c.requires.within))
+    (course.few_rigs c.args.number c.requires.within, recursion_from_All (λ (r : Rig). r.site.hit < 4294967296) _ (course.small_rigs c.args.number c.requires.within), recursion_from_All (λ (r : Rig). HasLawfulText r.kind) _ (course.lawful_texts c.args.number c.requires.within))
 
 pub grow_one-requires-clause-number : goal.grow_one-requires-clause-number
 grow_one-requires-clause-number g c =
@@ -67,7 +67,7 @@ grow_one-requires-clause-few g c =
 
 pub overflow_add-growth : goal.overflow_add-growth
 overflow_add-growth g c =
-    let few = kept_few c.args.course.now.kinds c.args.number c.as_slice-2.result.now c.as_slice-asked.result.now in
+    let few = children_few c.args.course.now.kinds g.T.Target.names c.args.course.now.of_target c.args.number c.as_slice-2.result.now c.as_slice-asked.result.now in
     let asked = c.in_ok-verdict.ensures.few in
     let same = ap length c.as_slice-asked.ensures.value in
     let before = c.args.growth.now.bounded in
@@ -77,7 +77,7 @@ pub cause_of-requires : goal.cause_of-requires
 cause_of-requires g c =
     let course = c.args.course.now in
     subst CanBeRigged (sym (c.as_slice-rigs.ensures.value ∙ c.in_ok-rigs_of.ensures ∙ ap rigs_of (c.as_slice.ensures.value ∙ c.in_ok-faults_of.ensures)))
-    (course.few_rigs c.args.number c.requires.within, recursion_from_All (λ (r : Rig). r.site.hit < 4294967296) _ (course.small_rigs c.args.number c.requires.within))
+    (course.few_rigs c.args.number c.requires.within, recursion_from_All (λ (r : Rig). r.site.hit < 4294967296) _ (course.small_rigs c.args.number c.requires.within), recursion_from_All (λ (r : Rig). HasLawfulText r.kind) _ (course.lawful_texts c.args.number c.requires.within))
 
 pub returns-clause-begun : goal.returns-clause-begun
 returns-clause-begun g c =
@@ -112,7 +112,7 @@ returns-clause-grown g c = λ first count at was.
     let children_is : kept_children (kinds_at course.kinds) n c.as_slice-2.result.now c.as_slice-asked.result.now ≡ children_at t seed n plan =
     ap (λ (p : List Rig). kept_children (kinds_at course.kinds) n p c.as_slice-asked.result.now) faults_too
     ∙ ap (kept_children (kinds_at course.kinds) n plan) asked_is
-    ∙ ap (λ (cut : Option ℕ). kept_children (kinds_at cut) n plan (told t seed n plan).asked) course.of_target in
+    ∙ ap (λ (kinds : Tried). kept_children (kinds_at kinds) n plan (told t seed n plan).asked) course.of_target in
     growth_next t seed course.part course.plans.now first count n _ _ at was
     (c.in_ok-push.ensures.items ∙ ap (λ v. c.args.growth.now.verdicts.items ++ v ∷ []) verdict_is)
     (c.in_ok-growing.ensures.kept ∙ ap (λ l. c.args.growth.now.children.items ++ if_inner course.part.place l) children_is)
@@ -137,7 +137,7 @@ returns-clause-grown g c = λ first count at was.
 
 pub invariant_of-growth-in-Break-branch-6 : goal.invariant_of-growth-in-Break-branch-6
 invariant_of-growth-in-Break-branch-6 g c =
-    let few = kept_few c.args.course.now.kinds c.args.number c.as_slice-2.result.now c.as_slice-asked.result.now in
+    let few = children_few c.args.course.now.kinds g.T.Target.names c.args.course.now.of_target c.args.number c.as_slice-2.result.now c.as_slice-asked.result.now in
     let asked = c.in_ok-verdict.ensures.few in
     let same = ap length c.as_slice-asked.ensures.value in
     let before = c.args.growth.now.bounded in
@@ -147,7 +147,7 @@ invariant_of-growth-in-Break-branch-6 g c =
 
 pub invariant_of-growth-in-Break-branch-7 : goal.invariant_of-growth-in-Break-branch-7
 invariant_of-growth-in-Break-branch-7 g c =
-    let few = kept_few c.args.course.now.kinds c.args.number c.as_slice-2.result.now c.as_slice-asked.result.now in
+    let few = children_few c.args.course.now.kinds g.T.Target.names c.args.course.now.of_target c.args.number c.as_slice-2.result.now c.as_slice-asked.result.now in
     let asked = c.in_ok-verdict.ensures.few in
     let same = ap length c.as_slice-asked.ensures.value in
     let before = c.args.growth.now.bounded in
@@ -157,7 +157,7 @@ invariant_of-growth-in-Break-branch-7 g c =
 
 pub invariant_of-growth-2 : goal.invariant_of-growth-2
 invariant_of-growth-2 g c =
-    let few = kept_few c.args.course.now.kinds c.args.number c.as_slice-2.result.now c.as_slice-asked.result.now in
+    let few = children_few c.args.course.now.kinds g.T.Target.names c.args.course.now.of_target c.args.number c.as_slice-2.result.now c.as_slice-asked.result.now in
     let asked = c.in_ok-verdict.ensures.few in
     let same = ap length c.as_slice-asked.ensures.value in
     let before = c.args.growth.now.bounded in

@@ -10,4 +10,4 @@ add-requires g c =
     let within = c.requires.last in
     let le : c.args.last + (length plans - c.args.last) ≤ length plans = omega (arith, within) in
     subst (λ (gs : List Grew). GrewFrom (length plans) gs) (sym (c.as_slice.ensures.value ∙ c.in_ok-children.ensures))
-    (parents_low (kinds_at c.args.kinds) (g.T.RunTable.known c.args.table.now) plans c.args.last (length plans - c.args.last) (length plans) le)
+    (parents_low (kinds_at c.args.kinds.now) (g.T.RunTable.known c.args.table.now) plans c.args.last (length plans - c.args.last) (length plans) le)

@@ -4,5 +4,5 @@ use Rattle.known_runs.proofs.growing.children_from.Goals as goal
 
 pub loop-number-preserved : goal.loop-number-preserved
 loop-number-preserved g c =
-    over_step (kinds_at c.args.kinds) (g.T.RunTable.known c.args.table.now) c.args.plans.now c.args.first c.loop-number.number c.loop-number.children.items c.add_children_of.new.children.items c.loop-number.auto.number c.loop-number.invariant
+    over_step (kinds_at c.args.kinds.now) (g.T.RunTable.known c.args.table.now) c.args.plans.now c.args.first c.loop-number.number c.loop-number.children.items c.add_children_of.new.children.items c.loop-number.auto.number c.loop-number.invariant
     c.in_ok-add_children_of.ensures.children

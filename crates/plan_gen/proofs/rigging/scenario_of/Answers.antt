@@ -9,11 +9,11 @@ use Rattle.plan_gen.proofs.rigging.scenario_of.Goals as goal
 pub from_entries-requires : goal.from_entries-requires
 from_entries-requires c =
     let s = rigging (texts c.args.catalogue.now) c.args.rigs.now in
-    let i = rigging_keeps (texts c.args.catalogue.now) c.args.rigs.now c.requires.lawful c.requires.few c.requires.small in
+    let i = rigging_keeps (texts c.args.catalogue.now) c.args.rigs.now c.requires.lawful c.requires.few c.requires.small c.requires.texts in
     subst (λ (s : Entries). IsScenario s) (sym (c.in_ok-entries.ensures ∙ entries_same s i.distinct_names)) i
 
 pub returns : goal.returns
 returns c =
     let s = rigging (texts c.args.catalogue.now) c.args.rigs.now in
-    let i = rigging_keeps (texts c.args.catalogue.now) c.args.rigs.now c.requires.lawful c.requires.few c.requires.small in
+    let i = rigging_keeps (texts c.args.catalogue.now) c.args.rigs.now c.requires.lawful c.requires.few c.requires.small c.requires.texts in
     c.from_entries.ensures ∙ c.in_ok-entries.ensures ∙ entries_same s i.distinct_names

@@ -3,6 +3,7 @@ use Rattle.std.specs.List.{AllByRecursion}
 use Rattle.rand_chacha.specs.ChaCha.{ChaCha, word_at}
 use Rattle.action_eval.specs.Words.{at_word}
 use Rattle.action_eval.specs.declared.rig.Rig.{Rig}
+use Rattle.action_eval.specs.Rigging.{HaveLawfulTexts}
 use Rattle.plan_gen.proofs.StormLemmas.{storm_next, storm_is, storm_whole}
 use Rattle.plan_gen.proofs.storms.storm.Goals as goal
 
@@ -17,6 +18,7 @@ loop-site-init c =
       place = ap (λ (g : ChaCha). g.word_pos) c.generator-rng.ensures;
       room = search rules;
       small = subst (λ (l : List Rig). AllByRecursion (λ (r : Rig). r.site.hit < 2 ^ 32) l) (sym none) tt;
+      texts = subst HaveLawfulTexts (sym none) tt;
       few = omega (arith, ap (λ (l : List Rig). length l) none);
       built = none;
     }
@@ -32,6 +34,7 @@ loop-site-preserved c =
       place = search rules;
       room = search rules;
       small = search rules;
+      texts = search rules;
       few = search rules;
       built = storm_next (word_at 4 g.key g.stream) c.args.rate c.loop-site.site-index c.args.sites.now c.site-item.result _ c.next_word.result _ _ c.loop-site-test.true c.site-item.is word at.built c.draw.ensures.drawn;
     }

@@ -1,6 +1,7 @@
 use Rattle.std.proofs.Common.{◌≡◌, ◌≤◌, ◌<◌, ◌^◌, take, length, vec_capacity}
 use Rattle.std.specs.List.{AllByRecursion}
 use Rattle.rand_chacha.specs.ChaCha.{word_at}
+use Rattle.action_eval.specs.Rigging.{HaveLawfulTexts}
 use Rattle.plan_gen.specs.PlanList.{storm_by}
 use Rattle.plan_gen.proofs.storms.storm.Given as goal
 
@@ -11,6 +12,7 @@ invariant-loop-site l = record {
   place : l.rng.word_pos ≡ l.site-index;
   room : 64 ≤ vec_capacity l.rigs;
   small : AllByRecursion (λ r. r.site.hit < 2 ^ 32) l.rigs.items;
+  texts : HaveLawfulTexts l.rigs.items;
   few : length l.rigs.items ≤ 64;
   built : l.rigs.items ≡ storm_by (word_at 4 l.initial.rng.key l.initial.rng.stream) l.rate (take l.site-index l.sites);
 }

@@ -16,7 +16,7 @@ invariant_of-self-2 c =
     let laid = loaded_entries c.args.catalogue.now rigs _ _ _ refl c.in_ok-lay.ensures.sizes c.in_ok-lay.ensures.terms in (
       c.requires.lawful.distinct,
       loaded_sizes c.args.catalogue.now rigs _ _ _ refl c.in_ok-lay.ensures.sizes c.in_ok-lay.ensures.terms,
-      subst (λ (s : Entries). IsScenario s) (sym laid) (rigging_keeps names rigs c.requires.lawful c.requires.small.0 c.requires.small.1),
+      subst (λ (s : Entries). IsScenario s) (sym laid) (rigging_keeps names rigs c.requires.lawful c.requires.small.0 c.requires.small.1 c.requires.small.2),
     )
 
 pub returns-clause-ok : goal.returns-clause-ok

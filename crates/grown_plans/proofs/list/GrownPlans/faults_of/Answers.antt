@@ -16,9 +16,9 @@ loop-number-smaller c =
     let plans = from_length ([] ∷ []) gs in
     let lt : c.loop-number.number - 1 < length gs = omega (arith, many, plans, c.loop-number.invariant.within, c.loop-number-test.true) in
     let child = c.index-child.result.now in
-    (step_back c.args.self.now gs c.loop-number.number c.parent-number.result child c.fault.result c.loop-number.faults.items c.push.new.self.items _
+    (step_back c.args.self.now gs c.loop-number.number c.parent-number.result child c.fault-kind.result c.loop-number.faults.items c.push.new.self.items _
     c.self.view_is c.self.invariant c.loop-number.invariant.within c.loop-number-test.true
-    (get_or_read gs (c.loop-number.number - 1) child lt c.index-child.ensures child) c.parent-number.ensures c.fault.ensures
+    (get_or_read gs (c.loop-number.number - 1) child lt c.index-child.ensures child) c.parent-number.ensures c.fault-kind.ensures
     c.in_ok-push.ensures.items c.loop-number.invariant.rest).0
 
 pub loop-number-preserved : goal.loop-number-preserved
@@ -29,9 +29,9 @@ loop-number-preserved c =
     let lt : c.loop-number.number - 1 < length gs = omega (arith, many, plans, c.loop-number.invariant.within, c.loop-number-test.true) in
     let child = c.index-child.result.now in
     let back =
-    step_back c.args.self.now gs c.loop-number.number c.parent-number.result child c.fault.result c.loop-number.faults.items c.push.new.self.items _
+    step_back c.args.self.now gs c.loop-number.number c.parent-number.result child c.fault-kind.result c.loop-number.faults.items c.push.new.self.items _
     c.self.view_is c.self.invariant c.loop-number.invariant.within c.loop-number-test.true
-    (get_or_read gs (c.loop-number.number - 1) child lt c.index-child.ensures child) c.parent-number.ensures c.fault.ensures
+    (get_or_read gs (c.loop-number.number - 1) child lt c.index-child.ensures child) c.parent-number.ensures c.fault-kind.ensures
     c.in_ok-push.ensures.items c.loop-number.invariant.rest in
     record { within = back.1; rest = back.2 }
 

@@ -24,4 +24,4 @@ returns-in-OnwardReturn c =
     no_return_last c.args.self.now c.self.inside.children.items c.args.number c.index-child.result.now c.fault.result
     c.self.view_is c.self.invariant c.requires (omega (arith, c.if-number-eq0.false))
     c.index-child.ensures
-    c.fault.ensures (elim c.in-OnwardReturn.is [ inl e ↦ ap is_once_return e | inr e ↦ ap is_once_return e ])
+    c.fault.ensures (elim c.in-OnwardReturn.is [ inl e ↦ ap is_once_return e.1 | inr e ↦ ap is_once_return e ])
