@@ -18,8 +18,8 @@ use Rattle.campaign_map.specs.declared.fronts.Grid.TheVariants.{Sites, Squares}
 use Rattle.campaign_map.proofs.Places.{place_below, one_point}
 
 way_small : (k : Kind) → way k ≤ 1
-way_small OnceReturn = omega arith
-way_small OnwardReturn = omega arith
+way_small (OnceReturn text) = omega arith
+way_small (OnwardReturn text) = omega arith
 way_small OncePanic = omega arith
 
 -- two faults at one hit that act in one way

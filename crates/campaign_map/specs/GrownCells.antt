@@ -39,10 +39,10 @@ nowhere = record { first = None; second = None; is_deeper = true }
 abbrev pub front_at : List Front → ℕ → Front
 front_at fs number = slice_index_or fs number nowhere
 
--- the way in which a fault acts: a return, also one from then on, or a panic
+-- the way in which a fault acts: a return, whatever its text and also from then on, or a panic
 abbrev pub way : Kind → ℕ
-way OnceReturn = 0
-way OnwardReturn = 0
+way (OnceReturn text) = 0
+way (OnwardReturn text) = 0
 way OncePanic = 1
 
 abbrev pub is_same : Rig → Rig → Bool

@@ -85,12 +85,12 @@ pub fn front_at(fronts: &[Front], number: usize) -> Front
     }
 }
 
-/// The way in which a fault acts, as a number.
+/// The way in which a fault acts, as a number: a return, whatever its text, or a panic.
 pub fn way(kind: Kind) -> usize
     ensures { result ≡ way kind }
 {
     match kind {
-        Kind::OnceReturn | Kind::OnwardReturn => 0,
+        Kind::OnceReturn(_) | Kind::OnwardReturn(_) => 0,
         Kind::OncePanic => 1,
     }
 }

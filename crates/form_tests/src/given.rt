@@ -5,7 +5,7 @@ ghost use Rattle.action_eval.specs.Answers.{texts};
 use campaign_plans::CampaignPlans;
 use file_replace::Replace;
 use plan_gen::{Census, PlanList, PlanSettings, further_plans};
-use report::{Cause, Finding, Names, Report};
+use report::{Cause, Finding, Names, Report, brief_text};
 use report_json::json_text;
 use report_junit::junit_text;
 use scenario_grammar::parse;
@@ -106,6 +106,22 @@ pub fn json_of<N: Names>(
         return Err(Fail::from("no verdict for each plan"));
     }
     Ok(json_text(alloc, names, report, &CampaignPlans::by_census(plans))?)
+}
+
+/// The brief text of a report, where there is a verdict for each plan.
+pub fn brief_of<N: Names>(
+    alloc: Global,
+    names: &N,
+    report: &Report<'_>,
+    plans: &PlanList<'_>,
+) -> Result<Vec<u8>, Fail>
+    requires counts { length report.now.census ≡ length (N.points names.now) }
+    requires reached { IfSome report.now.growth (λ growth. length growth.reached ≡ length (N.points names.now)) }
+{
+    if report.verdicts.len() != plans.len() {
+        return Err(Fail::from("no verdict for each plan"));
+    }
+    Ok(brief_text(alloc, names, report, &CampaignPlans::by_census(plans))?)
 }
 
 /// The JUnit document of a report, where there is a verdict for each plan.

@@ -139,12 +139,14 @@ fn a_document_tells_a_whole_report(rt: HostRuntime) -> Result<(), Fail> {
         clean: Verdict::Pass,
         census: &[1, 2],
         verdicts: &verdicts,
+        unmet: 0,
         findings,
         growth: Some(Growth {
             depth: 2,
             levels: &[1, 3],
             onward: 1,
             beyond: 6,
+            unseen: 0,
             reached: &[1, 3],
             causes,
         }),
@@ -189,6 +191,7 @@ fn a_document_tells_an_empty_report(rt: HostRuntime) -> Result<(), Fail> {
         clean: Verdict::Unresolved,
         census: &[],
         verdicts: &[],
+        unmet: 0,
         findings: Vec::new(alloc),
         growth: None,
     };
@@ -238,6 +241,7 @@ fn a_reader_finds_names_of_all_characters(rt: HostRuntime) -> Result<(), Fail> {
         clean: Verdict::Fail(0),
         census: &[3],
         verdicts: &verdicts,
+        unmet: 0,
         findings: Vec::new(alloc),
         growth: None,
     };

@@ -61,6 +61,7 @@ fn a_suite_has_a_case_for_each_plan(rt: HostRuntime) -> Result<(), Fail> {
         clean: Verdict::Pass,
         census: &[1, 2],
         verdicts: &verdicts,
+        unmet: 0,
         findings,
         growth: None,
     };
@@ -90,6 +91,7 @@ fn an_empty_report_is_an_empty_suite(rt: HostRuntime) -> Result<(), Fail> {
         clean: Verdict::Unresolved,
         census: &[],
         verdicts: &[],
+        unmet: 0,
         findings: Vec::new(alloc),
         growth: None,
     };

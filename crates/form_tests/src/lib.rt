@@ -1,4 +1,4 @@
-//! Tests of reports for machines, through calls of the library: the texts of small reports, and that a reader of JSON finds in a document
+//! Tests of the forms of reports, through calls of the library: the texts of small reports, and that a reader of JSON finds in a document
 //! what the report tells. What is expected was written by hand, from docs/MACHINES.md.
 #![tactic(auto)]
 
@@ -10,3 +10,5 @@ mod given;
 mod json_forms;
 #[cfg(test)]
 mod junit_forms;
+#[cfg(test)]
+mod rare_counts;

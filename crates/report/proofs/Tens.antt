@@ -31,7 +31,7 @@ three_pieces : (v t rest : List ℕ) (d : ℕ) → (v ++ t) ++ (d ∷ rest) ≡ 
 three_pieces v t rest d = simp append_assoc
 
 passed_is : (code_name : ℕ → List ℕ) (ten k : ℕ) → k < 10 → 10 * ten + k < 2 ^ 64
-    → passed_line ten (48 + k) ≡ ended (verdict_line code_name (10 * ten + k) verdict.Pass)
+    → passed_line ten (48 + k) ≡ ended (verdict_line code_name (10 * ten + k, verdict.Pass))
 passed_is code_name ten k lt fits =
     let n = 10 * ten + k in
     let tens : n / 10 ≡ ten = omega (arith, lt) in
@@ -55,7 +55,7 @@ passed_rest code_name ten k (verdict.Pass ∷ vs) pass len fits =
     ap (flat_map (passed_line ten)) (drop_more (codes "0123456789") k 0 lt)
     ∙ ap (λ d. passed_line ten d ++ flat_map (passed_line ten) (drop (k + 1) (codes "0123456789"))) (digit_at k lt)
     ∙ ap (λ t. t ++ flat_map (passed_line ten) (drop (k + 1) (codes "0123456789"))) (passed_is code_name ten k lt (omega (arith, lt, fits)))
-    ∙ ap (λ t. ended (verdict_line code_name (10 * ten + k) verdict.Pass) ++ t) (rest ∙ ap (λ n. text_of (verdict_lines code_name n vs)) next)
+    ∙ ap (λ t. ended (verdict_line code_name (10 * ten + k, verdict.Pass)) ++ t) (rest ∙ ap (λ n. text_of (verdict_lines code_name n vs)) next)
 passed_rest code_name ten k (verdict.Fail code ∷ vs) pass len fits = absurd (false≢true pass)
 passed_rest code_name ten k (verdict.Unresolved ∷ vs) pass len fits = absurd (false≢true pass)
 

@@ -21,7 +21,7 @@ verdict_lines-append : (code_name : ℕ → List ℕ) (n : ℕ) (vs more : List 
 verdict_lines-append code_name n [] more = ap (λ k. verdict_lines code_name k more) (omega arith)
 verdict_lines-append code_name n (v ∷ vs) more =
     let at : n + 1 + length vs ≡ n + length (v ∷ vs) = omega arith in
-    ap (λ ls. verdict_line code_name n v ∷ ls) (verdict_lines-append code_name (n + 1) vs more
+    ap (λ ls. verdict_line code_name (n, v) ∷ ls) (verdict_lines-append code_name (n + 1) vs more
     ∙ ap (λ k. verdict_lines code_name (n + 1) vs ++ verdict_lines code_name k more) at)
 
 -- the lines of the next ten verdicts are written
@@ -72,8 +72,13 @@ on_ok_if (Err y) x a b e = tt
 pub five_pieces : (o a b c d e : List ℕ) → ((o ++ (a ++ (b ++ (c ++ d)))) ++ e) ++ 10 ∷ [] ≡ o ++ ((a ++ b ++ c ++ d ++ e) ++ 10 ∷ [])
 five_pieces o a b c d e = simp append_assoc
 
--- the lists of lines of a brief report, from the last on
-pub joined_lines : (head census growth told found causes : List (List ℕ)) (plans counts : List ℕ)
-    → (head ++ census ++ growth ++ plans ∷ []) ++ (counts ∷ (told ++ (found ++ causes)))
-    ≡ head ++ census ++ growth ++ plans ∷ counts ∷ [] ++ told ++ found ++ causes
-joined_lines head census growth told found causes plans counts = sym (simp append_assoc)
+-- the lists of lines of a report, from the last on
+pub joined_whole : (head census growth each unmet found causes : List (List ℕ)) (plans : List ℕ)
+    → (head ++ census ++ growth ++ plans ∷ []) ++ (each ++ (unmet ++ found ++ causes)) ≡ head ++ census ++ growth ++ plans ∷ [] ++ each ++ unmet ++ found ++ causes
+joined_whole head census growth each unmet found causes plans = sym (simp append_assoc)
+
+-- those of a brief one
+pub joined_lines : (head census growth told unmet found causes : List (List ℕ)) (plans counts : List ℕ)
+    → (head ++ census ++ growth ++ plans ∷ []) ++ (counts ∷ (told ++ (unmet ++ found ++ causes)))
+    ≡ head ++ census ++ growth ++ plans ∷ counts ∷ [] ++ told ++ unmet ++ found ++ causes
+joined_lines head census growth told unmet found causes plans counts = sym (simp append_assoc)

@@ -3,7 +3,7 @@ use Rattle.std.proofs.Common.{◌≡◌, ℕ, ◌+◌, ◌<◌, List, ◌∷◌,
 use Rattle.std.specs.List.{flat_map}
 use Rattle.std.proofs.lemmas.List.Concat.{flat_map-append}
 use Rattle.report.specs.Reports.{FindingFacts}
-use Rattle.report.specs.ReportText.{census_line, census_lines, reached_line, reached_lines, finding_lines, ended, text_of}
+use Rattle.report.specs.ReportText.{point_line, point_lines, finding_lines, ended, text_of}
 
 pub goes_on : {A : Type 0} (old new here rest whole : List A) → old ++ (here ++ rest) ≡ whole → new ≡ old ++ here → new ++ rest ≡ whole
 goes_on old new here rest whole h e = ap (λ r. r ++ rest) e ∙ append_assoc old here rest ∙ h
@@ -11,18 +11,12 @@ goes_on old new here rest whole h e = ap (λ r. r ++ rest) e ∙ append_assoc ol
 pub next_of : {A : Type 0} (xs : List A) (i : ℕ) (d : A) → i < length xs → drop i xs ≡ get_or xs i d ∷ drop (i + 1) xs
 next_of xs i d h = drop-cons xs i d h ∙ ap (λ k. get_or xs i d ∷ drop k xs) (sym (add-one i))
 
-pub census_next : (old new : List ℕ) (name : List ℕ) (n : ℕ) (names rest : List (List ℕ)) (counts left whole : List ℕ) → names ≡ name ∷ rest → counts ≡ n ∷ left
-    → new ≡ old ++ ended (census_line name n) → old ++ text_of (census_lines names counts) ≡ whole → new ++ text_of (census_lines rest left) ≡ whole
-census_next old new name n names rest counts left whole a b added h =
-    goes_on old new (ended (census_line name n)) (text_of (census_lines rest left)) whole
-    (ap (λ (l : List ℕ). old ++ text_of (census_lines (name ∷ rest) l)) (sym b) ∙ ap (λ (l : List (List ℕ)). old ++ text_of (census_lines l counts)) (sym a)
-    ∙ h) added
-
-pub reached_next : (old new : List ℕ) (name : List ℕ) (n : ℕ) (names rest : List (List ℕ)) (counts left whole : List ℕ) → names ≡ name ∷ rest → counts ≡ n ∷ left
-    → new ≡ old ++ ended (reached_line name n) → old ++ text_of (reached_lines names counts) ≡ whole → new ++ text_of (reached_lines rest left) ≡ whole
-reached_next old new name n names rest counts left whole a b added h =
-    goes_on old new (ended (reached_line name n)) (text_of (reached_lines rest left)) whole
-    (ap (λ (l : List ℕ). old ++ text_of (reached_lines (name ∷ rest) l)) (sym b) ∙ ap (λ (l : List (List ℕ)). old ++ text_of (reached_lines l counts)) (sym a)
+-- the line of the next point is written
+pub point_next : (word old new name : List ℕ) (n : ℕ) (names rest : List (List ℕ)) (counts left whole : List ℕ) → names ≡ name ∷ rest → counts ≡ n ∷ left
+    → new ≡ old ++ ended (point_line word (name, n)) → old ++ text_of (point_lines word names counts) ≡ whole → new ++ text_of (point_lines word rest left) ≡ whole
+point_next word old new name n names rest counts left whole a b added h =
+    goes_on old new (ended (point_line word (name, n))) (text_of (point_lines word rest left)) whole
+    (ap (λ (l : List ℕ). old ++ text_of (point_lines word (name ∷ rest) l)) (sym b) ∙ ap (λ (l : List (List ℕ)). old ++ text_of (point_lines word l counts)) (sym a)
     ∙ h) added
 
 -- the line of the next element is written

@@ -1,12 +1,13 @@
 -- The lines of a brief report: one line of counts in place of the verdicts that pass, and its scenario beside each other verdict.
-use Rattle.std.specs.Prelude.{ℕ, ◌+◌, ◌==◌, Bool, true, false, List, [], ◌∷◌, ◌++◌, codes, flat_map, count_by}
+use Rattle.std.specs.Prelude.{ℕ, ◌+◌, ◌==◌, Bool, false, List, [], ◌∷◌, ◌++◌, codes, flat_map, count_by}
 use Rattle.std.specs.Fmt.{decimal}
 use Rattle.scenario_values.specs.Scenario.{Entries}
 use Rattle.target_trait.specs.declared.judgement.Verdict.{Verdict}
 use Rattle.target_trait.specs.declared.judgement.Verdict.TheVariants as verdict
 use Rattle.target_trait.specs.Verdicts.{is_pass, is_unresolved}
 use Rattle.report.specs.Reports.{FindingFacts, ReportFacts}
-use Rattle.report.specs.ReportText.{verdict_text, scenario_text, head_lines, census_lines, growth_lines, count_line, findings_lines, causes_lines}
+use Rattle.report.specs.ReportText.{verdict_text, scenario_text, head_lines, point_lines, growth_lines, count_line, nonzero_lines}
+use Rattle.report.specs.ReportText.{findings_lines, causes_lines}
 
 -- whether a verdict is a failure with this code
 abbrev pub is_fail_with : ℕ → Verdict → Bool
@@ -47,9 +48,10 @@ told_lines code_name n (v ∷ vs) (plan ∷ plans) = told_line_of code_name n v 
 abbrev pub brief_lines : List (List ℕ) → (ℕ → List ℕ) → ReportFacts → List Entries → List (List ℕ)
 brief_lines names code_name report plans =
     head_lines code_name report
-    ++ census_lines names report.census
+    ++ point_lines (codes "census") names report.census
     ++ growth_lines names report.growth
     ++ count_line report.verdicts ∷ counts_line code_name report.verdicts report.findings ∷ []
     ++ told_lines code_name 0 report.verdicts plans
+    ++ nonzero_lines (codes "unmet") report.unmet
     ++ findings_lines code_name report.findings
     ++ causes_lines code_name report.growth

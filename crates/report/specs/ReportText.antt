@@ -1,5 +1,6 @@
 -- The words and lines of a report. A target gives the names of its points and codes.
-use Rattle.std.specs.Prelude.{ℕ, ◌+◌, List, [], ◌∷◌, ◌++◌, length, map, codes, flat_map, Option, None, Some}
+use Rattle.std.specs.Prelude.{ℕ, zero, suc, List, [], ◌∷◌, ◌++◌, length, map, zip, codes, flat_map, Option, None, Some}
+use Rattle.std.specs.List.{enumerate_from}
 use Rattle.std.specs.Fmt.{decimal}
 use Rattle.scenario_values.specs.Scenario.{Entries}
 use Rattle.scenario_values.specs.Printed.{printed}
@@ -23,56 +24,45 @@ abbrev pub head_lines : (ℕ → List ℕ) → ReportFacts → List (List ℕ)
 head_lines code_name report =
     (codes "target " ++ report.label) ∷ (codes "seed " ++ decimal report.seed) ∷ (codes "clean " ++ verdict_text code_name report.clean) ∷ []
 
--- a point with how often it is asked
-abbrev pub census_line : List ℕ → ℕ → List ℕ
-census_line point count = codes "census " ++ point ++ codes " " ++ decimal count
+-- a word, a point and so many hits of it
+abbrev pub point_line : List ℕ → List ℕ × ℕ → List ℕ
+point_line word hits = word ++ codes " " ++ hits.0 ++ codes " " ++ decimal hits.1
 
 -- a line for each point, in the order of the catalogue
-abbrev pub census_lines : List (List ℕ) → List ℕ → List (List ℕ)
-census_lines [] counts = []
-census_lines (point ∷ points) [] = []
-census_lines (point ∷ points) (count ∷ counts) = census_line point count ∷ census_lines points counts
+abbrev pub point_lines : List ℕ → List (List ℕ) → List ℕ → List (List ℕ)
+point_lines word names counts = map (point_line word) (zip names counts)
 
 -- a level with how many plans it has
-abbrev pub level_line : ℕ → ℕ → List ℕ
-level_line level plans = codes "level " ++ decimal level ++ codes " " ++ decimal plans
+abbrev pub level_line : ℕ × ℕ → List ℕ
+level_line level = codes "level " ++ decimal level.0 ++ codes " " ++ decimal level.1
 
--- a line for each level, of levels numbered from n on
-abbrev pub level_lines : ℕ → List ℕ → List (List ℕ)
-level_lines n [] = []
-level_lines n (plans ∷ more) = level_line n plans ∷ level_lines (n + 1) more
+-- a count behind its word, where it isn't 0
+abbrev pub nonzero_lines : List ℕ → ℕ → List (List ℕ)
+nonzero_lines word zero = []
+nonzero_lines word (suc n) = (word ++ codes " " ++ decimal (suc n)) ∷ []
 
--- a point with the most hits that a run has of it
-abbrev pub reached_line : List ℕ → ℕ → List ℕ
-reached_line point hits = codes "reached " ++ point ++ codes " " ++ decimal hits
-
--- a line for each point, in the order of the catalogue
-abbrev pub reached_lines : List (List ℕ) → List ℕ → List (List ℕ)
-reached_lines [] counts = []
-reached_lines (point ∷ points) [] = []
-reached_lines (point ∷ points) (hits ∷ counts) = reached_line point hits ∷ reached_lines points counts
-
--- of a campaign with a depth: the depth, the levels from 0 on, how many plans go onward and how many lie beyond, and what is reached
+-- of a campaign with a depth: the depth, the levels from 0 on, how many plans go onward, how many lie beyond and of how many the hits aren't
+-- known, and what is reached
 abbrev pub growth_lines : List (List ℕ) → Option GrowthFacts → List (List ℕ)
 growth_lines names None = []
 growth_lines names (Some growth) =
     (codes "depth " ++ decimal growth.depth) ∷ []
-    ++ level_lines 0 growth.levels
+    ++ map level_line (enumerate_from 0 growth.levels)
     ++ (codes "onward " ++ decimal growth.onward) ∷ (codes "beyond " ++ decimal growth.beyond) ∷ []
-    ++ reached_lines names growth.reached
+    ++ nonzero_lines (codes "unseen") growth.unseen
+    ++ point_lines (codes "reached") names growth.reached
 
 -- how many plans there are
 abbrev pub count_line : List Verdict → List ℕ
 count_line verdicts = codes "plans " ++ decimal (length verdicts)
 
 -- a plan's number and verdict
-abbrev pub verdict_line : (ℕ → List ℕ) → ℕ → Verdict → List ℕ
-verdict_line code_name number verdict = codes "verdict " ++ decimal number ++ codes " " ++ verdict_text code_name verdict
+abbrev pub verdict_line : (ℕ → List ℕ) → ℕ × Verdict → List ℕ
+verdict_line code_name plan = codes "verdict " ++ decimal plan.0 ++ codes " " ++ verdict_text code_name plan.1
 
 -- a line for each plan, of plans numbered from n on
 abbrev pub verdict_lines : (ℕ → List ℕ) → ℕ → List Verdict → List (List ℕ)
-verdict_lines code_name n [] = []
-verdict_lines code_name n (v ∷ vs) = verdict_line code_name n v ∷ verdict_lines code_name (n + 1) vs
+verdict_lines code_name n verdicts = map (verdict_line code_name) (enumerate_from n verdicts)
 
 -- the plan's number and the name of its code, its scenario, what that was reduced to, and the tests
 abbrev pub finding_lines : (ℕ → List ℕ) → FindingFacts → List (List ℕ)
@@ -102,10 +92,11 @@ causes_lines code_name (Some growth) = (codes "causes " ++ decimal (length growt
 abbrev pub report_lines : List (List ℕ) → (ℕ → List ℕ) → ReportFacts → List (List ℕ)
 report_lines names code_name report =
     head_lines code_name report
-    ++ census_lines names report.census
+    ++ point_lines (codes "census") names report.census
     ++ growth_lines names report.growth
     ++ count_line report.verdicts ∷ []
     ++ verdict_lines code_name 0 report.verdicts
+    ++ nonzero_lines (codes "unmet") report.unmet
     ++ findings_lines code_name report.findings
     ++ causes_lines code_name report.growth
 

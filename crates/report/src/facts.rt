@@ -63,6 +63,8 @@ pub struct Growth<'a> {
     pub onward: u32,
     /// How many plans the level after the last one would have.
     pub beyond: u64,
+    /// How many plans were run whose hits aren't known, so that nothing grew from them; 0 of targets, whose hits are always known.
+    pub unseen: u32,
     /// The most hits that a run of these plans has of each point, in the order of the target's catalogue.
     pub reached: &'a [u32],
     /// The causes, in the order of the plans' numbers; empty where there is none.
@@ -79,6 +81,7 @@ impl<'a> Model for Growth<'a> {
       levels = g.levels.now;
       onward = g.onward;
       beyond = g.beyond;
+      unseen = g.unseen;
       reached = g.reached.now;
       causes = g.causes.items;
     } };
@@ -97,6 +100,9 @@ pub struct Report<'a> {
     pub census: &'a [u32],
     /// The verdict of each plan, in the order of the plans' numbers, from 0.
     pub verdicts: &'a [Verdict],
+    /// How many plans pass whose run was told with its hits, and a fault of whose scenario never acted in it: it wasn't met. 0 of targets that
+    /// the program runs itself, of which this isn't counted.
+    pub unmet: u32,
     /// The first failure of each code that a plan fails with, in the order of the plans' numbers; empty where no plan fails.
     pub findings: Vec<Finding>,
     /// How the campaign grew, of one with a depth.
@@ -114,6 +120,7 @@ impl<'a> Model for Report<'a> {
       clean = r.clean;
       census = r.census.now;
       verdicts = r.verdicts.now;
+      unmet = r.unmet;
       findings = r.findings.items;
       growth = r.growth;
     } };

@@ -1,22 +1,23 @@
 //! The lines of a report on how a campaign grew.
 ghost use Rattle.std.specs.Prelude.{◌≡◌, ◌++◌, ◌∷◌, [], length, map, string_bytes, codes, IfSome, OnOk};
 ghost use Rattle.std.specs.Fmt.{decimal};
-ghost use Rattle.report.specs.ReportText.{level_line, level_lines, reached_line, reached_lines, growth_lines, cause_line, causes_lines, ended, text_of};
+ghost use Rattle.std.specs.List.{enumerate_from};
+ghost use Rattle.report.specs.ReportText.{level_line, nonzero_lines, growth_lines, cause_line, causes_lines, ended, text_of};
 
 use crate::facts::{Cause, Growth};
-use crate::lines::write_scenario;
+use crate::lines::{write_nonzero, write_points, write_scenario};
 use crate::names::Names;
 use std::alloc::{AllocError, Global};
 use std::fmt::Write;
 
 fn write_level(out: &mut String, level: usize, plans: u32) -> Result<(), AllocError>
-    ensures { OnOk result (string_bytes out.new ≡ string_bytes out.old ++ ended (level_line level plans)) }
+    ensures { OnOk result (string_bytes out.new ≡ string_bytes out.old ++ ended (level_line (level, plans))) }
 {
     writeln!(out, "level {level} {plans}")
 }
 
 fn write_levels(out: &mut String, levels: &[u32]) -> Result<(), AllocError>
-    ensures { OnOk result (string_bytes out.new ≡ string_bytes out.old ++ text_of (level_lines 0 levels.now)) }
+    ensures { OnOk result (string_bytes out.new ≡ string_bytes out.old ++ text_of (map level_line (enumerate_from 0 levels.now))) }
 {
     for (level, plans) in levels.iter().enumerate() {
         write_level(out, level, *plans)?;
@@ -24,33 +25,19 @@ fn write_levels(out: &mut String, levels: &[u32]) -> Result<(), AllocError>
     Ok(())
 }
 
-fn write_reached_point(out: &mut String, name: &str, hits: u32) -> Result<(), AllocError>
-    ensures { OnOk result (string_bytes out.new ≡ string_bytes out.old ++ ended (reached_line name.now hits)) }
-{
-    writeln!(out, "reached {name} {hits}")
-}
-
-fn write_reached<N: Names>(out: &mut String, names: &N, reached: &[u32]) -> Result<(), AllocError>
-    requires { length reached.now ≡ length (N.points names.now) }
-    ensures { OnOk result (string_bytes out.new ≡ string_bytes out.old ++ text_of (reached_lines (N.points names.now) reached.now)) }
-{
-    for (number, hits) in reached.iter().enumerate() {
-        write_reached_point(out, names.point(number), *hits)?;
-    }
-    Ok(())
-}
-
 fn write_sizes(out: &mut String, growth: &Growth<'_>) -> Result<(), AllocError>
     ensures { OnOk result (string_bytes out.new ≡ string_bytes out.old ++ text_of ((codes "depth " ++ decimal growth.now.depth) ∷ []
-        ++ level_lines 0 growth.now.levels
-        ++ (codes "onward " ++ decimal growth.now.onward) ∷ (codes "beyond " ++ decimal growth.now.beyond) ∷ [])) }
+        ++ map level_line (enumerate_from 0 growth.now.levels)
+        ++ (codes "onward " ++ decimal growth.now.onward) ∷ (codes "beyond " ++ decimal growth.now.beyond) ∷ []
+        ++ nonzero_lines (codes "unseen") growth.now.unseen)) }
 {
     let depth = growth.depth;
     let onward = growth.onward;
     let beyond = growth.beyond;
     writeln!(out, "depth {depth}")?;
     write_levels(out, growth.levels)?;
-    writeln!(out, "onward {onward}\nbeyond {beyond}")
+    writeln!(out, "onward {onward}\nbeyond {beyond}")?;
+    write_nonzero(out, "unseen", growth.unseen)
 }
 
 /// Nothing where the campaign has no depth.
@@ -66,7 +53,7 @@ pub(crate) fn write_growth<N: Names>(
         None => Ok(()),
         Some(growth) => {
             write_sizes(out, growth)?;
-            write_reached(out, names, growth.reached)
+            write_points(out, "reached", names, growth.reached)
         }
     }
 }

@@ -2,10 +2,10 @@
 ghost use Rattle.std.specs.Prelude.{◌≡◌, ◌+◌, ◌-◌, ◌*◌, ◌%◌, ◌^◌, ◌<◌, ◌++◌, ◌∷◌, [], length, string_bytes, codes, IfOk, IfSome, OnOk};
 ghost use Rattle.std.specs.Fmt.{decimal};
 ghost use Rattle.std.specs.List.{list_all};
-ghost use Rattle.report.specs.ReportText.{verdict_text, scenario_text, head_lines, census_line, census_lines, growth_lines, count_line, verdict_line};
+ghost use Rattle.report.specs.ReportText.{verdict_text, scenario_text, head_lines, point_line, point_lines, growth_lines, nonzero_lines, count_line};
 ghost use Rattle.target_trait.specs.Verdicts.{is_pass};
 ghost use Rattle.report.specs.inside.Tens.{tens_of, ten_passed};
-ghost use Rattle.report.specs.ReportText.{verdict_lines, finding_lines, findings_lines, causes_lines, report_lines, ended, text_of};
+ghost use Rattle.report.specs.ReportText.{verdict_line, verdict_lines, finding_lines, findings_lines, causes_lines, report_lines, ended, text_of};
 
 use crate::facts::{Finding, Report};
 use crate::growing::{write_causes, write_growth};
@@ -39,18 +39,24 @@ fn write_head<N: Names>(
     out.push_str("\n")
 }
 
-fn write_point(out: &mut String, name: &str, count: u32) -> Result<(), AllocError>
-    ensures { OnOk result (string_bytes out.new ≡ string_bytes out.old ++ ended (census_line name.now count)) }
+fn write_point(out: &mut String, word: &str, name: &str, hits: u32) -> Result<(), AllocError>
+    ensures { OnOk result (string_bytes out.new ≡ string_bytes out.old ++ ended (point_line word.now (name.now, hits))) }
 {
-    writeln!(out, "census {name} {count}")
+    writeln!(out, "{word} {name} {hits}")
 }
 
-fn write_census<N: Names>(out: &mut String, names: &N, counts: &[u32]) -> Result<(), AllocError>
+/// A line for each point, with its hits behind this word.
+pub(crate) fn write_points<N: Names>(
+    out: &mut String,
+    word: &str,
+    names: &N,
+    counts: &[u32],
+) -> Result<(), AllocError>
     requires { length counts.now ≡ length (N.points names.now) }
-    ensures { OnOk result (string_bytes out.new ≡ string_bytes out.old ++ text_of (census_lines (N.points names.now) counts.now)) }
+    ensures { OnOk result (string_bytes out.new ≡ string_bytes out.old ++ text_of (point_lines word.now (N.points names.now) counts.now)) }
 {
-    for (number, count) in counts.iter().enumerate() {
-        write_point(out, names.point(number), *count)?;
+    for (number, hits) in counts.iter().enumerate() {
+        write_point(out, word, names.point(number), *hits)?;
     }
     Ok(())
 }
@@ -115,7 +121,7 @@ fn write_numbered<N: Names>(
     number: usize,
     verdict: Verdict,
 ) -> Result<(), AllocError>
-    ensures { OnOk result (out.new.items ≡ out.old.items ++ ended (verdict_line (N.code_text names.now) number verdict)) }
+    ensures { OnOk result (out.new.items ≡ out.old.items ++ ended (verdict_line (N.code_text names.now) (number, verdict))) }
 {
     let mut digits = Buffer::new();
     line.clear();
@@ -208,6 +214,16 @@ pub fn write_scenario(
     out.push_str(text.as_str())
 }
 
+/// A count behind its word, where it isn't 0.
+pub(crate) fn write_nonzero(out: &mut String, word: &str, count: u32) -> Result<(), AllocError>
+    ensures { OnOk result (string_bytes out.new ≡ string_bytes out.old ++ text_of (nonzero_lines word.now count)) }
+{
+    if count == 0 {
+        return Ok(());
+    }
+    writeln!(out, "{word} {count}")
+}
+
 fn write_finding<N: Names>(
     alloc: Global,
     out: &mut String,
@@ -258,12 +274,12 @@ pub(crate) fn write_front<N: Names>(
     requires counts { length report.now.census ≡ length (N.points names.now) }
     requires reached { IfSome report.now.growth (λ growth. length growth.reached ≡ length (N.points names.now)) }
     ensures { OnOk result (string_bytes out.new ≡ string_bytes out.old ++ text_of (head_lines (N.code_text names.now) report.now
-        ++ census_lines (N.points names.now) report.now.census
+        ++ point_lines (codes "census") (N.points names.now) report.now.census
         ++ growth_lines (N.points names.now) report.now.growth
         ++ count_line report.now.verdicts ∷ [])) }
 {
     write_head(out, names, report.label, report.seed, report.clean)?;
-    write_census(out, names, report.census)?;
+    write_points(out, "census", names, report.census)?;
     write_growth(out, names, &report.growth)?;
     write_count(out, report.verdicts.len())
 }
@@ -275,9 +291,11 @@ pub(crate) fn write_end<N: Names>(
     names: &N,
     report: &Report<'_>,
 ) -> Result<(), AllocError>
-    ensures { OnOk result (string_bytes out.new ≡ string_bytes out.old ++ text_of (findings_lines (N.code_text names.now) report.now.findings
+    ensures { OnOk result (string_bytes out.new ≡ string_bytes out.old ++ text_of (nonzero_lines (codes "unmet") report.now.unmet
+        ++ findings_lines (N.code_text names.now) report.now.findings
         ++ causes_lines (N.code_text names.now) report.now.growth)) }
 {
+    write_nonzero(out, "unmet", report.unmet)?;
     write_findings(alloc, out, names, &report.findings)?;
     write_causes(alloc, out, names, &report.growth)
 }

@@ -1,18 +1,19 @@
 -- How deep a document nests, and that it is read back.
-use Rattle.std.proofs.Common.{◌≡◌, ◌≤◌, ℕ, ◌+◌, max, List, [], ◌∷◌, map, Option, Some, None, option_and_then, sym, ap, ◌∙◌, arith}
+use Rattle.std.proofs.Common.{◌≡◌, ◌≤◌, ℕ, zero, suc, ◌+◌, max, List, [], ◌∷◌, codes, map, Option, Some, None, option_and_then, sym, ap, ◌∙◌, arith}
 use Rattle.std.proofs.lemmas.List.{append-nil}
-use Rattle.json.specs.Json.{Json, value, if_last, max_depth}
+use Rattle.json.specs.Json.{Json, Members, no_members, member, value, if_last, max_depth}
 use Rattle.json.specs.Layout.{pretty}
 use Rattle.json.specs.Lex.{tokens}
 use Rattle.json.specs.Token.{Token}
-use Rattle.json.specs.Tree.{json_tokens, depth, items_depth}
+use Rattle.json.specs.Tree.{json_tokens, depth, items_depth, members_depth}
 use Rattle.json.specs.Value.{items_of}
 use Rattle.json.proofs.Printed.Trees.{value-json_tokens}
 use Rattle.scenario_values.specs.Scenario.{Entries}
 use Rattle.target_trait.specs.declared.judgement.Verdict.{Verdict}
 use Rattle.target_trait.specs.declared.judgement.Verdict.TheVariants as verdict
 use Rattle.report.specs.Reports.{GrowthFacts, ReportFacts}
-use Rattle.report_json.specs.Document.{whole, clean_value, point_values, told_values, finding_value, cause_value, growth_value, document_of, IsReadAs}
+use Rattle.report_json.specs.Document.{whole, nonzero, list_of, clean_value, point_values, told_values, finding_value, cause_value, growth_value}
+use Rattle.report_json.specs.Document.{document_of, IsReadAs}
 
 both_shallow : (a b bound : ℕ) → a ≤ bound → b ≤ bound → max a b ≤ bound
 both_shallow a b bound h k = omega (arith, h, k)
@@ -42,13 +43,22 @@ clean_shallow code_name verdict.Pass = omega arith
 clean_shallow code_name (verdict.Fail code) = omega arith
 clean_shallow code_name verdict.Unresolved = omega arith
 
+-- a count among the members makes an object no deeper
+nonzero_shallow : (name : List ℕ) (n : ℕ) (others : Members) → members_depth (nonzero name n others) ≤ members_depth others
+nonzero_shallow name zero others = omega arith
+nonzero_shallow name (suc n) others = omega arith
+
 growth_shallow : (names : List (List ℕ)) (code_name : ℕ → List ℕ) (growth : Option GrowthFacts) → depth (growth_value names code_name growth) ≤ 3
 growth_shallow names code_name None = omega arith
 growth_shallow names code_name (Some growth) =
     let levels = mapped 0 whole growth.levels (λ n. omega arith) in
     let reached = points_shallow names growth.reached in
     let causes = mapped 1 (cause_value code_name) growth.causes (λ cause. omega arith) in
-    omega (arith, levels, reached, causes)
+    let unseen =
+    nonzero_shallow (codes "unseen") growth.unseen
+    (member (codes "reached") (list_of (point_values names growth.reached))
+    (member (codes "causes") (list_of (map (cause_value code_name) growth.causes)) no_members)) in
+    omega (arith, levels, unseen, reached, causes)
 
 shallow : (names : List (List ℕ)) (code_name : ℕ → List ℕ) (report : ReportFacts) (plans : List Entries)
     → depth (document_of names code_name report plans) ≤ max_depth
@@ -58,7 +68,11 @@ shallow names code_name report plans =
     let told = told_shallow code_name 0 report.verdicts plans in
     let findings = mapped 1 (finding_value code_name) report.findings (λ finding. omega arith) in
     let growth = growth_shallow names code_name report.growth in
-    omega (arith, clean, census, told, findings, growth)
+    let unmet =
+    nonzero_shallow (codes "unmet") report.unmet
+    (member (codes "findings") (list_of (map (finding_value code_name) report.findings))
+    (member (codes "growth") (growth_value names code_name report.growth) no_members)) in
+    omega (arith, clean, census, told, unmet, findings, growth)
 
 -- a value is read back where the reader finds its tokens in its text
 read_back : (value : Json) → depth value ≤ max_depth → tokens (pretty (json_tokens value)) ≡ json_tokens value → IsReadAs value

@@ -1,15 +1,15 @@
 -- Tokens that a loop writes, and lists and objects of them.
-use Rattle.std.proofs.Common.{◌≡◌, ℕ, ◌+◌, ◌<◌, List, [], ◌∷◌, ◌++◌, drop, length, get_or, map, refl, ap, sym, ◌∙◌, append_assoc}
+use Rattle.std.proofs.Common.{◌≡◌, ℕ, zero, suc, ◌+◌, ◌<◌, List, [], ◌∷◌, ◌++◌, drop, length, get_or, map, refl, ap, sym, ◌∙◌, append_assoc}
 use Rattle.std.proofs.lemmas.List.Concat.{flat_map-append}
-use Rattle.json.specs.Json.{Json}
+use Rattle.json.specs.Json.{Json, Members}
 use Rattle.json.specs.Token.{Token, key, begin_array, end_array, begin_object, end_object}
-use Rattle.json.specs.Tree.{json_tokens, items_tokens}
+use Rattle.json.specs.Tree.{json_tokens, items_tokens, members_tokens}
 use Rattle.json.specs.Value.{items_of}
 use Rattle.scenario_values.specs.Scenario.{Entries}
 use Rattle.target_trait.specs.declared.judgement.Verdict.{Verdict}
 use Rattle.report.proofs.Written.{goes_on, next_of}
-use Rattle.report_json.specs.Document.{list_of, point_value, point_values, told_value, told_values}
-use Rattle.report_json.specs.inside.Tokens.{member_tokens, all_tokens}
+use Rattle.report_json.specs.Document.{nonzero, list_of, point_value, point_values, told_value, told_values}
+use Rattle.report_json.specs.inside.Tokens.{member_tokens, nonzero_tokens, all_tokens}
 
 -- tokens are written, and then the rest
 join : (old first rest : List Token) {mid new : List Token} → mid ≡ old ++ first → new ≡ mid ++ rest → new ≡ old ++ (first ++ rest)
@@ -46,29 +46,41 @@ pub five_members : (old : List Token) {begun m1 m2 m3 m4 m5 new : List Token} (a
 five_members old {begun} {m1} {m2} {m3} {m4} {m5} {new} a b c d e begins h1 h2 h3 h4 h5 ends =
     join old (begin_object ∷ []) (a ++ (b ++ (c ++ (d ++ (e ++ end_object ∷ []))))) begins (join begun a (b ++ (c ++ (d ++ (e ++ end_object ∷ [])))) h1 (join m1 b (c ++ (d ++ (e ++ end_object ∷ []))) h2 (join m2 c (d ++ (e ++ end_object ∷ [])) h3 (join m3 d (e ++ end_object ∷ []) h4 (join m4 e (end_object ∷ []) h5 ends)))))
 
-joined_six : (old a b c d e f : List Token) → (old ++ begin_object ∷ []) ++ a ++ b ++ c ++ d ++ e ++ f ++ end_object ∷ []
-    ≡ old ++ begin_object ∷ (a ++ (b ++ (c ++ (d ++ (e ++ (f ++ end_object ∷ []))))))
-joined_six old a b c d e f = simp append_assoc
+-- the members from a count on, which has none where it is 0
+nonzero_tokens_are : (name : List ℕ) (n : ℕ) (others : Members) → nonzero_tokens name n ++ members_tokens others ≡ members_tokens (nonzero name n others)
+nonzero_tokens_are name zero others = refl
+nonzero_tokens_are name (suc n) others = refl
 
--- an object of four members and two more
-pub six_members : (old : List Token) {begun sized reached told new : List Token} (a b c d e f : List Token) → begun ≡ old ++ begin_object ∷ []
-    → sized ≡ begun ++ a ++ b ++ c ++ d → reached ≡ sized ++ e → told ≡ reached ++ f → new ≡ told ++ end_object ∷ []
-    → new ≡ old ++ begin_object ∷ (a ++ (b ++ (c ++ (d ++ (e ++ (f ++ end_object ∷ []))))))
-six_members old a b c d e f begins sizes fifth sixth ends =
+joined_seven : (old a b c d u e f : List Token) → (old ++ begin_object ∷ []) ++ a ++ b ++ c ++ d ++ u ++ e ++ f ++ end_object ∷ []
+    ≡ old ++ begin_object ∷ (a ++ (b ++ (c ++ (d ++ (u ++ (e ++ (f ++ end_object ∷ [])))))))
+joined_seven old a b c d u e f = simp append_assoc
+
+-- an object of four members, a count and two more
+pub seven_members : (old : List Token) {begun sized reached told new : List Token} (a b c d e f : List Token) (name : List ℕ) (n : ℕ) (others : Members)
+    → begun ≡ old ++ begin_object ∷ [] → sized ≡ begun ++ a ++ b ++ c ++ d ++ nonzero_tokens name n → reached ≡ sized ++ e → told ≡ reached ++ f
+    → new ≡ told ++ end_object ∷ [] → e ++ (f ++ end_object ∷ []) ≡ members_tokens others
+    → new ≡ old ++ begin_object ∷ (a ++ (b ++ (c ++ (d ++ members_tokens (nonzero name n others)))))
+seven_members old a b c d e f name n others begins sizes fifth sixth ends are =
     ends ∙ ap (λ (ts : List Token). ts ++ end_object ∷ []) (sixth ∙ ap (λ (ts : List Token). ts ++ f) (fifth ∙ ap (λ (ts : List Token). ts ++ e)
-    (sizes ∙ ap (λ (ts : List Token). ts ++ a ++ b ++ c ++ d) begins))) ∙ joined_six old a b c d e f
+    (sizes ∙ ap (λ (ts : List Token). ts ++ a ++ b ++ c ++ d ++ nonzero_tokens name n) begins))) ∙ joined_seven old a b c d (nonzero_tokens name n) e f
+    ∙ ap (λ (ts : List Token). old ++ begin_object ∷ (a ++ (b ++ (c ++ (d ++ ts)))))
+    (ap (λ (ts : List Token). nonzero_tokens name n ++ ts) are ∙ nonzero_tokens_are name n others)
 
-joined_nine : (old a b c d e f g h i : List Token) → (old ++ begin_object ∷ []) ++ a ++ b ++ c ++ d ++ e ++ f ++ g ++ h ++ i ++ end_object ∷ []
-    ≡ old ++ begin_object ∷ (a ++ (b ++ (c ++ (d ++ (e ++ (f ++ (g ++ (h ++ (i ++ end_object ∷ [])))))))))
-joined_nine old a b c d e f g h i = simp append_assoc
+joined_ten : (old a b c d e f g u h i : List Token) → (old ++ begin_object ∷ []) ++ a ++ b ++ c ++ d ++ e ++ f ++ g ++ u ++ h ++ i ++ end_object ∷ []
+    ≡ old ++ begin_object ∷ (a ++ (b ++ (c ++ (d ++ (e ++ (f ++ (g ++ (u ++ (h ++ (i ++ end_object ∷ []))))))))))
+joined_ten old a b c d e f g u h i = simp append_assoc
 
--- an object of four members and five more
-pub nine_members : (old : List Token) {begun headed told new : List Token} (a b c d e f g h i : List Token) → begun ≡ old ++ begin_object ∷ []
-    → headed ≡ begun ++ a ++ b ++ c ++ d → told ≡ headed ++ e ++ f ++ g ++ h ++ i → new ≡ told ++ end_object ∷ []
-    → new ≡ old ++ begin_object ∷ (a ++ (b ++ (c ++ (d ++ (e ++ (f ++ (g ++ (h ++ (i ++ end_object ∷ [])))))))))
-nine_members old a b c d e f g h i begins heads tells ends =
-    ends ∙ ap (λ (ts : List Token). ts ++ end_object ∷ []) (tells ∙ ap (λ (ts : List Token). ts ++ e ++ f ++ g ++ h ++ i)
-    (heads ∙ ap (λ (ts : List Token). ts ++ a ++ b ++ c ++ d) begins)) ∙ joined_nine old a b c d e f g h i
+-- an object of four members and three more, a count and the last two
+pub ten_members : (old : List Token) {begun headed told new : List Token} (a b c d e f g h i : List Token) (name : List ℕ) (n : ℕ) (others : Members)
+    → begun ≡ old ++ begin_object ∷ [] → headed ≡ begun ++ a ++ b ++ c ++ d → told ≡ headed ++ e ++ f ++ g ++ nonzero_tokens name n ++ h ++ i
+    → new ≡ told ++ end_object ∷ [] → h ++ (i ++ end_object ∷ []) ≡ members_tokens others
+    → new ≡ old ++ begin_object ∷ (a ++ (b ++ (c ++ (d ++ (e ++ (f ++ (g ++ members_tokens (nonzero name n others))))))))
+ten_members old a b c d e f g h i name n others begins heads tells ends are =
+    let u : List Token = nonzero_tokens name n in
+    ends ∙ ap (λ (ts : List Token). ts ++ end_object ∷ []) (tells ∙ ap (λ (ts : List Token). ts ++ e ++ f ++ g ++ u ++ h ++ i)
+    (heads ∙ ap (λ (ts : List Token). ts ++ a ++ b ++ c ++ d) begins)) ∙ joined_ten old a b c d e f g u h i
+    ∙ ap (λ (ts : List Token). old ++ begin_object ∷ (a ++ (b ++ (c ++ (d ++ (e ++ (f ++ (g ++ ts))))))))
+    (ap (λ (ts : List Token). u ++ ts) are ∙ nonzero_tokens_are name n others)
 
 -- values and the bracket behind them
 closed : (values : List Json) → all_tokens values ++ end_array ∷ [] ≡ items_tokens (items_of values)

@@ -1,7 +1,7 @@
 -- A report as one JSON value, whose members docs/MACHINES.md tells, and its text. A target gives the names of its points and codes.
-use Rattle.std.specs.Prelude.{◌≡◌, ℕ, ◌+◌, List, [], ◌∷◌, ◌++◌, length, map, codes, count_by, Option, None, Some}
+use Rattle.std.specs.Prelude.{◌≡◌, ℕ, zero, suc, ◌+◌, List, [], ◌∷◌, ◌++◌, length, map, codes, count_by, Option, None, Some}
 use Rattle.std.specs.Fmt.{decimal}
-use Rattle.json.specs.Json.{Json, null, number, string, array, object, no_members, member, document}
+use Rattle.json.specs.Json.{Json, Members, null, number, string, array, object, no_members, member, document}
 use Rattle.json.specs.Layout.{pretty}
 use Rattle.json.specs.Tree.{json_tokens}
 use Rattle.json.specs.Value.{items_of}
@@ -19,6 +19,11 @@ form = 1
 -- a whole number
 abbrev pub whole : ℕ → Json
 whole n = number (decimal n)
+
+-- a member that is a count, where it isn't 0, before others
+abbrev pub nonzero : List ℕ → ℕ → Members → Members
+nonzero name zero others = others
+nonzero name (suc n) others = member name (whole (suc n)) others
 
 -- a list of values
 abbrev pub list_of : List Json → Json
@@ -109,8 +114,9 @@ growth_value names code_name (Some growth) =
     (member (codes "levels") (list_of (map whole growth.levels))
     (member (codes "onward") (whole growth.onward)
     (member (codes "beyond") (whole growth.beyond)
+    (nonzero (codes "unseen") growth.unseen
     (member (codes "reached") (list_of (point_values names growth.reached))
-    (member (codes "causes") (list_of (map (cause_value code_name) growth.causes)) no_members))))))
+    (member (codes "causes") (list_of (map (cause_value code_name) growth.causes)) no_members)))))))
 
 -- ---- the document
 
@@ -124,8 +130,9 @@ document_of names code_name report plans =
     (member (codes "census") (list_of (point_values names report.census))
     (member (codes "counts") (counts_value report.verdicts)
     (member (codes "not_passed") (list_of (told_values code_name 0 report.verdicts plans))
+    (nonzero (codes "unmet") report.unmet
     (member (codes "findings") (list_of (map (finding_value code_name) report.findings))
-    (member (codes "growth") (growth_value names code_name report.growth) no_members)))))))))
+    (member (codes "growth") (growth_value names code_name report.growth) no_members))))))))))
 
 -- a line for each item and member, and a line feed at the end
 abbrev pub text_of : Json → List ℕ

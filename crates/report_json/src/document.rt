@@ -5,10 +5,10 @@ ghost use Rattle.json.specs.Json.{string};
 ghost use Rattle.json.specs.Tree.{json_tokens};
 ghost use Rattle.report_json.specs.Document.{form, whole, list_of, clean_value, point_values, counts_value, told_values, finding_value, growth_value};
 ghost use Rattle.report_json.specs.Document.{document_of, text_of, IsReadAs};
-ghost use Rattle.report_json.specs.inside.Tokens.{member_tokens};
+ghost use Rattle.report_json.specs.inside.Tokens.{member_tokens, nonzero_tokens};
 
 use crate::growth::{write_growth, write_points};
-use crate::members::{write_number, write_text};
+use crate::members::{write_nonzero, write_number, write_text};
 use crate::plans::{write_clean, write_counts, write_findings, write_not_passed};
 use campaign_plans::CampaignPlans;
 use itoa::Buffer;
@@ -49,12 +49,14 @@ fn write_results<N: Names>(
         ++ member_tokens (codes "census") (list_of (point_values (N.points names.now) report.now.census))
         ++ member_tokens (codes "counts") (counts_value report.now.verdicts)
         ++ member_tokens (codes "not_passed") (list_of (told_values (N.code_text names.now) 0 report.now.verdicts plans.now))
+        ++ nonzero_tokens (codes "unmet") report.now.unmet
         ++ member_tokens (codes "findings") (list_of (map (finding_value (N.code_text names.now)) report.now.findings))
         ++ member_tokens (codes "growth") (growth_value (N.points names.now) (N.code_text names.now) report.now.growth)) }
 {
     write_points(out, "census", names, report.census)?;
     write_counts(out, report.verdicts)?;
     write_not_passed(alloc, out, names, report.verdicts, plans)?;
+    write_nonzero(out, "unmet", report.unmet)?;
     write_findings(alloc, out, names, &report.findings)?;
     write_growth(alloc, out, names, &report.growth)
 }

@@ -2,9 +2,11 @@
 ghost use Rattle.std.specs.Prelude.{◌≡◌, ◌++◌, length, map, codes, Some, IfSome, OnOk};
 ghost use Rattle.json.specs.Tree.{json_tokens};
 ghost use Rattle.report_json.specs.Document.{whole, list_of, point_value, point_values, cause_value, growth_value};
-ghost use Rattle.report_json.specs.inside.Tokens.{member_tokens, all_tokens};
+ghost use Rattle.report_json.specs.inside.Tokens.{member_tokens, nonzero_tokens, all_tokens};
 
-use crate::members::{begin_list, write_number, write_scenario, write_text, write_whole};
+use crate::members::{
+    begin_list, write_nonzero, write_number, write_scenario, write_text, write_whole,
+};
 use json::{Pretty, Token};
 use report::{Cause, Growth, Names};
 use std::alloc::{AllocError, Global};
@@ -109,12 +111,14 @@ fn write_sizes(out: &mut Pretty, growth: &Growth<'_>) -> Result<(), AllocError>
         ++ member_tokens (codes "depth") (whole growth.now.depth)
         ++ member_tokens (codes "levels") (list_of (map whole growth.now.levels))
         ++ member_tokens (codes "onward") (whole growth.now.onward)
-        ++ member_tokens (codes "beyond") (whole growth.now.beyond)) }
+        ++ member_tokens (codes "beyond") (whole growth.now.beyond)
+        ++ nonzero_tokens (codes "unseen") growth.now.unseen) }
 {
     write_number(out, "depth", u64::from(growth.depth))?;
     write_levels(out, growth.levels)?;
     write_number(out, "onward", u64::from(growth.onward))?;
-    write_number(out, "beyond", growth.beyond)
+    write_number(out, "beyond", growth.beyond)?;
+    write_nonzero(out, "unseen", growth.unseen)
 }
 
 fn write_grown<N: Names>(

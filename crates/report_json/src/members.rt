@@ -4,7 +4,7 @@ ghost use Rattle.json.specs.Json.{string};
 ghost use Rattle.json.specs.Token.{key, begin_array};
 ghost use Rattle.json.specs.Tree.{json_tokens};
 ghost use Rattle.report_json.specs.Document.{whole, scenario_value};
-ghost use Rattle.report_json.specs.inside.Tokens.{member_tokens};
+ghost use Rattle.report_json.specs.inside.Tokens.{member_tokens, nonzero_tokens};
 
 use itoa::Buffer;
 use json::{Pretty, Token};
@@ -26,6 +26,16 @@ pub fn write_number(out: &mut Pretty, name: &str, number: u64) -> Result<(), All
 {
     out.token(Token::Key(name))?;
     write_whole(out, number)
+}
+
+/// A member that is a whole number, where it isn't 0.
+pub fn write_nonzero(out: &mut Pretty, name: &str, number: u32) -> Result<(), AllocError>
+    ensures { OnOk result (out.new ≡ out.old ++ nonzero_tokens name.now number) }
+{
+    if number == 0 {
+        return Ok(());
+    }
+    write_number(out, name, u64::from(number))
 }
 
 /// A member that is a text.

@@ -1,15 +1,13 @@
 -- Rows that a loop writes.
-use Rattle.std.proofs.Common.{◌≡◌, ℕ, ◌+◌, ◌-◌, ◌<◌, ◌≤◌, zero, suc, List, [], ◌∷◌, ◌++◌, Option, take, drop, get_or, length, ap, sym, refl, ◌∙◌, append_assoc, arith}
+use Rattle.std.proofs.Common.{◌≡◌, ℕ, ◌+◌, ◌-◌, ◌≤◌, zero, suc, List, [], ◌∷◌, ◌++◌, Option, take, length, ap, sym, refl, ◌∙◌, arith}
 use Rattle.std.specs.Prelude.{flat_map, slice_get}
 use Rattle.std.proofs.lemmas.List.Concat.{flat_map-append}
 use Rattle.scenario_values.specs.Scenario.{Entries}
 use Rattle.target_trait.specs.declared.judgement.Verdict.{Verdict}
-use Rattle.target_trait.specs.declared.judgement.Verdict.TheVariants as verdict
 use Rattle.report.specs.Reports.{CauseFacts, FindingFacts}
-use Rattle.report.specs.ReportText.{scenario_text, verdict_text}
-use Rattle.report.proofs.Written.{goes_on, next_of}
+use Rattle.report.proofs.Written.{goes_on}
 use Rattle.run_explained.specs.Told.{RunFacts}
-use Rattle.report_page.specs.Pieces.{census_row, level_row, reached_row, told_row}
+use Rattle.report_page.specs.Pieces.{census_row, level_row, reached_row}
 use Rattle.report_page.specs.Page.{PlanFacts, cause_text, census_rows, each_cause_text, finding_text, findings_text, level_rows, not_passed, not_passed_of, plan_row, reached_rows}
 
 pub level_next : (old new whole : List ℕ) (n plans : ℕ) (levels rest : List ℕ) → levels ≡ plans ∷ rest → new ≡ old ++ level_row n plans

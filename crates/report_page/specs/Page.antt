@@ -11,10 +11,11 @@ use Rattle.target_trait.specs.Verdicts.{is_pass, is_fail, is_unresolved}
 use Rattle.report.specs.BriefText.{is_fail_with}
 use Rattle.xml_text.specs.Xml.{escaped}
 use Rattle.run_explained.specs.Told.{HitFacts, RunFacts}
-use Rattle.report_page.specs.Pieces.{page_head, tried_by_census, tried_to_depth, whole, not_whole, all_pass, none_fails, some_fail, contents, map_part}
-use Rattle.report_page.specs.Pieces.{verdicts_begin, code_row, table_end, levels_begin, level_row, growth_rows, census_begin, census_row}
-use Rattle.report_page.specs.Pieces.{reached_begin, reached_row, finding_head, finding_facts, article_end, run_begin, run_end, marked, failures_begin}
-use Rattle.report_page.specs.Pieces.{no_failure, section_end, none_told, told_begin, told_row, left_out_plans, causes_begin, cause_head, left_out, no_depth, page_end}
+use Rattle.report_page.specs.Pieces.{page_head, tried_by_census, tried_to_depth, whole, not_whole, not_seen, all_pass, none_fails, some_fail, contents}
+use Rattle.report_page.specs.Pieces.{map_part, verdicts_begin, code_row, table_end, unmet_note, levels_begin, level_row, growth_rows, unseen_note, census_begin}
+use Rattle.report_page.specs.Pieces.{census_row, reached_begin, reached_row, finding_head, finding_facts, article_end, run_begin, run_end, marked, failures_begin}
+use Rattle.report_page.specs.Pieces.{no_failure, section_end, none_told, told_begin, told_row, left_out_plans, causes_begin, cause_head, left_out, no_depth}
+use Rattle.report_page.specs.Pieces.{page_end}
 
 -- ---- what a page tells beside the report
 
@@ -30,12 +31,15 @@ pub record AboutFacts : Type 0 where
 
 -- ---- the head: what was tried, and what came of it
 
-abbrev pub beyond_text : ℕ → List ℕ
-beyond_text beyond = if beyond == 0 then whole else not_whole beyond
+abbrev pub beyond_text : ℕ → ℕ → List ℕ
+beyond_text beyond unseen =
+    if unseen == 0
+    then (if beyond == 0 then whole else not_whole beyond)
+    else not_seen beyond unseen
 
 abbrev pub tried_text : ℕ → Option GrowthFacts → List ℕ
 tried_text plans None = tried_by_census plans
-tried_text plans (Some growth) = tried_to_depth growth.depth plans ++ beyond_text growth.beyond
+tried_text plans (Some growth) = tried_to_depth growth.depth plans ++ beyond_text growth.beyond growth.unseen
 
 abbrev pub outcome_text : ℕ → ℕ → ℕ → ℕ → List ℕ
 outcome_text plans failing unresolved kinds =
@@ -62,6 +66,8 @@ verdicts_text code_name report =
     verdicts_begin (count_by is_pass report.verdicts) (count_by is_unresolved report.verdicts)
     ++ flat_map (code_row_of code_name report.verdicts) report.findings
     ++ table_end
+    ++ unmet_note report.unmet
+    ++ section_end
 
 -- a row for each level, of levels numbered from n on
 abbrev pub level_rows : ℕ → List ℕ → List ℕ
@@ -70,7 +76,13 @@ level_rows n (plans ∷ more) = level_row n plans ++ level_rows (n + 1) more
 
 abbrev pub levels_text : Option GrowthFacts → List ℕ
 levels_text None = []
-levels_text (Some growth) = levels_begin ++ level_rows 0 growth.levels ++ growth_rows growth.onward growth.beyond ++ table_end
+levels_text (Some growth) =
+    levels_begin
+    ++ level_rows 0 growth.levels
+    ++ growth_rows growth.onward growth.beyond
+    ++ table_end
+    ++ unseen_note growth.unseen
+    ++ section_end
 
 -- a row for each point, with how often it is asked without faults
 abbrev pub census_rows : List (List ℕ) → List ℕ → List ℕ
@@ -86,8 +98,8 @@ reached_rows (point ∷ points) (count ∷ counts) [] = []
 reached_rows (point ∷ points) (count ∷ counts) (most ∷ reached) = reached_row point count most ++ reached_rows points counts reached
 
 abbrev pub points_text : List (List ℕ) → List ℕ → Option GrowthFacts → List ℕ
-points_text points census None = census_begin ++ census_rows points census ++ table_end
-points_text points census (Some growth) = reached_begin ++ reached_rows points census growth.reached ++ table_end
+points_text points census None = census_begin ++ census_rows points census ++ table_end ++ section_end
+points_text points census (Some growth) = reached_begin ++ reached_rows points census growth.reached ++ table_end ++ section_end
 
 -- ---- runs
 

@@ -48,6 +48,12 @@ whole = codes "whole: there are none with more</p>\n"
 unfoldable pub not_whole : ℕ → List ℕ
 not_whole beyond = codes "not whole: " ++ decimal beyond ++ codes " with one fault more are left out</p>\n"
 
+-- where the hits of so many runs aren't known
+unfoldable pub not_seen : ℕ → ℕ → List ℕ
+not_seen beyond unseen =
+    codes "not whole: " ++ decimal beyond ++ codes " with one fault more are left out, and what would grow from " ++ decimal unseen
+    ++ (if unseen == 1 then codes " run whose hits aren't known</p>\n" else codes " runs whose hits aren't known</p>\n")
+
 -- what came of it
 unfoldable pub all_pass : ℕ → List ℕ
 all_pass plans = codes "<p class=\"verdict good\">no run fails: all " ++ decimal plans ++ codes " pass</p>\n"
@@ -79,7 +85,10 @@ map_part map =
 -- ---- tables
 
 unfoldable pub table_end : List ℕ
-table_end = codes "</tbody>\n</table>\n</div>\n</section>\n"
+table_end = codes "</tbody>\n</table>\n</div>\n"
+
+unfoldable pub section_end : List ℕ
+section_end = codes "</section>\n"
 
 -- the verdicts that are no failures, with how many plans have them
 unfoldable pub verdicts_begin : ℕ → ℕ → List ℕ
@@ -92,6 +101,13 @@ unfoldable pub code_row : List ℕ → ℕ → ℕ → List ℕ
 code_row code count first =
     codes "<tr><th scope=\"row\">fail " ++ escaped code ++ codes "</th><td class=\"count\">" ++ decimal count
     ++ codes "</td><td><a href=\"#first-" ++ decimal first ++ codes "\">plan " ++ decimal first ++ codes "</a></td></tr>\n"
+
+-- how many plans pass without meeting all of their faults, where there are such
+unfoldable pub unmet_note : ℕ → List ℕ
+unmet_note count =
+    if count == 0 then []
+    else codes "<p class=\"note\">unmet " ++ decimal count ++ codes ": " ++ decimal count
+    ++ (if count == 1 then codes " plan passes without meeting all of its faults</p>\n" else codes " plans pass without meeting all of their faults</p>\n")
 
 unfoldable pub levels_begin : List ℕ
 levels_begin =
@@ -108,6 +124,13 @@ unfoldable pub growth_rows : ℕ → ℕ → List ℕ
 growth_rows onward beyond =
     codes "<tr><th scope=\"row\">with the last one from then on</th><td class=\"count\">" ++ decimal onward
     ++ codes "</td></tr>\n<tr><th scope=\"row\">left out: with one more</th><td class=\"count\">" ++ decimal beyond ++ codes "</td></tr>\n"
+
+-- from how many runs nothing grew, since nobody knows their hits, where there are such
+unfoldable pub unseen_note : ℕ → List ℕ
+unseen_note count =
+    if count == 0 then []
+    else codes "<p class=\"note\">unseen " ++ decimal count ++ codes ": the hits of " ++ decimal count
+    ++ (if count == 1 then codes " run aren't known, and nothing grew from it</p>\n" else codes " runs aren't known, and nothing grew from them</p>\n")
 
 unfoldable pub census_begin : List ℕ
 census_begin =
@@ -153,9 +176,6 @@ run_end left_out tail = left_out_hits left_out ++ escaped tail ++ codes "</pre>\
 
 unfoldable pub article_end : List ℕ
 article_end = codes "</article>\n"
-
-unfoldable pub section_end : List ℕ
-section_end = codes "</section>\n"
 
 -- ---- first failures
 

@@ -2,7 +2,8 @@
 ghost use Rattle.std.specs.Prelude.{◌≡◌, ◌++◌, length, string_bytes, count_by, OnOk};
 ghost use Rattle.target_trait.specs.Verdicts.{is_fail, is_unresolved};
 ghost use Rattle.report_page.specs.Page.{beyond_text, tried_text, outcome_text, head_text};
-ghost use Rattle.report_page.specs.Pieces.{style, page_head, tried_by_census, tried_to_depth, whole, not_whole, all_pass, none_fails, some_fail, contents, map_part};
+ghost use Rattle.report_page.specs.Pieces.{style, page_head, tried_by_census, tried_to_depth, whole, not_whole, not_seen, all_pass, none_fails, some_fail};
+ghost use Rattle.report_page.specs.Pieces.{contents, map_part};
 
 use crate::texts::{counted, escaped};
 use report::{Growth, Report, failures, unresolved};
@@ -112,13 +113,30 @@ fn write_not_whole(out: &mut String, beyond: u64) -> Result<(), AllocError>
     )
 }
 
-fn write_beyond(out: &mut String, beyond: u64) -> Result<(), AllocError>
-    ensures { OnOk result (string_bytes out.new ≡ string_bytes out.old ++ beyond_text beyond) }
+#[tactic(auto, unfolding(crate::specs::Pieces::not_seen))]
+fn write_not_seen(out: &mut String, beyond: u64, unseen: u32) -> Result<(), AllocError>
+    ensures { OnOk result (string_bytes out.new ≡ string_bytes out.old ++ not_seen beyond unseen) }
 {
-    if beyond == 0 {
-        return write_whole(out);
+    let end = counted(
+        unseen as usize,
+        " run whose hits aren't known</p>\n",
+        " runs whose hits aren't known</p>\n",
+    );
+    write!(
+        out,
+        "not whole: {beyond} with one fault more are left out, and what would grow from {unseen}{end}"
+    )?;
+    Ok(())
+}
+
+fn write_beyond(out: &mut String, beyond: u64, unseen: u32) -> Result<(), AllocError>
+    ensures { OnOk result (string_bytes out.new ≡ string_bytes out.old ++ beyond_text beyond unseen) }
+{
+    match (unseen, beyond) {
+        (0, 0) => write_whole(out),
+        (0, _) => write_not_whole(out, beyond),
+        _ => write_not_seen(out, beyond, unseen),
     }
-    write_not_whole(out, beyond)
 }
 
 fn write_tried(
@@ -132,7 +150,7 @@ fn write_tried(
         None => write_tried_by_census(out, plans),
         Some(growth) => {
             write_tried_to_depth(out, growth.depth, plans)?;
-            write_beyond(out, growth.beyond)
+            write_beyond(out, growth.beyond, growth.unseen)
         }
     }
 }

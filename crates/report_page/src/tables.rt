@@ -3,9 +3,10 @@ ghost use Rattle.std.specs.Prelude.{◌≡◌, ◌++◌, length, string_bytes, c
 ghost use Rattle.target_trait.specs.Verdicts.{is_pass, is_unresolved};
 ghost use Rattle.report.specs.BriefText.{is_fail_with};
 ghost use Rattle.report_page.specs.Page.{code_row_of, verdicts_text, level_rows, levels_text, census_rows, reached_rows, points_text};
-ghost use Rattle.report_page.specs.Pieces.{verdicts_begin, code_row, table_end, levels_begin, level_row, growth_rows};
+ghost use Rattle.report_page.specs.Pieces.{verdicts_begin, code_row, table_end, section_end, unmet_note, levels_begin, level_row, growth_rows, unseen_note};
 ghost use Rattle.report_page.specs.Pieces.{census_begin, census_row, reached_begin, reached_row};
 
+use crate::failures::write_section_end;
 use crate::texts::{counted, escaped, where_none};
 use report::{Finding, Growth, Names, Report, passing, unresolved};
 use std::alloc::{AllocError, Global};
@@ -16,7 +17,7 @@ use target_trait::Verdict;
 fn write_table_end(out: &mut String) -> Result<(), AllocError>
     ensures { OnOk result (string_bytes out.new ≡ string_bytes out.old ++ table_end) }
 {
-    out.push_str("</tbody>\n</table>\n</div>\n</section>\n")?;
+    out.push_str("</tbody>\n</table>\n</div>\n")?;
     Ok(())
 }
 
@@ -110,6 +111,22 @@ fn write_codes<N: Names>(
     Ok(())
 }
 
+#[tactic(auto, unfolding(crate::specs::Pieces::unmet_note))]
+fn write_unmet(out: &mut String, count: u32) -> Result<(), AllocError>
+    ensures { OnOk result (string_bytes out.new ≡ string_bytes out.old ++ unmet_note count) }
+{
+    if count == 0 {
+        return Ok(());
+    }
+    let end = counted(
+        count as usize,
+        " plan passes without meeting all of its faults</p>\n",
+        " plans pass without meeting all of their faults</p>\n",
+    );
+    write!(out, "<p class=\"note\">unmet {count}: {count}{end}")?;
+    Ok(())
+}
+
 /// How many plans have which verdict.
 pub fn write_verdicts<N: Names>(
     alloc: Global,
@@ -123,7 +140,9 @@ pub fn write_verdicts<N: Names>(
     let unresolved = unresolved(report.verdicts);
     write_verdicts_begin(out, passing, unresolved)?;
     write_codes(alloc, out, names, report.verdicts, &report.findings)?;
-    write_table_end(out)
+    write_table_end(out)?;
+    write_unmet(out, report.unmet)?;
+    write_section_end(out)
 }
 
 #[tactic(auto, unfolding(crate::specs::Pieces::levels_begin))]
@@ -173,6 +192,25 @@ fn write_growth_rows(out: &mut String, onward: u32, beyond: u64) -> Result<(), A
     Ok(())
 }
 
+#[tactic(auto, unfolding(crate::specs::Pieces::unseen_note))]
+fn write_unseen(out: &mut String, count: u32) -> Result<(), AllocError>
+    ensures { OnOk result (string_bytes out.new ≡ string_bytes out.old ++ unseen_note count) }
+{
+    if count == 0 {
+        return Ok(());
+    }
+    let end = counted(
+        count as usize,
+        " run aren't known, and nothing grew from it</p>\n",
+        " runs aren't known, and nothing grew from them</p>\n",
+    );
+    write!(
+        out,
+        "<p class=\"note\">unseen {count}: the hits of {count}{end}"
+    )?;
+    Ok(())
+}
+
 /// How many plans each level has. Nothing where the campaign has no depth.
 pub fn write_levels(out: &mut String, growth: &Option<Growth<'_>>) -> Result<(), AllocError>
     ensures { OnOk result (string_bytes out.new ≡ string_bytes out.old ++ levels_text growth.now) }
@@ -183,7 +221,9 @@ pub fn write_levels(out: &mut String, growth: &Option<Growth<'_>>) -> Result<(),
     write_levels_begin(out)?;
     write_each_level(out, growth.levels)?;
     write_growth_rows(out, growth.onward, growth.beyond)?;
-    write_table_end(out)
+    write_table_end(out)?;
+    write_unseen(out, growth.unseen)?;
+    write_section_end(out)
 }
 
 #[tactic(auto, unfolding(crate::specs::Pieces::census_begin))]
@@ -301,5 +341,6 @@ pub fn write_points<N: Names>(
             write_reached(alloc, out, names, counts, growth.reached)?;
         }
     }
-    write_table_end(out)
+    write_table_end(out)?;
+    write_section_end(out)
 }

@@ -1,5 +1,5 @@
 -- One run, told hit by hit.
-use Rattle.std.specs.Prelude.{ℕ, ◌+◌, ◌==◌, ◌&&◌, not, if◌then◌else◌, List, [], ◌∷◌, ◌++◌, Option, Some, None}
+use Rattle.std.specs.Prelude.{ℕ, Bool, ◌+◌, ◌==◌, ◌&&◌, not, if◌then◌else◌, List, [], ◌∷◌, ◌++◌, Option, Some, None}
 use Rattle.std.specs.Prelude.{length, codes, count_by, flat_map, slice_index_or}
 use Rattle.std.specs.Fmt.{decimal}
 use Rattle.scenario_values.specs.declared.term.Term.{Term}
@@ -43,9 +43,12 @@ stop_lines verdict.Unresolved None = codes "stopped limit" ∷ []
 abbrev pub idle_line : List ℕ → Term → List ℕ
 idle_line name t = codes "idle " ++ name ++ codes "=" ++ term_text t
 
--- a fault that never acted
+-- whether the term at a place in the chain of a name is a fault that never acted
+abbrev pub is_idle : List Hit → List ℕ → ℕ → Term → Bool
+is_idle history name i t = not (is_off t.task) && (acted history name i == 0)
+
 abbrev pub idle_of : List Hit → List ℕ → ℕ → Term → List (List ℕ)
-idle_of history name i t = if not (is_off t.task) && (acted history name i == 0) then idle_line name t ∷ [] else []
+idle_of history name i t = if is_idle history name i t then idle_line name t ∷ [] else []
 
 -- the same of the terms of a chain, from place i on
 abbrev pub idle_in : List Hit → List ℕ → ℕ → List Term → List (List ℕ)

@@ -1,3 +1,4 @@
+pub mod ByAnswer
 pub mod Explained
 pub mod Tales
 pub mod Told

@@ -124,7 +124,7 @@ fn hit_lines(
 }
 
 /// The line of a verdict.
-fn head_text<N: Names>(alloc: Global, names: &N, verdict: Verdict) -> Result<String, AllocError>
+pub fn head_text<N: Names>(alloc: Global, names: &N, verdict: Verdict) -> Result<String, AllocError>
     ensures { IfOk result (λ text. string_bytes text ≡ ended (codes "verdict " ++ verdict_text (N.code_text names.now) verdict)) }
 {
     let mut text = String::new(alloc);

@@ -1,12 +1,18 @@
 -- The tokens that are written one after the other.
-use Rattle.std.specs.Prelude.{List, ℕ, ◌∷◌, flat_map}
+use Rattle.std.specs.Prelude.{List, ℕ, zero, suc, [], ◌∷◌, flat_map}
 use Rattle.json.specs.Json.{Json}
 use Rattle.json.specs.Token.{Token, key}
 use Rattle.json.specs.Tree.{json_tokens}
+use Rattle.report_json.specs.Document.{whole}
 
 -- a member of an object
 abbrev pub member_tokens : List ℕ → Json → List Token
 member_tokens name value = key name ∷ json_tokens value
+
+-- a member that is a count, where it isn't 0
+abbrev pub nonzero_tokens : List ℕ → ℕ → List Token
+nonzero_tokens name zero = []
+nonzero_tokens name (suc n) = member_tokens name (whole (suc n))
 
 -- values one after the other, as they stand in an array
 abbrev pub all_tokens : List Json → List Token

@@ -1,9 +1,8 @@
-use Rattle.std.proofs.Common.{◌≡◌, ◌∙◌, ap, sym, List, drop, arith, rules, ◌+◌, ◌∷◌, get_or}
+use Rattle.std.proofs.Common.{◌≡◌, ◌∙◌, ap, sym, List, drop, arith, rules, ◌+◌, ◌∷◌}
 use Rattle.plan_gen.proofs.Lists.{none_left, next_of}
 use Rattle.campaign_map.specs.GrownCells.{verdicts_from, worse, worst, worst_at}
 use Rattle.campaign_map.specs.inside.CellKeys.{key_of, found}
 use Rattle.campaign_map.specs.declared.fronts.Front.{Front}
-use Rattle.campaign_map.proofs.CellTable.{blank}
 use Rattle.campaign_map.proofs.WorstCells.{worse_pass, worst_next}
 use Rattle.campaign_map.proofs.worst.table_of.Goals as goal
 
@@ -12,8 +11,9 @@ loop-number-preserved c = λ cell formed.
     let n = c.loop-number.number in
     let fs = c.args.fronts.now in
     let key = key_of cell.first cell.second in
-    let here : drop n fs ≡ get_or fs n blank ∷ drop (n + 1) fs = next_of fs n blank c.loop-number-test.true in
-    worst_next c.args.facts.now cell (get_or fs n blank) (found c.loop-number.table key) (found c.tell_all.new.table key) n (drop n fs) (drop (n + 1) fs) _ here
+    let item : Front = c.index-fronts-number.result in
+    let here : drop n fs ≡ item ∷ drop (n + 1) fs = next_of fs n item c.loop-number-test.true ∙ ap (λ (f : Front). f ∷ drop (n + 1) fs) (sym c.index-fronts-number.is) in
+    worst_next c.args.facts.now cell item (found c.loop-number.table key) (found c.tell_all.new.table key) n (drop n fs) (drop (n + 1) fs) _ here
     (search (rules, c.in_ok-tell_all.ensures cell formed, c.worst_by.ensures, c.verdict_at.ensures)) (c.loop-number.invariant cell formed)
 
 pub returns : goal.returns

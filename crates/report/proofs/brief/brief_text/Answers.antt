@@ -1,7 +1,7 @@
-use Rattle.std.proofs.Common.{◌≡◌, ◌∷◌, [], ◌++◌, List, ℕ, Vec, Global, ap, sym, ◌∙◌}
+use Rattle.std.proofs.Common.{◌≡◌, ◌∷◌, [], ◌++◌, List, ℕ, Vec, Global, codes, ap, sym, ◌∙◌}
 use Rattle.std.specs.String.{string_bytes}
 use Rattle.report.specs.Reports.{ReportFacts}
-use Rattle.report.specs.ReportText.{ended, text_of, head_lines, census_lines, growth_lines, count_line, findings_lines, causes_lines}
+use Rattle.report.specs.ReportText.{ended, text_of, head_lines, point_lines, growth_lines, count_line, nonzero_lines, findings_lines, causes_lines}
 use Rattle.report.specs.BriefText.{counts_line, told_lines, brief_lines}
 use Rattle.report.proofs.ToldLines.{lines_on, joined_lines}
 use Rattle.report.proofs.Written.{goes_on}
@@ -19,11 +19,12 @@ returns g c =
       clean = i.clean;
       census = i.census.now;
       verdicts = i.verdicts.now;
+      unmet = i.unmet;
       findings = i.findings.items;
       growth = i.growth;
     } in
-    let front : ReportFacts → List (List ℕ) = λ r. head_lines name r ++ census_lines points r.census ++ growth_lines points r.growth ++ count_line r.verdicts ∷ [] in
-    let end : ReportFacts → List (List ℕ) = λ r. findings_lines name r.findings ++ causes_lines name r.growth in
+    let front : ReportFacts → List (List ℕ) = λ r. head_lines name r ++ point_lines (codes "census") points r.census ++ growth_lines points r.growth ++ count_line r.verdicts ∷ [] in
+    let end : ReportFacts → List (List ℕ) = λ r. nonzero_lines (codes "unmet") r.unmet ++ findings_lines name r.findings ++ causes_lines name r.growth in
     let told : List (List ℕ) = told_lines name 0 r.verdicts plans in
     let counts : List ℕ = counts_line name r.verdicts r.findings in
     let rest : List (List ℕ) = counts ∷ (told ++ end r) in
@@ -40,6 +41,6 @@ returns g c =
     ap (λ (v : Vec ℕ Global). v.items) c.into_bytes.ensures.value ∙ c.in_ok-write_end.ensures
     ∙ ap (λ (r : ReportFacts). string_bytes c.write_all_told.new.out ++ text_of (end r)) (sym c.report.view_is) ∙ all
     ∙ ap (λ (lines : List (List ℕ)). text_of lines)
-    (joined_lines (head_lines name r) (census_lines points r.census) (growth_lines points r.growth) told (findings_lines name r.findings)
-    (causes_lines name r.growth) (count_line r.verdicts) counts)
+    (joined_lines (head_lines name r) (point_lines (codes "census") points r.census) (growth_lines points r.growth) told
+    (nonzero_lines (codes "unmet") r.unmet) (findings_lines name r.findings) (causes_lines name r.growth) (count_line r.verdicts) counts)
     ∙ ap (λ (r : ReportFacts). text_of (brief_lines points name r plans)) c.report.view_is

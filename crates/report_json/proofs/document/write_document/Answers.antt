@@ -1,11 +1,11 @@
-use Rattle.std.proofs.Common.{map, codes}
+use Rattle.std.proofs.Common.{map, codes, refl}
 use Rattle.std.specs.Fmt.{decimal}
 use Rattle.std.proofs.lemmas.Result.{on_ok_weaker}
-use Rattle.json.specs.Json.{string}
+use Rattle.json.specs.Json.{string, no_members, member}
 use Rattle.report.specs.Reports.{ReportFacts}
 use Rattle.report_json.specs.Document.{form, whole, list_of, clean_value, point_values, counts_value, told_values, finding_value, growth_value}
 use Rattle.report_json.specs.inside.Tokens.{member_tokens}
-use Rattle.report_json.proofs.Lists.{nine_members}
+use Rattle.report_json.proofs.Lists.{ten_members}
 use Rattle.report_json.proofs.document.write_document.Goals as goal
 
 pub returns : goal.returns
@@ -14,12 +14,15 @@ returns g c =
     let name = g.N.Names.code_text c.args.names.now in
     let report : ReportFacts = c.args.report.now in
     on_ok_weaker c.token-2.result
-    (λ ends. nine_members c.args.out.now (member_tokens (codes "version") (whole form)) (member_tokens (codes "label") (string report.label))
+    (λ ends. ten_members c.args.out.now (member_tokens (codes "version") (whole form)) (member_tokens (codes "label") (string report.label))
     (member_tokens (codes "seed") (string (decimal report.seed))) (member_tokens (codes "clean") (clean_value name report.clean))
     (member_tokens (codes "census") (list_of (point_values points report.census)))
     (member_tokens (codes "counts") (counts_value report.verdicts))
     (member_tokens (codes "not_passed") (list_of (told_values name 0 report.verdicts c.args.plans.now)))
     (member_tokens (codes "findings") (list_of (map (finding_value name) report.findings)))
     (member_tokens (codes "growth") (growth_value points name report.growth))
-    c.in_ok-token.ensures.ok c.in_ok-write_head.ensures c.in_ok-write_results.ensures ends)
+    (codes "unmet") report.unmet
+    (member (codes "findings") (list_of (map (finding_value name) report.findings))
+    (member (codes "growth") (growth_value points name report.growth) no_members))
+    c.in_ok-token.ensures.ok c.in_ok-write_head.ensures c.in_ok-write_results.ensures ends refl)
     c.token-2.ensures.ok

@@ -1,6 +1,6 @@
 use Rattle.std.proofs.Common.{◌<◌, ◌≡◌, ◌∷◌, [], List, ℕ, length, drop, arith, subst, sym, ◌+◌}
-use Rattle.report.proofs.Written.{next_of, census_next}
-use Rattle.report.proofs.lines.write_census.Goals as goal
+use Rattle.report.proofs.Written.{next_of, point_next}
+use Rattle.report.proofs.lines.write_points.Goals as goal
 
 pub loop-number-preserved : goal.loop-number-preserved
 loop-number-preserved g c =
@@ -9,4 +9,4 @@ loop-number-preserved g c =
     let within : number < length points = omega (arith, c.requires) in
     let next : drop number points ≡ c.point.result.now ∷ drop (number + 1) points =
     subst (λ (n : List ℕ). drop number points ≡ n ∷ drop (number + 1) points) (sym c.point.ensures) (next_of points number [] within) in
-    census_next _ _ _ _ _ _ _ _ _ next (next_of c.args.counts.now number _ c.loop-number-test.true) c.in_ok-write_point.ensures c.loop-number.invariant
+    point_next c.args.word.now _ _ _ _ _ _ _ _ _ next (next_of c.args.counts.now number _ c.loop-number-test.true) c.in_ok-write_point.ensures c.loop-number.invariant
