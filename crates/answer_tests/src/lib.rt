@@ -5,6 +5,8 @@
 #[cfg(test)]
 mod campaigns;
 #[cfg(test)]
+mod hits;
+#[cfg(test)]
 mod known;
 #[cfg(test)]
 mod plain;

@@ -1,6 +1,7 @@
 -- What a line is read as, it spells, and the other way round.
-use Rattle.std.proofs.Common.{◌≡◌, ℕ, List, [], ◌∷◌, ◌++◌, Bool, true, false, not, cond, Option, Some, None, Result, Ok, Err, refl, ap, sym, ◌∙◌, arith, subst, inl, inr}
+use Rattle.std.proofs.Common.{◌≡◌, ℕ, List, [], ◌∷◌, ◌++◌, Bool, true, false, not, ◌||◌, eqb, cond, Option, Some, None, Result, Ok, Err, refl, ap, sym, ◌∙◌, arith, subst, inl, inr}
 use Rattle.std.specs.Prelude.{codes, position}
+use Rattle.std.specs.Char.{is_ascii_control}
 use Rattle.std.specs.Str.{IsUtf8, is_utf8, bytes_eq}
 use Rattle.std.proofs.lemmas.Str.{IsUtf8-from_is_utf8, is_utf8-from_IsUtf8}
 use Rattle.std.proofs.lemmas.Slice.Eq.{bytes_eq-Decides}
@@ -11,7 +12,8 @@ use Rattle.scenario_grammar.specs.Words.{cut}
 use Rattle.scenario_values.specs.Printed.{printed}
 use Rattle.scenario_grammar.specs.declared.fault.Kind.TheVariants.{NoAction}
 use Rattle.scenario_grammar.specs.FirstFault.{Fault, reading, pieces_from, piece_in}
-use Rattle.scenario_grammar.proofs.CutLaws.{cut_at, cut_gives, cut_front_lacks, not_false}
+use Rattle.scenario_values.specs.Words.{lacks}
+use Rattle.scenario_grammar.proofs.CutLaws.{and_both, byte_is, cut_at, cut_gives, cut_front_lacks, cut_lacks, not_false}
 use Rattle.scenario_grammar.proofs.TermSound.{bind_ok}
 use Rattle.scenario_grammar.proofs.TextSound.{text_gives}
 use Rattle.scenario_grammar.proofs.TextLaws.{text_is}
@@ -20,8 +22,12 @@ use Rattle.target_trait.specs.declared.judgement.Verdict.{Verdict}
 use Rattle.target_trait.specs.declared.judgement.Verdict.TheVariants as verdict
 use Rattle.answer_text.specs.declared.fault.LineFault.{LineFault}
 use Rattle.answer_text.specs.declared.fault.LineFault.TheVariants.{NotUtf8, NoTab, UnknownVerdict, ControlByte}
-use Rattle.answer_text.specs.Answers.{Answer, SpellsVerdict, SpellsScenario, SpellsAnswer, has_control}
-use Rattle.answer_text.specs.FirstFault.{or_fault, failed_by, failure_in, verdict_in, of_scenario, scenario_in, parts_in, answer_in}
+use Rattle.answer_text.specs.declared.hits.Stretch.{Stretch}
+use Rattle.answer_text.specs.declared.runs.RunLine.{RunLine}
+use Rattle.answer_text.specs.Answers.{SpellsVerdict, SpellsScenario, SpellsRun, with_field}
+use Rattle.answer_text.specs.FirstFault.{Answer, or_fault, after_tab, before_tab, failed_by, failure_in, verdict_in, has_control, of_scenario, scenario_in, parts_in, answer_in}
+use Rattle.answer_text.specs.Hits.{field_in}
+use Rattle.answer_text.specs.Runs.{run_in, run_line}
 
 abbrev yes : {A : Type 0} → A → Result A LineFault
 yes x = Ok x
@@ -156,40 +162,85 @@ pub parts_are : (line : List ℕ) (o : Option (List ℕ × List ℕ)) → IsUtf8
 unfolding parts_in
 parts_are line o utf8 e = rw (is_utf8-from_IsUtf8 line utf8, e) refl
 
-pub record IsRead (names : List (List ℕ)) (line : List ℕ) (a : Answer) : Type 0 where
-  pub spelled : SpellsAnswer names line a
-  pub lawful : IsScenario a.0
+-- what stands behind the verdict, put together again
+fields_give : (rest : List ℕ) (o : Option (List ℕ × List ℕ)) → cut 9 rest ≡ o → rest ≡ with_field (before_tab rest o) (after_tab o)
+fields_give rest None e = refl
+fields_give rest (Some parts) e = cut_gives 9 rest parts.0 parts.1 e
 
-pub line_gives : (names : List (List ℕ)) (line : List ℕ) (a : Answer) → answer_in names line ≡ Ok a → IsRead names line a
-unfolding answer_in
-line_gives names line a h =
-    let p = bind_ok (parts_in line) _ a h in
-    let v = bind_ok (verdict_in names p.0.0) _ a p.2 in
-    let s = bind_ok (scenario_in p.0.1) _ a v.2 in
+no_tab : (b : ℕ) → not (is_ascii_control b) ≡ true → not (eqb b 9) ≡ true
+no_tab b h = by_test (eqb b 9) refl
+  where
+    tab_is_control : not (is_ascii_control 9) ≡ true → ⊥
+    tab_is_control k = cc
+
+    by_test : (t : Bool) → eqb b 9 ≡ t → not t ≡ true
+    by_test true e = absurd (tab_is_control (subst (λ (x : ℕ). not (is_ascii_control x) ≡ true) (byte_is b 9 e) h))
+    by_test false e = refl
+
+neither : (a b : Bool) → not (a || b) ≡ true → (not a ≡ true) × (not b ≡ true)
+neither true b h = absurd cc
+neither false b h = (refl, h)
+
+control_none : (text : List ℕ) → not (has_control text) ≡ true → lacks 9 text ≡ true
+control_none [] h = refl
+control_none (b ∷ bs) h =
+    let both = neither (is_ascii_control b) (has_control bs) h in
+    and_both (not (eqb b 9)) (lacks 9 bs) (no_tab b both.0) (control_none bs both.1)
+
+fields_read : (text : List ℕ) (field : Option (List ℕ)) → lacks 9 text ≡ true → (before_tab (with_field text field) (cut 9 (with_field text field)) ≡ text) × (after_tab (cut 9 (with_field text field)) ≡ field)
+fields_read text None h = rw (cut_lacks 9 text h) (refl, refl)
+fields_read text (Some field) h = rw (cut_at 9 text field h) (refl, refl)
+
+pub record IsRead (needed : Bool) (names points : List (List ℕ)) (line : List ℕ) (r : RunLine) : Type 0 where
+  pub spelled : SpellsRun needed names points line r
+  pub lawful : IsScenario r.scenario
+
+pub line_gives : (needed : Bool) (names points : List (List ℕ)) (line : List ℕ) (r : RunLine) → run_in needed names points line ≡ Ok r → IsRead needed names points line r
+unfolding run_in answer_in
+line_gives needed names points line r h =
+    let a = bind_ok (answer_in names line) _ r h in
+    let p = bind_ok (parts_in line) _ a.0 a.1 in
+    let v = bind_ok (verdict_in names p.0.0) _ a.0 p.2 in
+    let s = bind_ok (scenario_in (before_tab p.0.1 (cut 9 p.0.1))) _ a.0 v.2 in
+    let f = bind_ok (field_in needed points a.0.0.1 a.0.1) _ r a.2 in
     let cuts = parts_give line p.0 p.1 in
-    let r = scenario_gives p.0.1 s.0 s.1 in
-    let whole : (tidied s.0, v.0) ≡ a = yes_is (tidied s.0, v.0) a s.2 in
-    let first : tidied s.0 ≡ a.0 = ap (λ (x : Answer). x.0) whole in
-    let second : v.0 ≡ a.1 = ap (λ (x : Answer). x.1) whole in
+    let read = scenario_gives (before_tab p.0.1 (cut 9 p.0.1)) s.0 s.1 in
+    let first : tidied s.0 ≡ a.0.0.0 = ap (λ (x : Answer × Option (List ℕ)). x.0.0) (yes_is _ a.0 s.2) in
+    let second : v.0 ≡ a.0.0.1 = ap (λ (x : Answer × Option (List ℕ)). x.0.1) (yes_is _ a.0 s.2) in
+    let third : after_tab (cut 9 p.0.1) ≡ a.0.1 = ap (λ (x : Answer × Option (List ℕ)). x.1) (yes_is _ a.0 s.2) in
+    let whole : run_line a.0.0.0 a.0.0.1 f.0 ≡ r = yes_is _ r f.2 in
+    let scenario_is : tidied s.0 ≡ r.scenario = first ∙ ap (λ (x : RunLine). x.scenario) whole in
+    let verdict_is : a.0.0.1 ≡ r.verdict = ap (λ (x : RunLine). x.verdict) whole in
+    let hits_are : f.0 ≡ r.hits = ap (λ (x : RunLine). x.hits) whole in
     record {
       spelled = record {
         word = p.0.0;
-        text = p.0.1;
+        text = before_tab p.0.1 (cut 9 p.0.1);
+        field = after_tab (cut 9 p.0.1);
         scenario = s.0;
         utf8 = cuts.0;
-        parts = cut_gives 9 line p.0.0 p.0.1 cuts.1;
+        parts = cut_gives 9 line p.0.0 p.0.1 cuts.1 ∙ ap (λ (rest : List ℕ). p.0.0 ++ (9 ∷ rest)) (fields_give p.0.1 (cut 9 p.0.1) refl);
         first = cut_front_lacks 9 line p.0.0 p.0.1 cuts.1;
-        verdict = let P : Verdict → Type 0 = λ w. SpellsVerdict names p.0.0 w in subst P second (verdict_gives names p.0.0 v.0 v.1);
-        printable = r.printable;
-        spelled = r.spelled;
-        tidy = sym first;
+        verdict = let P : Verdict → Type 0 = λ w. SpellsVerdict names p.0.0 w in subst P (second ∙ verdict_is) (verdict_gives names p.0.0 v.0 v.1);
+        printable = read.printable;
+        spelled = read.spelled;
+        tidy = sym scenario_is;
+        hits = ap (λ (w : Verdict). field_in needed points w (after_tab (cut 9 p.0.1))) (sym verdict_is) ∙ ap (field_in needed points a.0.0.1) third ∙ f.1 ∙ ap (λ (x : Option (List Stretch)). yes x) hits_are;
       };
-      lawful = subst IsScenario first (tidied_scenario s.0 r.lawful);
+      lawful = subst IsScenario scenario_is (tidied_scenario s.0 read.lawful);
     }
 
-pub line_read : (names : List (List ℕ)) (line : List ℕ) (a : Answer) → SpellsAnswer names line a → answer_in names line ≡ Ok a
+-- a line that spells a run, read up to its hits
+answer_read : (needed : Bool) (names points : List (List ℕ)) (line : List ℕ) (r : RunLine) → (h : SpellsRun needed names points line r) → answer_in names line ≡ Ok ((r.scenario, r.verdict), h.field)
 unfolding answer_in parts_in
-line_read names line a h =
+answer_read needed names points line r h =
     let utf8 : is_utf8 line ≡ true = is_utf8-from_IsUtf8 line h.utf8 in
-    let cuts : cut 9 line ≡ Some (h.word, h.text) = ap (cut 9) h.parts ∙ cut_at 9 h.word h.text h.first in
-    rw (utf8, cuts, verdict_read names h.word a.1 h.verdict, scenario_read h.text h.scenario h.printable h.spelled) (ap (λ (s : Entries). yes (s, a.1)) (sym h.tidy))
+    let rest : List ℕ = with_field h.text h.field in
+    let cuts : cut 9 line ≡ Some (h.word, rest) = ap (cut 9) h.parts ∙ cut_at 9 h.word rest h.first in
+    let fields = fields_read h.text h.field (control_none h.text h.printable) in
+    rw (utf8, cuts, verdict_read names h.word r.verdict h.verdict, fields.0, fields.1, scenario_read h.text h.scenario h.printable h.spelled)
+    (ap (λ (s : Entries). yes ((s, r.verdict), h.field)) (sym h.tidy))
+
+pub line_read : (needed : Bool) (names points : List (List ℕ)) (line : List ℕ) (r : RunLine) → SpellsRun needed names points line r → run_in needed names points line ≡ Ok r
+unfolding run_in
+line_read needed names points line r h = rw (answer_read needed names points line r h, h.hits) refl

@@ -1,6 +1,6 @@
+pub mod Places
 pub mod Lines
 pub mod Members
-pub mod Books
 pub mod HitReading
 pub mod RunReading
 pub mod AnswerLaws

@@ -1,5 +1,5 @@
--- The lines of a text of answers with hits, read one after another.
-use Rattle.std.proofs.Common.{◌≡◌, ℕ, ◌+◌, ◌<◌, ◌≤◌, List, [], ◌∷◌, ◌++◌, Bool, true, false, eqb, ltb, cond, length, Option, Some, None, Result, Ok, Err, refl, ap, sym, ◌∙◌, arith, subst, length-append}
+-- The lines of a text of answers, read one after another.
+use Rattle.std.proofs.Common.{◌≡◌, ℕ, ◌+◌, ◌<◌, ◌≤◌, List, [], ◌∷◌, ◌++◌, Bool, true, false, eqb, ltb, suc, cond, length, Option, Some, None, Result, Ok, Err, refl, ap, sym, ◌∙◌, arith, subst, length-append}
 use Rattle.std.proofs.Math.Path.{fun_ext}
 use Rattle.std.specs.Prelude.{IfOk, OnOk}
 use Rattle.std.specs.List.{slice_split}
@@ -23,10 +23,9 @@ use Rattle.answer_text.specs.declared.fault.AnswersFault.TheVariants as faults
 use Rattle.answer_text.specs.declared.runs.RunLine.{RunLine}
 use Rattle.answer_text.specs.declared.runs.ToldRun.{ToldRun}
 use Rattle.answer_text.specs.Answers.{most_bytes}
-use Rattle.answer_text.specs.FirstFault.{Fails, on_line}
-use Rattle.answer_text.specs.Runs.{RunBook, ended, first_told, is_repeated, known_runs, known_runs_of, pieces_from, run_in, runs_of, told_in, told_run, with_line, with_run, TellsRuns}
-use Rattle.answer_text.specs.inside.Books.{fault_at}
-use Rattle.answer_text.specs.inside.RunBooks.{HoldsRuns, IsBookOfRuns, noted_run, noted_run_by, read_run}
+use Rattle.answer_text.specs.FirstFault.{Fails}
+use Rattle.answer_text.specs.Runs.{RunBook, ended, first_told, is_repeated, known_of, on_line, pieces_from, reading_of, run_in, told_in, told_run, with_line, with_run, Tells}
+use Rattle.answer_text.specs.inside.Books.{Holds, IsBookOf, fault_at, noted, noted_by, read_line}
 use Rattle.answer_text.proofs.Lines.{split_one, split_first, shorter}
 
 -- ---- a book after one more line
@@ -67,14 +66,14 @@ lookup_insert (e ∷ es) k v key h = by_test (bytes_eq k e.0) refl (lookup_inser
     by_test true is later none = absurd cc
     by_test false is later none = by_key (bytes_eq key e.0) (later none)
 
-book_grows : (book : RunBook) (before : List RunLine) (r : RunLine) (line : ℕ) → IsBookOfRuns book before → line ≡ length before + 1 → lookup (bytes_eq (printed r.scenario)) book ≡ None
-    → IsBookOfRuns (insert_entry bytes_eq book (printed r.scenario) (told_run line r)) (before ++ r ∷ [])
+book_grows : (book : RunBook) (before : List RunLine) (r : RunLine) (line : ℕ) → IsBookOf book before → line ≡ length before + 1 → lookup (bytes_eq (printed r.scenario)) book ≡ None
+    → IsBookOf (insert_entry bytes_eq book (printed r.scenario) (told_run line r)) (before ++ r ∷ [])
 book_grows book before r line is e none key =
     lookup_insert book (printed r.scenario) (told_run line r) key none
     ∙ ap (λ o. or_told o (cond (bytes_eq key (printed r.scenario)) (Some (told_run line r)) None)) (is key)
     ∙ sym (told_push 1 line before r key (omega arith))
 
-book_stays : (book : RunBook) (before : List RunLine) (r : RunLine) (told : ToldRun) → IsBookOfRuns book before → lookup (bytes_eq (printed r.scenario)) book ≡ Some told → IsBookOfRuns book (before ++ r ∷ [])
+book_stays : (book : RunBook) (before : List RunLine) (r : RunLine) (told : ToldRun) → IsBookOf book before → lookup (bytes_eq (printed r.scenario)) book ≡ Some told → IsBookOf book (before ++ r ∷ [])
 unfolding or_told
 book_stays book before r told is there key =
     is key ∙ sym (told_push 1 (1 + length before) before r key refl ∙ by_test (bytes_eq key (printed r.scenario)) refl)
@@ -96,81 +95,81 @@ fine_is x y e = cc
 
 record IsNoted (book : RunBook) (before : List RunLine) (r : RunLine) (next : RunBook) : Type 0 where
   with_is : with_run before r (first_told 1 before (printed r.scenario)) ≡ Ok (before ++ r ∷ [])
-  book_is : IsBookOfRuns next (before ++ r ∷ [])
+  book_is : IsBookOf next (before ++ r ∷ [])
 
-noted_gives : (book next : RunBook) (before : List RunLine) (r : RunLine) (line : ℕ) → IsBookOfRuns book before → line ≡ length before + 1 → noted_run book line r ≡ Ok next → IsNoted book before r next
-unfolding noted_run
+noted_gives : (book next : RunBook) (before : List RunLine) (r : RunLine) (line : ℕ) → IsBookOf book before → line ≡ length before + 1 → noted book line r ≡ Ok next → IsNoted book before r next
+unfolding noted
 noted_gives book next before r line is e h = by_told (lookup (bytes_eq (printed r.scenario)) book) refl h
   where
     P : RunBook → Type 0
-    P b = IsBookOfRuns b (before ++ r ∷ [])
+    P b = IsBookOf b (before ++ r ∷ [])
 
     kept : (told : ToldRun) → lookup (bytes_eq (printed r.scenario)) book ≡ Some told → is_repeated told r ≡ true → book ≡ next → IsNoted book before r next
     kept told k t same = record {
       with_is = rw (sym (is (printed r.scenario)) ∙ k, t) refl;
-      book_is = subst (λ (b : RunBook). IsBookOfRuns b (before ++ r ∷ [])) same (book_stays book before r told is k);
+      book_is = subst (λ (b : RunBook). IsBookOf b (before ++ r ∷ [])) same (book_stays book before r told is k);
     }
 
     by_test : (told : ToldRun) (t : Bool) → lookup (bytes_eq (printed r.scenario)) book ≡ Some told → is_repeated told r ≡ t → cond t (Ok book) (Err (Contradicts told.line)) ≡ Ok next → IsNoted book before r next
     by_test told true k e h = kept told k e (fine_is book next h)
     by_test told false k e h = absurd cc
 
-    by_told : (o : Option ToldRun) → lookup (bytes_eq (printed r.scenario)) book ≡ o → noted_run_by book line r o ≡ Ok next → IsNoted book before r next
+    by_told : (o : Option ToldRun) → lookup (bytes_eq (printed r.scenario)) book ≡ o → noted_by book line r o ≡ Ok next → IsNoted book before r next
     by_told None k h = record {
       with_is = rw (sym (is (printed r.scenario)) ∙ k) refl;
-      book_is = subst (λ (b : RunBook). IsBookOfRuns b (before ++ r ∷ [])) (fine_is _ next h) (book_grows book before r line is e k);
+      book_is = subst (λ (b : RunBook). IsBookOf b (before ++ r ∷ [])) (fine_is _ next h) (book_grows book before r line is e k);
     }
     by_told (Some told) k h = by_test told (is_repeated told r) k refl h
 
-noted_refuses : (book : RunBook) (before : List RunLine) (r : RunLine) (line : ℕ) (fault : LineFault) → IsBookOfRuns book before → noted_run book line r ≡ Err fault → with_run before r (first_told 1 before (printed r.scenario)) ≡ Err fault
-unfolding noted_run
+noted_refuses : (book : RunBook) (before : List RunLine) (r : RunLine) (line : ℕ) (fault : LineFault) → IsBookOf book before → noted book line r ≡ Err fault → with_run before r (first_told 1 before (printed r.scenario)) ≡ Err fault
+unfolding noted
 noted_refuses book before r line fault is h = rw (sym (is (printed r.scenario))) (by_told (lookup (bytes_eq (printed r.scenario)) book) h)
   where
     by_test : (told : ToldRun) (t : Bool) → cond {A = Result RunBook LineFault} t (Ok book) (Err (Contradicts told.line)) ≡ Err fault → cond {A = Result (List RunLine) LineFault} t (Ok (before ++ r ∷ [])) (Err (Contradicts told.line)) ≡ Err fault
     by_test told true h = absurd cc
     by_test told false h = cc
 
-    by_told : (o : Option ToldRun) → noted_run_by book line r o ≡ Err fault → with_run before r o ≡ Err fault
+    by_told : (o : Option ToldRun) → noted_by book line r o ≡ Err fault → with_run before r o ≡ Err fault
     by_told None h = absurd cc
     by_told (Some told) h = by_test told (is_repeated told r) h
 
-first_is : (names points : List (List ℕ)) (before after : List RunLine) (line : List ℕ) (r : RunLine) → run_in names points line ≡ Ok r → with_run before r (first_told 1 before (printed r.scenario)) ≡ Ok after → with_line names points before line ≡ Ok after
+first_is : (needed : Bool) (names points : List (List ℕ)) (before after : List RunLine) (line : List ℕ) (r : RunLine) → run_in needed names points line ≡ Ok r → with_run before r (first_told 1 before (printed r.scenario)) ≡ Ok after → with_line needed names points before line ≡ Ok after
 unfolding with_line
-first_is names points before after line r read h = rw read (ap (on_line (length before + 1)) h)
+first_is needed names points before after line r read h = rw read (ap (on_line (length before + 1)) h)
 
 -- ---- the lines
 
-pub record ReadingRuns (names points : List (List ℕ)) (text rest : List ℕ) (book : RunBook) (number : ℕ) : Type 0 where
+pub record Reading (needed : Bool) (names points : List (List ℕ)) (text rest : List ℕ) (book : RunBook) (number : ℕ) : Type 0 where
   pub before : List RunLine
   pub number_is : number ≡ length before + 1
   pub few : number + length rest ≤ length text + 1
-  pub book_is : IsBookOfRuns book before
-  pub goes_on : pieces_from names points before (slice_split (λ b. eqb b 10) rest) ≡ pieces_from names points [] (slice_split (λ b. eqb b 10) text)
+  pub book_is : IsBookOf book before
+  pub goes_on : pieces_from needed names points before (slice_split (λ b. eqb b 10) rest) ≡ pieces_from needed names points [] (slice_split (λ b. eqb b 10) text)
 
-pub begins : (names points : List (List ℕ)) (text : List ℕ) (book : RunBook) → book ≡ [] → ReadingRuns names points text text book 1
+pub begins : (needed : Bool) (names points : List (List ℕ)) (text : List ℕ) (book : RunBook) → book ≡ [] → Reading needed names points text text book 1
 unfolding first_told
-begins names points text book e = record { before = []; number_is = refl; few = omega arith; book_is = λ key. rw e refl; goes_on = refl }
+begins needed names points text book e = record { before = []; number_is = refl; few = omega arith; book_is = λ key. rw e refl; goes_on = refl }
 
-split_some : (text : List ℕ) → 0 < length (slice_split (λ b. eqb b 10) text)
+pub split_some : (text : List ℕ) → 0 < length (slice_split (λ b. eqb b 10) text)
 split_some text = omega (arith, length-slice_split (λ b. eqb b 10) text)
 
-step : (names points : List (List ℕ)) (before after : List RunLine) (line : List ℕ) (pieces : List (List ℕ)) → 0 < length pieces → with_line names points before line ≡ Ok after → pieces_from names points before (line ∷ pieces) ≡ pieces_from names points after pieces
+pub step : (needed : Bool) (names points : List (List ℕ)) (before after : List RunLine) (line : List ℕ) (pieces : List (List ℕ)) → 0 < length pieces → with_line needed names points before line ≡ Ok after → pieces_from needed names points before (line ∷ pieces) ≡ pieces_from needed names points after pieces
 unfolding pieces_from
-step names points before after line [] some h = absurd (omega arith)
-step names points before after line (next ∷ more) some h = rw h refl
+step needed names points before after line [] some h = absurd (omega arith)
+step needed names points before after line (next ∷ more) some h = rw h refl
 
-step_bad : (names points : List (List ℕ)) (before : List RunLine) (line : List ℕ) (pieces : List (List ℕ)) (fault : AnswersFault) → 0 < length pieces → with_line names points before line ≡ Err fault → pieces_from names points before (line ∷ pieces) ≡ Err fault
+step_bad : (needed : Bool) (names points : List (List ℕ)) (before : List RunLine) (line : List ℕ) (pieces : List (List ℕ)) (fault : AnswersFault) → 0 < length pieces → with_line needed names points before line ≡ Err fault → pieces_from needed names points before (line ∷ pieces) ≡ Err fault
 unfolding pieces_from
-step_bad names points before line [] fault some h = absurd (omega arith)
-step_bad names points before line (next ∷ more) fault some h = rw h refl
+step_bad needed names points before line [] fault some h = absurd (omega arith)
+step_bad needed names points before line (next ∷ more) fault some h = rw h refl
 
-pub goes_on : (names points : List (List ℕ)) (text rest line after : List ℕ) (book next : RunBook) (number : ℕ) → cut 10 rest ≡ Some (line, after) → ReadingRuns names points text rest book number → read_run names points book number line ≡ Ok next → ReadingRuns names points text after next (number + 1)
-unfolding read_run
-goes_on names points text rest line after book next number cuts r h =
-    let b = bind_ok (run_in names points line) _ next h in
+pub goes_on : (needed : Bool) (names points : List (List ℕ)) (text rest line after : List ℕ) (book next : RunBook) (number : ℕ) → cut 10 rest ≡ Some (line, after) → Reading needed names points text rest book number → read_line needed names points book number line ≡ Ok next → Reading needed names points text after next (number + 1)
+unfolding read_line
+goes_on needed names points text rest line after book next number cuts r h =
+    let b = bind_ok (run_in needed names points line) _ next h in
     let a = b.0 in
     let n = noted_gives book next r.before a number r.book_is r.number_is b.2 in
-    let first : with_line names points r.before line ≡ Ok (r.before ++ a ∷ []) = first_is names points r.before (r.before ++ a ∷ []) line a b.1 n.with_is in
+    let first : with_line needed names points r.before line ≡ Ok (r.before ++ a ∷ []) = first_is needed names points r.before (r.before ++ a ∷ []) line a b.1 n.with_is in
     let short = shorter rest line after cuts in
     let f1 = r.few in let f2 = r.number_is in
     record {
@@ -178,66 +177,79 @@ goes_on names points text rest line after book next number cuts r h =
       number_is = simp length-append (omega arith);
       few = omega arith;
       book_is = n.book_is;
-      goes_on = sym (step names points r.before (r.before ++ a ∷ []) line (slice_split (λ b. eqb b 10) after) (split_some after) first) ∙ ap (pieces_from names points r.before) (sym (split_first rest line after cuts)) ∙ r.goes_on;
+      goes_on = sym (step needed names points r.before (r.before ++ a ∷ []) line (slice_split (λ b. eqb b 10) after) (split_some after) first) ∙ ap (pieces_from needed names points r.before) (sym (split_first rest line after cuts)) ∙ r.goes_on;
     }
 
-line_refused : (names points : List (List ℕ)) (before : List RunLine) (book : RunBook) (number : ℕ) (line : List ℕ) (fault : LineFault) → IsBookOfRuns book before → number ≡ length before + 1 → read_run names points book number line ≡ Err fault → with_line names points before line ≡ Err (faults.Line number fault)
-unfolding read_run with_line
-line_refused names points before book number line fault is e h = rw (sym e) (by_run (run_in names points line) h)
+line_refused : (needed : Bool) (names points : List (List ℕ)) (before : List RunLine) (book : RunBook) (number : ℕ) (line : List ℕ) (fault : LineFault) → IsBookOf book before → number ≡ length before + 1 → read_line needed names points book number line ≡ Err fault → with_line needed names points before line ≡ Err (faults.Line number fault)
+unfolding read_line with_line
+line_refused needed names points before book number line fault is e h = rw (sym e) (by_run (run_in needed names points line) h)
   where
-    by_run : (r : Result RunLine LineFault) → (r >>= λ run. noted_run book number run) ≡ Err fault → on_line number (r >>= λ run. with_run before run (first_told 1 before (printed run.scenario))) ≡ Err (faults.Line number fault)
+    by_run : (r : Result RunLine LineFault) → (r >>= λ run. noted book number run) ≡ Err fault → on_line number (r >>= λ run. with_run before run (first_told 1 before (printed run.scenario))) ≡ Err (faults.Line number fault)
     by_run (Ok a) h = ap (on_line number) (noted_refuses book before a number fault is h)
     by_run (Err f) h = cc
 
-not_below : (m n : ℕ) → n ≤ m → ltb m n ≡ false
+pub not_below : (m n : ℕ) → n ≤ m → ltb m n ≡ false
 not_below m n h = grind (arith, nat_tests)
 
 is_below : (m n : ℕ) → m < n → ltb m n ≡ true
 is_below m n h = grind (arith, nat_tests)
 
-whole : (names points : List (List ℕ)) (text : List ℕ) → length text ≤ most_bytes → runs_of names points text ≡ pieces_from names points [] (slice_split (λ b. eqb b 10) text)
-unfolding runs_of
-whole names points text short = rw (not_below most_bytes (length text) short) refl
+whole : (needed : Bool) (names points : List (List ℕ)) (text : List ℕ) → length text ≤ most_bytes → reading_of needed names points text ≡ pieces_from needed names points [] (slice_split (λ b. eqb b 10) text)
+unfolding reading_of
+whole needed names points text short = rw (not_below most_bytes (length text) short) refl
 
-refused : (names points : List (List ℕ)) (text rest line after : List ℕ) (book : RunBook) (number : ℕ) (fault : LineFault) → length text ≤ most_bytes → cut 10 rest ≡ Some (line, after) → ReadingRuns names points text rest book number → read_run names points book number line ≡ Err fault → runs_of names points text ≡ Err (faults.Line number fault)
-refused names points text rest line after book number fault short cuts r h =
-    whole names points text short ∙ sym r.goes_on ∙ ap (pieces_from names points r.before) (split_first rest line after cuts)
-    ∙ step_bad names points r.before line (slice_split (λ b. eqb b 10) after) (faults.Line number fault) (split_some after) (line_refused names points r.before book number line fault r.book_is r.number_is h)
+refused : (needed : Bool) (names points : List (List ℕ)) (text rest line after : List ℕ) (book : RunBook) (number : ℕ) (fault : LineFault) → length text ≤ most_bytes → cut 10 rest ≡ Some (line, after) → Reading needed names points text rest book number → read_line needed names points book number line ≡ Err fault → reading_of needed names points text ≡ Err (faults.Line number fault)
+refused needed names points text rest line after book number fault short cuts r h =
+    whole needed names points text short ∙ sym r.goes_on ∙ ap (pieces_from needed names points r.before) (split_first rest line after cuts)
+    ∙ step_bad needed names points r.before line (slice_split (λ b. eqb b 10) after) (faults.Line number fault) (split_some after) (line_refused needed names points r.before book number line fault r.book_is r.number_is h)
 
-last_is : (names points : List (List ℕ)) (before : List RunLine) (last : List ℕ) → pieces_from names points before (last ∷ []) ≡ ended before last
+last_is : (needed : Bool) (names points : List (List ℕ)) (before : List RunLine) (last : List ℕ) → pieces_from needed names points before (last ∷ []) ≡ ended before last
 unfolding pieces_from
-last_is names points before last = refl
+last_is needed names points before last = refl
 
-pub all_read : (names points : List (List ℕ)) (text rest : List ℕ) (book : RunBook) (number : ℕ) → length text ≤ most_bytes → cut 10 rest ≡ None → rest ≡ [] → ReadingRuns names points text rest book number → HoldsRuns names points text book
-all_read names points text rest book number short cuts empty r =
-    let one : pieces_from names points r.before (slice_split (λ b. eqb b 10) rest) ≡ Ok r.before = ap (pieces_from names points r.before) (split_one rest cuts) ∙ last_is names points r.before rest ∙ ap (ended r.before) empty in
-    (r.before, whole names points text short ∙ sym r.goes_on ∙ one, r.book_is)
+pub all_read : (needed : Bool) (names points : List (List ℕ)) (text rest : List ℕ) (book : RunBook) (number : ℕ) → length text ≤ most_bytes → cut 10 rest ≡ None → rest ≡ [] → Reading needed names points text rest book number → Holds needed names points text book
+all_read needed names points text rest book number short cuts empty r =
+    let one : pieces_from needed names points r.before (slice_split (λ b. eqb b 10) rest) ≡ Ok r.before = ap (pieces_from needed names points r.before) (split_one rest cuts) ∙ last_is needed names points r.before rest ∙ ap (ended r.before) empty in
+    (r.before, whole needed names points text short ∙ sym r.goes_on ∙ one, r.book_is)
 
 not_ended : (before : List RunLine) (number : ℕ) (rest : List ℕ) → number ≡ length before + 1 → 0 < length rest → ended before rest ≡ Err (faults.Line number NotEnded)
 not_ended before number [] e some = absurd (omega arith)
 not_ended before number (b ∷ bs) e some = rw e refl
 
-pub left_over : (names points : List (List ℕ)) (text rest : List ℕ) (book : RunBook) (number : ℕ) → length text ≤ most_bytes → cut 10 rest ≡ None → 0 < length rest → ReadingRuns names points text rest book number → runs_of names points text ≡ Err (faults.Line number NotEnded)
-left_over names points text rest book number short cuts some r =
-    whole names points text short ∙ sym r.goes_on ∙ ap (pieces_from names points r.before) (split_one rest cuts) ∙ last_is names points r.before rest ∙ not_ended r.before number rest r.number_is some
+pub left_over : (needed : Bool) (names points : List (List ℕ)) (text rest : List ℕ) (book : RunBook) (number : ℕ) → length text ≤ most_bytes → cut 10 rest ≡ None → 0 < length rest → Reading needed names points text rest book number → reading_of needed names points text ≡ Err (faults.Line number NotEnded)
+left_over needed names points text rest book number short cuts some r =
+    whole needed names points text short ∙ sym r.goes_on ∙ ap (pieces_from needed names points r.before) (split_one rest cuts) ∙ last_is needed names points r.before rest ∙ not_ended r.before number rest r.number_is some
 
-pub tells_by : (names points : List (List ℕ)) (text rest line after : List ℕ) (book : RunBook) (number : ℕ) (error : LineError) → length text ≤ most_bytes → cut 10 rest ≡ Some (line, after) → ReadingRuns names points text rest book number → Fails error (read_run names points book number line) → TellsRuns (fault_at number error) names points text
-tells_by names points text rest line after book number errors.Memory short cuts r h = tt
-tells_by names points text rest line after book number (errors.Bad fault) short cuts r h = refused names points text rest line after book number fault short cuts r h
+pub tells_by : (needed : Bool) (names points : List (List ℕ)) (text rest line after : List ℕ) (book : RunBook) (number : ℕ) (error : LineError) → length text ≤ most_bytes → cut 10 rest ≡ Some (line, after) → Reading needed names points text rest book number → Fails error (read_line needed names points book number line) → Tells (fault_at number error) needed names points text
+tells_by needed names points text rest line after book number errors.Memory short cuts r h = tt
+tells_by needed names points text rest line after book number (errors.Bad fault) short cuts r h = refused needed names points text rest line after book number fault short cuts r h
 
 -- ---- the contract
 
-pub too_long : (names points : List (List ℕ)) (text : List ℕ) → most_bytes < length text → runs_of names points text ≡ Err faults.TooLong
-unfolding runs_of
-too_long names points text h = rw (is_below most_bytes (length text) h) refl
+pub too_long : (needed : Bool) (names points : List (List ℕ)) (text : List ℕ) → most_bytes < length text → reading_of needed names points text ≡ Err faults.TooLong
+unfolding reading_of
+too_long needed names points text h = rw (is_below most_bytes (length text) h) refl
 
-book_knows : (names points : List (List ℕ)) (text : List ℕ) (book : RunBook) → HoldsRuns names points text book → told_in book ≡ known_runs names points text
-book_knows names points text book h = fun_ext (λ (s : Entries). h.2 (printed s) ∙ ap (λ (r : Result (List RunLine) AnswersFault). known_runs_of r s) (sym h.1))
+book_knows : (needed : Bool) (names points : List (List ℕ)) (text : List ℕ) (book : RunBook) → Holds needed names points text book → told_in book ≡ known_of (reading_of needed names points text)
+book_knows needed names points text book h = fun_ext (λ (s : Entries). h.2 (printed s) ∙ ap (λ (r : Result (List RunLine) AnswersFault). known_of r s) (sym h.1))
 
-pub known_all : (names points : List (List ℕ)) (text : List ℕ) (r : Result RunBook AnswersFault) → IfOk r (HoldsRuns names points text) → IfOk r (λ book. told_in book ≡ known_runs names points text)
-known_all names points text (Ok book) h = book_knows names points text book h
-known_all names points text (Err fault) h = tt
+pub known_all : (needed : Bool) (names points : List (List ℕ)) (text : List ℕ) (r : Result RunBook AnswersFault) → IfOk r (Holds needed names points text) → IfOk r (λ book. told_in book ≡ known_of (reading_of needed names points text))
+known_all needed names points text (Ok book) h = book_knows needed names points text book h
+known_all needed names points text (Err fault) h = tt
 
-pub read_all : (names points : List (List ℕ)) (text : List ℕ) (r : Result RunBook AnswersFault) → IfOk r (HoldsRuns names points text) → OnOk r ((lines : List RunLine) × (runs_of names points text ≡ Ok lines))
-read_all names points text (Ok book) h = (h.0, h.1)
-read_all names points text (Err fault) h = tt
+pub read_all : (needed : Bool) (names points : List (List ℕ)) (text : List ℕ) (r : Result RunBook AnswersFault) → IfOk r (Holds needed names points text) → OnOk r ((lines : List RunLine) × (reading_of needed names points text ≡ Ok lines))
+read_all needed names points text (Ok book) h = (h.0, h.1)
+read_all needed names points text (Err fault) h = tt
+
+-- ---- what is left
+
+never : (n : ℕ) → eqb (suc n) 0 ≡ true → ⊥
+never n h = absurd (grind (arith, nat_tests))
+
+pub none_left : (rest : List ℕ) (b : Bool) → b ≡ eqb (length rest) 0 → b ≡ true → rest ≡ []
+none_left [] b e h = refl
+none_left (x ∷ rest) b e h = absurd (never (length rest) (sym e ∙ h))
+
+pub some_left : (rest : List ℕ) (b : Bool) → b ≡ eqb (length rest) 0 → b ≡ false → 0 < length rest
+some_left [] b e h = absurd (cc)
+some_left (x ∷ rest) b e h = omega arith

@@ -1,8 +1,7 @@
--- What a text of answers says, as a relation between whole texts and lists of answers. The format is this project's own: a line
--- `VERDICT<TAB>SCENARIO` for each run, as a user's own loop appends it.
-use Rattle.std.specs.Prelude.{◌≡◌, ℕ, ◌≤◌, ◌==◌, ◌⊎◌, not, List, [], ◌∷◌, ◌++◌, Bool, true, length, Some, position, Contains, codes}
-use Rattle.std.specs.Char.{is_ascii_control}
-use Rattle.std.specs.List.{slice_split, list_any}
+-- What a text of answers says, as a relation between whole texts and lists of what their lines tell. The format is this project's own: a line
+-- `VERDICT<TAB>SCENARIO` or `VERDICT<TAB>SCENARIO<TAB>HITS` for each run, as a user's own loop appends it.
+use Rattle.std.specs.Prelude.{◌≡◌, ℕ, ◌≤◌, ◌==◌, ◌⊎◌, not, List, [], ◌∷◌, ◌++◌, Bool, true, length, Option, None, Ok, Some, position, Contains, codes}
+use Rattle.std.specs.List.{slice_split}
 use Rattle.std.specs.Str.{IsUtf8, bytes_eq}
 use Rattle.scenario_values.specs.declared.term.Term.{Term}
 use Rattle.scenario_values.specs.Words.{lacks}
@@ -11,10 +10,9 @@ use Rattle.scenario_values.specs.Tidied.{tidied}
 use Rattle.scenario_grammar.specs.Spelling.{Writes, Within}
 use Rattle.target_trait.specs.declared.judgement.Verdict.{Verdict}
 use Rattle.target_trait.specs.declared.judgement.Verdict.TheVariants as verdict
-
--- a tidied scenario, and the verdict that it has
-abbrev pub Answer : Type 0
-Answer = Entries × Verdict
+use Rattle.answer_text.specs.declared.runs.RunLine.{RunLine}
+use Rattle.answer_text.specs.FirstFault.{has_control}
+use Rattle.answer_text.specs.Hits.{field_in}
 
 -- `fail` and the name of a code; the code's number is its place among the names
 pub record SpellsFailure (names : List (List ℕ)) (word : List ℕ) (code : ℕ) : Type 0 where
@@ -38,42 +36,45 @@ pub record Grammatical (text : List ℕ) (s : Entries) : Type 0 where
 abbrev pub SpellsScenario : List ℕ → Entries → Type 0
 SpellsScenario text s = ((text ≡ codes "none") × (s ≡ [])) ⊎ Grammatical text s
 
--- whether a byte of the text is an ASCII control character
-abbrev pub has_control : List ℕ → Bool
-has_control text = list_any is_ascii_control text
+-- what stands behind the verdict: a scenario, and where hits are told, a tab and these
+abbrev pub with_field : List ℕ → Option (List ℕ) → List ℕ
+with_field text None = text
+with_field text (Some field) = text ++ (9 ∷ field)
 
--- a verdict, a tab and a scenario, which is taken as tidied
-pub record SpellsAnswer (names : List (List ℕ)) (line : List ℕ) (answer : Answer) : Type 0 where
+-- a verdict, a tab and a scenario, which is taken as tidied, and the hits, where they are told; they have to be where they are needed
+pub record SpellsRun (needed : Bool) (names points : List (List ℕ)) (line : List ℕ) (run : RunLine) : Type 0 where
   pub word : List ℕ
   pub text : List ℕ
+  pub field : Option (List ℕ)
   pub scenario : Entries
   pub utf8 : IsUtf8 line
-  pub parts : line ≡ word ++ (9 ∷ text)
+  pub parts : line ≡ word ++ (9 ∷ with_field text field)
   pub first : lacks 9 word ≡ true
-  pub verdict : SpellsVerdict names word answer.1
+  pub verdict : SpellsVerdict names word run.verdict
   pub printable : not (has_control text) ≡ true
   pub spelled : SpellsScenario text scenario
-  pub tidy : answer.0 ≡ tidied scenario
+  pub tidy : run.scenario ≡ tidied scenario
+  pub hits : field_in needed points run.verdict field ≡ Ok run.hits
 
--- each line is one answer
-abbrev pub SpellsAnswers : List (List ℕ) → List (List ℕ) → List Answer → Type 0
-SpellsAnswers names [] [] = Unit {0}
-SpellsAnswers names [] (a ∷ more) = ⊥
-SpellsAnswers names (line ∷ lines) [] = ⊥
-SpellsAnswers names (line ∷ lines) (a ∷ more) = SpellsAnswer names line a × SpellsAnswers names lines more
+-- each line tells one run
+abbrev pub SpellsRuns : Bool → List (List ℕ) → List (List ℕ) → List (List ℕ) → List RunLine → Type 0
+SpellsRuns needed names points [] [] = Unit {0}
+SpellsRuns needed names points [] (r ∷ more) = ⊥
+SpellsRuns needed names points (line ∷ lines) [] = ⊥
+SpellsRuns needed names points (line ∷ lines) (r ∷ more) = SpellsRun needed names points line r × SpellsRuns needed names points lines more
 
--- no scenario has two verdicts
-abbrev pub AreConsistent : List Answer → Type 0
-AreConsistent answers = (s : Entries) (v w : Verdict) → Contains answers (s, v) → Contains answers (s, w) → v ≡ w
+-- no scenario has two verdicts, or is told with other hits
+abbrev pub AreConsistent : List RunLine → Type 0
+AreConsistent runs = (r q : RunLine) → Contains runs r → Contains runs q → r.scenario ≡ q.scenario → r ≡ q
 
 -- the most bytes of a text of answers
 abbrev pub most_bytes : ℕ
 most_bytes = 268435456
 
--- the text says these answers, line by line; each line is ended by a line feed
-pub record Says (names : List (List ℕ)) (text : List ℕ) (answers : List Answer) : Type 0 where
+-- the text says these runs, line by line; each line is ended by a line feed
+pub record Says (needed : Bool) (names points : List (List ℕ)) (text : List ℕ) (runs : List RunLine) : Type 0 where
   pub lines : List (List ℕ)
   pub short : length text ≤ most_bytes
   pub parts : slice_split (λ b. b == 10) text ≡ lines ++ [] ∷ []
-  pub spelled : SpellsAnswers names lines answers
-  pub consistent : AreConsistent answers
+  pub spelled : SpellsRuns needed names points lines runs
+  pub consistent : AreConsistent runs

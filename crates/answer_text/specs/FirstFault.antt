@@ -1,10 +1,9 @@
--- The first fault of a text of answers; its kinds and their order are this project's own. The length comes before all; then the lines in
--- order. Of a line: that it isn't ended, which only the last one can be, then its bytes, its tab, its verdict, its code, control
--- characters, its scenario's own first fault, and last that an earlier line gives the same scenario another verdict.
-use Rattle.std.specs.Prelude.{◌≡◌, ℕ, ◌+◌, List, [], ◌∷◌, ◌++◌, Bool, true, false, ◌==◌, length, Option, Some, None, position, Result, Ok, Err, nat_lt, if◌then◌else◌, codes}
-use Rattle.std.specs.List.{slice_split}
+-- The first fault of a line of answers; its kinds and their order are this project's own. Of a line: its bytes, its tab, its verdict, its code,
+-- control characters, its scenario's own first fault, and then its hits.
+use Rattle.std.specs.Prelude.{◌≡◌, ℕ, List, [], Bool, Option, Some, None, position, Result, Ok, Err, if◌then◌else◌, codes}
+use Rattle.std.specs.Char.{is_ascii_control}
+use Rattle.std.specs.List.{list_any}
 use Rattle.std.specs.Str.{is_utf8, bytes_eq}
-use Rattle.scenario_values.specs.Printed.{printed}
 use Rattle.scenario_values.specs.Scenario.{Entries}
 use Rattle.scenario_values.specs.Tidied.{tidied}
 use Rattle.scenario_grammar.specs.Words.{cut}
@@ -12,15 +11,9 @@ use Rattle.scenario_grammar.specs.FirstFault.{◌>>=◌, Fault, reading}
 use Rattle.target_trait.specs.declared.judgement.Verdict.{Verdict}
 use Rattle.target_trait.specs.declared.judgement.Verdict.TheVariants as verdict
 use Rattle.answer_text.specs.declared.fault.LineFault.{LineFault}
-use Rattle.answer_text.specs.declared.fault.LineFault.TheVariants.{NotEnded, NotUtf8, NoTab, UnknownVerdict, UnknownCode, ControlByte, Scenario, Contradicts}
+use Rattle.answer_text.specs.declared.fault.LineFault.TheVariants.{NotUtf8, NoTab, UnknownVerdict, UnknownCode, ControlByte, Scenario}
 use Rattle.answer_text.specs.declared.fault.LineError.{LineError}
 use Rattle.answer_text.specs.declared.fault.LineError.TheVariants as errors
-use Rattle.answer_text.specs.declared.fault.AnswersFault.{AnswersFault}
-use Rattle.answer_text.specs.declared.fault.AnswersFault.TheVariants as faults
-use Rattle.answer_text.specs.declared.known.Told.{Told}
-use Rattle.answer_text.specs.Answers.{Answer, has_control, most_bytes}
-
--- ---- a line
 
 -- what a function returned, seen by view, is what the reading gives, unless memory ran out
 abbrev pub Fails : {Y : Type 0} → LineError → Result Y LineFault → Type 0
@@ -50,6 +43,10 @@ verdict_in names word =
     else if bytes_eq word (codes "unresolved") then Ok verdict.Unresolved
     else failure_in names (cut 32 word)
 
+-- whether a byte of the text is an ASCII control character
+abbrev pub has_control : List ℕ → Bool
+has_control text = list_any is_ascii_control text
+
 -- the fault of a scenario's text, as the line's
 abbrev pub of_scenario : Result Entries Fault → Result Entries LineFault
 of_scenario (Ok s) = Ok s
@@ -64,63 +61,23 @@ scenario_in text =
 unfoldable pub parts_in : List ℕ → Result (List ℕ × List ℕ) LineFault
 parts_in line = if is_utf8 line then or_fault NoTab (cut 9 line) else Err NotUtf8
 
--- what a line says on its own
-unfoldable pub answer_in : List (List ℕ) → List ℕ → Result Answer LineFault
+-- what stands before the second tab, or all, and what stands after it
+abbrev pub before_tab : List ℕ → Option (List ℕ × List ℕ) → List ℕ
+before_tab text None = text
+before_tab text (Some parts) = parts.0
+
+abbrev pub after_tab : Option (List ℕ × List ℕ) → Option (List ℕ)
+after_tab None = None
+after_tab (Some parts) = Some parts.1
+
+-- a tidied scenario, and the verdict that it has
+abbrev pub Answer : Type 0
+Answer = Entries × Verdict
+
+-- what a line tells before its hits, and their text, where it tells them
+unfoldable pub answer_in : List (List ℕ) → List ℕ → Result (Answer × Option (List ℕ)) LineFault
 answer_in names line = do
   parts ← parts_in line
   verdict ← verdict_in names parts.0
-  scenario ← scenario_in parts.1
-  Ok (tidied scenario, verdict)
-
--- ---- lines that follow one another
-
-abbrev pub same_verdict : Verdict → Verdict → Bool
-same_verdict verdict.Pass verdict.Pass = true
-same_verdict (verdict.Fail code) (verdict.Fail other) = code == other
-same_verdict verdict.Unresolved verdict.Unresolved = true
-same_verdict _ _ = false
-
--- what the first of these answers to name a scenario tells, where they stand on the lines from one number on. Scenarios are compared
--- by their printed forms, of which each scenario has its own.
-unfoldable pub told_from : ℕ → List Answer → List ℕ → Option Told
-told_from line [] key = None
-told_from line (a ∷ more) key =
-    if bytes_eq key (printed a.0) then Some (record { line = line; verdict = a.1 })
-    else told_from (line + 1) more key
-
--- the answers with one more, where what was told of its scenario allows it
-abbrev pub with_answer : List Answer → Answer → Option Told → Result (List Answer) LineFault
-with_answer before answer None = Ok (before ++ answer ∷ [])
-with_answer before answer (Some told) =
-    if same_verdict told.verdict answer.1 then Ok (before ++ answer ∷ []) else Err (Contradicts told.line)
-
-abbrev pub on_line : {A : Type 0} → ℕ → Result A LineFault → Result A AnswersFault
-on_line number (Ok x) = Ok x
-on_line number (Err fault) = Err (faults.Line number fault)
-
--- the answers with those of one more line
-unfoldable pub with_line : List (List ℕ) → List Answer → List ℕ → Result (List Answer) AnswersFault
-with_line names before line = on_line (length before + 1)
-    (answer_in names line >>= λ answer. with_answer before answer (told_from 1 before (printed answer.0)))
-
--- what stands after the last line feed is nothing
-abbrev pub ended : List Answer → List ℕ → Result (List Answer) AnswersFault
-ended before [] = Ok before
-ended before (b ∷ bs) = Err (faults.Line (length before + 1) NotEnded)
-
--- the answers with those of the pieces between line feeds
-unfoldable pub pieces_from : List (List ℕ) → List Answer → List (List ℕ) → Result (List Answer) AnswersFault
-pieces_from names before [] = Ok before
-pieces_from names before (last ∷ []) = ended before last
-pieces_from names before (line ∷ next ∷ more) = with_line names before line >>= λ after. pieces_from names after (next ∷ more)
-
--- the answers that a text says, or its first fault, which is never want of memory
-unfoldable pub reading_of : List (List ℕ) → List ℕ → Result (List Answer) AnswersFault
-reading_of names text =
-    if nat_lt most_bytes (length text) then Err faults.TooLong
-    else pieces_from names [] (slice_split (λ b. b == 10) text)
-
--- a fault, as the error that says so
-abbrev pub Tells : AnswersFault → List (List ℕ) → List ℕ → Type 0
-Tells faults.Memory names text = Unit {0}
-Tells fault names text = reading_of names text ≡ Err fault
+  scenario ← scenario_in (before_tab parts.1 (cut 9 parts.1))
+  Ok ((tidied scenario, verdict), after_tab (cut 9 parts.1))

@@ -7,7 +7,9 @@ use Rattle.std.specs.Str.{bytes_eq}
 use Rattle.scenario_grammar.specs.Words.{cut}
 use Rattle.scenario_grammar.specs.FirstFault.{◌>>=◌, number_up_to}
 use Rattle.answer_text.specs.declared.fault.LineFault.{LineFault}
-use Rattle.answer_text.specs.declared.fault.LineFault.TheVariants.{UnknownPoint, BadCount, NotJoined}
+use Rattle.target_trait.specs.declared.judgement.Verdict.{Verdict}
+use Rattle.target_trait.specs.declared.judgement.Verdict.TheVariants as verdict
+use Rattle.answer_text.specs.declared.fault.LineFault.TheVariants.{NoHits, UnknownPoint, BadCount, NotJoined}
 use Rattle.answer_text.specs.declared.hits.Stretch.{Stretch}
 use Rattle.answer_text.specs.FirstFault.{or_fault}
 
@@ -87,6 +89,21 @@ items_from points before (item ∷ items) = item_in points item >>= λ s. with_i
 abbrev pub hits_in : List (List ℕ) → List ℕ → Result (List Stretch) LineFault
 hits_in points [] = Ok []
 hits_in points (b ∷ bs) = items_from points [] (slice_split (λ b. b == 59) (b ∷ bs))
+
+abbrev pub known_hits : Result (List Stretch) LineFault → Result (Option (List Stretch)) LineFault
+known_hits (Ok hits) = Ok (Some hits)
+known_hits (Err fault) = Err fault
+
+-- the hits of a run with this verdict; `-` stands for those of an unresolved one that aren't known
+abbrev pub field_by : List (List ℕ) → Verdict → List ℕ → Result (Option (List Stretch)) LineFault
+field_by points verdict.Unresolved text = if bytes_eq text (codes "-") then Ok None else known_hits (hits_in points text)
+field_by points verdict.Pass text = known_hits (hits_in points text)
+field_by points (verdict.Fail code) text = known_hits (hits_in points text)
+
+-- the same of a line that may tell none, where they aren't needed
+abbrev pub field_in : Bool → List (List ℕ) → Verdict → Option (List ℕ) → Result (Option (List Stretch)) LineFault
+field_in needed points v None = if needed then Err NoHits else Ok None
+field_in needed points v (Some text) = field_by points v text
 
 -- ---- hits compared
 

@@ -1,70 +1,53 @@
--- What a text of answers with hits says: a line `VERDICT<TAB>SCENARIO<TAB>HITS` for each run. The hits of an unresolved run that aren't known
--- are `-`. The first fault is that of the first line that has one; of a line, what is wrong with its verdict and its scenario comes first, as
--- without hits, then its hits, and last that an earlier line tells the same scenario otherwise.
-use Rattle.std.specs.Prelude.{◌≡◌, ℕ, ◌+◌, ◌&&◌, List, [], ◌∷◌, ◌++◌, Bool, ◌==◌, length, Option, Some, None, Result, Ok, Err, nat_lt, if◌then◌else◌, codes}
+-- What a text of answers is read as, and what is then known. The first fault is that of the first line that has one; of a line, last comes that
+-- an earlier line tells the same scenario otherwise. The length comes before all.
+use Rattle.std.specs.Prelude.{◌≡◌, ℕ, ◌+◌, ◌&&◌, List, [], ◌∷◌, ◌++◌, Bool, true, false, ◌==◌, length, Option, Some, None, Result, Ok, Err, nat_lt, if◌then◌else◌}
 use Rattle.std.specs.List.{slice_split}
 use Rattle.std.specs.Map.{lookup}
 use Rattle.std.specs.Str.{bytes_eq}
 use Rattle.scenario_values.specs.Printed.{printed}
 use Rattle.scenario_values.specs.Scenario.{Entries}
-use Rattle.scenario_values.specs.Tidied.{tidied}
-use Rattle.scenario_grammar.specs.Words.{cut}
 use Rattle.scenario_grammar.specs.FirstFault.{◌>>=◌}
 use Rattle.target_trait.specs.declared.judgement.Verdict.{Verdict}
 use Rattle.target_trait.specs.declared.judgement.Verdict.TheVariants as verdict
 use Rattle.answer_text.specs.declared.fault.LineFault.{LineFault}
-use Rattle.answer_text.specs.declared.fault.LineFault.TheVariants.{NotEnded, NoHits, Contradicts}
+use Rattle.answer_text.specs.declared.fault.LineFault.TheVariants.{NotEnded, Contradicts}
 use Rattle.answer_text.specs.declared.fault.AnswersFault.{AnswersFault}
 use Rattle.answer_text.specs.declared.fault.AnswersFault.TheVariants as faults
 use Rattle.answer_text.specs.declared.hits.Stretch.{Stretch}
 use Rattle.answer_text.specs.declared.runs.RunLine.{RunLine}
 use Rattle.answer_text.specs.declared.runs.ToldRun.{ToldRun}
 use Rattle.answer_text.specs.Answers.{most_bytes}
-use Rattle.answer_text.specs.FirstFault.{parts_in, verdict_in, scenario_in, same_verdict, on_line}
-use Rattle.answer_text.specs.Hits.{hits_in, same_hits}
+use Rattle.answer_text.specs.FirstFault.{answer_in}
+use Rattle.answer_text.specs.Hits.{field_in, same_hits}
 
 -- ---- a line
-
-abbrev pub known_hits : Result (List Stretch) LineFault → Result (Option (List Stretch)) LineFault
-known_hits (Ok hits) = Ok (Some hits)
-known_hits (Err fault) = Err fault
-
--- the hits of a run with this verdict
-abbrev pub field_by : List (List ℕ) → Verdict → List ℕ → Result (Option (List Stretch)) LineFault
-field_by points verdict.Unresolved text = if bytes_eq text (codes "-") then Ok None else known_hits (hits_in points text)
-field_by points verdict.Pass text = known_hits (hits_in points text)
-field_by points (verdict.Fail code) text = known_hits (hits_in points text)
-
--- a scenario and hits, which a tab parts
-abbrev pub before_tab : List ℕ → Option (List ℕ × List ℕ) → List ℕ
-before_tab text None = text
-before_tab text (Some parts) = parts.0
-
-abbrev pub after_tab : List (List ℕ) → Verdict → Option (List ℕ × List ℕ) → Result (Option (List Stretch)) LineFault
-after_tab points v None = Err NoHits
-after_tab points v (Some parts) = field_by points v parts.1
 
 abbrev pub run_line : Entries → Verdict → Option (List Stretch) → RunLine
 run_line s v hits = record { scenario = s; verdict = v; hits = hits }
 
--- what a line says on its own
-unfoldable pub run_in : List (List ℕ) → List (List ℕ) → List ℕ → Result RunLine LineFault
-run_in names points line = do
-  parts ← parts_in line
-  verdict ← verdict_in names parts.0
-  scenario ← scenario_in (before_tab parts.1 (cut 9 parts.1))
-  hits ← after_tab points verdict (cut 9 parts.1)
-  Ok (run_line (tidied scenario) verdict hits)
+-- what a line tells on its own, where hits are needed or not
+unfoldable pub run_in : Bool → List (List ℕ) → List (List ℕ) → List ℕ → Result RunLine LineFault
+run_in needed names points line = do
+  answer ← answer_in names line
+  hits ← field_in needed points answer.0.1 answer.1
+  Ok (run_line answer.0.0 answer.0.1 hits)
 
 -- ---- lines that follow one another
 
 abbrev pub told_run : ℕ → RunLine → ToldRun
 told_run line r = record { line = line; verdict = r.verdict; hits = r.hits }
 
--- what the first of these lines to name a scenario tells, where they stand from one number on
+-- what the first of these lines to name a scenario tells, where they stand from one number on. Scenarios are compared by their printed forms,
+-- of which each scenario has its own.
 unfoldable pub first_told : ℕ → List RunLine → List ℕ → Option ToldRun
 first_told line [] key = None
 first_told line (r ∷ more) key = if bytes_eq key (printed r.scenario) then Some (told_run line r) else first_told (line + 1) more key
+
+abbrev pub same_verdict : Verdict → Verdict → Bool
+same_verdict verdict.Pass verdict.Pass = true
+same_verdict (verdict.Fail code) (verdict.Fail other) = code == other
+same_verdict verdict.Unresolved verdict.Unresolved = true
+same_verdict _ _ = false
 
 abbrev pub is_repeated : ToldRun → RunLine → Bool
 is_repeated told r = same_verdict told.verdict r.verdict && same_hits told.hits r.hits
@@ -74,30 +57,35 @@ abbrev pub with_run : List RunLine → RunLine → Option ToldRun → Result (Li
 with_run before r None = Ok (before ++ r ∷ [])
 with_run before r (Some told) = if is_repeated told r then Ok (before ++ r ∷ []) else Err (Contradicts told.line)
 
-unfoldable pub with_line : List (List ℕ) → List (List ℕ) → List RunLine → List ℕ → Result (List RunLine) AnswersFault
-with_line names points before line = on_line (length before + 1)
-    (run_in names points line >>= λ r. with_run before r (first_told 1 before (printed r.scenario)))
+abbrev pub on_line : {A : Type 0} → ℕ → Result A LineFault → Result A AnswersFault
+on_line number (Ok x) = Ok x
+on_line number (Err fault) = Err (faults.Line number fault)
+
+unfoldable pub with_line : Bool → List (List ℕ) → List (List ℕ) → List RunLine → List ℕ → Result (List RunLine) AnswersFault
+with_line needed names points before line = on_line (length before + 1)
+    (run_in needed names points line >>= λ r. with_run before r (first_told 1 before (printed r.scenario)))
 
 -- what stands after the last line feed is nothing
 abbrev pub ended : List RunLine → List ℕ → Result (List RunLine) AnswersFault
 ended before [] = Ok before
 ended before (b ∷ bs) = Err (faults.Line (length before + 1) NotEnded)
 
-unfoldable pub pieces_from : List (List ℕ) → List (List ℕ) → List RunLine → List (List ℕ) → Result (List RunLine) AnswersFault
-pieces_from names points before [] = Ok before
-pieces_from names points before (last ∷ []) = ended before last
-pieces_from names points before (line ∷ next ∷ more) = with_line names points before line >>= λ after. pieces_from names points after (next ∷ more)
+unfoldable pub pieces_from : Bool → List (List ℕ) → List (List ℕ) → List RunLine → List (List ℕ) → Result (List RunLine) AnswersFault
+pieces_from needed names points before [] = Ok before
+pieces_from needed names points before (last ∷ []) = ended before last
+pieces_from needed names points before (line ∷ next ∷ more) =
+    with_line needed names points before line >>= λ after. pieces_from needed names points after (next ∷ more)
 
--- the lines that a text says, or its first fault, which is never want of memory
-unfoldable pub runs_of : List (List ℕ) → List (List ℕ) → List ℕ → Result (List RunLine) AnswersFault
-runs_of names points text =
+-- the runs that a text tells, or its first fault, which is never want of memory
+unfoldable pub reading_of : Bool → List (List ℕ) → List (List ℕ) → List ℕ → Result (List RunLine) AnswersFault
+reading_of needed names points text =
     if nat_lt most_bytes (length text) then Err faults.TooLong
-    else pieces_from names points [] (slice_split (λ b. b == 10) text)
+    else pieces_from needed names points [] (slice_split (λ b. b == 10) text)
 
 -- a fault, as the error that says so
-abbrev pub TellsRuns : AnswersFault → List (List ℕ) → List (List ℕ) → List ℕ → Type 0
-TellsRuns faults.Memory names points text = Unit {0}
-TellsRuns fault names points text = runs_of names points text ≡ Err fault
+abbrev pub Tells : AnswersFault → Bool → List (List ℕ) → List (List ℕ) → List ℕ → Type 0
+Tells faults.Memory needed names points text = Unit {0}
+Tells fault needed names points text = reading_of needed names points text ≡ Err fault
 
 -- ---- what is known
 
@@ -112,9 +100,28 @@ told_in book s = lookup (bytes_eq (printed s)) book
 abbrev pub KnownRuns : Type 0
 KnownRuns = Entries → Option ToldRun
 
-abbrev pub known_runs_of : Result (List RunLine) AnswersFault → KnownRuns
-known_runs_of (Ok runs) s = first_told 1 runs (printed s)
-known_runs_of (Err fault) s = None
+abbrev pub known_of : Result (List RunLine) AnswersFault → KnownRuns
+known_of (Ok runs) s = first_told 1 runs (printed s)
+known_of (Err fault) s = None
+
+-- ---- answers that have to tell their hits
+
+abbrev pub runs_of : List (List ℕ) → List (List ℕ) → List ℕ → Result (List RunLine) AnswersFault
+runs_of = reading_of true
+
+abbrev pub TellsRuns : AnswersFault → List (List ℕ) → List (List ℕ) → List ℕ → Type 0
+TellsRuns fault = Tells fault true
 
 abbrev pub known_runs : List (List ℕ) → List (List ℕ) → List ℕ → KnownRuns
-known_runs names points text = known_runs_of (runs_of names points text)
+known_runs names points text = known_of (runs_of names points text)
+
+-- ---- answers that may
+
+abbrev pub answers_of : List (List ℕ) → List (List ℕ) → List ℕ → Result (List RunLine) AnswersFault
+answers_of = reading_of false
+
+abbrev pub TellsAnswers : AnswersFault → List (List ℕ) → List (List ℕ) → List ℕ → Type 0
+TellsAnswers fault = Tells fault false
+
+abbrev pub known_answers : List (List ℕ) → List (List ℕ) → List ℕ → KnownRuns
+known_answers names points text = known_of (answers_of names points text)

@@ -1,3 +1,3 @@
 -- What the code keeps. No clause that a caller sees names any of it.
 pub mod Books
-pub mod RunBooks
+pub mod Names

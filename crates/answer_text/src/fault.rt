@@ -22,12 +22,12 @@ pub enum LineFault {
     UnknownVerdict,
     /// What follows `fail` and a space is none of the codes' names.
     UnknownCode,
-    /// An ASCII control character stands after the first tab.
+    /// An ASCII control character stands in the scenario.
     ControlByte,
-    /// What stands after the tab spells no scenario: what is wrong, in which piece and in which term, both numbered from 1, as the
+    /// What stands behind the first tab, up to a second one, spells no scenario: what is wrong, in which piece and in which term, both numbered from 1, as the
     /// grammar of scenarios tells it.
     Scenario { kind: Kind, entry: u32, term: u32 },
-    /// The hits of the run are wanted, and the line has no second tab.
+    /// The hits of the run are needed, and the line has no second tab.
     NoHits,
     /// What stands between two `;` of the hits names no point, with or without a count before it.
     UnknownPoint,
@@ -36,8 +36,8 @@ pub enum LineFault {
     BadCount,
     /// The hits name one point twice in a row, where it takes a count.
     NotJoined,
-    /// The line of this number, from 1, is the first to answer the same tidied scenario, and gives it another verdict, or where hits are told
-    /// other hits.
+    /// The line of this number, from 1, is the first to answer the same tidied scenario, and gives it another verdict or other hits, or tells
+    /// none where this one does, or some where this one tells none.
     Contradicts(u32),
 }
 

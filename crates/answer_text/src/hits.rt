@@ -1,18 +1,19 @@
 //! The hits of a run, read.
-ghost use Rattle.std.specs.Prelude.{◌≡◌, ◌≤◌, ◌<◌, ◌^◌, length, OnOk, IfOk};
+ghost use Rattle.std.specs.Prelude.{◌≡◌, ◌++◌, IfOk, OnOk, option_map, replicate};
 ghost use Rattle.std.specs.Char.{is_ascii_digit};
 ghost use Rattle.std.specs.List.{list_all};
 ghost use Rattle.scenario_grammar.specs.FirstFault.{number_up_to};
 ghost use Rattle.scenario_grammar.specs.Words.{is_number};
 ghost use Rattle.answer_text.specs.FirstFault.{Gives};
-ghost use Rattle.answer_text.specs.Hits.{are_same, count_in, count_of, ends_with, hits_in, item_in, most_hits, same_hits, with_item};
+ghost use Rattle.answer_text.specs.Hits.{are_same, count_in, count_of, ends_with, field_by, field_in, hits_in, item_in, most_hits, points_of, same_hits, with_item};
 
 use crate::fault::{LineError, LineFault};
-use crate::verdicts::place_of;
+use crate::names::PointNames;
 use itoa::Buffer;
-use scenario_grammar::{Text, cut_once};
-use std::alloc::Global;
+use scenario_grammar::cut_once;
+use std::alloc::{AllocError, Global};
 use std::marker::Model;
+use target_trait::Verdict;
 
 /// So many hits of a point, of which there is at least one, in a row. The point is a place among names.
 #[derive(Clone, Copy, Debug, PartialEq, Eq)]
@@ -43,6 +44,27 @@ impl Hits {
     {
         self.stretches.as_slice()
     }
+
+    /// Adds the points of the hits to these, one for each hit, in order. An error means that memory was refused.
+    pub fn push_points(&self, points: &mut Vec<u32>) -> Result<(), AllocError>
+        ensures { OnOk result (points.new.items ≡ points.old.items ++ points_of self.now) }
+    {
+        for stretch in self.stretches() {
+            push_stretch(points, stretch)?;
+        }
+        Ok(())
+    }
+}
+
+/// Adds so many hits of a point.
+fn push_stretch(points: &mut Vec<u32>, stretch: &Stretch) -> Result<(), AllocError>
+    ensures { OnOk result (points.new.items ≡ points.old.items ++ replicate stretch.now.count stretch.now.point) }
+{
+    let stretch = *stretch;
+    for _ in 0..stretch.count {
+        points.push(stretch.point)?;
+    }
+    Ok(())
 }
 
 fn all_digits(bytes: &[u8]) -> bool
@@ -87,15 +109,11 @@ fn count_in(text: &str) -> Option<u32>
 
 /// The hits of an item: a point's name, or a count, a `*` and a point's name.
 #[tactic(auto, unfolding(crate::specs::Hits::item_in))]
-fn item_in(points: &[Text], item: &str) -> Result<Stretch, LineError>
-    requires { length points.now < 2 ^ 32 }
+fn item_in(points: &PointNames<'_>, item: &str) -> Result<Stretch, LineError>
     ensures { Gives (λ s. s) result (item_in points.now item.now) }
 {
-    if let Some(point) = place_of(item, points) {
-        return Ok(Stretch {
-            point: point as u32,
-            count: 1,
-        });
+    if let Some(point) = points.place_of(item) {
+        return Ok(Stretch { point, count: 1 });
     }
     let Some((count, name)) = cut_once(item, '*') else {
         return Err(LineError::Bad(LineFault::UnknownPoint));
@@ -103,11 +121,8 @@ fn item_in(points: &[Text], item: &str) -> Result<Stretch, LineError>
     let Some(count) = count_in(count) else {
         return Err(LineError::Bad(LineFault::BadCount));
     };
-    match place_of(name, points) {
-        Some(point) => Ok(Stretch {
-            point: point as u32,
-            count,
-        }),
+    match points.place_of(name) {
+        Some(point) => Ok(Stretch { point, count }),
         None => Err(LineError::Bad(LineFault::UnknownPoint)),
     }
 }
@@ -161,8 +176,7 @@ pub fn same_hits(a: &Option<Hits>, b: &Option<Hits>) -> bool
 /// and its name. No hits are the empty text.
 ///
 /// `Err` is the first fault from the left, as [`LineFault`] tells it: `UnknownPoint`, `BadCount` or `NotJoined`; or want of memory.
-pub fn hits_in(alloc: Global, points: &[Text], text: &str) -> Result<Hits, LineError>
-    requires { length points.now < 2 ^ 32 }
+pub fn hits_in(alloc: Global, points: &PointNames<'_>, text: &str) -> Result<Hits, LineError>
     ensures { Gives (λ hits. hits) result (hits_in points.now text.now) }
 {
     let mut hits = Vec::new(alloc);
@@ -179,4 +193,36 @@ pub fn hits_in(alloc: Global, points: &[Text], text: &str) -> Result<Hits, LineE
     let stretch = item_in(points, rest)?;
     add(&mut hits, total, stretch)?;
     Ok(Hits { stretches: hits })
+}
+
+/// The hits of a run with this verdict, where they are known.
+fn known_hits(
+    alloc: Global,
+    points: &PointNames<'_>,
+    verdict: Verdict,
+    text: &str,
+) -> Result<Option<Hits>, LineError>
+    ensures { Gives (λ hits. hits) result (field_by points.now verdict text.now) }
+{
+    if matches!(verdict, Verdict::Unresolved) && text == "-" {
+        return Ok(None);
+    }
+    Ok(Some(hits_in(alloc, points, text)?))
+}
+
+/// The same of a line that may tell none, where they aren't needed.
+pub fn field_in(
+    alloc: Global,
+    points: &PointNames<'_>,
+    needed: bool,
+    verdict: Verdict,
+    text: Option<&str>,
+) -> Result<Option<Hits>, LineError>
+    ensures { Gives (λ hits. hits) result (field_in needed points.now verdict (option_map (λ t. t.now) text.entry)) }
+{
+    match text {
+        Some(text) => known_hits(alloc, points, verdict, text),
+        None if needed => Err(LineError::Bad(LineFault::NoHits)),
+        None => Ok(None),
+    }
 }

@@ -1,18 +1,20 @@
 //! Laws on answers, as contracts of functions that do nothing.
-ghost use Rattle.std.specs.Prelude.{◌≡◌, ℕ, List, Ok, Err};
+ghost use Rattle.std.specs.Prelude.{◌≡◌, ℕ, Bool, List, Ok, Err, false};
 ghost use Rattle.scenario_values.specs.Scenario.{Entries};
 ghost use Rattle.scenario_values.specs.Tidied.{tidied};
-ghost use Rattle.answer_text.specs.Answers.{Answer, Says};
-ghost use Rattle.answer_text.specs.FirstFault.{reading_of};
-ghost use Rattle.answer_text.specs.Known.{AgreesWithText};
+ghost use Rattle.answer_text.specs.Answers.{Says};
+ghost use Rattle.answer_text.specs.Known.{AgreesWithText, Ran, TellsText};
+ghost use Rattle.answer_text.specs.Runs.{answers_of, reading_of};
 ghost use Rattle.answer_text.specs.declared.fault.AnswersFault.TheVariants.{Line};
 ghost use Rattle.answer_text.specs.declared.fault.LineFault.TheVariants.{Contradicts};
-ghost use Rattle.target_trait.specs.declared.judgement.Verdict.{Verdict};
+ghost use Rattle.answer_text.specs.declared.runs.RunLine.{RunLine};
 
-/// A text says just the answers that it is read as.
+/// A text says just the runs that it is read as, where hits are needed and where they aren't.
 pub fn texts_say_what_is_read()
-    ensures read { (names : List (List ℕ)) (text : List ℕ) (answers : List Answer) → Says names text answers → reading_of names text ≡ Ok answers }
-    ensures said { (names : List (List ℕ)) (text : List ℕ) (answers : List Answer) → reading_of names text ≡ Ok answers → Says names text answers }
+    ensures read { (needed : Bool) (names points : List (List ℕ)) (text : List ℕ) (runs : List RunLine)
+        → Says needed names points text runs → reading_of needed names points text ≡ Ok runs }
+    ensures said { (needed : Bool) (names points : List (List ℕ)) (text : List ℕ) (runs : List RunLine)
+        → reading_of needed names points text ≡ Ok runs → Says needed names points text runs }
 {}
 
 /// A scenario that was tidied is left as it is when it is tidied again. It holds of all entries, also where the counts of `off` terms are
@@ -21,11 +23,13 @@ pub fn tidying_again_changes_nothing()
     ensures { (s : Entries) → tidied (tidied s) ≡ tidied s }
 {}
 
-/// A text that says answers agrees with some component, a function from tidied scenarios to verdicts. One that contradicts itself agrees
-/// with none.
+/// A text that says answers is told by some component, a function from tidied scenarios to verdicts and hits. One that contradicts itself is
+/// told by none. A component that tells a text agrees with its verdicts.
 pub fn contradictions_agree_with_no_component()
-    ensures some { (names : List (List ℕ)) (text : List ℕ) (answers : List Answer) → Says names text answers
-        → (verdict_of : Entries → Verdict) × AgreesWithText names text verdict_of }
-    ensures none { (names : List (List ℕ)) (text : List ℕ) (number earlier : ℕ) → reading_of names text ≡ Err (Line number (Contradicts earlier))
-        → (verdict_of : Entries → Verdict) → AgreesWithText names text verdict_of → ⊥ }
+    ensures some { (names points : List (List ℕ)) (text : List ℕ) (runs : List RunLine) → Says false names points text runs
+        → (ran_of : Entries → Ran) × TellsText names points text ran_of }
+    ensures none { (names points : List (List ℕ)) (text : List ℕ) (number earlier : ℕ) → answers_of names points text ≡ Err (Line number (Contradicts earlier))
+        → (ran_of : Entries → Ran) → TellsText names points text ran_of → ⊥ }
+    ensures verdicts { (names points : List (List ℕ)) (text : List ℕ) (ran_of : Entries → Ran) → TellsText names points text ran_of
+        → AgreesWithText names points text (λ s. (ran_of s).0) }
 {}

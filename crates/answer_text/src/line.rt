@@ -1,9 +1,13 @@
 //! One line of a text of answers, read.
-ghost use Rattle.std.specs.Prelude.{◌≡◌, ◌<◌, ◌^◌, length};
-ghost use Rattle.answer_text.specs.Answers.{has_control};
-ghost use Rattle.answer_text.specs.FirstFault.{Gives, parts_in, scenario_in, answer_in};
+ghost use Rattle.std.specs.Prelude.{◌≡◌, ◌<◌, ◌^◌, length, option_map};
+ghost use Rattle.scenario_grammar.specs.Words.{cut};
+ghost use Rattle.answer_text.specs.FirstFault.{Gives, after_tab, answer_in, before_tab, has_control, parts_in, scenario_in};
+ghost use Rattle.answer_text.specs.Runs.{run_in};
 
 use crate::fault::{LineError, LineFault};
+use crate::hits::field_in;
+use crate::names::PointNames;
+use crate::runs::RunLine;
 use crate::verdicts::verdict_in;
 use indexmap::IndexMap;
 use scenario_grammar::{Scenario, ScenarioFault, Text, cut_once, parse, tidy};
@@ -31,6 +35,17 @@ pub fn parts_in(line: &[u8]) -> Result<(&str, &str), LineError>
     }
 }
 
+/// What stands before the second tab of a line, and what stands after it, where there is one.
+fn fields_of(rest: &str) -> (&str, Option<&str>)
+    ensures text { result.0.now ≡ before_tab rest.now (cut 9 rest.now) }
+    ensures field { option_map (λ text. text.now) result.1 ≡ after_tab (cut 9 rest.now) }
+{
+    match cut_once(rest, '\t') {
+        Some((text, field)) => (text, Some(field)),
+        None => (rest, None),
+    }
+}
+
 /// The scenario that a text spells, before it is tidied.
 #[tactic(auto, unfolding(crate::specs::FirstFault::scenario_in))]
 pub fn scenario_in(alloc: Global, text: &str) -> Result<Scenario, LineError>
@@ -53,18 +68,41 @@ pub fn scenario_in(alloc: Global, text: &str) -> Result<Scenario, LineError>
     }
 }
 
-/// The tidied scenario of a line, and its verdict.
+/// What a line tells before its hits: its tidied scenario and its verdict; and the text of the hits, where it tells them. It makes none of them, and
+/// doesn't look whether they are lawful.
 #[tactic(auto, unfolding(crate::specs::FirstFault::answer_in))]
-pub fn answer_in(
+pub fn answer_in<'a>(
     alloc: Global,
     codes: &[Text],
-    line: &[u8],
-) -> Result<(Scenario, Verdict), LineError>
+    line: &'a [u8],
+) -> Result<((Scenario, Verdict), Option<&'a str>), LineError>
     requires { length codes.now < 2 ^ 32 }
-    ensures { Gives (λ x. (x.0, x.1)) result (answer_in codes.now line.now) }
+    ensures { Gives (λ x. ((x.0.0, x.0.1), option_map (λ text. text.now) x.1)) result (answer_in codes.now line.now) }
 {
-    let (word, text) = parts_in(line)?;
+    let (word, rest) = parts_in(line)?;
     let verdict = verdict_in(codes, word)?;
+    let (text, field) = fields_of(rest);
     let scenario = scenario_in(alloc, text)?;
-    Ok((tidy(alloc, &scenario)?, verdict))
+    Ok(((tidy(alloc, &scenario)?, verdict), field))
+}
+
+/// What a line tells of a run, where the hits are needed or not.
+#[tactic(auto, unfolding(crate::specs::Runs::run_in))]
+pub fn run_in(
+    alloc: Global,
+    codes: &[Text],
+    points: &PointNames<'_>,
+    needed: bool,
+    line: &[u8],
+) -> Result<RunLine, LineError>
+    requires { length codes.now < 2 ^ 32 }
+    ensures { Gives (λ run. run) result (run_in needed codes.now points.now line.now) }
+{
+    let ((scenario, verdict), field) = answer_in(alloc, codes, line)?;
+    let hits = field_in(alloc, points, needed, verdict, field)?;
+    Ok(RunLine {
+        scenario,
+        verdict,
+        hits,
+    })
 }

@@ -1,15 +1,18 @@
 //! The text of answers, read.
-ghost use Rattle.std.specs.Prelude.{◌≡◌, ◌<◌, ◌≤◌, ◌+◌, ◌^◌, ◌==◌, length, List, position, option_map, IfOk, IfErr};
+ghost use Rattle.std.specs.Prelude.{◌≡◌, ◌<◌, ◌≤◌, ◌+◌, ◌^◌, ◌==◌, false, length, List, position, option_map, IfOk, IfErr, OnOk, Ok};
 ghost use Rattle.scenario_grammar.specs.Words.{cut};
 ghost use Rattle.answer_text.specs.declared.fault.AnswersFault.TheVariants.{Memory};
-ghost use Rattle.answer_text.specs.Answers.{Answer, Says};
-ghost use Rattle.answer_text.specs.FirstFault.{Gives, Tells};
-ghost use Rattle.answer_text.specs.Known.{Knows, verdict_in, known_by};
+ghost use Rattle.answer_text.specs.declared.runs.RunLine.{RunLine};
+ghost use Rattle.answer_text.specs.Answers.{Says};
+ghost use Rattle.answer_text.specs.FirstFault.{Gives};
+ghost use Rattle.answer_text.specs.Known.{Knows};
+ghost use Rattle.answer_text.specs.Runs.{Tells, TellsAnswers, TellsRuns, answers_of, known_answers, known_runs, runs_of, told_in};
 ghost use Rattle.answer_text.specs.inside.Books.{Holds, fault_at, read_line};
 
 use crate::fault::{AnswersFault, LineError, LineFault};
-use crate::known::Known;
-use crate::line::answer_in;
+use crate::line::run_in;
+use crate::names::PointNames;
+use crate::runs::Runs;
 use scenario_grammar::Text;
 use std::alloc::Global;
 
@@ -24,7 +27,7 @@ fn line_feed(text: &[u8]) -> Option<usize>
 }
 
 /// The first line without its line feed, and what follows it, where a line feed ends it.
-pub fn cut_line(text: &[u8]) -> Option<(&[u8], &[u8])>
+fn cut_line(text: &[u8]) -> Option<(&[u8], &[u8])>
     ensures { option_map (λ x. (x.0.now, x.1.now)) result ≡ cut 10 text.now }
 {
     match line_feed(text) {
@@ -38,19 +41,21 @@ pub fn cut_line(text: &[u8]) -> Option<(&[u8], &[u8])>
 fn read_line(
     alloc: Global,
     codes: &[Text],
-    known: &mut Known,
+    points: &PointNames<'_>,
+    needed: bool,
+    runs: &mut Runs,
     number: u32,
     line: &[u8],
 ) -> Result<(), LineError>
     requires { length codes.now < 2 ^ 32 }
-    ensures { Gives (λ _. known.new) result (read_line codes.now known.old number line.now) }
+    ensures { Gives (λ _. runs.new) result (read_line needed codes.now points.now runs.old number line.now) }
 {
-    let (scenario, verdict) = answer_in(alloc, codes, line)?;
-    known.note(alloc, number, &scenario, verdict)
+    let run = run_in(alloc, codes, points, needed, line)?;
+    runs.note(alloc, number, run)
 }
 
 /// What is wrong with a line, as the fault of the text.
-pub fn fault_at(number: u32, error: LineError) -> AnswersFault
+fn fault_at(number: u32, error: LineError) -> AnswersFault
     ensures { result ≡ fault_at number error }
 {
     match error {
@@ -59,17 +64,23 @@ pub fn fault_at(number: u32, error: LineError) -> AnswersFault
     }
 }
 
-fn read_lines(alloc: Global, codes: &[Text], text: &[u8]) -> Result<Known, AnswersFault>
+fn read_lines(
+    alloc: Global,
+    codes: &[Text],
+    points: &PointNames<'_>,
+    needed: bool,
+    text: &[u8],
+) -> Result<Runs, AnswersFault>
     requires few { length codes.now < 2 ^ 32 }
     requires short { length text.now ≤ 268435456 }
-    ensures found { IfOk result (Holds codes.now text.now) }
-    ensures refused { IfErr result (λ fault. Tells fault codes.now text.now) }
+    ensures found { IfOk result (Holds needed codes.now points.now text.now) }
+    ensures refused { IfErr result (λ fault. Tells fault needed codes.now points.now text.now) }
 {
-    let mut known = Known::new(alloc);
+    let mut runs = Runs::new(alloc);
     let mut number = 1;
     let mut rest = text;
     while let Some((line, after)) = cut_line(rest) {
-        if let Err(error) = read_line(alloc, codes, &mut known, number, line) {
+        if let Err(error) = read_line(alloc, codes, points, needed, &mut runs, number, line) {
             return Err(fault_at(number, error));
         }
         number += 1;
@@ -78,31 +89,76 @@ fn read_lines(alloc: Global, codes: &[Text], text: &[u8]) -> Result<Known, Answe
     if !rest.is_empty() {
         return Err(AnswersFault::Line(number, LineFault::NotEnded));
     }
-    Ok(known)
+    Ok(runs)
 }
 
-/// What is known by a text of answers: lines `VERDICT<TAB>SCENARIO`, each ended by a line feed. A verdict is `pass`, `unresolved`, or
-/// `fail` and the name of a code, whose number is its place among the names. A scenario is `none`, or any spelling of one, and is taken
-/// as tidied. That a line repeats what an earlier one says is no fault.
+/// What is known by a text of answers, where their hits are needed or not.
+fn read_text(
+    alloc: Global,
+    codes: &[Text],
+    points: &[Text],
+    needed: bool,
+    text: &[u8],
+) -> Result<Runs, AnswersFault>
+    requires codes { length codes.now < 2 ^ 32 }
+    requires points { length points.now < 2 ^ 32 }
+    ensures found { IfOk result (Holds needed codes.now points.now text.now) }
+    ensures refused { IfErr result (λ fault. Tells fault needed codes.now points.now text.now) }
+{
+    if text.len() > LIMIT {
+        return Err(AnswersFault::TooLong);
+    }
+    let points = PointNames::new(alloc, points)?;
+    read_lines(alloc, codes, &points, needed, text)
+}
+
+/// What is known by a text of answers: lines `VERDICT<TAB>SCENARIO` or `VERDICT<TAB>SCENARIO<TAB>HITS`, each ended by a line feed. A verdict is
+/// `pass`, `unresolved`, or `fail` and the name of a code, whose number is its place among the names. A scenario is `none`, or any spelling of
+/// one, and is taken as tidied. The hits are those of the run in order, each the name of a point, joined by `;`; n hits of one point in a row are
+/// `n*point` for n from 2 on, and there are at most 4294967295. No hits are the empty text, and `-` stands for the hits of an unresolved run that
+/// aren't known. That a line repeats what an earlier one says is no fault.
 ///
 /// The text is up to 268435456 bytes: 65536 answers of 4096 bytes each, or 4096 answers of the longest scenarios.
 ///
 /// `Err` is the first fault of the text with its line, or want of memory. The length is looked at before all; then the lines in order,
 /// and of each line, as [`LineFault`] lists them, whether it is ended, its bytes, its tab, its verdict, its code, control characters, its
-/// scenario's first fault, and whether an earlier line gives the same tidied scenario another verdict.
-pub fn read(alloc: Global, codes: &[Text], text: &[u8]) -> Result<Known, AnswersFault>
-    requires { length codes.now < 2 ^ 32 }
+/// scenario's first fault, its hits, and whether an earlier line gives the same tidied scenario another verdict or other hits.
+pub fn read(
+    alloc: Global,
+    codes: &[Text],
+    points: &[Text],
+    text: &[u8],
+) -> Result<Runs, AnswersFault>
+    requires codes { length codes.now < 2 ^ 32 }
+    requires points { length points.now < 2 ^ 32 }
     // Just what the text says is known.
-    ensures found { IfOk result (λ known. (answers : List Answer) × Says codes.now text.now answers × Knows known answers) }
+    ensures found { IfOk result (λ runs. (said : List RunLine) × Says false codes.now points.now text.now said × Knows (told_in runs) said) }
     // Of each scenario, what the first line that answers it tells is known.
-    ensures known { IfOk result (λ known. verdict_in known ≡ known_by codes.now text.now) }
+    ensures known { IfOk result (λ runs. told_in runs ≡ known_answers codes.now points.now text.now) }
+    ensures read { OnOk result ((lines : List RunLine) × (answers_of codes.now points.now text.now ≡ Ok lines)) }
     // A fault that is answered is the first one.
-    ensures refused { IfErr result (λ fault. Tells fault codes.now text.now) }
+    ensures refused { IfErr result (λ fault. TellsAnswers fault codes.now points.now text.now) }
     // A text that says answers is refused for want of memory alone.
-    ensures only { (answers : List Answer) → Says codes.now text.now answers → IfErr result (λ fault. fault ≡ Memory) }
+    ensures only { (said : List RunLine) → Says false codes.now points.now text.now said → IfErr result (λ fault. fault ≡ Memory) }
 {
-    if text.len() > LIMIT {
-        return Err(AnswersFault::TooLong);
-    }
-    read_lines(alloc, codes, text)
+    read_text(alloc, codes, points, false, text)
+}
+
+/// What is known by a text of answers that have to tell their hits, as [`read`] tells it but that a line without a second tab is refused. Hits may
+/// still be `-`.
+pub fn read_runs(
+    alloc: Global,
+    codes: &[Text],
+    points: &[Text],
+    text: &[u8],
+) -> Result<Runs, AnswersFault>
+    requires codes { length codes.now < 2 ^ 32 }
+    requires points { length points.now < 2 ^ 32 }
+    // Of each scenario, what the first line that answers it tells is known.
+    ensures known { IfOk result (λ runs. told_in runs ≡ known_runs codes.now points.now text.now) }
+    ensures read { OnOk result ((lines : List RunLine) × (runs_of codes.now points.now text.now ≡ Ok lines)) }
+    // A fault that is answered is the first one.
+    ensures refused { IfErr result (λ fault. TellsRuns fault codes.now points.now text.now) }
+{
+    read_text(alloc, codes, points, true, text)
 }

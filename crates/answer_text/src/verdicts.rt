@@ -1,7 +1,7 @@
 //! Verdicts, read.
 ghost use Rattle.std.specs.Prelude.{◌≡◌, ◌<◌, ◌^◌, length, map, position};
 ghost use Rattle.std.specs.Str.{bytes_eq};
-ghost use Rattle.answer_text.specs.FirstFault.{Gives, verdict_in, same_verdict};
+ghost use Rattle.answer_text.specs.FirstFault.{Gives, verdict_in};
 
 use crate::fault::{LineError, LineFault};
 use scenario_grammar::cut_once;

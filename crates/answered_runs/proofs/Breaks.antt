@@ -4,9 +4,10 @@ use Rattle.std.specs.Prelude.{Contains, Option, Some, None, IfSome, ◌&&◌}
 use Rattle.std.proofs.lemmas.List.Elements.{Contains-append_left}
 use Rattle.std.proofs.lemmas.List.{take_all, take_more}
 use Rattle.std.specs.List.{AllByRecursion, filter}
+use Rattle.action_eval.specs.declared.rig.Kind.{Kind}
 use Rattle.action_eval.specs.declared.rig.Rig.{Rig}
 use Rattle.action_eval.specs.declared.rig.Kind.TheVariants.{OnwardReturn}
-use Rattle.action_eval.specs.Rigging.{rig}
+use Rattle.action_eval.specs.Rigging.{text_of, rig}
 use Rattle.plan_gen.specs.RiggedAnswers.{is_onward}
 use Rattle.grown_plans.specs.GrownPlans.{Subject, run_of_plan, hits_past, grown_at, children, level, levels, onward, onward_of, grown, is_once_return, is_hit_again}
 use Rattle.grown_plans.specs.Promises.{IsLawful}
@@ -47,7 +48,7 @@ onward_whole : (t : Subject) (runs : KnownRuns) (plan : List Rig) → AllByRecur
 onward_whole t runs [] = tt
 onward_whole t runs (r ∷ rs) = by_test (is_once_return r.kind && is_hit_again r.site (run_of_plan t (r ∷ rs)))
   where
-    by_test : (b : Bool) → AllByRecursion (IsUnbroken runs) (cond b ((rig r.site OnwardReturn ∷ rs) ∷ []) [])
+    by_test : (b : Bool) → AllByRecursion (IsUnbroken runs) (cond b ((rig r.site (OnwardReturn (text_of r.kind)) ∷ rs) ∷ []) [])
     by_test true = (refl, tt)
     by_test false = tt
 
@@ -120,7 +121,7 @@ none_breaks t l d a None agrees f = refl
 none_breaks t l d a (Some b) agrees f = absurd (none_at (runs_in a) b.number b.how (known_part t d (runs_in a)) (part_whole t l d (runs_in a) agrees) f.within f.breaks)
 
 -- where each component that agrees has no break, none agrees with one
-pub some_never : {A : Type 0} (o : Option A) (points : List (List ℕ)) (told : Answers) → ((t : Subject) → IsComponent points t → AgreesWithRuns t told → o ≡ None)
-    → IfSome o (λ x. (t : Subject) → IsComponent points t → AgreesWithRuns t told → ⊥)
-some_never None points told h = tt
-some_never (Some x) points told h = λ t is agrees. let none : Some x ≡ None = h t is agrees in absurd cc
+pub some_never : {A : Type 0} (o : Option A) (points : List (List ℕ)) (listed : List (List Kind)) (told : Answers) → ((t : Subject) → IsComponent points listed t → AgreesWithRuns t told → o ≡ None)
+    → IfSome o (λ x. (t : Subject) → IsComponent points listed t → AgreesWithRuns t told → ⊥)
+some_never None points listed told h = tt
+some_never (Some x) points listed told h = λ t is agrees. let none : Some x ≡ None = h t is agrees in absurd cc

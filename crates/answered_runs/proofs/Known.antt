@@ -5,15 +5,14 @@ use Rattle.std.specs.List.{AllByRecursion, list_all}
 use Rattle.std.specs.Str.{bytes_eq}
 use Rattle.std.proofs.lemmas.Bool.{eqb-true, leb-true, ltb-true}
 use Rattle.std.proofs.lemmas.Slice.Eq.{bytes_eq-Decides}
-use Rattle.scenario_values.specs.Scenario.{Entries}
+use Rattle.scenario_values.specs.Scenario.{Entries, is_argument}
 use Rattle.scenario_values.specs.Printed.{printed}
 use Rattle.action_eval.specs.Answers.{given_of}
 use Rattle.action_eval.specs.Catalogue.{IsCatalogue}
 use Rattle.action_eval.specs.declared.rig.Kind.{Kind}
-use Rattle.action_eval.specs.declared.rig.Kind.TheVariants.{OnceReturn, OnwardReturn, OncePanic}
 use Rattle.action_eval.specs.declared.rig.Rig.{Rig}
 use Rattle.action_eval.specs.declared.rig.Site.{Site}
-use Rattle.action_eval.specs.Rigging.{rigging}
+use Rattle.action_eval.specs.Rigging.{rigging, most_text, text_of, HasLawfulText, HaveLawfulTexts}
 use Rattle.action_eval.proofs.Rigged.{rigging_keeps}
 use Rattle.target_trait.specs.Outcomes.{outcome, verdict_with}
 use Rattle.target_trait.specs.declared.judgement.Verdict.{Verdict}
@@ -22,16 +21,16 @@ use Rattle.plan_gen.specs.RiggedAnswers.{AreInOrder, IsBefore}
 use Rattle.answer_text.specs.Runs.{KnownRuns}
 use Rattle.answer_text.specs.declared.runs.ToldRun.{ToldRun}
 use Rattle.answer_text.proofs.Members.{same_printed}
-use Rattle.grown_plans.specs.GrownPlans.{Subject, is_before, kinds_at}
+use Rattle.grown_plans.specs.GrownPlans.{Subject, is_before}
 use Rattle.grown_plans.specs.Promises.{IsLawful, verdict_of_rigs}
-use Rattle.grown_plans.proofs.KeptChildren.{usual_apart, usual_once}
-use Rattle.grown_plans.proofs.Members.{all_map, all_of, all_weaker, contains_head, contains_tail}
+use Rattle.grown_plans.proofs.Members.{all_map, all_weaker}
 use Rattle.known_runs.specs.Walks.{once}
 use Rattle.known_runs.proofs.Steps.{same_verdict}
 use Rattle.answered_runs.specs.Answered.{plan_runs}
 use Rattle.answered_runs.specs.Components.{AgreesWithRuns, IsComponent, IsTrueRun}
-use Rattle.answered_runs.specs.Rigged.{are_in_order, are_lawful, are_small, if_made, make, most_hit, points_into, rigs_of_scenario}
+use Rattle.answered_runs.specs.Rigged.{are_in_order, are_lawful, are_short, are_small, is_short, if_made, make, most_hit, points_into, rigs_of_scenario}
 use Rattle.answered_runs.specs.Verdicts.{AreVerdictsOf, told_or, verdict_by, walked_by}
+use Rattle.answered_runs.proofs.AnyKinds.{any_kinds, any_in, any_once, any_texts, distinct_apart}
 use Rattle.answered_runs.proofs.Runs.{agree_lawful}
 
 -- ---- tests that hold
@@ -71,28 +70,26 @@ in_order (r ∷ rs) e =
       in_order rs more,
     )
 
--- ---- a component that tries each fault at each point, with the same runs
+-- ---- a component that tries the faults of rigged hits at each point, with the same runs
 
-abbrev with_any : Subject → Subject
-with_any t = record { asks = t.asks; names = t.names; limit = t.limit; kinds = kinds_at None }
+abbrev with_any : Subject → List Rig → Subject
+with_any t rigs = record { asks = t.asks; names = t.names; limit = t.limit; kinds = any_kinds rigs }
 
-lawful_any : (t : Subject) → IsLawful t → IsLawful (with_any t)
-lawful_any t l = record { catalogue = l.catalogue; within = l.within; once = usual_once None; apart = usual_apart None }
+lawful_any : (t : Subject) (rigs : List Rig) → IsLawful t → HaveLawfulTexts rigs → IsLawful (with_any t rigs)
+lawful_any t rigs l texts = record {
+  catalogue = l.catalogue;
+  within = l.within;
+  once = any_once rigs;
+  apart = λ point. distinct_apart (map (λ (r : Rig). once r.kind) rigs);
+  texts = any_texts rigs texts;
+}
 
-true_any : (t : Subject) (s : Entries) (o : Option ToldRun) → IfSome o (IsTrueRun t s) → IfSome o (IsTrueRun (with_any t) s)
-true_any t s None h = tt
-true_any t s (Some r) h = record { verdict = h.verdict; hits = h.hits }
+true_any : (t : Subject) (rigs : List Rig) (s : Entries) (o : Option ToldRun) → IfSome o (IsTrueRun t s) → IfSome o (IsTrueRun (with_any t rigs) s)
+true_any t rigs s None h = tt
+true_any t rigs s (Some r) h = record { verdict = h.verdict; hits = h.hits }
 
-agrees_any : (t : Subject) (told : KnownRuns) → AgreesWithRuns t told → AgreesWithRuns (with_any t) told
-agrees_any t told agrees = λ s lawful. true_any t s (told s) (agrees s lawful)
-
-any_of : (r : Rig) → Contains (kinds_at None r.site.point) (once r.kind)
-any_of r = at r.kind
-  where
-    at : (kind : Kind) → Contains (OnceReturn ∷ OncePanic ∷ []) (once kind)
-    at OnceReturn = contains_head OnceReturn (OncePanic ∷ [])
-    at OnwardReturn = contains_head OnceReturn (OncePanic ∷ [])
-    at OncePanic = contains_tail OnceReturn OncePanic (OncePanic ∷ []) (contains_head OncePanic [])
+agrees_any : (t : Subject) (rigs : List Rig) (told : KnownRuns) → AgreesWithRuns t told → AgreesWithRuns (with_any t rigs) told
+agrees_any t rigs told agrees = λ s lawful. true_any t rigs s (told s) (agrees s lawful)
 
 -- ---- the rigged hits of a scenario
 
@@ -113,17 +110,28 @@ made points s rigs e = by_found (points_into s 0 points []) e
 record Lawful (rigs : List Rig) : Type 0 where
   few : length rigs ≤ 64
   small : AllByRecursion (λ r. r.site.hit < 2 ^ 32) rigs
+  texts : HaveLawfulTexts rigs
   ordered : AreInOrder (map (λ (r : Rig). r.site) rigs)
+
+short_text : (kind : Kind) → is_short (text_of kind) ≡ true → HasLawfulText kind
+short_text kind e = at (text_of kind) e
+  where
+    at : (o : Option (List ℕ)) → is_short o ≡ true → IfSome o (λ text. (is_argument text ≡ true) × (length text ≤ most_text))
+    at None f = tt
+    at (Some text) f = (left (is_argument text) (nat_le (length text) most_text) f, leb-true (length text) most_text (right (is_argument text) (nat_le (length text) most_text) f))
 
 lawful : (rigs : List Rig) → are_lawful rigs ≡ true → Lawful rigs
 lawful rigs e =
-    let f = left (nat_le (length rigs) 64 && are_small rigs) (are_in_order rigs) e in
+    let g = left (nat_le (length rigs) 64 && are_small rigs && are_short rigs) (are_in_order rigs) e in
+    let f = left (nat_le (length rigs) 64 && are_small rigs) (are_short rigs) g in
     let a = left (nat_le (length rigs) 64) (are_small rigs) f in
     let b = right (nat_le (length rigs) 64) (are_small rigs) f in
+    let d = right (nat_le (length rigs) 64 && are_small rigs) (are_short rigs) g in
     record {
       few = leb-true (length rigs) 64 a;
       small = all_weaker (λ (r : Rig). nat_le r.site.hit most_hit ≡ true) (λ (r : Rig). r.site.hit < 2 ^ 32) (λ r h. let le = leb-true r.site.hit most_hit h in omega (arith, le)) rigs (passes (λ (r : Rig). nat_le r.site.hit most_hit) rigs b);
-      ordered = in_order rigs (right (nat_le (length rigs) 64 && are_small rigs) (are_in_order rigs) e);
+      texts = all_weaker (λ (r : Rig). is_short (text_of r.kind) ≡ true) (λ (r : Rig). HasLawfulText r.kind) (λ r h. short_text r.kind h) rigs (passes (λ (r : Rig). is_short (text_of r.kind)) rigs d);
+      ordered = in_order rigs (right (nat_le (length rigs) 64 && are_small rigs && are_short rigs) (are_in_order rigs) e);
     }
 
 verdict_some : (v w : Verdict) → Some v ≡ Some w → v ≡ w
@@ -131,8 +139,8 @@ verdict_some v w e = cc
 
 -- ---- the verdicts
 
-pub true_of : (t : Subject) (points : List (List ℕ)) (told : KnownRuns) (depth : ℕ) → IsComponent points t → depth ≤ 64 → AgreesWithRuns t told → AreVerdictsOf t (verdict_by points told depth)
-true_of t points told depth is low agrees s v ok known seed stream = by_told (told s) (agrees s ok) known
+pub true_of : (t : Subject) (points : List (List ℕ)) (listed : List (List Kind)) (told : KnownRuns) (depth : ℕ) → IsComponent points listed t → depth ≤ 64 → AgreesWithRuns t told → AreVerdictsOf t (verdict_by points told depth)
+true_of t points listed told depth is low agrees s v ok known seed stream = by_told (told s) (agrees s ok) known
   where
     catalogue : IsCatalogue points
     catalogue = subst IsCatalogue is.names is.lawful.catalogue
@@ -143,11 +151,10 @@ true_of t points told depth is low agrees s v ok known seed stream = by_told (to
         let m = made points s rigs e in
         let l = lawful rigs (left (are_lawful rigs) (bytes_eq (printed (rigging points rigs)) (printed s)) m) in
         let prints : printed (rigging points rigs) ≡ printed s = (bytes_eq-Decides (printed (rigging points rigs)) (printed s)).0 (right (are_lawful rigs) (bytes_eq (printed (rigging points rigs)) (printed s)) m) in
-        let same : rigging points rigs ≡ s = same_printed (rigging points rigs) s (rigging_keeps points rigs catalogue l.few l.small) ok prints in
-        let kinds = all_of (λ (r : Rig). Contains (kinds_at None r.site.point) (once r.kind)) any_of rigs in
-        let any = lawful_any t is.lawful in
-        let known = agree_lawful (with_any t) points told depth any is.names is.few low (agrees_any t told agrees) in
-        let w : (seed stream : ℕ) → verdict_of_rigs t seed stream rigs ≡ v = same_verdict (plan_runs points told) rigs depth (Some v) (sym k) (with_any t) any known l.ordered kinds in
+        let same : rigging points rigs ≡ s = same_printed (rigging points rigs) s (rigging_keeps points rigs catalogue l.few l.small l.texts) ok prints in
+        let any = lawful_any t rigs is.lawful l.texts in
+        let known = agree_lawful (with_any t rigs) points told depth any is.names is.few low (agrees_any t rigs told agrees) in
+        let w : (seed stream : ℕ) → verdict_of_rigs t seed stream rigs ≡ v = same_verdict (plan_runs points told) rigs depth (Some v) (sym k) (with_any t rigs) any known l.ordered (any_in rigs) in
         sym (verdict_is t.asks t.names seed t.limit stream s) ∙ ap (verdict_with t.asks t.names seed t.limit stream) (sym same ∙ ap (λ (names : List (List ℕ)). rigging names rigs) (sym is.names)) ∙ w seed stream
 
     by_told : (o : Option ToldRun) → IfSome o (IsTrueRun t s) → told_or (walked_by (plan_runs points told) depth (rigs_of_scenario points s)) o ≡ Some v → (outcome t.asks (given_of s t.names seed stream t.limit)).verdict ≡ v

@@ -1,4 +1,5 @@
 pub mod Runs
+pub mod AnyKinds
 pub mod Known
 pub mod Found
 pub mod Breaks

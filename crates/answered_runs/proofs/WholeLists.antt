@@ -1,58 +1,43 @@
--- Lists of plans whose runs are all told.
-use Rattle.std.proofs.Common.{◌≡◌, ℕ, zero, suc, ◌+◌, ◌<◌, ◌≤◌, true, List, [], ◌∷◌, ◌++◌, length, map, take, get_or, refl, ap, sym, ◌∙◌, subst, arith}
-use Rattle.std.specs.Prelude.{Option, Some, None}
-use Rattle.std.specs.List.{AllByRecursion, range_with_len}
+-- Plans looked through one after another: what is told of their runs.
+use Rattle.std.proofs.Common.{◌≡◌, ℕ, ◌+◌, ◌<◌, ◌≤◌, Bool, true, false, cond, List, [], ◌∷◌, ◌++◌, length, take, get_or, refl, ap, sym, ◌∙◌, subst, arith, length-append}
+use Rattle.std.specs.Prelude.{Some}
+use Rattle.std.specs.List.{filter}
 use Rattle.std.proofs.lemmas.List.{take_all, take_more}
+use Rattle.std.proofs.lemmas.List.Elements.{filter-append}
 use Rattle.action_eval.specs.declared.rig.Rig.{Rig}
-use Rattle.grown_plans.specs.GrownPlans.{Subject, level}
 use Rattle.grown_plans.proofs.Members.{all_append}
-use Rattle.target_trait.specs.declared.judgement.Verdict.{Verdict}
-use Rattle.known_runs.specs.Known.{KnownRuns, Told, hits_of, hits_told}
+use Rattle.known_runs.specs.Known.{KnownRuns, Told}
 use Rattle.known_runs.specs.KnownPart.{are_told}
-use Rattle.known_runs.specs.KnownPlans.{AreKnown, level_size}
-use Rattle.known_runs.specs.Looks.{told}
-use Rattle.known_runs.specs.Promises.{IsWholeList}
-use Rattle.known_runs.proofs.Ends.{ends_seen}
-use Rattle.answered_runs.specs.WholeList.{AreListed, AreSeen}
-use Rattle.answered_runs.specs.declared.whole.Gap.{Gap}
-use Rattle.answered_runs.specs.declared.whole.Listed.{Listed}
+use Rattle.known_runs.specs.Unseen.{is_unseen, is_without_hits}
+use Rattle.answered_runs.specs.WholeList.{AreAllTold, unseen_count}
 
--- ---- seen one after another
+-- of the first plans something is told, and so many of them are told without their hits
+pub record LookedThrough (runs : KnownRuns) (plans : List (List Rig)) (unseen : ℕ) : Type 0 where
+  pub told : AreAllTold runs plans
+  pub count : unseen ≡ unseen_count runs plans
 
-abbrev Seen : KnownRuns → List Rig → Type 0
-Seen runs plan = are_told (hits_of runs plan) ≡ true
+one_count : (runs : KnownRuns) (plan : List Rig) (b : Bool) → is_unseen runs plan ≡ b → unseen_count runs (plan ∷ []) ≡ cond b 1 0
+one_count runs plan true e = ap (λ (b : Bool). length (cond b (plan ∷ []) [])) e
+one_count runs plan false e = ap (λ (b : Bool). length (cond b (plan ∷ []) [])) e
 
-pub seen_at : (runs : KnownRuns) (plan : List Rig) (v : Verdict) (hits : List ℕ) → runs plan ≡ Some (told v (Some hits)) → are_told (hits_of runs plan) ≡ true
-seen_at runs plan v hits e = ap (λ (o : Option Told). are_told (hits_told o)) e
-
-pub unseen_at : (runs : KnownRuns) (plan : List Rig) (v : Verdict) → runs plan ≡ Some (told v None) → hits_of runs plan ≡ None
-unseen_at runs plan v e = ap hits_told e
-
-pub seen_more : (runs : KnownRuns) (plans : List (List Rig)) (i : ℕ) (plan : List Rig) → i < length plans → plan ≡ get_or plans i [] → Seen runs plan → AllByRecursion (λ p. Seen runs p) (take i plans) → AllByRecursion (λ p. Seen runs p) (take (i + 1) plans)
-seen_more runs plans i plan less is here before =
+-- with one plan more, of whose run this is told
+pub looked_more : (runs : KnownRuns) (plans : List (List Rig)) (i : ℕ) (plan : List Rig) (told : Told) (b : Bool) (old new : ℕ) → i < length plans → plan ≡ get_or plans i [] → runs plan ≡ Some told
+    → is_without_hits (Some told) ≡ b → new ≡ old + cond b 1 0 → LookedThrough runs (take i plans) old → LookedThrough runs (take (i + 1) plans) new
+looked_more runs plans i plan told b old new less is here without more before =
     let whole : take (i + 1) plans ≡ take i plans ++ plan ∷ [] = take_more plans i [] less ∙ ap (λ (x : List Rig). take i plans ++ x ∷ []) (sym is) in
-    subst (λ (ps : List (List Rig)). AllByRecursion (λ p. Seen runs p) ps) (sym whole) (all_append (λ (p : List Rig). Seen runs p) (take i plans) (plan ∷ []) before (here, tt))
+    let unseen : is_unseen runs plan ≡ b = ap is_without_hits here ∙ without in
+    let parts : unseen_count runs (take i plans ++ plan ∷ []) ≡ unseen_count runs (take i plans) + unseen_count runs (plan ∷ []) =
+    ap length (filter-append (is_unseen runs) (take i plans) (plan ∷ [])) ∙ length-append (filter (is_unseen runs) (take i plans)) (filter (is_unseen runs) (plan ∷ [])) in
+    let one = one_count runs plan b unseen in
+    let count = before.count in
+    subst (λ (ps : List (List Rig)). LookedThrough runs ps new) (sym whole)
+    (record {
+      told = all_append (λ (p : List Rig). are_told (runs p) ≡ true) (take i plans) (plan ∷ []) before.told (ap are_told here, tt);
+      count = omega (arith, more, count, parts, one);
+    })
 
-pub seen_all : (runs : KnownRuns) (plans : List (List Rig)) (i : ℕ) → length plans ≤ i → AllByRecursion (λ p. Seen runs p) (take i plans) → AllByRecursion (λ p. Seen runs p) plans
-seen_all runs plans i end all = subst (λ (ps : List (List Rig)). AllByRecursion (λ p. Seen runs p) ps) (take_all i plans end) all
+pub looked_all : (runs : KnownRuns) (plans : List (List Rig)) (i unseen : ℕ) → length plans ≤ i → LookedThrough runs (take i plans) unseen → LookedThrough runs plans unseen
+looked_all runs plans i unseen end all = subst (λ (ps : List (List Rig)). LookedThrough runs ps unseen) (take_all i plans end) all
 
--- ---- the whole list
-
-sizes_are : (t : Subject) (runs : KnownRuns) (d k n : ℕ) → ((m : ℕ) → m ≤ d + 1 → level_size t runs m ≡ length (level t m)) → k + n ≤ d + 1
-    → map (level_size t runs) (range_with_len k n) ≡ map (λ (m : ℕ). length (level t m)) (range_with_len k n)
-sizes_are t runs d k zero each le = refl
-sizes_are t runs d k (suc n) each le =
-    ap (λ (m : ℕ). m ∷ map (level_size t runs) (range_with_len (k + 1) n)) (each k (omega (arith, le)))
-    ∙ ap (λ (l : List ℕ). length (level t k) ∷ l) (sizes_are t runs d (k + 1) n each (omega (arith, le)))
-
-pub listed : (t : Subject) (runs : KnownRuns) (d : ℕ) (l : Listed) → AreKnown t d runs l.known → AreSeen runs l.known.plans l.gap → AreListed t d l
-listed t runs d l known seen none =
-    let all : AllByRecursion (λ p. Seen runs p) l.known.plans = subst (λ (o : Option Gap). AreSeen runs l.known.plans o) none seen in
-    let whole : IsWholeList t d runs = ends_seen t d runs (subst (λ (ps : List (List Rig)). AllByRecursion (λ p. Seen runs p) ps) known.plans all) in
-    let one : d + 1 ≡ suc d = omega arith in
-    record {
-      plans = known.plans ∙ whole.list;
-      levels = known.levels ∙ sizes_are t runs d 0 (d + 1) whole.levels (omega arith);
-      onward_size = known.onward ∙ whole.onward_size;
-      beyond_size = known.beyond ∙ whole.levels (d + 1) (omega arith) ∙ ap (λ (n : ℕ). length (level t n)) one;
-    }
+pub none_looked : (runs : KnownRuns) (plans : List (List Rig)) → LookedThrough runs (take 0 plans) 0
+none_looked runs plans = record { told = tt; count = refl }

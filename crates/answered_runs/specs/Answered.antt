@@ -1,26 +1,38 @@
 -- What answers tell of the runs of plans that grow.
-use Rattle.std.specs.Prelude.{ℕ, ◌&&◌, Bool, List, Option, None, Some, length, nat_le, nat_lt, option_map, option_and_then, if◌then◌else◌}
+use Rattle.std.specs.Prelude.{ℕ, ◌≤◌, ◌&&◌, Bool, List, Option, None, Some, length, nat_le, nat_lt, option_map, option_and_then, if◌then◌else◌}
 use Rattle.std.specs.List.{list_all}
 use Rattle.scenario_values.specs.Tidied.{tidied}
 use Rattle.answer_text.specs.Hits.{most_hits, points_of}
 use Rattle.answer_text.specs.Runs.{KnownRuns, RunBook, told_in}
 use Rattle.answer_text.specs.declared.hits.Stretch.{Stretch}
 use Rattle.answer_text.specs.declared.runs.ToldRun.{ToldRun}
+use Rattle.action_eval.specs.declared.rig.Kind.{Kind}
 use Rattle.action_eval.specs.declared.rig.Rig.{Rig}
 use Rattle.campaign_plans.specs.GrownScenarios.{grown_scenario}
-use Rattle.grown_plans.specs.GrownPlans.{usual_kinds}
+use Rattle.grown_plans.specs.GrownPlans.{kinds_at, tried_over}
+use Rattle.grown_plans.specs.Promises.{CanBeTried}
 use Rattle.known_runs.specs.Known.{Told}
 use Rattle.known_runs.specs.Known.{KnownRuns as PlanRuns}
 use Rattle.known_runs.specs.Looks.{told}
 use Rattle.known_runs.specs.ToldPart.{part_known}
 
--- the names of a component's points, and what answers tell of each printed form
+-- the names of a component's points; the kinds of faults that are listed for them, in their order; and what answers tell of each printed form
 pub record Answered : Type 0 where
   pub points : List (List ℕ)
+  pub listed : List (List Kind)
   pub book : RunBook
 
-abbrev pub answered : List (List ℕ) → RunBook → Answered
-answered points book = record { points = points; book = book }
+abbrev pub answered : List (List ℕ) → List (List Kind) → RunBook → Answered
+answered points listed book = record { points = points; listed = listed; book = book }
+
+-- at most 8 kinds are listed for a point, such as a lawful subject may try
+pub record CanBeListed (kinds : List Kind) : Type 0 where
+  pub few : length kinds ≤ 8
+  pub tried : CanBeTried kinds
+
+-- which kinds are tried at a point: those that are listed for it, or else the usual ones
+abbrev pub kinds_over : List (List ℕ) → List (List Kind) → ℕ → List Kind
+kinds_over points listed = kinds_at (tried_over points listed)
 
 -- the points of a run's hits, one for each. A line tells hits of its points alone, at most 64 of them, and no more hits than this.
 abbrev pub is_low : Stretch → Bool
@@ -42,4 +54,4 @@ runs_in a = plan_runs a.points (told_in a.book)
 
 -- the plans that grow to a depth and are known by now
 abbrev pub known_plans : Answered → ℕ → List (List Rig)
-known_plans a depth = part_known (usual_kinds a.points) (runs_in a) depth
+known_plans a depth = part_known (kinds_over a.points a.listed) (runs_in a) depth

@@ -4,14 +4,14 @@ use Rattle.std.specs.List.{list_all}
 use Rattle.std.specs.Option.{option_map_or, unwrap_or}
 use Rattle.std.specs.Str.{bytes_eq}
 use Rattle.scenario_values.specs.Printed.{printed}
-use Rattle.scenario_values.specs.Scenario.{Entries, chain_at, entry_of}
+use Rattle.scenario_values.specs.Scenario.{Entries, chain_at, entry_of, is_argument}
 use Rattle.scenario_values.specs.declared.term.Task.{Task}
 use Rattle.scenario_values.specs.declared.term.Task.TheVariants as task
 use Rattle.scenario_values.specs.declared.term.Term.{Term}
 use Rattle.action_eval.specs.declared.rig.Kind.{Kind}
 use Rattle.action_eval.specs.declared.rig.Kind.TheVariants.{OnceReturn, OnwardReturn, OncePanic}
 use Rattle.action_eval.specs.declared.rig.Rig.{Rig}
-use Rattle.action_eval.specs.Rigging.{rig, rigging}
+use Rattle.action_eval.specs.Rigging.{rig, rigging, most_text, text_of}
 use Rattle.grown_plans.specs.GrownPlans.{is_before}
 
 abbrev pub most_hit : ℕ
@@ -21,12 +21,20 @@ most_hit = 4294967295
 abbrev pub with_kind : ℕ → ℕ → Kind → List Rig → List Rig
 with_kind point hit kind rigs = rigs ++ rig (record { point = point; hit = hit }) kind ∷ []
 
+-- whether a return has the text of a rigged hit, or none
+abbrev pub is_short : Option (List ℕ) → Bool
+is_short None = true
+is_short (Some text) = is_argument text && nat_le (length text) most_text
+
+abbrev pub if_short : Option (List ℕ) → Kind → ℕ → ℕ → List Rig → Option (List Rig)
+if_short text kind point hit rigs = if is_short text then Some (with_kind point hit kind rigs) else None
+
 -- what a task does that acts so often, or without end: nothing, or it is that of a rigged hit, which acts once, or returns from then on
 abbrev pub with_task : ℕ → ℕ → Option ℕ → Task → List Rig → Option (List Rig)
 with_task point hit (Some count) task.Off rigs = Some rigs
-with_task point hit (Some count) (task.Return None) rigs = if count == 1 then Some (with_kind point hit OnceReturn rigs) else None
+with_task point hit (Some count) (task.Return text) rigs = if count == 1 then if_short text (OnceReturn text) point hit rigs else None
 with_task point hit (Some count) (task.Panic None) rigs = if count == 1 then Some (with_kind point hit OncePanic rigs) else None
-with_task point hit None (task.Return None) rigs = Some (with_kind point hit OnwardReturn rigs)
+with_task point hit None (task.Return text) rigs = if_short text (OnwardReturn text) point hit rigs
 with_task point hit count _ rigs = None
 
 -- the rigged hits with those of a term that acts at the hits of a point up to this one, or from it on; none where it is no such term
@@ -60,8 +68,11 @@ are_in_order (r ∷ rs) = nat_lt 0 r.site.hit && list_all (λ s. is_before r.sit
 abbrev pub are_small : List Rig → Bool
 are_small rigs = list_all (λ r. nat_le r.site.hit most_hit) rigs
 
+abbrev pub are_short : List Rig → Bool
+are_short rigs = list_all (λ r. is_short (text_of r.kind)) rigs
+
 abbrev pub are_lawful : List Rig → Bool
-are_lawful rigs = nat_le (length rigs) 64 && are_small rigs && are_in_order rigs
+are_lawful rigs = nat_le (length rigs) 64 && are_small rigs && are_short rigs && are_in_order rigs
 
 abbrev pub make : List (List ℕ) → List Rig → Entries → Bool
 make points rigs s = are_lawful rigs && bytes_eq (printed (rigging points rigs)) (printed s)

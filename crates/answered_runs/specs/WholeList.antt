@@ -1,33 +1,25 @@
--- A list of plans whose runs are told.
-use Rattle.std.specs.Prelude.{◌≡◌, ℕ, ◌+◌, ◌<◌, true, List, [], Option, None, Some, length, map, slice_index_or, take}
-use Rattle.std.specs.List.{AllByRecursion, range_with_len}
+-- A list of plans of whose runs answers tell.
+use Rattle.std.specs.Prelude.{◌≡◌, ℕ, ◌<◌, true, List, [], Option, None, Some, length, slice_index_or, take}
+use Rattle.std.specs.List.{AllByRecursion, filter}
 use Rattle.action_eval.specs.declared.rig.Rig.{Rig}
-use Rattle.grown_plans.specs.GrownPlans.{Subject, level, onward, grown, beyond}
-use Rattle.known_runs.specs.Known.{KnownRuns, hits_of}
+use Rattle.known_runs.specs.Known.{KnownRuns}
 use Rattle.known_runs.specs.KnownPart.{are_told}
-use Rattle.answered_runs.specs.declared.whole.Gap.{Gap}
-use Rattle.answered_runs.specs.declared.whole.Gap.TheVariants as gap
-use Rattle.answered_runs.specs.declared.whole.Listed.{Listed}
+use Rattle.known_runs.specs.Unseen.{is_unseen}
 
--- the hits of each of these plans are told
-abbrev pub AreAllSeen : KnownRuns → List (List Rig) → Type 0
-AreAllSeen runs plans = AllByRecursion (λ plan. are_told (hits_of runs plan) ≡ true) plans
+-- something is told of each of these plans' runs
+abbrev pub AreAllTold : KnownRuns → List (List Rig) → Type 0
+AreAllTold runs plans = AllByRecursion (λ plan. are_told (runs plan) ≡ true) plans
 
--- the hits of this plan aren't told, with or without what its run came to, and those of each plan before it are
-abbrev pub IsGap : KnownRuns → List (List Rig) → Gap → Type 0
-IsGap runs plans (gap.ToRun n) = (n < length plans) × AreAllSeen runs (take n plans) × (runs (slice_index_or plans n []) ≡ None)
-IsGap runs plans (gap.Unseen n) = (n < length plans) × AreAllSeen runs (take n plans) × (hits_of runs (slice_index_or plans n []) ≡ None)
+-- nothing is told of the run of the plan of this number, and something of that of each plan before it
+pub record IsGap (runs : KnownRuns) (plans : List (List Rig)) (n : ℕ) : Type 0 where
+  pub within : n < length plans
+  pub before : AreAllTold runs (take n plans)
+  pub untold : runs (slice_index_or plans n []) ≡ None
 
-abbrev pub AreSeen : KnownRuns → List (List Rig) → Option Gap → Type 0
-AreSeen runs plans None = AreAllSeen runs plans
-AreSeen runs plans (Some g) = IsGap runs plans g
+abbrev pub AreTold : KnownRuns → List (List Rig) → Option ℕ → Type 0
+AreTold runs plans None = AreAllTold runs plans
+AreTold runs plans (Some n) = IsGap runs plans n
 
--- they are a component's whole list to a depth, with the sizes of its levels and of the one after the last
-pub record IsListOf (t : Subject) (d : ℕ) (listed : Listed) : Type 0 where
-  pub plans : listed.known.plans ≡ grown t d
-  pub levels : listed.known.levels.items ≡ map (λ n. length (level t n)) (range_with_len 0 (d + 1))
-  pub onward_size : listed.known.onward ≡ length (onward t d)
-  pub beyond_size : listed.known.beyond ≡ beyond t d
-
-abbrev pub AreListed : Subject → ℕ → Listed → Type 0
-AreListed t d listed = listed.gap ≡ None → IsListOf t d listed
+-- how many of them are told without their hits
+abbrev pub unseen_count : KnownRuns → List (List Rig) → ℕ
+unseen_count runs plans = length (filter (is_unseen runs) plans)

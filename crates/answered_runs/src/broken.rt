@@ -28,7 +28,7 @@ fn break_at(
     let Some((fault, parent)) = faults.split_first() else {
         return Ok(None);
     };
-    if matches!(fault.kind, Kind::OnwardReturn) {
+    if matches!(fault.kind, Kind::OnwardReturn(_)) {
         return Ok(None);
     }
     let Look::Seen(_) = runs.look(parent, before)? else {
@@ -154,7 +154,7 @@ pub fn broken_run(
     requires most { most ≤ 65536 }
     ensures first { IfOk result (AreBroken runs.now (known_plans runs.now depth)) }
     // No component agrees with answers of which a run breaks.
-    ensures none { IfOk result (λ found. IfSome found (λ broken. (t : Subject) → IsComponent runs.now.points t
+    ensures none { IfOk result (λ found. IfSome found (λ broken. (t : Subject) → IsComponent runs.now.points runs.now.listed t
         → AgreesWithRuns t (told_in runs.now.book) → ⊥)) }
     ensures many { IsErrOf result KnownFault.TooManyPlans → most < length (known_plans runs.now depth) }
 {

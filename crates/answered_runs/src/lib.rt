@@ -15,4 +15,4 @@ pub use laws::{answers_tell_plans, answers_tell_verdicts};
 pub use rigged::rigs_of_scenario;
 pub use scenarios::{plan_scenario, rigged_scenario};
 pub use table::AnsweredRuns;
-pub use whole::{Gap, Listed, listed_plans};
+pub use whole::{Listed, listed_plans};

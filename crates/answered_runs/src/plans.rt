@@ -28,7 +28,7 @@ impl<'a> AnsweredRuns<'a> {
         requires most { most ≤ 65536 }
         ensures grown { IfOk result (λ known. known.plans ≡ known_plans self.now depth) }
         // For every component that agrees with the answers.
-        ensures known { IfOk result (λ known. (t : Subject) → IsComponent self.now.points t → AgreesWithRuns t (told_in self.now.book)
+        ensures known { IfOk result (λ known. (t : Subject) → IsComponent self.now.points self.now.listed t → AgreesWithRuns t (told_in self.now.book)
             → AreKnown t depth (runs_in self.now) known) }
         ensures short { IfOk result (λ known. AllByRecursion (λ plan. length plan ≤ depth) known.plans) }
         // Of each of them a scenario can be made.
@@ -36,7 +36,7 @@ impl<'a> AnsweredRuns<'a> {
         ensures few { IfOk result (λ known. length known.plans ≤ most) }
         ensures many { IsErrOf result KnownFault.TooManyPlans → most < length (known_plans self.now depth) }
     {
-        let kinds = Kinds::of(self.points());
-        known_runs::known_plans(alloc, self, kinds, depth, most)
+        let kinds = Kinds::with(self.points(), self.listed());
+        known_runs::known_plans(alloc, self, &kinds, depth, most)
     }
 }

@@ -1,16 +1,17 @@
 //! The rigged hits that a scenario is made of.
-ghost use Rattle.std.specs.Prelude.{◌≡◌, ◌≤◌, nat_le, length, option_map, IfOk, OnOk};
+ghost use Rattle.std.specs.Prelude.{◌≡◌, ◌≤◌, None, Some, nat_le, length, option_map, if◌then◌else◌, IfOk, OnOk};
 ghost use Rattle.std.specs.List.{list_all};
 ghost use Rattle.action_eval.specs.Answers.{texts};
 ghost use Rattle.action_eval.specs.Catalogue.{IsCatalogue};
+ghost use Rattle.action_eval.specs.Rigging.{text_of};
 ghost use Rattle.grown_plans.specs.GrownPlans.{is_before};
-ghost use Rattle.answered_runs.specs.Rigged.{are_in_order, are_lawful, are_small, chain_into, chain_named, make, most_hit, points_into, rigs_of_scenario, term_into, with_kind, with_task};
-ghost use Rattle.answered_runs.specs.inside.Steps.{Took, TookTo};
+ghost use Rattle.answered_runs.specs.Rigged.{are_in_order, are_lawful, are_short, are_small, chain_into, chain_named, if_short, is_short, make, most_hit, points_into, rigs_of_scenario, term_into, with_kind, with_task};
+ghost use Rattle.answered_runs.specs.inside.Steps.{Took, TookTo, return_kind};
 
 use crate::scenarios::rigged_scenario;
-use action_eval::{Kind, Rig, Site};
-use scenario_grammar::print;
-use scenario_values::{Scenario, Task, Term};
+use action_eval::{Argument, Kind, Rig, Site};
+use scenario_grammar::{is_argument, print};
+use scenario_values::{Scenario, Task, Term, Text};
 use std::alloc::{AllocError, Global};
 
 /// The share of a term that acts at each hit that reaches it.
@@ -19,12 +20,50 @@ const FULL: u32 = 1000000;
 /// A scenario is made of at most so many rigged hits.
 const MOST_RIGS: usize = 64;
 
+/// The text of a rigged hit has at most so many bytes.
+const MOST_TEXT: usize = 32;
+
 /// Adds a rigged hit.
 fn push(rigs: &mut Vec<Rig>, site: Site, kind: Kind) -> Result<(), AllocError>
     ensures { OnOk result (rigs.new.items ≡ with_kind site.point site.hit kind rigs.old.items) }
 {
     rigs.push(Rig { site, kind })?;
     Ok(())
+}
+
+/// A return's text as that of a rigged hit; `None` where it can't be one's.
+fn argument_of(text: &Option<Text>) -> Option<Argument>
+    ensures { result ≡ (if is_short text.now then Some text.now else None) }
+{
+    let Some(text) = text else {
+        return Some(Argument::none());
+    };
+    if is_argument(text.as_str()) {
+        Argument::of(text.as_str())
+    } else {
+        None
+    }
+}
+
+/// Adds a return with this text, once or from then on, where it can be a rigged hit's. Tells whether it is.
+fn push_return(
+    rigs: &mut Vec<Rig>,
+    site: Site,
+    text: &Option<Text>,
+    onward: bool,
+) -> Result<bool, AllocError>
+    ensures { IfOk result (Took (if_short text.now (return_kind onward text.now) site.point site.hit rigs.old.items) rigs.new.items) }
+{
+    let Some(argument) = argument_of(text) else {
+        return Ok(false);
+    };
+    let kind = if onward {
+        Kind::OnwardReturn(argument)
+    } else {
+        Kind::OnceReturn(argument)
+    };
+    push(rigs, site, kind)?;
+    Ok(true)
 }
 
 /// Adds what a task does that acts so often up to a hit, or from it on, where that is nothing or a rigged hit's. Tells whether it is.
@@ -36,15 +75,16 @@ fn push_task(
 ) -> Result<bool, AllocError>
     ensures { IfOk result (Took (with_task site.point site.hit count task.now rigs.old.items) rigs.new.items) }
 {
-    let kind = match (task, count) {
-        (Task::Off, Some(_)) => return Ok(true),
-        (Task::Return(None), Some(1)) => Kind::OnceReturn,
-        (Task::Panic(None), Some(1)) => Kind::OncePanic,
-        (Task::Return(None), None) => Kind::OnwardReturn,
-        _ => return Ok(false),
-    };
-    push(rigs, site, kind)?;
-    Ok(true)
+    match (task, count) {
+        (Task::Off, Some(_)) => Ok(true),
+        (Task::Return(text), Some(1)) => push_return(rigs, site, text, false),
+        (Task::Panic(None), Some(1)) => {
+            push(rigs, site, Kind::OncePanic)?;
+            Ok(true)
+        }
+        (Task::Return(text), None) => push_return(rigs, site, text, true),
+        _ => Ok(false),
+    }
 }
 
 /// Adds what a term does after so many hits of a point, where it acts up to a hit, or from it on, as a rigged one does. Answers that hit.
@@ -155,11 +195,28 @@ fn are_small(rigs: &[Rig]) -> bool
     rigs.iter().all(|rig| is_small(rig))
 }
 
+/// Whether the text of a rigged hit is short, if it has one.
+fn is_short(rig: &Rig) -> bool
+    ensures { result ≡ is_short (text_of rig.now.kind) }
+{
+    let argument = rig.kind.text();
+    match argument.as_str() {
+        Some(text) => is_argument(text) && text.len() <= MOST_TEXT,
+        None => true,
+    }
+}
+
+fn are_short(rigs: &[Rig]) -> bool
+    ensures { result ≡ are_short rigs.now }
+{
+    rigs.iter().all(|rig| is_short(rig))
+}
+
 /// Whether a scenario can be made of rigged hits, in order.
 fn are_lawful(rigs: &[Rig]) -> bool
     ensures { result ≡ are_lawful rigs.now }
 {
-    rigs.len() <= MOST_RIGS && are_small(rigs) && are_in_order(rigs)
+    rigs.len() <= MOST_RIGS && are_small(rigs) && are_short(rigs) && are_in_order(rigs)
 }
 
 /// Whether rigged hits are the faults of just this scenario.

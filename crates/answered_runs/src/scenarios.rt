@@ -6,7 +6,7 @@ ghost use Rattle.action_eval.specs.Catalogue.{IsCatalogue};
 ghost use Rattle.action_eval.specs.Rigging.{rigging};
 ghost use Rattle.campaign_plans.specs.GrownScenarios.{grown_scenario};
 
-use action_eval::Rig;
+use action_eval::{Rig, have_lawful_texts};
 use grown_plans::rigs_of;
 use plan_gen::scenario_of;
 use scenario_values::Scenario;
@@ -26,6 +26,7 @@ pub fn rigged_scenario(alloc: Global, points: &[&str], rigs: &[Rig]) -> Result<S
     ensures { IfOk result (λ scenario. scenario ≡ rigging (texts points.now) rigs.now) }
 {
     let _ = fit(rigs);
+    have_lawful_texts(rigs);
     scenario_of(alloc, points, rigs)
 }
 

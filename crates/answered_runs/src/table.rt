@@ -1,16 +1,17 @@
 //! A table of runs, by answers that tell their hits.
-ghost use Rattle.std.specs.Prelude.{◌≡◌, ◌<◌, ◌≤◌, ◌^◌, ◌++◌, length, replicate, option_map, Some, IfOk, OnOk};
+ghost use Rattle.std.specs.Prelude.{◌≡◌, ◌<◌, ◌≤◌, ◌^◌, ◌++◌, length, map, replicate, option_map, Some, IfOk, OnOk};
 ghost use Rattle.std.specs.List.{AllByRecursion, list_all};
 ghost use Rattle.scenario_values.specs.Tidied.{tidied};
 ghost use Rattle.action_eval.specs.Answers.{texts};
 ghost use Rattle.action_eval.specs.Catalogue.{IsCatalogue};
 ghost use Rattle.answer_text.specs.Hits.{points_of};
 ghost use Rattle.answer_text.specs.Runs.{told_in};
+ghost use Rattle.grown_plans.specs.Promises.{CanBeTried};
 ghost use Rattle.known_runs.specs.Looks.{IsLook};
-ghost use Rattle.answered_runs.specs.Answered.{answered, is_low, told_of};
+ghost use Rattle.answered_runs.specs.Answered.{CanBeListed, answered, is_low, told_of};
 
 use crate::scenarios::plan_scenario;
-use action_eval::Rig;
+use action_eval::{Kind, Rig};
 use answer_text::{Runs, Stretch, ToldRun};
 use known_runs::{Look, RunTable};
 use scenario_values::Scenario;
@@ -27,35 +28,46 @@ const MOST_POINTS: u32 = 64;
 const MOST_HITS: usize = 4294967295;
 
 /// The runs that answers tell of a component with these points: a plan's run is the one that was told of the plan's scenario, tidied.
-/// Contracts see the names of the points, and what is told of each tidied scenario.
+/// Contracts see the names of the points, the kinds of faults that are listed for them, and what is told of each tidied scenario.
 #[derive(Drop)]
 pub struct AnsweredRuns<'a> {
     alloc: Global,
     points: &'a [&'a str],
+    listed: &'a [Vec<Kind>],
     runs: &'a Runs,
 }
 
 impl<'a> Model for AnsweredRuns<'a> {
+    ghost use Rattle.std.specs.Prelude.{map};
+    ghost use Rattle.std.specs.List.{AllByRecursion};
     ghost use Rattle.action_eval.specs.Answers.{texts};
     ghost use Rattle.action_eval.specs.Catalogue.{IsCatalogue};
-    ghost use Rattle.answered_runs.specs.Answered.{Answered};
+    ghost use Rattle.answered_runs.specs.Answered.{Answered, CanBeListed};
 
     ghost Value = { Answered };
 
-    ghost view = { λ a. record { points = texts a.points.now; book = a.runs.now } };
+    ghost view = { λ a. record { points = texts a.points.now; listed = map (λ kinds. kinds.items) a.listed.now; book = a.runs.now } };
 
-    ghost invariant = { λ a. IsCatalogue (texts a.points.now) };
+    ghost invariant = { λ a. IsCatalogue (texts a.points.now) × AllByRecursion (λ kinds. CanBeListed kinds.items) a.listed.now };
 }
 
 impl<'a> AnsweredRuns<'a> {
-    /// The runs that were read, of a component with these points.
-    pub fn new(alloc: Global, points: &'a [&'a str], runs: &'a Runs) -> Self
-        requires { IsCatalogue (texts points.now) }
-        ensures { result ≡ answered (texts points.now) runs.now }
+    /// The runs that were read, of a component with these points. Of each of them the kinds of faults are listed that are tried at its hits, in
+    /// their order; where a list is empty or missing, these are the usual ones.
+    pub fn new(
+        alloc: Global,
+        points: &'a [&'a str],
+        listed: &'a [Vec<Kind>],
+        runs: &'a Runs,
+    ) -> Self
+        requires points { IsCatalogue (texts points.now) }
+        requires listed { AllByRecursion (λ kinds. CanBeListed kinds.items) listed.now }
+        ensures { result ≡ answered (texts points.now) (map (λ kinds. kinds.items) listed.now) runs.now }
     {
         AnsweredRuns {
             alloc,
             points,
+            listed,
             runs,
         }
     }
@@ -66,6 +78,15 @@ impl<'a> AnsweredRuns<'a> {
         ensures lawful { IsCatalogue self.now.points }
     {
         self.points
+    }
+
+    /// The kinds of faults that are listed for the points.
+    pub(crate) fn listed(&self) -> &'a [Vec<Kind>]
+        ensures kinds { map (λ kinds. kinds.items) result.now ≡ self.now.listed }
+        ensures few { AllByRecursion (λ kinds. length kinds.items ≤ 8) result.now }
+        ensures lawful { AllByRecursion CanBeTried self.now.listed }
+    {
+        self.listed
     }
 
     /// What was told of the run of a scenario once it is tidied. An error means that memory was refused.

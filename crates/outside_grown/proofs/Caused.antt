@@ -9,7 +9,7 @@ use Rattle.scenario_values.specs.Tidied.{tidied}
 use Rattle.scenario_values.proofs.Limits.{tidied_scenario}
 use Rattle.action_eval.specs.Answers.{given_of}
 use Rattle.action_eval.specs.Catalogue.{IsCatalogue}
-use Rattle.action_eval.specs.Rigging.{CanBeRigged, rigging}
+use Rattle.action_eval.specs.Rigging.{CanBeRigged, HasLawfulText, rigging}
 use Rattle.action_eval.specs.SameMeaning.{MeansTheSame}
 use Rattle.action_eval.specs.declared.rig.Rig.{Rig}
 use Rattle.action_eval.proofs.Rigged.{rigging_keeps}
@@ -18,9 +18,9 @@ use Rattle.target_trait.specs.Outcomes.{Told as Outcome, outcome}
 use Rattle.target_trait.specs.declared.judgement.Verdict.{Verdict}
 use Rattle.target_trait.specs.declared.judgement.Verdict.TheVariants.{Pass, Fail, Unresolved}
 use Rattle.target_trait.proofs.Verdicts.{outcome_same}
-use Rattle.grown_plans.specs.GrownPlans.{Subject, grown, rigs_of}
+use Rattle.grown_plans.specs.GrownPlans.{Subject, rigs_of}
 use Rattle.grown_plans.specs.Promises.{lesser}
-use Rattle.grown_plans.proofs.Members.{all_append, all_map, all_of, all_weaker}
+use Rattle.grown_plans.proofs.Members.{all_append, all_both, all_map, all_of, all_weaker}
 use Rattle.grown_runs.specs.GrownRuns.{cause_at, cause_by, fails_with, over, told_of_rigs}
 use Rattle.grown_runs.proofs.Lesser.{lesser_length}
 use Rattle.answer_text.specs.Runs.{told_in}
@@ -35,18 +35,18 @@ use Rattle.outside_grown.specs.Causes.{Verdicts, cause_known, is_failure, known_
 abbrev Tells : Verdicts → (List Rig → Verdict) → List Rig → Type 0
 Tells known verdict rigs = (v : Verdict) → known rigs ≡ Some v → verdict rigs ≡ v
 
-verdict_true : (t : Subject) (a : Answered) (depth : ℕ) → IsComponent a.points t → depth ≤ 64 → AgreesWithRuns t (told_in a.book) → (seed stream : ℕ) (rigs : List Rig) → CanBeRigged rigs
+verdict_true : (t : Subject) (a : Answered) (depth : ℕ) → IsComponent a.points a.listed t → depth ≤ 64 → AgreesWithRuns t (told_in a.book) → (seed stream : ℕ) (rigs : List Rig) → CanBeRigged rigs
     → Tells (verdicts_in a depth) (λ rs. (told_of_rigs t seed stream rs).verdict) rigs
 verdict_true t a depth is low agrees seed stream rigs can v e =
     ap (λ (names : List (List ℕ)). (outcome t.asks (given_of (rigging names rigs) t.names seed stream t.limit)).verdict) is.names
     ∙ ap (λ (x : Outcome). x.verdict) (sym (outcome_same t.asks t.names seed stream t.limit (tidied s) s (means.at t.names seed stream t.limit)))
-    ∙ true_of t a.points (told_in a.book) depth is low agrees (tidied s) v (tidied_scenario s lawful) e seed stream
+    ∙ true_of t a.points a.listed (told_in a.book) depth is low agrees (tidied s) v (tidied_scenario s lawful) e seed stream
   where
     s : Entries
     s = rigging a.points rigs
 
     lawful : IsScenario s
-    lawful = rigging_keeps a.points rigs (subst IsCatalogue is.names is.lawful.catalogue) can.0 can.1
+    lawful = rigging_keeps a.points rigs (subst IsCatalogue is.names is.lawful.catalogue) can.0 can.1 can.2
 
     means : MeansTheSame (tidied s) s
     means = tidied_means s lawful.distinct_names
@@ -64,8 +64,15 @@ lesser_small P (r ∷ rs) all = (
 
 lesser_can : (rs : List Rig) → CanBeRigged rs → AllByRecursion (λ less. CanBeRigged less) (lesser rs)
 lesser_can rs can =
-    all_weaker (λ (less : List Rig). (length less ≤ length rs) × AllByRecursion (λ (r : Rig). r.site.hit < 4294967296) less) (λ (less : List Rig). CanBeRigged less)
-    (λ less h. (let le = h.0 in let few = can.0 in omega (arith, le, few), h.1)) (lesser rs) (lesser_small (λ (r : Rig). r.site.hit < 4294967296) rs can.1)
+    all_weaker (λ (less : List Rig). (length less ≤ length rs) × AllByRecursion IsSound less) (λ (less : List Rig). CanBeRigged less)
+    (λ less h. (
+      let le = h.0 in let few = can.0 in omega (arith, le, few),
+      all_weaker IsSound (λ (r : Rig). r.site.hit < 4294967296) (λ r k. k.0) less h.1,
+      all_weaker IsSound (λ (r : Rig). HasLawfulText r.kind) (λ r k. k.1) less h.1,
+    )) (lesser rs) (lesser_small IsSound rs (all_both (λ (r : Rig). r.site.hit < 4294967296) (λ (r : Rig). HasLawfulText r.kind) rs can.1 can.2))
+  where
+    IsSound : Rig → Type 0
+    IsSound r = (r.site.hit < 4294967296) × HasLawfulText r.kind
 
 pub all_at : {A : Type 0} (P : A → Type 0) (xs : List A) (i : ℕ) (d : A) → i < length xs → AllByRecursion P xs → P (get_or xs i d)
 all_at P [] i d lt all = absurd (omega (arith, lt))
@@ -166,11 +173,11 @@ none_open a depth plans waiting n zeroth many are = sym are ∙ none_of waiting 
     none_of [] e = refl
     none_of (x ∷ xs) e = absurd (omega (arith, e))
 
-pub causes_true : (t : Subject) (a : Answered) (depth : ℕ) (plans : List (List Rig)) (causes : List (ℕ × ℕ)) → IsComponent a.points t → depth ≤ 64 → AgreesWithRuns t (told_in a.book) → plans ≡ grown t depth
+pub causes_true : (t : Subject) (a : Answered) (depth : ℕ) (plans : List (List Rig)) (causes : List (ℕ × ℕ)) → IsComponent a.points a.listed t → depth ≤ 64 → AgreesWithRuns t (told_in a.book)
     → AllByRecursion (λ plan. CanBeRigged (rigs_of plan)) plans → open_scenarios a depth plans ≡ [] → causes ≡ known_causes (verdicts_in a depth) plans
-    → (seed : ℕ) → causes ≡ over (cause_at t seed) (grown t depth) 0 (length (grown t depth))
-causes_true t a depth plans causes is low agrees same can none found seed =
-    found ∙ over_is (cause_known known) (cause_at t seed) plans 0 (length plans) each ∙ ap (λ (ps : List (List Rig)). over (cause_at t seed) ps 0 (length ps)) same
+    → (seed : ℕ) → causes ≡ over (cause_at t seed) plans 0 (length plans)
+causes_true t a depth plans causes is low agrees can none found seed =
+    found ∙ over_is (cause_known known) (cause_at t seed) plans 0 (length plans) each
   where
     known : Verdicts
     known = verdicts_in a depth

@@ -15,6 +15,7 @@ use Rattle.scenario_grammar.specs.FirstFault.{piece_in, pieces_from, reading}
 use Rattle.scenario_grammar.proofs.RoundTrip.{printed_again}
 use Rattle.std.specs.Prelude.{Err, Ok}
 use Rattle.action_eval.specs.Answers.{given_of}
+use Rattle.action_eval.specs.declared.rig.Kind.{Kind}
 use Rattle.action_eval.specs.declared.rig.Rig.{Rig}
 use Rattle.action_eval.specs.Rigging.{CanBeRigged}
 use Rattle.action_eval.proofs.Rigged.{rigging_keeps}
@@ -36,7 +37,7 @@ use Rattle.known_runs.proofs.Ends.{filtered, runs_each_once}
 use Rattle.answered_runs.specs.Answered.{Answered, runs_in}
 use Rattle.answered_runs.specs.Components.{IsComponent}
 use Rattle.outside_grown.specs.Asked.{AreApart, IsAskedOf, lines_to_run, plan_line, undecided, unrun}
-use Rattle.outside_grown.specs.Further.{clean_hits, further_known}
+use Rattle.outside_grown.specs.Further.{clean_run, further_known}
 use Rattle.outside_grown.proofs.SameRuns.{run_same}
 
 -- ---- a scenario has a line of its own
@@ -60,10 +61,10 @@ plan_means : (t : Subject) (plan : List Rig) → IsScenario (scenario_of t plan)
 unfolding run_of_plan
 plan_means t plan lawful = sym (run_same t.asks t.names 0 0 t.limit (tidied (scenario_of t plan)) (scenario_of t plan) ((tidied_means (scenario_of t plan) lawful.distinct_names).at t.names 0 0 t.limit))
 
-line_of_run : (points : List (List ℕ)) (t : Subject) → IsComponent points t → (a b : List Rig) → CanBeRigged (rigs_of a) → CanBeRigged (rigs_of b) → plan_line t.names a ≡ plan_line t.names b → run_of_plan t a ≡ run_of_plan t b
-line_of_run points t is a b can_a can_b e =
-    let of_a : IsScenario (scenario_of t a) = rigging_keeps t.names (rigs_of a) is.lawful.catalogue can_a.0 can_a.1 in
-    let of_b : IsScenario (scenario_of t b) = rigging_keeps t.names (rigs_of b) is.lawful.catalogue can_b.0 can_b.1 in
+line_of_run : (points : List (List ℕ)) (listed : List (List Kind)) (t : Subject) → IsComponent points listed t → (a b : List Rig) → CanBeRigged (rigs_of a) → CanBeRigged (rigs_of b) → plan_line t.names a ≡ plan_line t.names b → run_of_plan t a ≡ run_of_plan t b
+line_of_run points listed t is a b can_a can_b e =
+    let of_a : IsScenario (scenario_of t a) = rigging_keeps t.names (rigs_of a) is.lawful.catalogue can_a.0 can_a.1 can_a.2 in
+    let of_b : IsScenario (scenario_of t b) = rigging_keeps t.names (rigs_of b) is.lawful.catalogue can_b.0 can_b.1 can_b.2 in
     let same : tidied (scenario_of t a) ≡ tidied (scenario_of t b) = text_same (tidied (scenario_of t a)) (tidied (scenario_of t b)) (tidied_scenario (scenario_of t a) of_a) (tidied_scenario (scenario_of t b) of_b) e in
     plan_means t a of_a ∙ ap (λ (s : Entries). run t.asks (given_of s t.names 0 0 t.limit)) same ∙ sym (plan_means t b of_b)
 
@@ -87,28 +88,28 @@ runs_within t d known =
     (filtered (is_reached known) (Contains (grown t d)) (levels t d) (all_left (Contains (grown t d)) (levels t d) (onward t d) all))
     (filtered (is_reached_onward known) (Contains (grown t d)) (onward t d) (all_right (Contains (grown t d)) (levels t d) (onward t d) all)))
 
-lines_apart : (points : List (List ℕ)) (t : Subject) → IsComponent points t → (d : ℕ) → d ≤ 64 → (a b : List Rig) → Contains (grown t d) a → Contains (grown t d) b → a ≢ b → plan_line t.names a ≢ plan_line t.names b
-lines_apart points t is d low a b in_a in_b apart e =
+lines_apart : (points : List (List ℕ)) (listed : List (List Kind)) (t : Subject) → IsComponent points listed t → (d : ℕ) → d ≤ 64 → (a b : List Rig) → Contains (grown t d) a → Contains (grown t d) b → a ≢ b → plan_line t.names a ≢ plan_line t.names b
+lines_apart points listed t is d low a b in_a in_b apart e =
     let can : AllByRecursion (λ plan. CanBeRigged (rigs_of plan)) (grown t d) = grown_can_be_rigged t is.lawful is.few d low in
     let can_a = all_contains (λ (plan : List Rig). CanBeRigged (rigs_of plan)) (grown t d) a can in_a in
     let can_b = all_contains (λ (plan : List Rig). CanBeRigged (rigs_of plan)) (grown t d) b can in_b in
-    let same : run_of_plan t a ≡ run_of_plan t b = line_of_run points t is a b can_a can_b e in
+    let same : run_of_plan t a ≡ run_of_plan t b = line_of_run points listed t is a b can_a can_b e in
     elim (two_members (λ (x y : List Rig). run_of_plan t x ≢ run_of_plan t y) (grown t d) a b (runs_nothing_twice t is.lawful d) in_a in_b) [
       | inl equal ↦ apart equal
       | inr either ↦ elim either [ inl differ ↦ differ same | inr differ ↦ differ (sym same) ]
     ]
 
-each_line : (points : List (List ℕ)) (t : Subject) → IsComponent points t → (d : ℕ) → d ≤ 64 → (plans : List (List Rig)) → AllByRecursion (Contains (grown t d)) plans → EachTwo (λ a b. a ≢ b) plans
+each_line : (points : List (List ℕ)) (listed : List (List Kind)) (t : Subject) → IsComponent points listed t → (d : ℕ) → d ≤ 64 → (plans : List (List Rig)) → AllByRecursion (Contains (grown t d)) plans → EachTwo (λ a b. a ≢ b) plans
     → EachTwo (λ a b. a ≢ b) (map (plan_line t.names) plans)
-each_line points t is d low [] within apart = tt
-each_line points t is d low (plan ∷ plans) within apart = (others plans within.1 apart.0, each_line points t is d low plans within.1 apart.1)
+each_line points listed t is d low [] within apart = tt
+each_line points listed t is d low (plan ∷ plans) within apart = (others plans within.1 apart.0, each_line points listed t is d low plans within.1 apart.1)
   where
     others : (later : List (List Rig)) → AllByRecursion (Contains (grown t d)) later → AllByRecursion (λ b. plan ≢ b) later → AllByRecursion (λ line. plan_line t.names plan ≢ line) (map (plan_line t.names) later)
     others [] all apart' = tt
-    others (b ∷ bs) all apart' = (lines_apart points t is d low plan b within.0 all.0 apart'.0, others bs all.1 apart'.1)
+    others (b ∷ bs) all apart' = (lines_apart points listed t is d low plan b within.0 all.0 apart'.0, others bs all.1 apart'.1)
 
-pub plan_lines_apart : (points : List (List ℕ)) (t : Subject) → IsComponent points t → (d : ℕ) → d ≤ 64 → (known : KnownRuns) → AreApart (lines_to_run t d known)
-plan_lines_apart points t is d low known = each_line points t is d low (to_run t d known) (runs_within t d known) (runs_each_once t is.lawful d known)
+pub plan_lines_apart : (points : List (List ℕ)) (listed : List (List Kind)) (t : Subject) → IsComponent points listed t → (d : ℕ) → d ≤ 64 → (known : KnownRuns) → AreApart (lines_to_run t d known)
+plan_lines_apart points listed t is d low known = each_line points listed t is d low (to_run t d known) (runs_within t d known) (runs_each_once t is.lawful d known)
 
 -- ---- lines put into a set of lines
 
@@ -175,17 +176,17 @@ map_both {C = C} g f (x ∷ xs) = ap (λ (ys : List C). g (f x) ∷ ys) (map_bot
 unrun_lines : (a : Answered) (plans : List (List Rig)) → map scenario_text (unrun a plans) ≡ map (plan_line a.points) (filter (λ plan. is_none (runs_in a plan)) plans)
 unrun_lines a plans = map_both scenario_text (λ (plan : List Rig). tidied (grown_scenario a.points plan)) (filter (λ (plan : List Rig). is_none (runs_in a plan)) plans)
 
-plans_asked : (t : Subject) (a : Answered) (d : ℕ) (plans : List (List Rig)) → IsComponent a.points t → d ≤ 64 → plans ≡ known_part t d (runs_in a) → lines_for (unrun a plans) ≡ lines_to_run t d (runs_in a)
+plans_asked : (t : Subject) (a : Answered) (d : ℕ) (plans : List (List Rig)) → IsComponent a.points a.listed t → d ≤ 64 → plans ≡ known_part t d (runs_in a) → lines_for (unrun a plans) ≡ lines_to_run t d (runs_in a)
 plans_asked t a d plans is low same =
     ap (fold (insert_key bytes_eq) []) (unrun_lines a plans ∙ ap (λ (ps : List (List Rig)). map (plan_line a.points) (filter (λ (plan : List Rig). is_none (runs_in a plan)) ps)) same
     ∙ ap (λ (names : List (List ℕ)). map (plan_line names) (to_run t d (runs_in a))) (sym is.names))
-    ∙ put_apart [] (lines_to_run t d (runs_in a)) (plan_lines_apart a.points t is d low (runs_in a))
+    ∙ put_apart [] (lines_to_run t d (runs_in a)) (plan_lines_apart a.points a.listed t is d low (runs_in a))
 
 -- by the lines that were added for the plans that grow, and then for the further ones
-pub asked_of : (t : Subject) (a : Answered) (d : ℕ) (asked : Asked) (plans : List (List Rig)) (further : List Entries) (none mid after : List (List ℕ)) → IsComponent a.points t → d ≤ 64 → plans ≡ known_part t d (runs_in a)
-    → further ≡ further_known t asked (clean_hits a) → none ≡ [] → mid ≡ lines_behind none (unrun a plans) → after ≡ lines_behind mid (undecided a d further) → IsAskedOf t a d asked after
+pub asked_of : (t : Subject) (a : Answered) (d : ℕ) (asked : Asked) (plans : List (List Rig)) (further : List Entries) (none mid after : List (List ℕ)) → IsComponent a.points a.listed t → d ≤ 64 → plans ≡ known_part t d (runs_in a)
+    → further ≡ further_known t asked (clean_run a) → none ≡ [] → mid ≡ lines_behind none (unrun a plans) → after ≡ lines_behind mid (undecided a d further) → IsAskedOf t a d asked after
 asked_of t a d asked plans further none mid after is low same known empty grew went = record {
-  plans = plan_lines_apart a.points t is d low (runs_in a);
+  plans = plan_lines_apart a.points a.listed t is d low (runs_in a);
   whole =
       went ∙ ap (λ (ls : List (List ℕ)). lines_behind ls (undecided a d further)) (grew ∙ ap (λ (ls : List (List ℕ)). lines_behind ls (unrun a plans)) empty ∙ plans_asked t a d plans is low same)
       ∙ ap (λ (ps : List Entries). lines_behind (lines_to_run t d (runs_in a)) (undecided a d ps)) known;

@@ -1,25 +1,29 @@
 -- The most hits of each point, raised by one run after another.
-use Rattle.std.proofs.Common.{◌≡◌, ℕ, zero, suc, ◌+◌, ◌<◌, ◌≤◌, max, true, List, [], ◌∷◌, ◌++◌, map, length, get_or, take, replicate, count_by, ◌==◌, refl, ap, sym, ◌∙◌, subst, arith}
-use Rattle.std.specs.Prelude.{Contains, Option, Some, None}
-use Rattle.std.specs.List.{AllByRecursion, range_with_len}
+use Rattle.std.proofs.Common.{◌≡◌, ℕ, zero, suc, ◌+◌, ◌<◌, ◌≤◌, ◌⊎◌, inl, inr, max, Bool, true, false, cond, List, [], ◌∷◌, ◌++◌, map, length, get_or, take, replicate, count_by, ◌==◌, refl, ap, sym, ◌∙◌, subst, arith}
+use Rattle.std.specs.Prelude.{Contains, Option, Some, None, nat_lt}
+use Rattle.std.specs.List.{AllByRecursion, filter, range_with_len}
+use Rattle.std.proofs.lemmas.List.Elements.{Contains-append_left, Contains-append_right}
+use Rattle.std.proofs.lemmas.Bool.Decides.{nat_tests}
 use Rattle.std.proofs.lemmas.List.{map-append, take_more, take_all}
 use Rattle.action_eval.specs.declared.rig.Rig.{Rig}
 use Rattle.target_trait.specs.declared.judgement.Verdict.{Verdict}
 use Rattle.plan_gen.specs.Census.{counts_of}
 use Rattle.plan_gen.specs.LoopRuns.{times}
 use Rattle.grown_plans.specs.Runs.{Met}
-use Rattle.grown_plans.specs.GrownPlans.{Subject, grown, most, reached, run_of_plan}
+use Rattle.grown_plans.specs.GrownPlans.{Subject, grown, levels, most, onward, reached, run_of_plan}
 use Rattle.grown_plans.specs.AskedPoints.{ReachesByAsked}
 use Rattle.grown_plans.specs.Promises.{IsLawful}
-use Rattle.grown_plans.proofs.Members.{all_by_contains, all_contains}
+use Rattle.grown_plans.proofs.Members.{all_append, all_by_contains, all_contains, all_weaker}
 use Rattle.grown_plans.proofs.AskedSites.{reaches_by_asked}
 use Rattle.grown_runs.specs.Grown.{reached_each}
 use Rattle.grown_runs.proofs.Overs.{most_parts, most_single}
 use Rattle.known_runs.specs.Known.{Agrees, KnownRuns, Told, hits_of, hits_told}
 use Rattle.known_runs.specs.Looks.{told}
-use Rattle.known_runs.specs.KnownPart.{are_told}
+use Rattle.known_runs.specs.KnownPart.{are_told, is_reached, is_reached_onward, known_part}
+use Rattle.known_runs.proofs.Ends.{filtered}
+use Rattle.known_runs.proofs.Listed.{filter_all}
 use Rattle.known_runs.proofs.Sites.{asked_told, hits_true}
-use Rattle.outside_grown.specs.Reached.{AreMostTold, reached_told, times_told}
+use Rattle.outside_grown.specs.Reached.{AreMostTold, reached_known, reached_seen, reached_told, times_told}
 
 pub record AreMostOf (runs : KnownRuns) (plans : List (List Rig)) (points : ℕ) (counts : List ℕ) : Type 0 where
   pub many : length counts ≡ points
@@ -77,22 +81,50 @@ counted runs plan v hits asked counts slice n p seen same are is lt =
 
 -- ---- of a component
 
-counts_are : (f g : List Rig → ℕ) (plans : List (List Rig)) → AllByRecursion (λ plan. f plan ≡ g plan) plans → map f plans ≡ map g plans
-counts_are f g [] all = refl
-counts_are f g (plan ∷ plans) all = ap (λ (n : ℕ). n ∷ map f plans) all.0 ∙ ap (λ (ns : List ℕ). g plan ∷ ns) (counts_are f g plans all.1)
+none_less : (n : ℕ) → nat_lt n 0 ≡ false
+none_less n = grind (arith, nat_tests)
 
-reached_is : (t : Subject) (d : ℕ) (runs : KnownRuns) → IsLawful t → Agrees t d runs → AllByRecursion (λ plan. are_told (hits_of runs plan) ≡ true) (grown t d) → (p : ℕ) → reached_told runs (grown t d) p ≡ reached t d p
-reached_is t d runs lawful agrees seen p =
-    ap most (counts_are (λ (plan : List Rig). times_told p (hits_of runs plan)) (λ (plan : List Rig). count_by (λ (m : Met). m.site.point == p) (run_of_plan t plan)) (grown t d) (all_by_contains _ (grown t d) each))
+-- where hits aren't told, none counts
+most_of : (f g : List Rig → ℕ) (seen : List Rig → Bool) (plans : List (List Rig)) → AllByRecursion (λ plan. ((seen plan ≡ true) × (f plan ≡ g plan)) ⊎ ((seen plan ≡ false) × (f plan ≡ 0))) plans
+    → most (map f plans) ≡ most (map g (filter seen plans))
+most_of f g seen [] all = refl
+most_of f g seen (plan ∷ plans) all = by_plan (most_of f g seen plans all.1) all.0
   where
-    by_hits : (plan : List Rig) → Contains (grown t d) plan → (o : Option (List ℕ)) → hits_of runs plan ≡ o → are_told o ≡ true → times_told p o ≡ count_by (λ (m : Met). m.site.point == p) (run_of_plan t plan)
-    by_hits plan c None e told = absurd cc
-    by_hits plan c (Some hits) e told =
-        let by : ReachesByAsked t plan = all_contains (ReachesByAsked t) (grown t d) plan (reaches_by_asked t lawful d) c in
-        ap (times p) (sym (asked_told t plan hits (hits_true t d runs plan hits agrees c e))) ∙ sym (by 0 0 p)
+    by_plan : most (map f plans) ≡ most (map g (filter seen plans)) → ((seen plan ≡ true) × (f plan ≡ g plan)) ⊎ ((seen plan ≡ false) × (f plan ≡ 0))
+        → most (f plan ∷ map f plans) ≡ most (map g (cond (seen plan) (plan ∷ filter seen plans) (filter seen plans)))
+    by_plan rest (inl h) =
+        ap (λ (n : ℕ). cond (nat_lt n (f plan)) (f plan) n) rest
+        ∙ ap (λ (n : ℕ). cond (nat_lt (most (map g (filter seen plans))) n) n (most (map g (filter seen plans)))) h.1
+        ∙ ap (λ (b : Bool). most (map g (cond b (plan ∷ filter seen plans) (filter seen plans)))) (sym h.0)
+    by_plan rest (inr h) =
+        ap (λ (n : ℕ). cond (nat_lt n (f plan)) (f plan) n) rest
+        ∙ ap (λ (n : ℕ). cond (nat_lt (most (map g (filter seen plans))) n) n (most (map g (filter seen plans)))) h.1
+        ∙ ap (λ (b : Bool). cond b 0 (most (map g (filter seen plans)))) (none_less (most (map g (filter seen plans))))
+        ∙ ap (λ (b : Bool). most (map g (cond b (plan ∷ filter seen plans) (filter seen plans)))) (sym h.0)
 
-    each : (plan : List Rig) → Contains (grown t d) plan → times_told p (hits_of runs plan) ≡ count_by (λ (m : Met). m.site.point == p) (run_of_plan t plan)
-    each plan c = by_hits plan c (hits_of runs plan) refl (all_contains (λ (x : List Rig). are_told (hits_of runs x) ≡ true) (grown t d) plan seen c)
+abbrev is_seen : KnownRuns → List Rig → Bool
+is_seen runs plan = are_told (hits_of runs plan)
+
+abbrev hits_at : Subject → ℕ → List Rig → ℕ
+hits_at t p plan = count_by (λ (m : Met). m.site.point == p) (run_of_plan t plan)
+
+known_in : (t : Subject) (d : ℕ) (runs : KnownRuns) → AllByRecursion (Contains (grown t d)) (known_part t d runs)
+known_in t d runs =
+    all_append (Contains (grown t d)) (filter (is_reached runs) (levels t d)) (filter (is_reached_onward runs) (onward t d))
+    (filtered (is_reached runs) (Contains (grown t d)) (levels t d) (all_by_contains (Contains (grown t d)) (levels t d) (λ plan c. Contains-append_left (levels t d) (onward t d) plan c)))
+    (filtered (is_reached_onward runs) (Contains (grown t d)) (onward t d) (all_by_contains (Contains (grown t d)) (onward t d) (λ plan c. Contains-append_right (levels t d) (onward t d) plan c)))
+
+reached_is : (t : Subject) (d : ℕ) (runs : KnownRuns) → IsLawful t → Agrees t d runs → (p : ℕ) → reached_told runs (known_part t d runs) p ≡ reached_known t d runs p
+reached_is t d runs lawful agrees p =
+    most_of (λ (plan : List Rig). times_told p (hits_of runs plan)) (hits_at t p) (is_seen runs) (known_part t d runs)
+    (all_weaker (Contains (grown t d)) _ (λ plan c. by_hits plan c (hits_of runs plan) refl) (known_part t d runs) (known_in t d runs))
+  where
+    by_hits : (plan : List Rig) → Contains (grown t d) plan → (o : Option (List ℕ)) → hits_of runs plan ≡ o
+        → ((are_told o ≡ true) × (times_told p o ≡ hits_at t p plan)) ⊎ ((are_told o ≡ false) × (times_told p o ≡ 0))
+    by_hits plan c None e = inr (refl, refl)
+    by_hits plan c (Some hits) e =
+        let by : ReachesByAsked t plan = all_contains (ReachesByAsked t) (grown t d) plan (reaches_by_asked t lawful d) c in
+        inl (refl, ap (times p) (sym (asked_told t plan hits (hits_true t d runs plan hits agrees c e))) ∙ sym (by 0 0 p))
 
 each_is : (counts : List ℕ) (f : ℕ → ℕ) (n : ℕ) → ((p : ℕ) → p < length counts → get_or counts p 0 ≡ f (n + p)) → counts ≡ map f (range_with_len n (length counts))
 each_is [] f n at = refl
@@ -100,8 +132,21 @@ each_is (x ∷ xs) f n at =
     ap (λ (y : ℕ). y ∷ xs) (at 0 (omega arith) ∙ ap f (let e : n + 0 ≡ n = omega arith in e))
     ∙ ap (λ (l : List ℕ). f n ∷ l) (each_is xs f (n + 1) (λ p lt. at (suc p) (omega (arith, lt)) ∙ ap f (let e : n + suc p ≡ n + 1 + p = omega arith in e)))
 
-pub reached_whole : (t : Subject) (d : ℕ) (runs : KnownRuns) (counts : List ℕ) → IsLawful t → Agrees t d runs → AllByRecursion (λ plan. are_told (hits_of runs plan) ≡ true) (grown t d) → AreMostOf runs (grown t d) (length t.names) counts
-    → counts ≡ reached_each t d
-reached_whole t d runs counts lawful agrees seen most_of =
-    each_is counts (reached t d) 0 (λ p lt. most_of.are p lt ∙ reached_is t d runs lawful agrees seen p ∙ ap (reached t d) (let e : p ≡ 0 + p = omega arith in e))
-    ∙ ap (λ (k : ℕ). map (reached t d) (range_with_len 0 k)) most_of.many
+pub reached_are : (t : Subject) (d : ℕ) (runs : KnownRuns) (counts : List ℕ) → IsLawful t → Agrees t d runs → AreMostOf runs (known_part t d runs) (length t.names) counts → counts ≡ reached_seen t d runs
+reached_are t d runs counts lawful agrees most_of =
+    each_is counts (reached_known t d runs) 0 (λ p lt. most_of.are p lt ∙ reached_is t d runs lawful agrees p ∙ ap (reached_known t d runs) (let e : p ≡ 0 + p = omega arith in e))
+    ∙ ap (λ (k : ℕ). map (reached_known t d runs) (range_with_len 0 k)) most_of.many
+
+-- where the list is whole and the hits of each run are told
+pub reached_whole : (t : Subject) (d : ℕ) (runs : KnownRuns) → known_part t d runs ≡ grown t d → AllByRecursion (λ plan. are_told (hits_of runs plan) ≡ true) (grown t d) → reached_seen t d runs ≡ reached_each t d
+reached_whole t d runs same seen = maps_are (reached_known t d runs) (reached t d) each 0 (length t.names)
+  where
+    each : (p : ℕ) → reached_known t d runs p ≡ reached t d p
+    each p =
+        ap (λ (ps : List (List Rig)). most (map (hits_at t p) (filter (is_seen runs) ps))) same
+        ∙ ap (λ (ps : List (List Rig)). most (map (hits_at t p) ps)) (filter_all (is_seen runs) true (grown t d) seen)
+
+    maps_are : (f g : ℕ → ℕ) → ((p : ℕ) → f p ≡ g p) → (first count : ℕ) → map f (range_with_len first count) ≡ map g (range_with_len first count)
+    maps_are f g h first zero = refl
+    maps_are f g h first (suc count) =
+        ap (λ (n : ℕ). n ∷ map f (range_with_len (first + 1) count)) (h first) ∙ ap (λ (l : List ℕ). g first ∷ l) (maps_are f g h (first + 1) count)

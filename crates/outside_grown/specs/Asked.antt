@@ -15,7 +15,7 @@ use Rattle.asked_lines.specs.Lines.{lines_behind}
 use Rattle.answer_text.specs.Runs.{told_in}
 use Rattle.answered_runs.specs.Answered.{Answered, known_plans, runs_in}
 use Rattle.answered_runs.specs.Verdicts.{verdict_by}
-use Rattle.outside_grown.specs.Further.{clean_hits, further_known, further_told}
+use Rattle.outside_grown.specs.Further.{clean_run, further_known, further_told}
 
 -- the scenarios of these plans of whose runs nothing is told
 abbrev pub unrun : Answered → List (List Rig) → List Entries
@@ -45,4 +45,4 @@ AreApart lines = EachTwo (λ line other. line ≢ other) lines
 -- what is asked of a component: these lines, each once, and behind them those of its undecided storms and listed scenarios
 pub record IsAskedOf (t : Subject) (a : Answered) (depth : ℕ) (asked : Asked) (lines : List (List ℕ)) : Type 0 where
   pub plans : AreApart (lines_to_run t depth (runs_in a))
-  pub whole : lines ≡ lines_behind (lines_to_run t depth (runs_in a)) (undecided a depth (further_known t asked (clean_hits a)))
+  pub whole : lines ≡ lines_behind (lines_to_run t depth (runs_in a)) (undecided a depth (further_known t asked (clean_run a)))

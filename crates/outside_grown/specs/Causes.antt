@@ -7,7 +7,7 @@ use Rattle.action_eval.specs.declared.rig.Rig.{Rig}
 use Rattle.action_eval.specs.Rigging.{rigging}
 use Rattle.target_trait.specs.declared.judgement.Verdict.{Verdict}
 use Rattle.target_trait.specs.declared.judgement.Verdict.TheVariants as verdict
-use Rattle.grown_plans.specs.GrownPlans.{Subject, grown, rigs_of}
+use Rattle.grown_plans.specs.GrownPlans.{Subject, rigs_of}
 use Rattle.grown_plans.specs.Promises.{lesser}
 use Rattle.grown_runs.specs.GrownRuns.{cause_at, fails_with, over}
 use Rattle.answer_text.specs.Runs.{told_in}
@@ -79,7 +79,7 @@ abbrev pub AreAmong : ℕ → Causes → Type 0
 AreAmong many (Told causes) = All (λ cause. cause.0 < many) causes.items
 AreAmong many (Open scenarios) = Unit {0}
 
--- causes that are told are those of a component, under each seed
-abbrev pub AreCausesOf : Subject → ℕ → Causes → Type 0
-AreCausesOf t depth (Told causes) = (seed : ℕ) → causes.items ≡ over (cause_at t seed) (grown t depth) 0 (length (grown t depth))
-AreCausesOf t depth (Open scenarios) = Unit {0}
+-- causes that are told are those of a component among these plans, under each seed
+abbrev pub AreCausesOf : Subject → List (List Rig) → Causes → Type 0
+AreCausesOf t plans (Told causes) = (seed : ℕ) → causes.items ≡ over (cause_at t seed) plans 0 (length plans)
+AreCausesOf t plans (Open scenarios) = Unit {0}

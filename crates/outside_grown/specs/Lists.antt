@@ -1,21 +1,21 @@
--- The whole list of a campaign with a depth, by what answers tell.
-use Rattle.std.specs.Prelude.{◌≡◌, ℕ, ◌++◌, List, None}
+-- The list of a campaign with a depth, by what answers tell.
+use Rattle.std.specs.Prelude.{◌≡◌, ℕ, ◌++◌, List, [], map}
 use Rattle.scenario_values.specs.Scenario.{Entries}
-use Rattle.plan_gen.specs.Census.{census_of, sites_of}
 use Rattle.plan_gen.specs.PlanList.{Asked}
 use Rattle.campaign_plans.specs.GrownScenarios.{grown_scenarios}
-use Rattle.grown_plans.specs.GrownPlans.{Subject, grown_list}
-use Rattle.answered_runs.specs.WholeList.{IsListOf}
+use Rattle.grown_plans.specs.GrownPlans.{Subject, scenario_of}
+use Rattle.known_runs.specs.Known.{KnownRuns}
+use Rattle.known_runs.specs.KnownPart.{known_part}
+use Rattle.known_runs.specs.KnownPlans.{AreKnown}
+use Rattle.answered_runs.specs.Answered.{Answered, runs_in}
+use Rattle.outside_grown.specs.Further.{further_known}
 use Rattle.outside_grown.specs.declared.listing.GrownLists.{GrownLists}
 
--- the list of a component, with storms over its own census
-abbrev pub list_of : Subject → ℕ → Asked → List Entries
-list_of t depth asked = grown_list t depth asked (sites_of (census_of t.asks t.names asked.seed t.limit))
+-- the list of a component as far as it is known, with storms and listed scenarios behind the plans that grow
+abbrev pub list_known : Subject → ℕ → Asked → KnownRuns → List Entries
+list_known t depth asked known = map (scenario_of t) (known_part t depth known) ++ further_known t asked (known [])
 
--- where no hits are missing, all is the component's: the plans that grow, the sizes of their levels, and the whole list
-pub record AreWhole (t : Subject) (depth : ℕ) (asked : Asked) (points : List (List ℕ)) (lists : GrownLists) : Type 0 where
-  pub grown : IsListOf t depth lists.listed
-  pub list : grown_scenarios points lists.listed.known.plans ++ lists.further ≡ list_of t depth asked
-
-abbrev pub AreWholeSeen : Subject → ℕ → Asked → List (List ℕ) → GrownLists → Type 0
-AreWholeSeen t depth asked points lists = lists.listed.gap ≡ None → AreWhole t depth asked points lists
+-- all is the component's: the plans that grow, the sizes of their levels, and the whole list
+pub record AreListsOf (t : Subject) (depth : ℕ) (asked : Asked) (a : Answered) (lists : GrownLists) : Type 0 where
+  pub grown : AreKnown t depth (runs_in a) lists.listed.known
+  pub list : grown_scenarios a.points lists.listed.known.plans ++ lists.further ≡ list_known t depth asked (runs_in a)

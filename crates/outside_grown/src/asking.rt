@@ -123,7 +123,7 @@ pub fn asks(
     ensures lines { IfOk result (λ lines. lines ≡ lines_for (to_try runs.now depth settings.now)) }
     ensures once { IfOk result (λ lines. AreApart lines) }
     // For every component that agrees with the answers.
-    ensures asked { IfOk result (λ lines. (t : Subject) → IsComponent runs.now.points t → AgreesWithRuns t (told_in runs.now.book)
+    ensures asked { IfOk result (λ lines. (t : Subject) → IsComponent runs.now.points runs.now.listed t → AgreesWithRuns t (told_in runs.now.book)
         → IsAskedOf t runs.now depth settings.now lines) }
     ensures many { IsErrOf result KnownFault.TooManyPlans → AreTooMany runs.now settings.now (length (known_plans runs.now depth)) }
 {

@@ -3,7 +3,7 @@ ghost use Rattle.std.specs.Prelude.{◌≡◌, ◌<◌, ◌≤◌, ◌^◌, ◌+
 ghost use Rattle.std.specs.List.{AllByRecursion, flat_map};
 ghost use Rattle.action_eval.specs.Rigging.{CanBeRigged};
 ghost use Rattle.answer_text.specs.Runs.{told_in};
-ghost use Rattle.grown_plans.specs.GrownPlans.{Subject, grown, rigs_of};
+ghost use Rattle.grown_plans.specs.GrownPlans.{Subject, rigs_of};
 ghost use Rattle.grown_plans.specs.Promises.{lesser};
 ghost use Rattle.answered_runs.specs.Components.{AgreesWithRuns, IsComponent};
 ghost use Rattle.outside_grown.specs.Causes.{AreAmong, AreCauses, AreCausesOf, is_failure, known_by, known_causes, one_fails, open_by, open_scenarios, rigged_in, unknown, verdicts_in};
@@ -170,9 +170,9 @@ pub fn known_causes(
     requires many { length plans.now < 2 ^ 32 }
     ensures known { IfOk result (AreCauses runs.now depth plans.now) }
     ensures among { IfOk result (AreAmong (length plans.now)) }
-    // For every component that agrees with the answers, where these are its plans to the depth.
-    ensures whole { IfOk result (λ causes. (t : Subject) → IsComponent runs.now.points t → depth ≤ 64 → AgreesWithRuns t (told_in runs.now.book)
-        → plans.now ≡ grown t depth → AreCausesOf t depth causes) }
+    // For every component that agrees with the answers.
+    ensures whole { IfOk result (λ causes. (t : Subject) → IsComponent runs.now.points runs.now.listed t → depth ≤ 64
+        → AgreesWithRuns t (told_in runs.now.book) → AreCausesOf t plans.now causes) }
 {
     let Found { causes, waiting } = find_all(alloc, runs, depth, plans)?;
     if waiting.is_empty() {

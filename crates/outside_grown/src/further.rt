@@ -7,11 +7,12 @@ ghost use Rattle.plan_gen.specs.PlanList.{further_list, most_plans};
 ghost use Rattle.grown_plans.specs.GrownPlans.{Subject};
 ghost use Rattle.answer_text.specs.Runs.{told_in};
 ghost use Rattle.answered_runs.specs.Components.{AgreesWithRuns, IsComponent};
-ghost use Rattle.outside_grown.specs.Further.{AreTooMany, HasFewHits, census_told, clean_hits, further_known, further_told};
+ghost use Rattle.outside_grown.specs.Further.{AreTooMany, HasFewHits, census_told, clean_hits, clean_run, further_known, further_told};
 
 use answered_runs::AnsweredRuns;
 use known_runs::{KnownFault, Look, RunTable};
 use plan_gen::{Census, PlanFault, PlanList, PlanSettings};
+use scenario_values::Scenario;
 use std::alloc::{AllocError, Global};
 
 /// A list has at most so many plans.
@@ -54,8 +55,8 @@ fn clean_hits(alloc: Global, runs: &AnsweredRuns<'_>) -> Result<Option<Vec<u32>>
 pub fn census(alloc: Global, runs: &AnsweredRuns<'_>) -> Result<Option<Vec<u32>>, AllocError>
     ensures told { IfOk result (λ counts. option_map (λ c. c.items) counts ≡ census_told runs.now) }
     // For every component that agrees with the answers.
-    ensures known { IfOk result (λ counts. IfSome counts (λ c. (t : Subject) → IsComponent runs.now.points t → AgreesWithRuns t (told_in runs.now.book)
-        → (seed : ℕ) → c.items ≡ census_of t.asks t.names seed t.limit)) }
+    ensures known { IfOk result (λ counts. IfSome counts (λ c. (t : Subject) → IsComponent runs.now.points runs.now.listed t
+        → AgreesWithRuns t (told_in runs.now.book) → (seed : ℕ) → c.items ≡ census_of t.asks t.names seed t.limit)) }
 {
     match clean_hits(alloc, runs)? {
         Some(hits) => {
@@ -95,29 +96,31 @@ fn plans_over<'a>(
     }
 }
 
-/// No plans, behind so many.
-fn no_plans<'a>(
+/// These scenarios alone, behind so many plans.
+fn listed_alone<'a>(
     alloc: Global,
     points: &'a [&'a str],
+    listed: &'a [Scenario],
     before: usize,
 ) -> Result<PlanList<'a>, KnownFault>
     requires lawful { IsCatalogue (texts points.now) }
-    ensures none { IfOk result (λ plans. plans ≡ []) }
-    ensures few { OnOk result (before ≤ most_plans) }
-    ensures many { IsErrOf result KnownFault.TooManyPlans → most_plans < before }
+    ensures listed { IfOk result (λ plans. plans ≡ listed.now) }
+    ensures few { OnOk result (before + length listed.now ≤ most_plans) }
+    ensures many { IsErrOf result KnownFault.TooManyPlans → most_plans < before + length listed.now }
 {
     let settings = PlanSettings {
         pairs: false,
         storms: 0,
         rate: 0,
-        listed: &[],
+        listed,
         seed: 0,
     };
     plans_over(alloc, points, &[], &settings, before)
 }
 
 /// The storms and listed scenarios that stand behind so many plans, as far as they are known by the answers: none before the run without
-/// faults is told. Storms are drawn over its census. They are those of every component that agrees with the answers.
+/// faults is told. Storms are drawn over its census, and none where its hits aren't told. They are those of every component that agrees with the
+/// answers.
 ///
 /// `TooManyPlans` comes only where these are more than 65536 together, or the run without faults has as many hits.
 pub fn further_plans<'a>(
@@ -131,11 +134,13 @@ pub fn further_plans<'a>(
     ensures clean { OnOk result (HasFewHits runs.now) }
     ensures many { IsErrOf result KnownFault.TooManyPlans → AreTooMany runs.now settings.now before }
     // For every component that agrees with the answers.
-    ensures known { IfOk result (λ plans. (t : Subject) → IsComponent runs.now.points t → AgreesWithRuns t (told_in runs.now.book)
-        → plans ≡ further_known t settings.now (clean_hits runs.now)) }
+    ensures known { IfOk result (λ plans. (t : Subject) → IsComponent runs.now.points runs.now.listed t → AgreesWithRuns t (told_in runs.now.book)
+        → plans ≡ further_known t settings.now (clean_run runs.now)) }
 {
-    match clean_hits(alloc, runs)? {
-        Some(hits) => plans_over(alloc, runs.points(), hits.as_slice(), settings, before),
-        None => no_plans(alloc, runs.points(), before),
+    let mut hits = Vec::new(alloc);
+    match runs.look(&[], &mut hits)? {
+        Look::Seen(_) => plans_over(alloc, runs.points(), hits.as_slice(), settings, before),
+        Look::Unseen(_) => listed_alone(alloc, runs.points(), settings.listed, before),
+        Look::Unknown => listed_alone(alloc, runs.points(), &[], before),
     }
 }

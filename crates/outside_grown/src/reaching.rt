@@ -1,13 +1,12 @@
 //! The most hits of each point that a run has.
-ghost use Rattle.std.specs.Prelude.{◌≡◌, ◌<◌, ◌≤◌, ℕ, None, length, max, replicate, slice_index_or, IfOk, OnOk};
+ghost use Rattle.std.specs.Prelude.{◌≡◌, ◌<◌, ◌≤◌, ℕ, length, max, replicate, slice_index_or, IfOk, OnOk};
 ghost use Rattle.answer_text.specs.Runs.{told_in};
-ghost use Rattle.grown_plans.specs.GrownPlans.{Subject, grown};
-ghost use Rattle.grown_runs.specs.Grown.{reached_each};
+ghost use Rattle.grown_plans.specs.GrownPlans.{Subject};
 ghost use Rattle.known_runs.specs.Known.{hits_of};
+ghost use Rattle.known_runs.specs.KnownPart.{known_part};
 ghost use Rattle.answered_runs.specs.Answered.{runs_in};
 ghost use Rattle.answered_runs.specs.Components.{AgreesWithRuns, IsComponent};
-ghost use Rattle.answered_runs.specs.WholeList.{AreSeen};
-ghost use Rattle.outside_grown.specs.Reached.{AreMostTold, times_told};
+ghost use Rattle.outside_grown.specs.Reached.{AreMostTold, reached_seen, times_told};
 
 use crate::further::counts_of;
 use action_eval::Rig;
@@ -59,7 +58,7 @@ fn no_hits(alloc: Global, points: usize) -> Result<Vec<u32>, AllocError>
 }
 
 /// The most hits of each point that a run of these plans has, in the catalogue's order, by what answers tell: 0 is a point that none of
-/// these runs hits. An error means that memory was refused.
+/// these runs hits, as far as hits are told. An error means that memory was refused.
 pub fn reached(
     alloc: Global,
     runs: &AnsweredRuns<'_>,
@@ -67,9 +66,9 @@ pub fn reached(
 ) -> Result<Vec<u32>, AllocError>
     ensures many { IfOk result (λ most. length most.items ≡ length runs.now.points) }
     ensures most { IfOk result (λ most. AreMostTold (runs_in runs.now) plans.now most.items) }
-    // For every component that agrees with the answers, where these are its plans to a depth and the hits of each are told.
-    ensures whole { IfOk result (λ most. (t : Subject) (depth : ℕ) → IsComponent runs.now.points t → depth ≤ 64 → AgreesWithRuns t (told_in runs.now.book)
-        → plans.now ≡ grown t depth → AreSeen (runs_in runs.now) plans.now None → most.items ≡ reached_each t depth) }
+    // For every component that agrees with the answers, where these are the plans of it that are known.
+    ensures known { IfOk result (λ most. (t : Subject) (depth : ℕ) → IsComponent runs.now.points runs.now.listed t → depth ≤ 64
+        → AgreesWithRuns t (told_in runs.now.book) → plans.now ≡ known_part t depth (runs_in runs.now) → most.items ≡ reached_seen t depth (runs_in runs.now)) }
 {
     let mut most = no_hits(alloc, runs.points().len())?;
     let mut workspace = Workspace::new(alloc);

@@ -1,5 +1,7 @@
 -- Rigged hits, found term by term; the private contracts cite it.
 use Rattle.std.specs.Prelude.{◌≡◌, ℕ, Bool, true, false, List, Option, None, Some}
+use Rattle.action_eval.specs.declared.rig.Kind.{Kind}
+use Rattle.action_eval.specs.declared.rig.Kind.TheVariants.{OnceReturn, OnwardReturn}
 use Rattle.action_eval.specs.declared.rig.Rig.{Rig}
 
 -- whether there are such rigged hits, and then these are they
@@ -11,3 +13,8 @@ Took found rigs false = found ≡ None
 abbrev pub TookTo : Option (ℕ × List Rig) → List Rig → Option ℕ → Type 0
 TookTo found rigs None = found ≡ None
 TookTo found rigs (Some hit) = found ≡ Some (hit, rigs)
+
+-- a return with this text, from then on or once
+abbrev pub return_kind : Bool → Option (List ℕ) → Kind
+return_kind true text = OnwardReturn text
+return_kind false text = OnceReturn text

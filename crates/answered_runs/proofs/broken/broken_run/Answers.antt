@@ -17,9 +17,9 @@ returns-clause-first c =
 
 pub returns-clause-none : goal.returns-clause-none
 returns-clause-none c =
-    some_never c.in_ok-first_break.field-0 c.args.runs.now.points (told_in c.args.runs.now.book) (λ t is agrees.
+    some_never c.in_ok-first_break.field-0 c.args.runs.now.points c.args.runs.now.listed (told_in c.args.runs.now.book) (λ t is agrees.
     let a = c.args.runs.now in
-    let all = agree t a.points (told_in a.book) c.args.depth is c.requires.depth agrees in
+    let all = agree t a.points a.listed (told_in a.book) c.args.depth is c.requires.depth agrees in
     let known = c.in_ok-known.ensures.known t is agrees in
     none_breaks t is.lawful c.args.depth a c.in_ok-first_break.field-0 all
     (subst (λ (ps : List (List Rig)). AreBroken a ps c.in_ok-first_break.field-0) known.plans c.in_ok-first_break.ensures))

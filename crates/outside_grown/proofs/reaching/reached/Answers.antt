@@ -1,13 +1,10 @@
-use Rattle.std.proofs.Common.{◌≡◌, ◌<◌, ◌∙◌, ℕ, true, List, length, ap, subst, sym, arith}
-use Rattle.std.specs.List.{AllByRecursion}
+use Rattle.std.proofs.Common.{◌<◌, ◌∙◌, ℕ, List, length, ap, subst, sym, arith}
 use Rattle.action_eval.specs.declared.rig.Rig.{Rig}
 use Rattle.answer_text.specs.Runs.{told_in}
-use Rattle.grown_plans.specs.GrownPlans.{grown}
-use Rattle.known_runs.specs.Known.{hits_of}
-use Rattle.known_runs.specs.KnownPart.{are_told}
+use Rattle.known_runs.specs.KnownPart.{known_part}
 use Rattle.answered_runs.specs.Answered.{runs_in}
 use Rattle.answered_runs.proofs.Runs.{agree}
-use Rattle.outside_grown.proofs.Most.{AreMostOf, all_raised, raised, reached_whole}
+use Rattle.outside_grown.proofs.Most.{AreMostOf, all_raised, raised, reached_are}
 use Rattle.outside_grown.proofs.reaching.reached.Goals as goal
 
 pub loop-number-preserved : goal.loop-number-preserved
@@ -16,15 +13,14 @@ loop-number-preserved c =
     raised (runs_in c.args.runs.now) c.args.plans.now c.loop-number.number (length c.args.runs.now.points) c.as_slice-faults.result.now c.loop-number.most.items c.raise_by.new.most.items less
     (c.as_slice-faults.ensures.value ∙ c.in_ok-faults_of.ensures) c.loop-number.invariant c.in_ok-raise_by.ensures.many c.in_ok-raise_by.ensures.most
 
-pub returns-clause-whole : goal.returns-clause-whole
-returns-clause-whole c = λ t depth is low agrees same seen.
+pub returns-clause-known : goal.returns-clause-known
+returns-clause-known c = λ t depth is low agrees same.
     let a = c.args.runs.now in
     let of_all : AreMostOf (runs_in a) c.args.plans.now (length a.points) c.loop-number.most.items =
     all_raised (runs_in a) c.args.plans.now c.loop-number.number (length a.points) c.loop-number.most.items (omega (arith, c.loop-number-test.false, c.len-number-end.ensures)) c.loop-number.invariant
     in
-    let of_grown : AreMostOf (runs_in a) (grown t depth) (length t.names) c.loop-number.most.items =
-    subst (λ (n : ℕ). AreMostOf (runs_in a) (grown t depth) n c.loop-number.most.items) (ap length (sym is.names))
+    let of_known : AreMostOf (runs_in a) (known_part t depth (runs_in a)) (length t.names) c.loop-number.most.items =
+    subst (λ (n : ℕ). AreMostOf (runs_in a) (known_part t depth (runs_in a)) n c.loop-number.most.items) (ap length (sym is.names))
     (subst (λ (ps : List (List Rig)). AreMostOf (runs_in a) ps (length a.points) c.loop-number.most.items) same of_all)
     in
-    let all : AllByRecursion (λ plan. are_told (hits_of (runs_in a) plan) ≡ true) (grown t depth) = subst (λ (ps : List (List Rig)). AllByRecursion (λ plan. are_told (hits_of (runs_in a) plan) ≡ true) ps) same seen in
-    reached_whole t depth (runs_in a) c.loop-number.most.items is.lawful (agree t a.points (told_in a.book) depth is low agrees) all of_grown
+    reached_are t depth (runs_in a) c.loop-number.most.items is.lawful (agree t a.points a.listed (told_in a.book) depth is low agrees) of_known

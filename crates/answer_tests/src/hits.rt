@@ -1,0 +1,193 @@
+//! Hits that answers tell.
+
+use crate::shared::read_as;
+use campaign_settings::{Choice, Settings};
+use outside_campaign::{Form, OutsideFault, write_partial, write_report_in};
+use scenario_grammar::parse;
+use std::alloc::Global;
+use std::process::Abort;
+use std::test::Fail;
+use target_trait::Out;
+
+/// A text of one line or more has this first fault where hits are needed and where they aren't, or `no fault`.
+fn is_read(
+    rt: &impl Abort,
+    alloc: Global,
+    needed: bool,
+    text: &str,
+    want: &str,
+) -> Result<(), Fail> {
+    match read_as(alloc, needed, text.as_bytes())? {
+        Ok(_) => assert_eq!(rt; "no fault", want, "{text}"),
+        Err(fault) => assert_eq!(rt; format!(in alloc; "{fault}")?.as_str(), want, "{text}"),
+    }
+    Ok(())
+}
+
+#[test]
+fn hits_are_points_with_their_counts(rt: HostRuntime) -> Result<(), Fail> {
+    let rows = [
+        ("pass\tnone\t\n", "no fault"),
+        ("pass\tnone\ta\n", "no fault"),
+        ("fail torn\tnone\ta;b;2*a;4294967291*b\n", "no fault"),
+        // a point's whole name is one hit of it
+        ("pass\tnone\t2*b;b\n", "no fault"),
+        ("unresolved\tnone\t-\n", "no fault"),
+        ("unresolved\tnone\ta;b\n", "no fault"),
+        ("pass\tnone\t-\n", "answers: line 1: unknown point"),
+        ("pass\tnone\tc\n", "answers: line 1: unknown point"),
+        ("pass\tnone\ta;\n", "answers: line 1: unknown point"),
+        ("pass\tnone\ta\ta\n", "answers: line 1: unknown point"),
+        ("pass\tnone\t1*a\n", "answers: line 1: bad count"),
+        ("pass\tnone\t02*a\n", "answers: line 1: bad count"),
+        ("pass\tnone\t4294967295*a;b\n", "answers: line 1: bad count"),
+        ("pass\tnone\t3*a;a\n", "answers: line 1: not joined"),
+        (
+            "pass\tNone\tc\n",
+            "answers: line 1: NoAction entry 1 term 0",
+        ),
+        ("pass\ta=return(\x01)\tc\n", "answers: line 1: control byte"),
+    ];
+    for (text, want) in rows {
+        for needed in [false, true] {
+            is_read(&rt, rt.alloc(), needed, text, want)?;
+        }
+    }
+    Ok(())
+}
+
+#[test]
+fn hits_may_be_left_out_where_they_are_not_needed(rt: HostRuntime) -> Result<(), Fail> {
+    let text = "pass\tnone\n";
+    is_read(&rt, rt.alloc(), false, text, "no fault")?;
+    is_read(&rt, rt.alloc(), true, text, "answers: line 1: no hits")
+}
+
+#[test]
+fn other_hits_contradict(rt: HostRuntime) -> Result<(), Fail> {
+    let rows = [
+        ("pass\ta=return\t2*a\npass\t a = return \t2*a\n", "no fault"),
+        (
+            "unresolved\ta=return\nunresolved\ta=return\t-\n",
+            "no fault",
+        ),
+        (
+            "pass\ta=return\ta;b\npass\ta=return\ta\n",
+            "answers: line 2: contradicts line 1",
+        ),
+        (
+            "pass\tnone\npass\ta=return\ta\npass\ta=return\n",
+            "answers: line 3: contradicts line 2",
+        ),
+        (
+            "pass\ta=return\npass\ta=return\t\n",
+            "answers: line 2: contradicts line 1",
+        ),
+    ];
+    for (text, want) in rows {
+        is_read(&rt, rt.alloc(), false, text, want)?;
+    }
+    Ok(())
+}
+
+#[test]
+fn points_are_told_one_for_each_hit(rt: HostRuntime) -> Result<(), Fail> {
+    let alloc = rt.alloc();
+    let Ok(runs) = read_as(alloc, true, b"pass\ta=return\tb;2*a;2*b\n")? else {
+        return Err(Fail::from("the answers are refused"));
+    };
+    let Some(told) = runs.told(alloc, &parse(alloc, "a=return")?)? else {
+        return Err(Fail::from("nothing is told"));
+    };
+    let Some(hits) = &told.hits else {
+        return Err(Fail::from("no hits are told"));
+    };
+    let mut points = Vec::new(alloc);
+    hits.push_points(&mut points)?;
+    assert!(&rt; points.as_slice() == [1, 0, 0, 2].as_slice());
+    Ok(())
+}
+
+/// What the report of the component with the point `p`, which is hit twice, is by these answers, or why there is none; and the same of the
+/// partial report.
+fn reports(alloc: Global, answers: &str) -> Result<(String, String), Fail> {
+    let text =
+        "target = \"outside\"\n[outside]\nlabel = \"t\"\ncodes = [\"a\"]\npoints = [\"p\"]\nhits = [2]\n";
+    let settings = Settings::read(alloc, text)?;
+    let Choice::Outside(outside) = &settings.choice else {
+        return Err(Fail::from("another target"));
+    };
+    let mut whole = Out::new(Vec::new(alloc));
+    let report = write_report_in(
+        alloc,
+        &Form::Whole,
+        outside,
+        &settings.campaign,
+        answers.as_bytes(),
+        &mut whole,
+    );
+    let mut part = Out::new(Vec::new(alloc));
+    let partial = write_partial(
+        alloc,
+        outside,
+        &settings.campaign,
+        answers.as_bytes(),
+        &mut part,
+    );
+    Ok((
+        written(alloc, report.err(), whole)?,
+        written(alloc, partial.err(), part)?,
+    ))
+}
+
+/// What was written, or `line N` where that line's census was refused.
+fn written(alloc: Global, fault: Option<OutsideFault>, out: Out<Vec<u8>>) -> Result<String, Fail> {
+    match (fault, String::from_utf8(out.into_writer())) {
+        (None, Ok(text)) => Ok(text),
+        (Some(OutsideFault::Census(line)), _) => Ok(format!(in alloc; "line {line}")?),
+        _ => Err(Fail::from("no report")),
+    }
+}
+
+/// The answers to each plan but the last two, which are told by the caller.
+const FIRST_PLANS: &str =
+    "pass\tnone\t2*p\npass\tp=1*return\t2*p\npass\tp=1*panic\tp\npass\tp=return\tp\npass\tp=1*off->1*return\n";
+
+#[test]
+fn a_census_is_that_of_the_settings(rt: HostRuntime) -> Result<(), Fail> {
+    let alloc = rt.alloc();
+    let rest = "pass\tp=1*off->1*return\npass\tp=1*off->1*panic\npass\tp=1*off->return\n";
+    for (none, line) in [("p", 2), ("", 2), ("3*p", 2)] {
+        let answers = format!(in alloc; "pass\tp=1*return\npass\tnone\t{none}\n{rest}")?;
+        let want = format!(in alloc; "line {line}")?;
+        let (report, partial) = reports(alloc, answers.as_str())?;
+        assert_eq!(&rt; report.as_str(), want.as_str());
+        assert_eq!(&rt; partial.as_str(), want.as_str());
+    }
+    Ok(())
+}
+
+#[test]
+fn faults_that_never_act_are_unmet(rt: HostRuntime) -> Result<(), Fail> {
+    let alloc = rt.alloc();
+    // The plan's verdict and hits, and how many plans are unmet: one that passes whose second hit never comes.
+    let rows = [
+        ("pass", "2*p", None),
+        ("pass", "p", Some("\nunmet 1\n")),
+        ("pass", "", Some("\nunmet 1\n")),
+        ("fail a", "p", None),
+        ("unresolved", "p", None),
+        ("unresolved", "-", None),
+    ];
+    for (verdict, hits, want) in rows {
+        let answers = format!(in alloc;
+            "{FIRST_PLANS}pass\tp=1*off->1*panic\t2*p\n{verdict}\tp=1*off->return\t{hits}\n"
+        )?;
+        let (report, _) = reports(alloc, answers.as_str())?;
+        match want {
+            Some(line) => assert!(&rt; report.as_str().contains(line), "{verdict} {hits}"),
+            None => assert!(&rt; !report.as_str().contains("unmet"), "{verdict} {hits}"),
+        }
+    }
+    Ok(())
+}

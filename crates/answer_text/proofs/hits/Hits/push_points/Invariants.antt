@@ -1,0 +1,6 @@
+use Rattle.std.proofs.Common.{◌≡◌, ◌++◌, drop}
+use Rattle.answer_text.specs.Hits.{points_of}
+use Rattle.answer_text.proofs.hits.Hits.push_points.Given as goal
+
+abbrev pub invariant-loop-stretch : goal.invariant-loop-stretch
+invariant-loop-stretch l = l.points.items ++ points_of (drop l.stretch-index l.stretch-items) ≡ l.fn.points.items ++ points_of l.self
