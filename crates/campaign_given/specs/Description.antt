@@ -1,19 +1,24 @@
 -- What the settings say of a component from outside, which somebody else runs. Its texts stand in lines of their own, in what is asked
 -- and in what is told, so none has an ASCII control character.
-use Rattle.std.specs.Prelude.{◌≡◌, ◌&&◌, ℕ, ◌≤◌, Bool, true, not, List, [], ◌∷◌, length, nat_le, nat_lt}
+use Rattle.std.specs.Prelude.{◌≡◌, ◌≢◌, ◌&&◌, ℕ, ◌≤◌, Bool, true, not, List, [], ◌∷◌, Some, None, length, nat_le, nat_lt}
 use Rattle.std.specs.Char.{is_ascii_control}
 use Rattle.std.specs.List.{AllByRecursion, list_all, list_any}
 use Rattle.std.specs.Str.{bytes_eq}
-use Rattle.scenario_values.specs.Scenario.{is_name}
+use Rattle.scenario_values.specs.Scenario.{is_argument, is_name}
 use Rattle.action_eval.specs.Catalogue.{HasDistinct, IsCatalogue}
+use Rattle.action_eval.specs.Rigging.{most_text}
+use Rattle.campaign_given.specs.declared.outside.TriedFault.{TriedFault}
+use Rattle.campaign_given.specs.declared.outside.TriedFault.TheVariants.{Return, Panic}
 
--- its label; the names of its failures' codes, whose numbers are their places; the names of its points; and how often each point is hit
--- in a run without faults, which settings say without a depth: with one answers tell it, and they give 0 for each point
+-- its label; the names of its failures' codes, whose numbers are their places; the names of its points; how often each point is hit
+-- in a run without faults, which settings say without a depth: with one answers tell it, and they give 0 for each point; and the faults that
+-- are tried at each point, none of them where the usual ones are
 pub record Description : Type 0 where
   pub label : List ℕ
   pub codes : List (List ℕ)
   pub points : List (List ℕ)
   pub hits : List ℕ
+  pub kinds : List (List TriedFault)
 
 -- whether a byte of the text is an ASCII control character
 abbrev pub has_control : List ℕ → Bool
@@ -27,6 +32,15 @@ is_code name = nat_lt 0 (length name) && is_label name
 
 abbrev pub is_point : List ℕ → Bool
 is_point name = is_name name && is_label name
+
+-- what a return may say: a lawful argument in a scenario, of at most 32 bytes
+abbrev pub is_return_text : List ℕ → Bool
+is_return_text text = is_argument text && nat_le (length text) most_text && not (has_control text)
+
+abbrev pub is_tried : TriedFault → Bool
+is_tried (Return None) = true
+is_tried (Return (Some text)) = is_return_text text
+is_tried Panic = true
 
 -- no text is one of those after it
 abbrev pub are_distinct : List (List ℕ) → Bool
@@ -46,7 +60,18 @@ pub record AreCodes (names : List (List ℕ)) : Type 0 where
   pub each : AllByRecursion (λ name. is_code name ≡ true) names
   pub distinct : HasDistinct names
 
--- a label of at most 200 bytes, lawful codes and points, and a count of at most 100,000 for each point
+-- no fault is one of those after it
+abbrev pub AreApart : List TriedFault → Type 0
+AreApart [] = Unit {0}
+AreApart (fault ∷ faults) = AllByRecursion (λ other. fault ≢ other) faults × AreApart faults
+
+-- at most 8 lawful faults, none twice
+pub record AreTried (faults : List TriedFault) : Type 0 where
+  pub few : length faults ≤ 8
+  pub each : AllByRecursion (λ fault. is_tried fault ≡ true) faults
+  pub apart : AreApart faults
+
+-- a label of at most 200 bytes, lawful codes and points, and for each point a count of at most 100,000 and the faults that are tried
 pub record IsDescription (d : Description) : Type 0 where
   pub label : is_label d.label ≡ true
   pub codes : AreCodes d.codes
@@ -54,3 +79,5 @@ pub record IsDescription (d : Description) : Type 0 where
   pub plain_points : AllByRecursion (λ name. is_label name ≡ true) d.points
   pub counts : length d.hits ≡ length d.points
   pub high : AllByRecursion (λ n. n ≤ 100000) d.hits
+  pub points_tried : length d.kinds ≡ length d.points
+  pub tried : AllByRecursion AreTried d.kinds

@@ -40,6 +40,17 @@ read_from text g = record {
   source = text;
 }
 
+-- the same with so many workers
+abbrev pub with_workers : ℕ → Given → Given
+with_workers workers g = record {
+  workers = workers;
+  max_hits = g.max_hits;
+  depth = g.depth;
+  crash_states = g.crash_states;
+  plans = g.plans;
+  source = g.source;
+}
+
 -- the ranges; with a depth there are no pairs
 pub record IsGiven (g : Given) : Type 0 where
   pub seed : g.plans.seed ≤ 9223372036854775807

@@ -1,7 +1,48 @@
 //! A component that somebody else runs.
+ghost use Rattle.std.specs.Prelude.{◌≡◌};
 
 use scenario_values::Text;
 use std::marker::Model;
+
+/// A fault that is tried at a point: a return, with its text if it has one, or a panic.
+#[derive(Debug, Drop, PartialEq, Eq)]
+pub enum TriedFault {
+    /// The text is a lawful argument in a scenario, without ASCII control characters and of up to 32 bytes. No text and an empty one are
+    /// different.
+    Return(Option<Text>),
+    Panic,
+}
+
+/// The faults that are tried at one point, in the order in which plans have them.
+#[derive(Debug, Drop)]
+pub struct TriedFaults {
+    faults: Vec<TriedFault>,
+}
+
+impl Model for TriedFaults {
+    ghost use Rattle.std.specs.Prelude.{List};
+    ghost use Rattle.campaign_given.specs.declared.outside.TriedFault.{TriedFault};
+
+    ghost Value = { List TriedFault };
+
+    ghost view = { λ tried. tried.faults.items };
+}
+
+impl TriedFaults {
+    /// These faults.
+    pub fn new(faults: Vec<TriedFault>) -> Self
+        ensures { result ≡ faults.items }
+    {
+        TriedFaults { faults }
+    }
+
+    /// The faults, in their order.
+    pub fn as_slice(&self) -> &[TriedFault]
+        ensures { result.now ≡ self.now }
+    {
+        self.faults.as_slice()
+    }
+}
 
 /// A component that somebody else runs, as settings tell of it. No text has an ASCII control character.
 #[derive(Drop)]
@@ -14,6 +55,9 @@ pub struct Outside {
     pub points: Vec<Text>,
     /// How often each point is hit in a run without faults, 0 to 100000. With a depth answers tell that: settings give 0 for each point then.
     pub hits: Vec<u32>,
+    /// The faults that are tried at each point, up to 8, none twice; none where the usual ones are tried, a return and a panic, of which the
+    /// point `power::keep` has the return alone. Settings give some with a depth only.
+    pub kinds: Vec<TriedFaults>,
 }
 
 impl Model for Outside {
@@ -21,7 +65,19 @@ impl Model for Outside {
 
     ghost Value = { Description };
 
-    ghost view = { λ o. record { label = o.label; codes = o.codes.items; points = o.points.items; hits = o.hits.items } };
+    ghost view = { λ o. record {
+      label = o.label;
+      codes = o.codes.items;
+      points = o.points.items;
+      hits = o.hits.items;
+      kinds = o.kinds.items;
+    } };
 
-    ghost invariant = { λ o. IsDescription (record { label = o.label; codes = o.codes.items; points = o.points.items; hits = o.hits.items }) };
+    ghost invariant = { λ o. IsDescription (record {
+      label = o.label;
+      codes = o.codes.items;
+      points = o.points.items;
+      hits = o.hits.items;
+      kinds = o.kinds.items;
+    }) };
 }

@@ -30,7 +30,7 @@ module _ {X : Type 0} (p : X → Bool) where
       let (here, more) = or_parts (p x) (list_any p xs) h in
       (here, each-fails xs more)
 
-distinct-kept : (names : List Text) → are_distinct names ≡ true → HasDistinct names
+pub distinct-kept : (names : List Text) → are_distinct names ≡ true → HasDistinct names
 distinct-kept [] h = tt
 distinct-kept (name ∷ names) h =
     let (new, more) = and_parts (not (list_any (λ other. bytes_eq other name) names)) (are_distinct names) h in

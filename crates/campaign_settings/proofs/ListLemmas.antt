@@ -1,5 +1,5 @@
-use Rattle.std.proofs.Common.{◌≡◌, ◌<◌, ◌≤◌, ◌+◌, ℕ, List, [], ◌∷◌, ◌++◌, Option, Some, None, Result, Ok, Err, All, ◌∙◌, ap, subst, sym, false, if◌then◌else◌, drop, get_or, is_some, length, map, nat_le, option_and_then, option_map, refl, true, ◌==◌, ◌&&◌}
-use Rattle.std.proofs.lemmas.List.{append_assoc, length-map}
+use Rattle.std.proofs.Common.{◌≡◌, ◌<◌, ◌≤◌, ◌+◌, ℕ, suc, List, [], ◌∷◌, ◌++◌, Option, Some, None, Result, Ok, Err, All, ◌∙◌, ap, subst, sym, false, if◌then◌else◌, drop, get_or, is_some, length, map, nat_le, option_and_then, option_map, refl, true, ◌==◌, ◌&&◌}
+use Rattle.std.proofs.lemmas.List.{append_assoc, drop_more, length-map}
 use Rattle.std.proofs.lemmas.Bool.{and_parts, eqb-true, leb-true, le-leb, lt-leb}
 use Rattle.std.proofs.lemmas.List.Elements.{All-from_recursion}
 use Rattle.std.proofs.lemmas.Option.{same_Some}
@@ -47,7 +47,7 @@ module _ {X : Type 0} where
   all-some f (v ∷ vs) = rw (some-before (f (view v)) (all_in f (items_view vs)), ← all-some f vs)
 
   -- what each item gives has a property where all that it may give has
-  before-fits : (P : X → Type 0) (a : Option X) (o : Option (List X)) (xs : List X) → ((x : X) → a ≡ Some x → P x) → ((ys : List X) → o ≡ Some ys → AllByRecursion P ys) → before a o ≡ Some xs → AllByRecursion P xs
+  pub before-fits : (P : X → Type 0) (a : Option X) (o : Option (List X)) (xs : List X) → ((x : X) → a ≡ Some x → P x) → ((ys : List X) → o ≡ Some ys → AllByRecursion P ys) → before a o ≡ Some xs → AllByRecursion P xs
   before-fits P None o xs p q e = cc
   before-fits P (Some x) None xs p q e = cc
   before-fits P (Some x) (Some ys) xs p q e = subst (AllByRecursion P) (same_Some _ _ e) (p x refl, q ys refl)
@@ -55,6 +55,37 @@ module _ {X : Type 0} where
   pub all-fit : (P : X → Type 0) (f : Data → Option X) → ((d : Data) (x : X) → f d ≡ Some x → P x) → (ds : Items) (xs : List X) → all_in f ds ≡ Some xs → AllByRecursion P xs
   all-fit P f p no_items xs e = subst (AllByRecursion P) (same_Some _ _ e) tt
   all-fit P f p (item d ds) xs e = before-fits P (f d) (all_in f ds) xs (p d) (λ ys h. all-fit P f p ds ys h) e
+
+-- ---- what each of a list gives
+
+module _ {X Y : Type 0} (f : Y → Option X) where
+  -- one more
+  pub each-more : (ys : List Y) (i : ℕ) (d : Y) (xs : List X) (x : X) → i < length ys → Some x ≡ f (get_or ys i d)
+      → joined xs (each f (drop i ys)) ≡ joined (xs ++ x ∷ []) (each f (drop (i + 1) ys))
+  each-more ys i d xs x h e = rw (drop_more ys i d h, ← e) (joined-before xs x _)
+
+  -- one that gives none
+  pub each-none : (ys : List Y) (i : ℕ) (d : Y) (xs : List X) → i < length ys → None ≡ f (get_or ys i d) → joined xs (each f (drop i ys)) ≡ None
+  each-none ys i d xs h e = rw (drop_more ys i d h, ← e)
+
+  -- all give something where each does
+  pub each-some : (ys : List Y) → list_all (λ y. is_some (f y)) ys ≡ is_some (each f ys)
+  each-some [] = refl
+  each-some (y ∷ ys) = rw (some-before (f y) (each f ys), ← each-some ys)
+
+  pub each-fits : (P : X → Type 0) → ((y : Y) (x : X) → f y ≡ Some x → P x) → (ys : List Y) (xs : List X) → each f ys ≡ Some xs → AllByRecursion P xs
+  each-fits P p [] xs e = subst (AllByRecursion P) (same_Some _ _ e) tt
+  each-fits P p (y ∷ ys) xs e = before-fits P (f y) (each f ys) xs (p y) (λ zs h. each-fits P p ys zs h) e
+
+  -- there are as many
+  before-length : (n : ℕ) (a : Option X) (o : Option (List X)) (xs : List X) → ((zs : List X) → o ≡ Some zs → length zs ≡ n) → before a o ≡ Some xs → length xs ≡ suc n
+  before-length n None o xs p e = cc
+  before-length n (Some x) None xs p e = cc
+  before-length n (Some x) (Some zs) xs p e = ap length (sym (same_Some _ _ e)) ∙ ap (λ k. suc k) (p zs refl)
+
+  pub each-length : (ys : List Y) (xs : List X) → each f ys ≡ Some xs → length xs ≡ length ys
+  each-length [] xs e = ap length (sym (same_Some _ _ e))
+  each-length (y ∷ ys) xs e = before-length (length ys) (f y) (each f ys) xs (each-length ys) e
 
 -- ---- values in two steps: of their types, and then in their ranges
 
@@ -68,19 +99,29 @@ module _ {X Y : Type 0} (f : Y → Option X) where
       none None = refl
       none (Some x) = refl
 
+  -- what each of a list gives: first its values, then what these give
+  each-two : {Z : Type 0} (g : Z → Option Y) (zs : List Z) → each (λ z. option_and_then f (g z)) zs ≡ option_and_then (each f) (each g zs)
+  each-two g [] = refl
+  each-two g (z ∷ zs) = rw (each-two g zs) (step-before (g z) (each g zs))
+
+  typed-each : (together : List X → Result (List X) KeyFault) (o : Option (List Y)) → is_some o ≡ true
+      → typed (in_ranges f together) o ≡ option_map_or together (option_and_then (each f) o) (Err OutOfRange)
+  typed-each together None h = cc
+  typed-each together (Some ys) h = refl
+
+  pub each-typed : {Z : Type 0} (g : Z → Option Y) (together : List X → Result (List X) KeyFault) (zs : List Z) → is_some (each g zs) ≡ true
+      → typed (in_ranges f together) (each g zs) ≡ option_map_or together (each (λ z. option_and_then f (g z)) zs) (Err OutOfRange)
+  each-typed g together zs h = rw (each-two g zs) (typed-each together (each g zs) h)
+
   module _ (g : Data → Option Y) (together : List X → Result (List X) KeyFault) where
     -- what all items come to: first their values, then what these give
     two-steps : (ds : Items) → all_in (λ d. option_and_then f (g d)) ds ≡ option_and_then (each f) (all_in g ds)
     two-steps no_items = refl
     two-steps (item d ds) = rw (two-steps ds) (step-before (g d) (all_in g ds))
 
-    typed-some : (o : Option (List Y)) → is_some o ≡ true → typed (in_ranges f together) o ≡ option_map_or together (option_and_then (each f) o) (Err OutOfRange)
-    typed-some None h = cc
-    typed-some (Some ys) h = refl
-
     -- what values give is what their items give
     values-read : (ds : Items) → is_some (all_in g ds) ≡ true → typed (in_ranges f together) (all_in g ds) ≡ option_map_or together (all_in (λ d. option_and_then f (g d)) ds) (Err OutOfRange)
-    values-read ds h = rw (two-steps ds) (typed-some (all_in g ds) h)
+    values-read ds h = rw (two-steps ds) (typed-each together (all_in g ds) h)
 
     pub values-none : (ds : Items) → is_some (all_in g ds) ≡ true → all_in (λ d. option_and_then f (g d)) ds ≡ None → typed (in_ranges f together) (all_in g ds) ≡ Err OutOfRange
     values-none ds h e = values-read ds h ∙ ap (λ o. option_map_or together o (Err OutOfRange)) e

@@ -1,19 +1,19 @@
-use Rattle.std.proofs.Common.{◌≡◌, ◌<◌, ◌+◌, ◌++◌, ℕ, drop, get_or, length, subst, List, [], ◌∷◌, Option, Some, None, String, Global, Ok, Err, IfErr, IsErrAnd, Result, ap, ◌∙◌, cond, find, not, option_map, refl, string_bytes, sym, true, false, if◌then◌else◌}
+use Rattle.std.proofs.Common.{◌≡◌, ◌<◌, ◌+◌, ◌++◌, ℕ, drop, get_or, length, subst, List, [], ◌∷◌, Option, Some, None, Bool, Bor, String, Global, Ok, Err, IfErr, IsErrAnd, Result, ap, ◌∙◌, cond, find, not, option_map, refl, string_bytes, sym, true, false, if◌then◌else◌}
 use Rattle.std.proofs.lemmas.List.{append_assoc, drop_more}
 use Rattle.std.specs.Cmp.Lexicographic.{slice_cmp}
 use Rattle.std.specs.List.{AllByRecursion}
 use Rattle.std.specs.List.Sorted.{IsStrictlySortedBy}
 use Rattle.std.specs.Map.{keys_of}
+use Rattle.std.specs.Option.{option_copied}
 use Rattle.std.specs.Ordering.{match_ordering, nat_cmp}
 use Rattle.std.specs.String.{string_cmp}
 use Rattle.std.specs.declared.cmp.Ordering.TheVariants.{Less, Equal, Greater}
 use Rattle.toml.specs.View.{members_view}
 use Rattle.toml.specs.declared.value.Value.{Value}
-use Rattle.campaign_settings.specs.Keys.{Text, is_known}
+use Rattle.campaign_settings.specs.Keys.{Text}
 use Rattle.scenario_grammar.specs.FirstFault.{reading}
 use Rattle.scenario_values.specs.Scenario.{Entries}
 use Rattle.campaign_settings.specs.Settings.{Read, RefusedBy, after, listed_as, spelled_from, least_unknown, lesser}
-use Rattle.campaign_settings.specs.declared.keys.Place.{Place}
 use Rattle.campaign_settings.specs.declared.fault.SettingsFault.{SettingsFault}
 use Rattle.campaign_settings.specs.declared.fault.SettingsFault.TheVariants.{TooLong, NotToml, UnknownKey, Missing, WrongType, OutOfRange, Scenario, Memory}
 
@@ -28,27 +28,36 @@ below_lesser name other (Some r) less h =
     ]
 
 -- a key below those of a map is below the least unknown one of them
-below_least : (place : Place) (name : String Global) (es : List (String Global × Value)) → AllByRecursion (λ k. string_cmp name k ≡ Less) (keys_of es)
-    → lesser (string_bytes name) (least_unknown place (members_view es)) ≡ string_bytes name
-below_least place name [] above = refl
-below_least place name (e ∷ es) above =
-    let rest : lesser (string_bytes name) (least_unknown place (members_view es)) ≡ string_bytes name = below_least place name es above.1 in
-    elim (is_known place (string_bytes e.0)) as (λ b. lesser (string_bytes name) (if b then least_unknown place (members_view es) else Some (lesser (string_bytes e.0) (least_unknown place (members_view es)))) ≡ string_bytes name) [
+below_least : (known : Text → Bool) (name : String Global) (es : List (String Global × Value)) → AllByRecursion (λ k. string_cmp name k ≡ Less) (keys_of es)
+    → lesser (string_bytes name) (least_unknown known (members_view es)) ≡ string_bytes name
+below_least known name [] above = refl
+below_least known name (e ∷ es) above =
+    let rest : lesser (string_bytes name) (least_unknown known (members_view es)) ≡ string_bytes name = below_least known name es above.1 in
+    elim (known (string_bytes e.0)) as (λ b. lesser (string_bytes name) (if b then least_unknown known (members_view es) else Some (lesser (string_bytes e.0) (least_unknown known (members_view es)))) ≡ string_bytes name) [
       | true ↦ rest
-      | false ↦ below_lesser (string_bytes name) (string_bytes e.0) (least_unknown place (members_view es)) above.0 rest
+      | false ↦ below_lesser (string_bytes name) (string_bytes e.0) (least_unknown known (members_view es)) above.0 rest
     ]
 
 -- the first unknown key of a map is the least, since the keys ascend
-pub unknown_found : (place : Place) (es : List (String Global × Value)) → IsStrictlySortedBy string_cmp (keys_of es)
-    → option_map string_bytes (find (λ k. not (is_known place (string_bytes k))) (keys_of es)) ≡ least_unknown place (members_view es)
+unknown_found : (known : Text → Bool) (es : List (String Global × Value)) → IsStrictlySortedBy string_cmp (keys_of es)
+    → option_map string_bytes (find (λ k. not (known (string_bytes k))) (keys_of es)) ≡ least_unknown known (members_view es)
 unfolding IsStrictlySortedBy
-unknown_found place [] sorted = refl
-unknown_found place (e ∷ es) sorted =
-    elim (is_known place (string_bytes e.0)) as (λ b. option_map string_bytes (cond (not b) (Some e.0) (find (λ k. not (is_known place (string_bytes k))) (keys_of es)))
-    ≡ (if b then least_unknown place (members_view es) else Some (lesser (string_bytes e.0) (least_unknown place (members_view es))))) [
-      | true ↦ unknown_found place es sorted.1
-      | false ↦ ap (λ n. Some n) (sym (below_least place e.0 es sorted.0))
+unknown_found known [] sorted = refl
+unknown_found known (e ∷ es) sorted =
+    elim (known (string_bytes e.0)) as (λ b. option_map string_bytes (cond (not b) (Some e.0) (find (λ k. not (known (string_bytes k))) (keys_of es)))
+    ≡ (if b then least_unknown known (members_view es) else Some (lesser (string_bytes e.0) (least_unknown known (members_view es))))) [
+      | true ↦ unknown_found known es sorted.1
+      | false ↦ ap (λ n. Some n) (sym (below_least known e.0 es sorted.0))
     ]
+
+-- what a search for the first unknown key comes to
+pub first-unknown : (known : Text → Bool) (es : List (String Global × Value)) (first : Option (Bor (String Global))) → IsStrictlySortedBy string_cmp (keys_of es)
+    → option_copied first ≡ find (λ k. not (known (string_bytes k))) (keys_of es) → option_map (λ n. string_bytes n.now) first ≡ least_unknown known (members_view es)
+first-unknown known es first sorted found = copied first ∙ ap (option_map string_bytes) found ∙ unknown_found known es sorted
+  where
+    copied : (o : Option (Bor (String Global))) → option_map (λ n. string_bytes n.now) o ≡ option_map string_bytes (option_copied o)
+    copied None = refl
+    copied (Some n) = refl
 
 module _ {X Y : Type 0} where
   -- a step that went well

@@ -1,11 +1,11 @@
 -- The names of the settings' keys, and which table has which. The keys are this project's own.
-use Rattle.std.specs.Prelude.{◌||◌, ◌++◌, ℕ, Bool, List, [], ◌∷◌, Some, None, codes}
+use Rattle.std.specs.Prelude.{◌||◌, ◌++◌, ℕ, Bool, false, List, [], ◌∷◌, Some, None, codes}
 use Rattle.std.specs.List.{list_any}
 use Rattle.std.specs.Str.{bytes_eq}
 use Rattle.campaign_settings.specs.declared.keys.Key.{Key}
 use Rattle.campaign_settings.specs.declared.keys.Key.TheVariants as key
 use Rattle.campaign_settings.specs.declared.keys.Place.{Place}
-use Rattle.campaign_settings.specs.declared.keys.Place.TheVariants.{Top, Own, Worded, Within}
+use Rattle.campaign_settings.specs.declared.keys.Place.TheVariants.{Top, Own, Worded, Within, Kinds}
 use Rattle.campaign_settings.specs.declared.keys.TargetName.{TargetName}
 use Rattle.campaign_settings.specs.declared.keys.TargetName.TheVariants.{Replace, Maildir, Commit, Outside}
 
@@ -42,6 +42,7 @@ key_name key.Label = codes "outside.label"
 key_name key.Codes = codes "outside.codes"
 key_name key.Points = codes "outside.points"
 key_name key.Hits = codes "outside.hits"
+key_name key.Kinds = codes "outside.kinds"
 
 -- the keys of every target
 abbrev pub is_shared_key : Text → Bool
@@ -65,7 +66,8 @@ abbrev pub is_key_of : TargetName → Text → Bool
 is_key_of Outside name = is_shared_key name
 is_key_of target name = is_shared_key name || is_bundled_key name
 
--- whether the table has this key: the table of another target is unknown, and all are where the target is none of the four
+-- whether the table has this key: the table of another target is unknown, and all are where the target is none of the four. The keys of the
+-- table of kinds are points, which settings name themselves.
 abbrev pub is_known : Place → Text → Bool
 is_known (Top None) name = is_shared_key name || is_bundled_key name
 is_known (Top (Some target)) name = is_key_of target name || bytes_eq name (target_name target)
@@ -74,7 +76,9 @@ is_known Worded name = is_own_key name || is_word_key name
 is_known (Within Replace) name = list_any (bytes_eq name) (codes "old" ∷ codes "replacements" ∷ [])
 is_known (Within Maildir) name = list_any (bytes_eq name) (codes "messages" ∷ [])
 is_known (Within Commit) name = list_any (bytes_eq name) (codes "participants" ∷ codes "transactions" ∷ [])
-is_known (Within Outside) name = list_any (bytes_eq name) (codes "label" ∷ codes "codes" ∷ codes "points" ∷ codes "hits" ∷ [])
+is_known (Within Outside) name = list_any (bytes_eq name) (codes "label" ∷ codes "codes" ∷ codes "points" ∷ codes "hits"
+    ∷ codes "kinds" ∷ [])
+is_known Kinds name = false
 
 -- a key of a table, with the table in front
 abbrev pub full_name : Place → Text → Text
@@ -82,3 +86,4 @@ full_name (Top target) name = name
 full_name Own name = name
 full_name Worded name = name
 full_name (Within target) name = target_name target ++ codes "." ++ name
+full_name Kinds name = key_name key.Kinds ++ codes "." ++ name

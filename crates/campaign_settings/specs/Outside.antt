@@ -1,13 +1,17 @@
 -- The values of the table of a target from outside.
-use Rattle.std.specs.Prelude.{◌&&◌, ◌||◌, ◌==◌, ℕ, ℤ, pos, negsuc, Bool, not, List, length, Option, Some, None, Result, Ok, Err, nat_le, replicate, if◌then◌else◌}
-use Rattle.std.specs.List.{list_all}
-use Rattle.toml.specs.Data.{Data, as_array, as_integer, as_str}
+use Rattle.std.specs.Prelude.{◌&&◌, ◌||◌, ◌==◌, ℕ, ℤ, pos, negsuc, Bool, not, List, [], length, Option, Some, None, Result, Ok, Err, codes, nat_le, nat_lt, option_and_then, option_map, replicate, if◌then◌else◌}
+use Rattle.std.specs.List.{list_all, list_any}
+use Rattle.std.specs.Str.{bytes_eq}
+use Rattle.toml.specs.Data.{Data, Members, as_array, as_integer, as_str, get_member}
+use Rattle.scenario_grammar.specs.Words.{cut, without_last}
 use Rattle.scenario_values.specs.declared.term.Term.{Term}
 use Rattle.scenario_values.specs.Printed.{printed}
 use Rattle.scenario_values.specs.Scenario.{Entries}
-use Rattle.campaign_given.specs.Description.{has_control, is_label}
+use Rattle.campaign_given.specs.Description.{are_distinct, has_control, is_label, is_return_text}
+use Rattle.campaign_given.specs.declared.outside.TriedFault.{TriedFault}
+use Rattle.campaign_given.specs.declared.outside.TriedFault.TheVariants.{Return, Panic}
 use Rattle.campaign_settings.specs.Keys.{Text}
-use Rattle.campaign_settings.specs.Lists.{all_in, texts_in}
+use Rattle.campaign_settings.specs.Lists.{all_in, each, list_in, texts_in}
 use Rattle.campaign_settings.specs.Values.{in_ranges, ranged, typed}
 use Rattle.campaign_settings.specs.declared.keys.KeyFault.{KeyFault}
 use Rattle.campaign_settings.specs.declared.keys.KeyFault.TheVariants.{Missing, OutOfRange}
@@ -50,6 +54,48 @@ uncounted_at points (Some d) = Err OutOfRange
 abbrev pub hits_beside : Option ℕ → ℕ → Option Data → Result (List ℕ) KeyFault
 hits_beside None points o = counts_at points o
 hits_beside (Some depth) points o = uncounted_at points o
+
+-- ---- the faults that are tried
+
+-- what the parentheses of `return(..)` hold
+abbrev pub text_of_return : Text → Option Text
+text_of_return spelled =
+    option_and_then (λ parts. if bytes_eq parts.0 (codes "return") then without_last 41 parts.1 else None) (cut 40 spelled)
+
+abbrev pub return_of : Text → Option TriedFault
+return_of text = if is_return_text text then Some (Return (Some text)) else None
+
+-- `return`, `return(TEXT)` or `panic`
+abbrev pub fault_of : Text → Option TriedFault
+fault_of spelled = if bytes_eq spelled (codes "return") then Some (Return None)
+    else (if bytes_eq spelled (codes "panic") then Some Panic else option_and_then return_of (text_of_return spelled))
+
+-- 1 to 8 faults, none twice
+abbrev pub is_fault_list : List Text → Bool
+is_fault_list spelled = nat_lt 0 (length spelled) && nat_le (length spelled) 8 && are_distinct spelled
+
+abbrev pub faults_of : List Text → Option (List TriedFault)
+faults_of spelled = if is_fault_list spelled then each fault_of spelled else None
+
+-- those of a point; the usual ones, told as none, where none are given
+abbrev pub faults_where : Option (List Text) → Option (List TriedFault)
+faults_where None = Some []
+faults_where (Some spelled) = faults_of spelled
+
+-- the texts that the table lists for a point, if it has the point
+abbrev pub texts_where : Option Data → Option (Option (List Text))
+texts_where None = Some None
+texts_where (Some d) = option_map (λ texts. Some texts) (list_in d)
+
+abbrev pub texts_for : Members → Text → Option (Option (List Text))
+texts_for ms point = texts_where (get_member point ms)
+
+-- the faults at each of the points, in a table that has no other key. The types of all are looked at before any range.
+abbrev pub kinds_in : List Text → Members → Result (List (List TriedFault)) KeyFault
+kinds_in points ms = typed (in_ranges faults_where (λ kinds. Ok kinds)) (each (texts_for ms) points)
+
+abbrev pub is_one_of : List Text → Text → Bool
+is_one_of points name = list_any (bytes_eq name) points
 
 -- ---- the scenarios that it may be given
 

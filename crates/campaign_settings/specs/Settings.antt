@@ -1,5 +1,5 @@
 -- What the settings' text means: one definition, with the order in which its faults are looked for.
-use Rattle.std.specs.Prelude.{◌≡◌, ◌+◌, ◌≤◌, ◌&&◌, ℕ, Bool, false, List, [], ◌∷◌, length, Option, Some, None, IfSome, Result, Ok, Err, codes, is_some, nat_lt, string_bytes, if◌then◌else◌}
+use Rattle.std.specs.Prelude.{◌≡◌, ◌+◌, ◌≤◌, ◌&&◌, ℕ, Bool, false, List, [], ◌∷◌, length, Option, Some, None, IfSome, Result, Ok, Err, codes, is_some, nat_lt, replicate, string_bytes, if◌then◌else◌}
 use Rattle.std.specs.Cmp.Lexicographic.{slice_cmp}
 use Rattle.std.specs.List.{list_all}
 use Rattle.std.specs.Ordering.{match_ordering, nat_cmp}
@@ -15,13 +15,14 @@ use Rattle.campaign_settings.specs.Keys.{Text, is_known, target_name}
 use Rattle.campaign_settings.specs.Values.{boolean_at, number_at, optional_at, lists_at, setup_at, table_at, target_at, text_at, texts_at}
 use Rattle.campaign_settings.specs.Lists.{chunks_of, wishes_of}
 use Rattle.campaign_given.specs.Description.{are_codes, are_points}
-use Rattle.campaign_settings.specs.Outside.{can_be_handed, hits_beside, label_at, names_at}
+use Rattle.campaign_given.specs.declared.outside.TriedFault.{TriedFault}
+use Rattle.campaign_settings.specs.Outside.{can_be_handed, hits_beside, is_one_of, kinds_in, label_at, names_at}
 use Rattle.campaign_settings.specs.declared.keys.Key.{Key}
 use Rattle.campaign_settings.specs.declared.keys.Key.TheVariants as key
 use Rattle.campaign_settings.specs.declared.keys.KeyFault.{KeyFault}
 use Rattle.campaign_settings.specs.declared.keys.KeyFault.TheVariants as fault
 use Rattle.campaign_settings.specs.declared.keys.Place.{Place}
-use Rattle.campaign_settings.specs.declared.keys.Place.TheVariants.{Top, Within}
+use Rattle.campaign_settings.specs.declared.keys.Place.TheVariants.{Top, Within, Kinds}
 use Rattle.campaign_settings.specs.declared.keys.TargetName.{TargetName}
 use Rattle.campaign_settings.specs.declared.choice.Choice.{Choice}
 use Rattle.campaign_settings.specs.declared.choice.Choice.TheVariants as choice
@@ -62,18 +63,18 @@ abbrev pub lesser : Text → Option Text → Text
 lesser name None = name
 lesser name (Some other) = match_ordering (slice_cmp nat_cmp name other) name name other
 
--- the least key of the members, in byte order, that the table doesn't have
-abbrev pub least_unknown : Place → Members → Option Text
-least_unknown place no_members = None
-least_unknown place (member name d ms) =
-    if is_known place name then least_unknown place ms else Some (lesser name (least_unknown place ms))
+-- the least key of the members, in byte order, that isn't known
+abbrev pub least_unknown : (Text → Bool) → Members → Option Text
+least_unknown known no_members = None
+least_unknown known (member name d ms) =
+    if known name then least_unknown known ms else Some (lesser name (least_unknown known ms))
 
 abbrev pub all_known : Place → Option Text → Read (Unit {0})
 all_known place None = Ok tt
 all_known place (Some name) = Err (unknown place name)
 
 abbrev pub known_in : Place → Members → Read (Unit {0})
-known_in place ms = all_known place (least_unknown place ms)
+known_in place ms = all_known place (least_unknown (is_known place) ms)
 
 -- the top, with the target that is named
 abbrev pub top_of : Result TargetName KeyFault → Place
@@ -126,12 +127,26 @@ committing_in v ms =
     after (keyed key.Transactions (lists_at (wishes_of n) 100 (get_member (codes "transactions") ms))) (λ lists.
     Ok (choice.Commit v (record { participants = n; transactions = lists }))))
 
+-- the faults that are tried at each of the points, by a table of points
+abbrev pub kinds_by : List Text → Data → Read (List (List TriedFault))
+kinds_by points d =
+    after (keyed key.Kinds (table_at (Some d))) (λ ms.
+    after (all_known Kinds (least_unknown (is_one_of points) ms)) (λ _.
+    keyed key.Kinds (kinds_in points ms)))
+
+-- where none is given, the usual ones at each, told as none. Without a depth a table would be read by nothing.
+abbrev pub kinds_beside : Option ℕ → List Text → Option Data → Read (List (List TriedFault))
+kinds_beside depth points None = Ok (replicate (length points) [])
+kinds_beside None points (Some d) = Err (wrong key.Kinds fault.OutOfRange)
+kinds_beside (Some depth) points (Some d) = kinds_by points d
+
 abbrev pub described_by : Option ℕ → Text → Members → Read Choice
 described_by depth label ms =
     after (keyed key.Codes (names_at are_codes (get_member (codes "codes") ms))) (λ names.
     after (keyed key.Points (names_at are_points (get_member (codes "points") ms))) (λ points.
     after (keyed key.Hits (hits_beside depth (length points) (get_member (codes "hits") ms))) (λ hits.
-    Ok (choice.Outside (record { label = label; codes = names; points = points; hits = hits })))))
+    after (kinds_beside depth points (get_member (codes "kinds") ms)) (λ kinds.
+    Ok (choice.Outside (record { label = label; codes = names; points = points; hits = hits; kinds = kinds }))))))
 
 abbrev pub describing_in : Option ℕ → Members → Read Choice
 describing_in depth ms = after (keyed key.Label (label_at (get_member (codes "label") ms))) (λ label. described_by depth label ms)

@@ -13,6 +13,7 @@ ghost use Rattle.campaign_settings.specs.Settings.{RefusedBy, described_by, desc
 use crate::choice::Choice;
 use crate::fault::SettingsFault;
 use crate::keys::{Key, KeyFault};
+use crate::kinds::read_kinds;
 use crate::lists::copy_texts;
 use crate::names::{are_codes, are_points, is_label};
 use crate::tables::keyed;
@@ -210,11 +211,13 @@ fn read_described(
     let codes = read_codes(alloc, value_at(table, "codes"))?;
     let points = read_points(alloc, value_at(table, "points"))?;
     let hits = read_hits(alloc, depth, points.len(), value_at(table, "hits"))?;
+    let kinds = read_kinds(alloc, depth, points.as_slice(), value_at(table, "kinds"))?;
     Ok(Choice::Outside(Outside {
         label,
         codes,
         points,
         hits,
+        kinds,
     }))
 }
 

@@ -43,12 +43,13 @@ impl fmt::Display for SettingsFault {
         match self {
             SettingsFault::TooLong => f.write_str("settings: too long"),
             SettingsFault::NotToml => f.write_str("settings: not TOML"),
-            SettingsFault::UnknownKey(Place::Top(_) | Place::Own | Place::Worded, name) => {
-                write!(f, "settings: unknown key {name}")
-            }
-            SettingsFault::UnknownKey(Place::Within(target), name) => {
-                write!(f, "settings: unknown key {target}.{name}")
-            }
+            SettingsFault::UnknownKey(place, name) => match place {
+                Place::Top(_) | Place::Own | Place::Worded => {
+                    write!(f, "settings: unknown key {name}")
+                }
+                Place::Kinds => write!(f, "settings: unknown key {}.{name}", Key::Kinds),
+                Place::Within(target) => write!(f, "settings: unknown key {target}.{name}"),
+            },
             SettingsFault::Missing(key) => write!(f, "settings: missing {key}"),
             SettingsFault::WrongType(key) => write!(f, "settings: wrong type {key}"),
             SettingsFault::OutOfRange(key) => write!(f, "settings: out of range {key}"),

@@ -33,6 +33,7 @@ pub enum Key {
     Codes,
     Points,
     Hits,
+    Kinds,
 }
 
 /// What is wrong with the value at a key.
@@ -53,12 +54,13 @@ pub enum TargetName {
 }
 
 /// A table of the settings: the whole, with the target that it names, or that of a program with a target of its own, which takes words or
-/// doesn't; or the table of a target.
+/// doesn't; or the table of the faults that are tried, in that of a target from outside; or the table of a target.
 #[derive(Clone, Copy, Debug)]
 pub enum Place {
     Top(Option<TargetName>),
     Own,
     Worded,
+    Kinds,
     Within(TargetName),
 }
 
@@ -104,6 +106,7 @@ impl Key {
             Key::Codes => "outside.codes",
             Key::Points => "outside.points",
             Key::Hits => "outside.hits",
+            Key::Kinds => "outside.kinds",
         }
     }
 }
@@ -125,7 +128,7 @@ impl fmt::Display for Key {
 }
 
 impl Place {
-    /// Whether a table has this key.
+    /// Whether a table has this key. The table of the faults that are tried has none of its own, as its keys are the settings' points.
     pub fn knows(self, name: &str) -> bool
         ensures { result ≡ is_known self name.now }
     {
@@ -135,6 +138,7 @@ impl Place {
             Place::Own => is_own_key(name),
             Place::Worded => is_own_key(name) || is_word_key(name),
             Place::Within(target) => is_key_within(target, name),
+            Place::Kinds => false,
         }
     }
 }
@@ -208,6 +212,6 @@ fn is_key_within(target: TargetName, name: &str) -> bool
         TargetName::Replace => stands_in(name, &["old", "replacements"]),
         TargetName::Maildir => stands_in(name, &["messages"]),
         TargetName::Commit => stands_in(name, &["participants", "transactions"]),
-        TargetName::Outside => stands_in(name, &["label", "codes", "points", "hits"]),
+        TargetName::Outside => stands_in(name, &["label", "codes", "points", "hits", "kinds"]),
     }
 }

@@ -5,6 +5,7 @@ mod choice;
 mod described;
 mod fault;
 mod keys;
+mod kinds;
 mod lists;
 mod names;
 mod numbers;

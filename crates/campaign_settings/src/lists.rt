@@ -36,7 +36,8 @@ fn are_texts(items: &Array) -> bool
     all_texts(items.as_slice())
 }
 
-fn is_text_list(item: &Value) -> bool
+// Whether it is a list of texts.
+pub fn is_text_list(item: &Value) -> bool
     ensures { result ≡ is_some (list_in (view item.now)) }
 {
     match item.as_array() {
@@ -73,7 +74,8 @@ pub fn copy_texts(alloc: Global, items: &Array) -> Result<Option<Vec<Text>>, All
     Ok(Some(texts))
 }
 
-fn copy_list(alloc: Global, item: &Value) -> Result<Option<Vec<Text>>, AllocError>
+// The same of a value, or none where it is no such list.
+pub fn copy_list(alloc: Global, item: &Value) -> Result<Option<Vec<Text>>, AllocError>
     ensures { IfOk result (λ r. option_map (λ texts. texts.items) r ≡ list_in (view item.now)) }
 {
     match item.as_array() {

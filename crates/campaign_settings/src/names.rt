@@ -2,9 +2,12 @@
 ghost use Rattle.std.specs.Prelude.{◌≡◌};
 ghost use Rattle.std.specs.List.{list_all, list_any};
 ghost use Rattle.std.specs.Str.{bytes_eq};
-ghost use Rattle.campaign_given.specs.Description.{are_codes, are_distinct, are_points, has_control, is_code, is_label, is_point};
+ghost use Rattle.campaign_given.specs.Description.{are_codes, are_distinct, are_points, has_control, is_code, is_label, is_point, is_return_text};
 
-use scenario_grammar::{Text, is_name};
+use scenario_grammar::{Text, is_argument, is_name};
+
+// What a return says has at most so many bytes.
+const MOST_TEXT: usize = 32;
 
 // Whether a byte of the text is an ASCII control character.
 pub fn has_control(text: &str) -> bool
@@ -31,13 +34,20 @@ fn is_point(name: &str) -> bool
     is_name(name) && is_label(name)
 }
 
+// Whether a return may say this.
+pub fn is_return_text(text: &str) -> bool
+    ensures { result ≡ is_return_text text.now }
+{
+    is_argument(text) && text.len() <= MOST_TEXT && !has_control(text)
+}
+
 fn stands_in(name: &Text, names: &[Text]) -> bool
     ensures { result ≡ list_any (λ other. bytes_eq other name.now) names.now }
 {
     names.iter().any(|other| other == name)
 }
 
-fn are_distinct(names: &[Text]) -> bool
+pub fn are_distinct(names: &[Text]) -> bool
     ensures { result ≡ are_distinct names.now }
 {
     for i in 0..names.len() {

@@ -24,7 +24,8 @@ impl Settings {
     /// The settings that a text of TOML gives. `Err` is the first fault of the text, in this order: too long, no TOML, an unknown key at the
     /// top, each key as [`Key`] lists them, and in the target's table its unknown key before its keys; or that memory ran out. Pairs beside a
     /// depth are out of range: that comes after the depth's own fault, and before the keys behind it. Of a target from outside the hits have to
-    /// be there without a depth; beside one any are out of range, as answers tell them, and each count is 0.
+    /// be there without a depth; beside one any are out of range, as answers tell them, and each count is 0. Beside one alone the faults that
+    /// are tried may be there, a table of points with lists of `return`, `return(TEXT)` and `panic`; its unknown key comes before its values.
     pub fn read(alloc: Global, text: &str) -> Result<Settings, SettingsFault>
         ensures ok { IfOk result (λ settings. settings_of text.now ≡ Ok settings) }
         ensures refused { IfErr result (RefusedBy (settings_of text.now)) }

@@ -1,11 +1,11 @@
 //! The tables of the settings: their keys, and each target's own table.
-ghost use Rattle.std.specs.Prelude.{◌≡◌, Ok, Err, IfOk, IfErr, OnOk, Some, None, not, find, option_copied, string_bytes};
+ghost use Rattle.std.specs.Prelude.{◌≡◌, Ok, Err, IfOk, IfErr, OnOk, Some, None, not, find, option_copied, option_map, string_bytes};
 ghost use Rattle.std.specs.List.Sorted.{IsStrictlySortedBy};
 ghost use Rattle.std.specs.Map.{keys_of};
 ghost use Rattle.std.specs.String.{string_cmp};
 ghost use Rattle.toml.specs.View.{table_view};
 ghost use Rattle.campaign_settings.specs.Keys.{is_known};
-ghost use Rattle.campaign_settings.specs.Settings.{RefusedBy, choice_in, committing_in, delivering_in, keyed, known_in, replacing_in, work_in};
+ghost use Rattle.campaign_settings.specs.Settings.{RefusedBy, all_known, choice_in, committing_in, delivering_in, keyed, known_in, replacing_in, work_in};
 
 use crate::choice::{Choice, Setup};
 use crate::described::read_outside;
@@ -38,7 +38,15 @@ pub fn refuse_unknown(alloc: Global, place: Place, table: &Table) -> Result<(), 
     ensures ok { OnOk result (known_in place (table_view table.now) ≡ Ok tt) }
     ensures refused { IfErr result (RefusedBy (known_in place (table_view table.now))) }
 {
-    match unknown_key(place, table) {
+    refuse_key(place, unknown_key(place, table))
+}
+
+// Refuses an unknown key, if there is one.
+pub fn refuse_key(place: Place, name: Option<&String>) -> Result<(), SettingsFault>
+    ensures ok { OnOk result (all_known place (option_map (λ n. string_bytes n.now) name.entry) ≡ Ok tt) }
+    ensures refused { IfErr result (RefusedBy (all_known place (option_map (λ n. string_bytes n.now) name.entry))) }
+{
+    match name {
         Some(name) => Err(SettingsFault::UnknownKey(place, name.clone()?)),
         None => Ok(()),
     }
