@@ -7,7 +7,7 @@ use Rattle.scenario_values.specs.Scenario.{Entries}
 use Rattle.action_eval.specs.declared.rig.Rig.{Rig}
 use Rattle.action_eval.specs.Rigging.{CanBeRigged}
 use Rattle.plan_gen.specs.PlanList.{further_list}
-use Rattle.grown_plans.specs.GrownPlans.{Subject, rigs_of, grown}
+use Rattle.grown_plans.specs.GrownPlans.{usual_kinds, Subject, rigs_of, grown}
 use Rattle.grown_plans.proofs.Members.{all_left}
 use Rattle.campaign_plans.specs.GrownScenarios.{grown_among, grown_scenario, grown_scenarios}
 use Rattle.grown_runs.specs.Grown.{begun}
@@ -18,7 +18,7 @@ use Rattle.campaign_core.specs.Planned.{AreBegun, AreGrown, listed_to}
 use Rattle.plan_gen.specs.Census.{sites_of}
 use Rattle.plan_gen.specs.PlanList.{Asked, plan_list}
 use Rattle.grown_plans.specs.Promises.{IsLawful}
-use Rattle.campaign_core.proofs.FirstLevel.{few_sites_grow, first_grows}
+use Rattle.campaign_core.proofs.FirstLevel.{few_sites_of}
 use Rattle.campaign_core.proofs.Grown.{list_is, listed_is, plans_counted, plans_some}
 
 -- ---- all plans that grew
@@ -31,7 +31,7 @@ grown_are k None (Some g) listed are e = absurd are
 grown_are k (Some d) None listed are e = absurd are
 grown_are k (Some d) (Some g) listed are e =
     ap (λ ps. grown_scenarios k.points ps ++ listed) are.same ∙ ap (λ l. grown_scenarios k.points (grown (grower k) d) ++ l) e
-    ∙ list_is (grower k) d k.plans (census k)
+    ∙ list_is (grower k) d k.given.plans (census k)
 
 -- each of them can be rigged
 pub grown_rigged : (k : Campaign) (depth : Option ℕ) (g : Option (List (List Rig))) → AreGrown k depth g
@@ -84,11 +84,11 @@ found_at k d count n g is lt =
     let made = length-map g (grown_scenario k.points) in
     sym
     (ap (λ l. slice_get l n)
-    (sym (list_is t d k.plans (census k))
-    ∙ ap (λ ps. map (grown_scenario k.points) ps ++ further_list k.points (census k) k.plans) all
-    ∙ ap (λ l. l ++ further_list k.points (census k) k.plans) (map-append (grown_scenario k.points) g front.0)
-    ∙ append_assoc (map (grown_scenario k.points) g) (map (grown_scenario k.points) front.0) (further_list k.points (census k) k.plans))
-    ∙ get_left (map (grown_scenario k.points) g) (map (grown_scenario k.points) front.0 ++ further_list k.points (census k) k.plans) n (omega (arith, made, lt)))
+    (sym (list_is t d k.given.plans (census k))
+    ∙ ap (λ ps. map (grown_scenario k.points) ps ++ further_list k.points (census k) k.given.plans) all
+    ∙ ap (λ l. l ++ further_list k.points (census k) k.given.plans) (map-append (grown_scenario k.points) g front.0)
+    ∙ append_assoc (map (grown_scenario k.points) g) (map (grown_scenario k.points) front.0) (further_list k.points (census k) k.given.plans))
+    ∙ get_left (map (grown_scenario k.points) g) (map (grown_scenario k.points) front.0 ++ further_list k.points (census k) k.given.plans) n (omega (arith, made, lt)))
 
 -- a plan that is among them is that of the list
 pub begun_found : (k : Campaign) (depth : Option ℕ) (count n : ℕ) (g : Option (List (List Rig))) (s : Entries) → AreBegun k depth count g
@@ -139,32 +139,32 @@ pub counted_some : (k : Campaign) (count : ℕ) (depth : Option ℕ) (d : ℕ) �
 counted_some k count depth d is = ap (counted_to k count) is
 
 -- at most as many as the list has
-pub counted_least : (k : Campaign) (count : ℕ) (depth : Option ℕ) → depth ≡ k.depth → counted_to k count depth ≤ length (plans_to k k.depth)
+pub counted_least : (k : Campaign) (count : ℕ) (depth : Option ℕ) → depth ≡ k.given.depth → counted_to k count depth ≤ length (plans_to k k.given.depth)
 counted_least k count None is = let same = ap (λ o. length (plans_to k o)) is in omega arith
 counted_least k count (Some d) is =
     let most = begun_most (grower k) d count in
-    let all = plans_counted k k.depth d (sym is) in
+    let all = plans_counted k k.given.depth d (sym is) in
     omega (arith, most, all)
 
 -- ---- what stands behind
 
 -- the sites of the census are few
-pub sites_few : (k : Campaign) (depth : Option ℕ) (g : List (List Rig)) → AreGrown k depth (Some g) → IsLawful (grower k) → (counts : List ℕ) → counts ≡ census k
-    → length (sites_of counts) < 65536
-sites_few k None g are lawful counts is = absurd are
-sites_few k (Some d) g are lawful counts is =
+pub sites_few : (k : Campaign) (depth : Option ℕ) (g : List (List Rig)) → AreGrown k depth (Some g) → k.kinds ≡ usual_kinds k.points → IsLawful (grower k)
+    → (counts : List ℕ) → counts ≡ census k → length (sites_of counts) < 65536
+sites_few k None g are usual lawful counts is = absurd are
+sites_few k (Some d) g are usual lawful counts is =
     let few = are.few in
     let many = ap length are.same in
     subst (λ (cs : List ℕ). length (sites_of cs) < 65536) (sym is)
-    (few_sites_grow k.asks k.points k.max_hits k.plans.seed d (first_grows (grower k) lawful) are.deep (omega (arith, few, many)))
+    (few_sites_of (grower k) k.given.plans.seed d usual lawful are.deep (omega (arith, few, many)))
 
 pub listed_grown : (k : Campaign) (depth : Option ℕ) (g : List (List Rig)) (names : List (List ℕ)) (counts : List ℕ) (asked : Asked)
-    → AreGrown k depth (Some g) → k.points ≡ names → counts ≡ census k → asked ≡ k.plans → further_list names counts asked ≡ listed_to k depth
+    → AreGrown k depth (Some g) → k.points ≡ names → counts ≡ census k → asked ≡ k.given.plans → further_list names counts asked ≡ listed_to k depth
 listed_grown k None g names counts asked are of counted wanted = absurd are
 listed_grown k (Some d) g names counts asked are of counted wanted = listed_is k (Some d) d names counts asked refl of counted wanted
 
 pub listed_census : (k : Campaign) (depth : Option ℕ) (names : List (List ℕ)) (counts : List ℕ) (asked : Asked)
-    → AreGrown k depth None → k.points ≡ names → counts ≡ census k → asked ≡ k.plans → plan_list names counts asked ≡ listed_to k depth
+    → AreGrown k depth None → k.points ≡ names → counts ≡ census k → asked ≡ k.given.plans → plan_list names counts asked ≡ listed_to k depth
 listed_census k None names counts asked are of counted wanted =
     ap (λ ns. plan_list ns counts asked) (sym of) ∙ ap (λ cs. plan_list k.points cs asked) counted ∙ ap (plan_list k.points (census k)) wanted
 listed_census k (Some d) names counts asked are of counted wanted = absurd are
@@ -196,12 +196,12 @@ begun_counted k (Some d) count n None s are found = absurd are
 begun_counted k (Some d) count n (Some g) s are found = let many = ap length are.same in let few = are.few in omega (arith, many, few)
 
 -- where all grew, all are counted
-pub counted_all : (k : Campaign) (count : ℕ) (depth : Option ℕ) (g : Option (List (List Rig))) → depth ≡ k.depth → AreBegun k depth count g → AreGrown k depth g
-    → counted_to k count depth ≡ length (plans_to k k.depth)
+pub counted_all : (k : Campaign) (count : ℕ) (depth : Option ℕ) (g : Option (List (List Rig))) → depth ≡ k.given.depth → AreBegun k depth count g → AreGrown k depth g
+    → counted_to k count depth ≡ length (plans_to k k.given.depth)
 counted_all k count None g is are all = refl
 counted_all k count (Some d) None is are all = absurd are
 counted_all k count (Some d) (Some g) is are all =
     let begins = ap length are.same in
     let whole = ap length all.same in
-    let counted = plans_counted k k.depth d (sym is) in
+    let counted = plans_counted k k.given.depth d (sym is) in
     omega (arith, begins, whole, counted)

@@ -84,16 +84,16 @@ named_first : (k : Campaign) (d n : ℕ) → n < length (grown (grower k) d)
 named_first k d n lt =
     let t : Subject = grower k in
     let made = length-map (grown t d) (scenario_of t) in
-    ap (λ l. get_or l n []) (sym (list_is t d k.plans (census k)))
-    ∙ get_or_append_left (map (scenario_of t) (grown t d)) (further_list k.points (census k) k.plans) [] n (omega (arith, made, lt))
+    ap (λ l. get_or l n []) (sym (list_is t d k.given.plans (census k)))
+    ∙ get_or_append_left (map (scenario_of t) (grown t d)) (further_list k.points (census k) k.given.plans) [] n (omega (arith, made, lt))
     ∙ get_or-map (scenario_of t) (grown t d) n [] [] lt
 
-pub causes_are_causes : (k : Campaign) (depth : Option ℕ) → depth ≡ k.depth
-    → IfSome (growth_of (grower k) k.plans.seed (plans k) depth) (λ (g : GrowthFacts). All (IsCauseAmong (grower k) k.plans.seed (grown (grower k) g.depth)) g.causes)
+pub causes_are_causes : (k : Campaign) (depth : Option ℕ) → depth ≡ k.given.depth
+    → IfSome (growth_of (grower k) k.given.plans.seed (plans k) depth) (λ (g : GrowthFacts). All (IsCauseAmong (grower k) k.given.plans.seed (grown (grower k) g.depth)) g.causes)
 causes_are_causes k None is = tt
 causes_are_causes k (Some d) is =
     let t : Subject = grower k in
     let entries = plans k in
-    All-from_recursion (IsCauseAmong t k.plans.seed (grown t d)) (map (cause_of entries) (over (cause_at t k.plans.seed) (grown t d) 0 (length (grown t d))))
-    (each_is t k.plans.seed entries (grown t d)
+    All-from_recursion (IsCauseAmong t k.given.plans.seed (grown t d)) (map (cause_of entries) (over (cause_at t k.given.plans.seed) (grown t d) 0 (length (grown t d))))
+    (each_is t k.given.plans.seed entries (grown t d)
     (λ n lt. ap (λ o. get_or (plans_to k o) n []) (sym is) ∙ named_first k d n lt) 0 (length (grown t d)) (omega arith))

@@ -1,5 +1,5 @@
 -- Where plans grow, a census has few sites: each is a fault of the first level.
-use Rattle.std.proofs.Common.{◌≡◌, ℕ, zero, suc, ◌+◌, ◌<◌, ◌≤◌, ◌==◌, Bool, true, false, cond, Option, List, [], ◌∷◌, ◌++◌, map, length, count_by, refl, ap, ◌∙◌, arith, length-append, rules}
+use Rattle.std.proofs.Common.{◌≡◌, ℕ, zero, suc, ◌+◌, ◌<◌, ◌≤◌, ◌==◌, Bool, true, false, cond, Option, None, List, [], ◌∷◌, ◌++◌, map, length, count_by, refl, ap, ◌∙◌, subst, arith, length-append, rules}
 use Rattle.std.specs.List.{range_with_len, flat_map}
 use Rattle.std.proofs.lemmas.List.{append-nil, length-map}
 use Rattle.std.proofs.lemmas.List.Sums.{sum_by-cons}
@@ -8,13 +8,14 @@ use Rattle.action_eval.specs.Answers.{Reply, given_of}
 use Rattle.action_eval.specs.Rigging.{rigging, entries_from, rig}
 use Rattle.action_eval.specs.declared.rig.Rig.{Rig}
 use Rattle.action_eval.specs.declared.rig.Site.{Site}
+use Rattle.action_eval.specs.declared.rig.Kind.{Kind}
 use Rattle.action_eval.specs.declared.rig.Kind.TheVariants.{OnceReturn, OncePanic}
 use Rattle.target_trait.specs.Play.{Move}
 use Rattle.target_trait.specs.Outcomes.{outcome}
 use Rattle.plan_gen.specs.Census.{census_of, counts_of, sites_of}
 use Rattle.plan_gen.specs.Counts.{total_of}
 use Rattle.plan_gen.proofs.Counting.{sites_length}
-use Rattle.grown_plans.specs.GrownPlans.{Subject, cut_point, is_cut, kinds_at, usual_subject, children, level, levels, onward, grown}
+use Rattle.grown_plans.specs.GrownPlans.{Subject, cut_point, is_cut, usual_at, usual_kinds, usual_subject, children, level, levels, onward, grown}
 use Rattle.grown_plans.specs.AskedPoints.{GrowsByAsked, sites_from}
 use Rattle.grown_plans.specs.Promises.{IsLawful}
 use Rattle.grown_plans.proofs.AskedSites.{grows_by_asked}
@@ -82,18 +83,18 @@ length_sites : (before asked : List ℕ) → length (sites_from before asked) �
 length_sites before [] = refl
 length_sites before (p ∷ asked) = ap suc (length_sites (before ++ p ∷ []) asked)
 
-some_kind : (cut : Option ℕ) (point : ℕ) → 1 ≤ length (kinds_at cut point)
+some_kind : (cut : Option ℕ) (point : ℕ) → 1 ≤ length (usual_at cut point)
 some_kind cut point = by_choice (is_cut cut point)
   where
-    by_choice : (b : Bool) → 1 ≤ length (cond b (OnceReturn ∷ []) (OnceReturn ∷ OncePanic ∷ []))
+    by_choice : (b : Bool) → 1 ≤ length (cond b (OnceReturn None ∷ []) (OnceReturn None ∷ OncePanic ∷ []))
     by_choice true = omega arith
     by_choice false = omega arith
 
-each_has_one : (cut : Option ℕ) (sites : List Site) → length sites ≤ length (flat_map (λ (s : Site). map (λ kind. rig s kind ∷ []) (kinds_at cut s.point)) sites)
+each_has_one : (cut : Option ℕ) (sites : List Site) → length sites ≤ length (flat_map (λ (s : Site). map (λ kind. rig s kind ∷ []) (usual_at cut s.point)) sites)
 each_has_one cut [] = omega arith
 each_has_one cut (s ∷ ss) =
-    let f : Site → List (List Rig) = λ s. map (λ kind. rig s kind ∷ []) (kinds_at cut s.point) in
-    let here = length-map (kinds_at cut s.point) (λ kind. rig s kind ∷ []) in
+    let f : Site → List (List Rig) = λ s. map (λ kind. rig s kind ∷ []) (usual_at cut s.point) in
+    let here = length-map (usual_at cut s.point) (λ kind. rig s kind ∷ []) in
     let one = some_kind cut s.point in
     let rest = each_has_one cut ss in
     let whole = length-append (f s) (flat_map f ss) in
@@ -139,3 +140,16 @@ few_sites_grow asks names limit seed d grows some few =
 pub first_grows : (t : Subject) → IsLawful t → GrowsByAsked t []
 unfolding level
 first_grows t lawful = (grows_by_asked t lawful 0).0
+
+-- the same of what grows by the usual kinds of faults
+pub few_sites_of : (t : Subject) (seed d : ℕ) → t.kinds ≡ usual_kinds t.names → IsLawful t → 1 ≤ d → length (grown t d) ≤ 65536
+    → length (sites_of (census_of t.asks t.names seed t.limit)) < 65536
+few_sites_of t seed d usual lawful some few =
+    few_sites_grow t.asks t.names t.limit seed d (subst (λ (x : Subject). GrowsByAsked x []) same (first_grows t lawful)) some
+    (subst (λ (x : Subject). length (grown x d) ≤ 65536) same few)
+  where
+    by_kinds : (ℕ → List Kind) → Subject
+    by_kinds kinds = record { asks = t.asks; names = t.names; limit = t.limit; kinds = kinds }
+
+    same : t ≡ usual_subject t.asks t.names t.limit
+    same = ap by_kinds usual

@@ -70,11 +70,11 @@ pub report_is : (say : ℕ → Entries → Verdict) (label : List ℕ) (seed : �
     → name ≡ label → same_seed ≡ seed → clean ≡ get_or vs 0 verdict.Unresolved → counts ≡ census → vs ≡ verdicts_from say 0 plans
     → told ≡ map (finding say plans) (first_failures (numbered (verdicts_from say 0 plans)))
     → grew ≡ growth
-    → (let r : ReportFacts = record { label = name; seed = same_seed; clean = clean; census = counts; verdicts = vs; findings = told; growth = grew } in r)
+    → (let r : ReportFacts = record { label = name; seed = same_seed; clean = clean; census = counts; verdicts = vs; unmet = 0; findings = told; growth = grew } in r)
     ≡ report_of say label seed census plans growth
 report_is say label seed census plans growth name s clean counts vs told grew same_name same_seed same_clean same_counts same same_told same_growth =
     let made : List ℕ → ℕ → Verdict → List ℕ → List Verdict → List FindingFacts → Option GrowthFacts → ReportFacts =
-    λ n s c k v f g. record { label = n; seed = s; clean = c; census = k; verdicts = v; findings = f; growth = g } in
+    λ n s c k v f g. record { label = n; seed = s; clean = c; census = k; verdicts = v; unmet = 0; findings = f; growth = g } in
     let first : List Verdict → Verdict = λ v. get_or v 0 verdict.Unresolved in
     ap (λ n. made n s clean counts vs told grew) same_name ∙ ap (λ z. made label z clean counts vs told grew) same_seed
     ∙ ap (λ c. made label seed c counts vs told grew) same_clean ∙ ap (λ k. made label seed (first vs) k vs told grew) same_counts

@@ -54,21 +54,20 @@ list_length t d asked counts =
     omega (arith, e, parts, made)
 
 -- each verdict is that of its plan
-pub verdicts_said : (asks : List Reply → Move) (names : List (List ℕ)) (limit seed d : ℕ) (asked : Asked) (counts : List ℕ) (verdicts : List Verdict)
-    → verdicts ≡ over (verdict_at (usual_subject asks names limit) seed) (grown (usual_subject asks names limit) d) 0 (length (grown (usual_subject asks names limit) d))
-    → AreSaid (verdict_with asks names seed limit) (grown_list (usual_subject asks names limit) d asked (sites_of counts)) 0 verdicts
+pub verdicts_said : (t : Subject) (seed d : ℕ) (asked : Asked) (counts : List ℕ) (verdicts : List Verdict)
+    → verdicts ≡ over (verdict_at t seed) (grown t d) 0 (length (grown t d))
+    → AreSaid (verdict_with t.asks t.names seed t.limit) (grown_list t d asked (sites_of counts)) 0 verdicts
 unfolding verdict_with
-verdicts_said asks names limit seed d asked counts verdicts are k v lt =
-    let t : Subject = usual_subject asks names limit in
+verdicts_said t seed d asked counts verdicts are k v lt =
     let plans = grown t d in
-    let said : ℕ → Entries → Verdict = verdict_with asks names seed limit in
-    let f : ℕ → List Rig → Verdict = λ n plan. said n (rigging names (rigs_of plan)) in
+    let said : ℕ → Entries → Verdict = verdict_with t.asks t.names seed t.limit in
+    let f : ℕ → List Rig → Verdict = λ n plan. said n (rigging t.names (rigs_of plan)) in
     let some : k < length plans = (let e = ap length are ∙ over_length f plans 0 (length plans) in omega (arith, e, lt)) in
     let at : 0 + k ≡ k = omega arith in
     let made = length-map plans (scenario_of t) in
     let here : get_or (grown_list t d asked (sites_of counts)) k [] ≡ scenario_of t (get_or plans k []) =
     ap (λ l. get_or l k []) (sym (list_is t d asked counts))
-    ∙ get_or_append_left (map (scenario_of t) plans) (further_list names counts asked) [] k (omega (arith, made, some))
+    ∙ get_or_append_left (map (scenario_of t) plans) (further_list t.names counts asked) [] k (omega (arith, made, some))
     ∙ get_or-map (scenario_of t) plans k [] [] some in
     ap (λ vs. get_or vs k v) are ∙ over_at f plans 0 (length plans) k v some
     ∙ ap (λ n. f n (get_or plans n [])) at
@@ -123,7 +122,7 @@ plans_are k None (Some g) listed is e = absurd is
 plans_are k (Some d) None listed is e = absurd is
 plans_are k (Some d) (Some g) listed is e =
     ap (λ ps. grown_scenarios k.points ps ++ listed) is.has_grown.plans ∙ ap (λ l. grown_scenarios k.points (grown (grower k) d) ++ l) e
-    ∙ list_is (grower k) d k.plans (census k)
+    ∙ list_is (grower k) d k.given.plans (census k)
 
 -- each of those that grew can be rigged
 pub plans_rigged : (k : Campaign) (depth : Option ℕ) (g : Option Grown) → IsGrownTo k depth g
@@ -152,22 +151,22 @@ plans_known k (Some d) g verdicts is e =
     let t : Subject = grower k in
     let are = e ∙ is.has_grown.verdicts in
     record {
-      said = verdicts_said k.asks k.points k.max_hits k.plans.seed d k.plans (census k) verdicts are;
-      few = (let many = verdicts_few t k.plans.seed d verdicts are in let all = list_length t d k.plans (census k) in omega (arith, many, all));
+      said = verdicts_said t k.given.plans.seed d k.given.plans (census k) verdicts are;
+      few = (let many = verdicts_few t k.given.plans.seed d verdicts are in let all = list_length t d k.given.plans (census k) in omega (arith, many, all));
     }
 
 -- how many plans there are with those behind
 pub plans_counted : (k : Campaign) (depth : Option ℕ) (d : ℕ) → depth ≡ Some d
-    → length (plans_to k depth) ≡ length (grown (grower k) d) + k.plans.storms + length k.plans.listed
+    → length (plans_to k depth) ≡ length (grown (grower k) d) + k.given.plans.storms + length k.given.plans.listed
 plans_counted k depth d is =
     let all = ap (λ o. length (plans_to k o)) is in
-    let parts = list_length (grower k) d k.plans (census k) in
-    let further = further_judged k.points (census k) k.plans 0 k.plans.storms (length k.plans.listed) refl refl in
+    let parts = list_length (grower k) d k.given.plans (census k) in
+    let further = further_judged k.points (census k) k.given.plans 0 k.given.plans.storms (length k.given.plans.listed) refl refl in
     omega (arith, all, parts, further)
 
 -- the plans that don't grow, by what they were made of
 pub listed_is : (k : Campaign) (depth : Option ℕ) (d : ℕ) (names : List (List ℕ)) (counts : List ℕ) (asked : Asked)
-    → depth ≡ Some d → k.points ≡ names → counts ≡ census k → asked ≡ k.plans
+    → depth ≡ Some d → k.points ≡ names → counts ≡ census k → asked ≡ k.given.plans
     → further_list names counts asked ≡ listed_to k depth
 listed_is k depth d names counts asked is of counted wanted =
     ap (λ ns. further_list ns counts asked) (sym of) ∙ ap (λ cs. further_list k.points cs asked) counted
@@ -195,10 +194,10 @@ pub causes_of_plans : (k : Campaign) (depth : Option ℕ) (g : Grown) (all : Lis
 causes_of_plans k None g all causes is e listed = absurd is
 causes_of_plans k (Some d) g all causes is e listed =
     let many = ap length listed in
-    let counted = list_length (grower k) d k.plans (census k) in
-    causes_listed (grower k) k.plans.seed d (length all) causes (e ∙ is.has_grown.causes) (omega (arith, many, counted))
+    let counted = list_length (grower k) d k.given.plans (census k) in
+    causes_listed (grower k) k.given.plans.seed d (length all) causes (e ∙ is.has_grown.causes) (omega (arith, many, counted))
 
 -- what is reached has a count for each point
-pub reached_counts : (k : Campaign) (depth : Option ℕ) → IfSome (growth_of (grower k) k.plans.seed (plans k) depth) (λ (r : GrowthFacts). length r.reached ≡ length k.points)
+pub reached_counts : (k : Campaign) (depth : Option ℕ) → IfSome (growth_of (grower k) k.given.plans.seed (plans k) depth) (λ (r : GrowthFacts). length r.reached ≡ length k.points)
 reached_counts k None = tt
 reached_counts k (Some d) = length-map-range_with_len (reached (grower k) d) 0 (length k.points)

@@ -17,7 +17,7 @@ one_more {A} {B} f xs i all new x y lt added so_far is told =
 
 -- what the page tells beside the report
 pub about_is : (k : Campaign) (notes : NotesFacts) (picture settings : List ℕ) (runs others : List RunFacts) → picture ≡ page_map_text k
-    → runs ≡ map (run_of_finding k) (report k).findings → others ≡ cause_runs k (report k).growth → settings ≡ text_or k.source (settings_text k)
+    → runs ≡ map (run_of_finding k) (report k).findings → others ≡ cause_runs k (report k).growth → settings ≡ text_or k.given.source (settings_text k)
     → record { map = picture; runs = runs; cause_runs = others; version = notes.version; command = notes.command; settings = settings } ≡ about k notes
 about_is k notes picture settings runs others drawn told also given =
     let tells : List ℕ → List RunFacts → List RunFacts → List ℕ → AboutFacts = λ p r o s.

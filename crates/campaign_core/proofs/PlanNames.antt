@@ -61,7 +61,7 @@ pair_part_distinct : (names : List (List ℕ)) (wanted : Bool) (sites : List Sit
     → AllByRecursion (λ s. DistinctNames s) (pair_part names wanted sites)
 pair_part_distinct names true sites d =
     all_flat (λ s. DistinctNames s) (pair_plans names)
-    (λ p. all_map (λ s. DistinctNames s) _ (λ kind. rigging_distinct names (rig p.0 OnceReturn ∷ rig p.1 kind ∷ []) d) second) (pairs_of sites)
+    (λ p. all_map (λ s. DistinctNames s) _ (λ kind. rigging_distinct names (rig p.0 (OnceReturn None) ∷ rig p.1 kind ∷ []) d) second) (pairs_of sites)
 pair_part_distinct names false sites d = tt
 
 listed_distinct : (names : List (List ℕ)) (counts : List ℕ) (asked : Asked) → HasDistinct names → AllByRecursion (λ s. DistinctNames s) asked.listed
@@ -91,10 +91,10 @@ grown_distinct t d asked sites distinct listed =
     (all_both P (map (scenario_of t) (grown t d)) (storm_part t.names asked.seed asked.rate asked.storms sites) grew many) listed
 
 -- each plan's scenario has distinct names, where the names of the points are distinct and those in each listed scenario
-pub plans_distinct : (c : Campaign) → HasDistinct c.points → All (λ s. DistinctNames s) c.plans.listed → All (λ s. DistinctNames s) (plans c)
+pub plans_distinct : (c : Campaign) → HasDistinct c.points → All (λ s. DistinctNames s) c.given.plans.listed → All (λ s. DistinctNames s) (plans c)
 plans_distinct c distinct listed =
-    All-from_recursion (λ s. DistinctNames s) (plans c) (each c.depth (recursion_from_All (λ s. DistinctNames s) c.plans.listed listed))
+    All-from_recursion (λ s. DistinctNames s) (plans c) (each c.given.depth (recursion_from_All (λ s. DistinctNames s) c.given.plans.listed listed))
   where
-    each : (depth : Option ℕ) → AllByRecursion (λ s. DistinctNames s) c.plans.listed → AllByRecursion (λ s. DistinctNames s) (plans_to c depth)
-    each None h = listed_distinct c.points (census c) c.plans distinct h
-    each (Some d) h = grown_distinct (grower c) d c.plans (sites_of (census c)) distinct h
+    each : (depth : Option ℕ) → AllByRecursion (λ s. DistinctNames s) c.given.plans.listed → AllByRecursion (λ s. DistinctNames s) (plans_to c depth)
+    each None h = listed_distinct c.points (census c) c.given.plans distinct h
+    each (Some d) h = grown_distinct (grower c) d c.given.plans (sites_of (census c)) distinct h

@@ -33,7 +33,7 @@ plans_text c = text_of (plan_lines 0 (plans c))
 
 -- how many plans a list has in which so many grew: storms and listed scenarios stand behind them
 abbrev pub with_rest : Campaign → ℕ → ℕ
-with_rest c n = n + c.plans.storms + length c.plans.listed
+with_rest c n = n + c.given.plans.storms + length c.given.plans.listed
 
 -- how many plans are counted where the list is looked at for so many: without a depth all; else the levels of these, and what stands behind
 abbrev pub counted_to : Campaign → ℕ → Option ℕ → ℕ
@@ -42,7 +42,7 @@ counted_to c count (Some depth) = with_rest c (length (begun (grower c) depth co
 
 -- where the plan of this number is looked up
 abbrev pub counted : Campaign → ℕ → ℕ
-counted c number = counted_to c (number + 1) c.depth
+counted c number = counted_to c (number + 1) c.given.depth
 
 -- why it isn't: those that are counted are too many, or memory was refused
 abbrev pub IsUnfound : Campaign → ℕ → CampaignFault → Type 0
@@ -73,7 +73,7 @@ try_text code_name told = text_of (try_lines code_name told)
 
 -- what a run of a scenario under a stream number is given, in a campaign
 abbrev pub case_in : Campaign → ℕ → Entries → Given
-case_in c stream scenario = given_of scenario c.points c.plans.seed stream c.max_hits
+case_in c stream scenario = given_of scenario c.points c.given.plans.seed stream c.given.max_hits
 
 -- its outcome
 abbrev pub tried : Campaign → ℕ → Entries → Told

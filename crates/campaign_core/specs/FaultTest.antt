@@ -1,15 +1,9 @@
 -- The test of a set of faults of a scenario: what a reduction asks.
-use Rattle.std.specs.Prelude.{ℕ, Bool, false, ◌&&◌, nat_eq, List}
+use Rattle.std.specs.Prelude.{ℕ, Bool, ◌&&◌, List}
 use Rattle.scenario_values.specs.Scenario.{Entries, all_faults}
 use Rattle.scenario_values.specs.Keep.{are_faults, kept}
 use Rattle.target_trait.specs.declared.judgement.Verdict.{Verdict}
-use Rattle.target_trait.specs.declared.judgement.Verdict.TheVariants as verdict
-
--- whether a verdict is a failure with this code
-abbrev pub fails_with : ℕ → Verdict → Bool
-fails_with code verdict.Pass = false
-fails_with code (verdict.Fail other) = nat_eq other code
-fails_with code verdict.Unresolved = false
+pub use Rattle.grown_runs.specs.GrownRuns.{fails_with}
 
 -- Whether the scenario with the faults of the set alone fails with this code. It is no for a list that isn't faults of the scenario in
 -- ascending order. Which verdict a scenario has, the first argument says.

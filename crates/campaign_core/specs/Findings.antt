@@ -53,7 +53,7 @@ pub record IsCauseAmong (t : Subject) (seed : ℕ) (plans : List (List Rig)) (ca
   pub scenario : cause.scenario ≡ scenario_of t (slice_index_or plans cause.number [])
   pub least : IsCause t seed cause.number cause.code (slice_index_or plans cause.number [])
 
--- how plans grew under a seed, of a list that begins with them, where there is a depth
+-- how plans grew under a seed, of a list that begins with them, where there is a depth; all hits are known
 abbrev pub growth_of : Subject → ℕ → List Entries → Option ℕ → Option GrowthFacts
 growth_of t seed plans None = None
 growth_of t seed plans (Some depth) = Some (record {
@@ -61,11 +61,13 @@ growth_of t seed plans (Some depth) = Some (record {
   levels = level_sizes t (depth + 1);
   onward = length (onward t depth);
   beyond = beyond t depth;
+  unseen = 0;
   reached = reached_each t depth;
   causes = map (cause_of plans) (over (cause_at t seed) (grown t depth) 0 (length (grown t depth)));
 })
 
--- what a report tells, of a label, a seed, a census, plans and how they grew; of each code with which a plan fails, the first failure is told
+-- what a report tells, of a label, a seed, a census, plans and how they grew; of each code with which a plan fails, the first failure is told;
+-- which faults aren't met is counted of runs alone that answers tell with their hits
 abbrev pub report_of : (ℕ → Entries → Verdict) → List ℕ → ℕ → List ℕ → List Entries → Option GrowthFacts → ReportFacts
 report_of say label seed census plans growth = record {
   label = label;
@@ -73,6 +75,7 @@ report_of say label seed census plans growth = record {
   clean = slice_index_or (verdicts_from say 0 plans) 0 verdict.Unresolved;
   census = census;
   verdicts = verdicts_from say 0 plans;
+  unmet = 0;
   findings = map (finding say plans) (first_failures (numbered (verdicts_from say 0 plans)));
   growth = growth;
 }

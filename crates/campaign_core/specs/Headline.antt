@@ -2,17 +2,18 @@
 use Rattle.std.specs.Prelude.{ℕ, List, [], Option, None, Some, IfSome, All, length, slice_get}
 use Rattle.scenario_values.specs.Scenario.{Entries}
 use Rattle.action_eval.specs.Answers.{Reply}
+use Rattle.action_eval.specs.declared.rig.Kind.{Kind}
 use Rattle.action_eval.specs.declared.rig.Rig.{Rig}
 use Rattle.target_trait.specs.declared.judgement.Verdict.{Verdict}
 use Rattle.target_trait.specs.declared.target.Target.{Ghosts}
 use Rattle.target_trait.specs.Outcomes.{verdict_with}
 use Rattle.target_trait.specs.Play.{Move}
 use Rattle.plan_gen.specs.Census.{census_of, sites_of}
-use Rattle.plan_gen.specs.PlanList.{Asked, plan_list}
-use Rattle.grown_plans.specs.GrownPlans.{usual_subject, grown, onward, grown_list}
+use Rattle.plan_gen.specs.PlanList.{plan_list}
+use Rattle.grown_plans.specs.GrownPlans.{usual_kinds, grown, onward, grown_list}
 use Rattle.grown_plans.specs.GrownPlans.{Subject as Grower}
 use Rattle.grown_plans.specs.Promises.{SkipsNothing, RunsNothingTwice, TriesOnward, IsLeast, IsWhole, HasCauses}
-use Rattle.campaign_given.specs.Given.{Given}
+use Rattle.campaign_given.specs.Given.{Given, with_workers}
 use Rattle.result_book.specs.Verdicts.{verdicts_from, numbered}
 use Rattle.result_book.specs.FirstFailures.{first_failures as first_of_each}
 use Rattle.report.specs.ReportText.{report_lines, text_of}
@@ -23,29 +24,26 @@ use Rattle.campaign_map.specs.Map.{map_text}
 use Rattle.campaign_core.specs.declared.subject.Subject.{Subject}
 use Rattle.campaign_core.specs.Findings.{report_of, growth_of, ReducesToMinimal, IsCauseAmong}
 
--- what a campaign is given: what its target asks on the workload, the names of the points and of the codes, the target's label, how many
--- hits of a run are answered, with up to how many faults each behaviour is tried, where its plans grow, what is asked of the list of
--- plans, the seed among it, and the text that its settings were read from. How many workers there are isn't among it.
+-- what a campaign is given: what its target asks on the workload, the names of the points and of the codes, the target's label, which kinds of
+-- faults plans grow by at a point, and its settings. How many workers there are is among these, but nothing that a campaign comes to is told by
+-- it.
 pub record Campaign : Type 0 where
   pub asks : List Reply → Move
   pub points : List (List ℕ)
   pub codes : ℕ → List ℕ
   pub label : List ℕ
-  pub max_hits : ℕ
-  pub depth : Option ℕ
-  pub plans : Asked
-  pub source : List ℕ
+  pub kinds : ℕ → List Kind
+  pub given : Given
 
+-- that of a target, whose plans grow by the usual kinds of faults
 abbrev pub campaign_of : (List Reply → Move) → List (List ℕ) → (ℕ → List ℕ) → List ℕ → Given → Campaign
 campaign_of asks points codes label given = record {
   asks = asks;
   points = points;
   codes = codes;
   label = label;
-  max_hits = given.max_hits;
-  depth = given.depth;
-  plans = given.plans;
-  source = given.source;
+  kinds = usual_kinds points;
+  given = given;
 }
 
 -- the same by a target's setup, its workload and settings
@@ -57,33 +55,44 @@ campaign_on target setup workload given =
 abbrev pub campaign_in : {T W : Type 0} → Ghosts T W → Subject T W → Campaign
 campaign_in target tried = campaign_on target tried.target.now tried.workload.now tried.settings.now
 
+-- the same from so many workers
+abbrev pub on_workers : ℕ → Campaign → Campaign
+on_workers workers c = record {
+  asks = c.asks;
+  points = c.points;
+  codes = c.codes;
+  label = c.label;
+  kinds = c.kinds;
+  given = with_workers workers c.given;
+}
+
 -- the verdict of a scenario under a stream number
 abbrev pub say : Campaign → ℕ → Entries → Verdict
-say c = verdict_with c.asks c.points c.plans.seed c.max_hits
+say c = verdict_with c.asks c.points c.given.plans.seed c.given.max_hits
 
 -- how often each point is asked without faults
 abbrev pub census : Campaign → List ℕ
-census c = census_of c.asks c.points c.plans.seed c.max_hits
+census c = census_of c.asks c.points c.given.plans.seed c.given.max_hits
 
 -- whose runs plans grow from, and how
 abbrev pub grower : Campaign → Grower
-grower c = usual_subject c.asks c.points c.max_hits
+grower c = record { asks = c.asks; names = c.points; limit = c.given.max_hits; kinds = c.kinds }
 
 -- the list of plans: that of the census, or, to a depth, the plans that grow from each other's runs, storms and listed scenarios
 abbrev pub plans_to : Campaign → Option ℕ → List Entries
-plans_to c None = plan_list c.points (census c) c.plans
-plans_to c (Some depth) = grown_list (grower c) depth c.plans (sites_of (census c))
+plans_to c None = plan_list c.points (census c) c.given.plans
+plans_to c (Some depth) = grown_list (grower c) depth c.given.plans (sites_of (census c))
 
 abbrev pub plans : Campaign → List Entries
-plans c = plans_to c c.depth
+plans c = plans_to c c.given.depth
 
 -- how the plans grew, to a depth
 abbrev pub growth : Campaign → Option GrowthFacts
-growth c = growth_of (grower c) c.plans.seed (plans c) c.depth
+growth c = growth_of (grower c) c.given.plans.seed (plans c) c.given.depth
 
 -- what the report tells
 abbrev pub report : Campaign → ReportFacts
-report c = report_of (say c) c.label c.plans.seed (census c) (plans c) (growth c)
+report c = report_of (say c) c.label c.given.plans.seed (census c) (plans c) (growth c)
 
 -- the report's text
 abbrev pub report_text : Campaign → List ℕ
@@ -119,11 +128,11 @@ pub record KeepsPromises (t : Grower) (depth : ℕ) : Type 0 where
 
 -- each cause that the report lists is one
 abbrev pub EachIsCause : Campaign → Type 0
-EachIsCause c = IfSome (report c).growth (λ growth. All (IsCauseAmong (grower c) c.plans.seed (grown (grower c) growth.depth)) growth.causes)
+EachIsCause c = IfSome (report c).growth (λ growth. All (IsCauseAmong (grower c) c.given.plans.seed (grown (grower c) growth.depth)) growth.causes)
 
 -- of a campaign with a depth, what its plans promise, and that the causes are causes
 pub record EachIsTried (c : Campaign) : Type 0 where
-  pub promises : IfSome c.depth (KeepsPromises (grower c))
+  pub promises : IfSome c.given.depth (KeepsPromises (grower c))
   pub causes : EachIsCause c
 
 -- the plans that grow to a depth, where there is one, and how many of them have their last fault from then on
@@ -140,10 +149,10 @@ abbrev pub mapped : ℕ → Campaign → Mapped
 mapped linked c = record {
   label = c.label;
   census = census c;
-  pairs = c.plans.pairs;
+  pairs = c.given.plans.pairs;
   plans = plans c;
-  grown = grown_to c c.depth;
-  onward = onward_to c c.depth;
+  grown = grown_to c c.given.depth;
+  onward = onward_to c c.given.depth;
   verdicts = verdicts_from (say c) 0 (plans c);
   firsts = first_failures c;
   linked = linked;

@@ -51,7 +51,9 @@ listing_text pairs storms rate listed =
     ++ codes "\nlisted scenarios: " ++ decimal listed ++ codes "\n"
 
 abbrev pub settings_text : Campaign → List ℕ
-settings_text c = limits_text c.max_hits c.depth ++ listing_text c.plans.pairs c.plans.storms c.plans.rate (length c.plans.listed)
+settings_text c =
+    limits_text c.given.max_hits c.given.depth
+    ++ listing_text c.given.plans.pairs c.given.plans.storms c.given.plans.rate (length c.given.plans.listed)
 
 -- the text that the settings were read from, or those lines where a program made them
 abbrev pub text_or : List ℕ → List ℕ → List ℕ
@@ -69,7 +71,7 @@ about c notes = record {
   cause_runs = cause_runs c (report c).growth;
   version = notes.version;
   command = notes.command;
-  settings = text_or c.source (settings_text c);
+  settings = text_or c.given.source (settings_text c);
 }
 
 -- the page

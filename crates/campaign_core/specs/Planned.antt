@@ -16,7 +16,7 @@ use Rattle.campaign_core.specs.declared.planned.Planned.{Planned}
 
 -- plans that grew, each of which can be rigged
 pub record IsGrown (c : Campaign) (depth : ℕ) (g : Grown) : Type 0 where
-  pub has_grown : HasGrown (grower c) c.plans.seed depth g
+  pub has_grown : HasGrown (grower c) c.given.plans.seed depth g
   pub rigs : AllByRecursion (λ plan. CanBeRigged (rigs_of plan)) (grown (grower c) depth)
 
 abbrev pub IsGrownTo : Campaign → Option ℕ → Option Grown → Type 0
@@ -58,15 +58,15 @@ AreGrown c (Some depth) (Some plans) = IsAll c depth plans
 
 -- the plans that don't grow
 abbrev pub listed_to : Campaign → Option ℕ → List Entries
-listed_to c None = plan_list c.points (census c) c.plans
-listed_to c (Some depth) = further_list c.points (census c) c.plans
+listed_to c None = plan_list c.points (census c) c.given.plans
+listed_to c (Some depth) = further_list c.points (census c) c.given.plans
 
 pub record IsPlanned (c : Campaign) (p : Planned) : Type 0 where
   pub census : p.census.counts.items ≡ census c
   pub counts : length p.census.counts.items ≡ length c.points
   pub points : length c.points ≤ 64
-  pub grown : IsGrownTo c c.depth p.grown
-  pub listed : p.listed ≡ listed_to c c.depth
+  pub grown : IsGrownTo c c.given.depth p.grown
+  pub listed : p.listed ≡ listed_to c c.given.depth
   pub few : length (plans c) ≤ most_plans
   pub some : 0 < length (plans c)
 

@@ -1,9 +1,9 @@
-//! What the reduced scenarios in a text are, as contracts of a function that does nothing.
-ghost use Rattle.std.specs.Prelude.{ℕ, All};
+//! Laws of campaigns, as contracts of functions that do nothing.
+ghost use Rattle.std.specs.Prelude.{◌≡◌, ℕ, All};
 ghost use Rattle.scenario_values.specs.Scenario.{Entries, DistinctNames};
 ghost use Rattle.action_eval.specs.Catalogue.{HasDistinct};
 ghost use Rattle.campaign_given.specs.Given.{Given};
-ghost use Rattle.campaign_core.specs.Headline.{Campaign, campaign_on, grower, EachIsCause, EachIsMinimal, KeepsPromises};
+ghost use Rattle.campaign_core.specs.Headline.{Campaign, campaign_on, grower, on_workers, report_text, EachIsCause, EachIsMinimal, KeepsPromises};
 ghost use Rattle.campaign_core.specs.CommandTexts.{IsReducedToMinimal};
 
 use grown_plans::{
@@ -19,8 +19,13 @@ use target_trait::Target;
 /// The names of the points are to be distinct, as those of each target are, and so are the names in each scenario that is listed or
 /// reduced, as those of each `Scenario` are.
 pub fn reduced_scenarios_are_minimal()
-    ensures report { (c : Campaign) → HasDistinct c.points → All (λ s. DistinctNames s) c.plans.listed → EachIsMinimal c }
+    ensures report { (c : Campaign) → HasDistinct c.points → All (λ s. DistinctNames s) c.given.plans.listed → EachIsMinimal c }
     ensures reduce { (c : Campaign) (stream : ℕ) (scenario : Entries) → DistinctNames scenario → IsReducedToMinimal c stream scenario }
+{}
+
+/// From however many workers, a campaign has the same report.
+pub fn workers_change_nothing()
+    ensures { (c : Campaign) (workers : ℕ) → report_text (on_workers workers c) ≡ report_text c }
 {}
 
 /// The plans of a campaign of a target keep what is promised of plans that grow, to whatever depth, and each cause that a report lists is one: the

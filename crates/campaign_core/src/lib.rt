@@ -26,7 +26,7 @@ mod written;
 pub use brief::brief_campaign;
 pub use ending::{CampaignFault, Ending};
 pub use explaining::{explain_one, explain_one_telling};
-pub use laws::{each_behaviour_is_tried, reduced_scenarios_are_minimal};
+pub use laws::{each_behaviour_is_tried, reduced_scenarios_are_minimal, workers_change_nothing};
 pub use listing::{plan_list, plan_scenario, plans_text};
 pub use machines::{MachineForm, machine_campaign};
 pub use mapping::map_campaign;

@@ -115,7 +115,7 @@ fn settings_text<T: Target>(alloc: Global, subject: &Subject<'_, T>) -> Result<S
 
 /// The text that the settings were read from, or those that every campaign has, where a program made them.
 fn shown_settings<T: Target>(alloc: Global, subject: &Subject<'_, T>) -> Result<String, AllocError>
-    ensures { IfOk result (λ text. let c = campaign_in T.Target subject.now in string_bytes text ≡ text_or c.source (settings_text c)) }
+    ensures { IfOk result (λ text. let c = campaign_in T.Target subject.now in string_bytes text ≡ text_or c.given.source (settings_text c)) }
 {
     let settings = subject.settings;
     let source = settings.source.as_str();

@@ -61,7 +61,7 @@ fn conditions<'s, T: Target, G: Gate, R: Threads + Wait + Sync>(
 ) -> Conditions<'s, T, G, R>
     requires { depth ≤ 64 }
     ensures grower { subject_in T.Target result ≡ grower (campaign_in T.Target subject.now) }
-    ensures seed { result.limits.seed ≡ (campaign_in T.Target subject.now).plans.seed }
+    ensures seed { result.limits.seed ≡ (campaign_in T.Target subject.now).given.plans.seed }
     ensures depth { result.limits.depth ≡ depth }
     ensures room { with_rest (campaign_in T.Target subject.now) result.limits.most_plans ≡ most_plans }
 {
@@ -149,9 +149,9 @@ pub fn begin_list<T: Target + Send, G: Gate, R: Threads + Wait + Sync>(
 ) -> Result<Option<GrownPlans>, PlanFault>
 where
     T::Workload: Sync,
-    ensures begun { IfOk result (λ grown. AreBegun (campaign_in T.Target subject.now) (campaign_in T.Target subject.now).depth count grown) }
+    ensures begun { IfOk result (λ grown. AreBegun (campaign_in T.Target subject.now) (campaign_in T.Target subject.now).given.depth count grown) }
     ensures many { IsErrOf result PlanFault.TooManyPlans
-        → most_plans < counted_to (campaign_in T.Target subject.now) count (campaign_in T.Target subject.now).depth }
+        → most_plans < counted_to (campaign_in T.Target subject.now) count (campaign_in T.Target subject.now).given.depth }
 {
     let settings = subject.settings;
     let Some(depth) = settings.depth else {
@@ -170,11 +170,11 @@ pub fn end_list<'a, T: Target>(
     subject: &Subject<'a, T>,
     grown: Option<&GrownPlans>,
 ) -> Result<(Census, PlanList<'a>), PlanFault>
-    requires { AreGrown (campaign_in T.Target subject.now) (campaign_in T.Target subject.now).depth (option_copied grown) }
+    requires { AreGrown (campaign_in T.Target subject.now) (campaign_in T.Target subject.now).given.depth (option_copied grown) }
     ensures census { IfOk result (λ r. r.0.counts.items ≡ census (campaign_in T.Target subject.now)) }
     ensures counts { IfOk result (λ r. length r.0.counts.items ≡ length T.names) }
     ensures points { length T.names ≤ 64 }
-    ensures listed { IfOk result (λ r. r.1 ≡ listed_to (campaign_in T.Target subject.now) (campaign_in T.Target subject.now).depth) }
+    ensures listed { IfOk result (λ r. r.1 ≡ listed_to (campaign_in T.Target subject.now) (campaign_in T.Target subject.now).given.depth) }
     ensures few { OnOk result (length (plans (campaign_in T.Target subject.now)) ≤ most_plans) }
     ensures some { OnOk result (0 < length (plans (campaign_in T.Target subject.now))) }
     ensures many { IsErrOf result PlanFault.TooManyPlans → most_plans < length (plans (campaign_in T.Target subject.now)) }
@@ -241,8 +241,8 @@ pub fn plans_with<'p, T: Target>(
     grown: Option<&'p GrownPlans>,
     listed: &'p PlanList<'_>,
 ) -> CampaignPlans<'p>
-    requires grown { AreGrown (campaign_in T.Target subject.now) (campaign_in T.Target subject.now).depth (option_copied grown) }
-    requires listed { listed.now ≡ listed_to (campaign_in T.Target subject.now) (campaign_in T.Target subject.now).depth }
+    requires grown { AreGrown (campaign_in T.Target subject.now) (campaign_in T.Target subject.now).given.depth (option_copied grown) }
+    requires listed { listed.now ≡ listed_to (campaign_in T.Target subject.now) (campaign_in T.Target subject.now).given.depth }
     requires few { length (plans (campaign_in T.Target subject.now)) ≤ most_plans }
     ensures { result ≡ plans (campaign_in T.Target subject.now) }
 {

@@ -122,6 +122,7 @@ fn growth_of<'r, T: Target>(
         levels: grown.levels.as_slice(),
         onward: grown.onward,
         beyond: grown.beyond,
+        unseen: 0,
         reached: outcomes.hits.as_slice(),
         causes,
     }))
@@ -156,6 +157,7 @@ where
         clean: results.verdicts[0],
         census: planned.census.counts.as_slice(),
         verdicts: results.verdicts.as_slice(),
+        unmet: 0,
         findings,
         growth,
     })

@@ -11,9 +11,9 @@ use Rattle.campaign_core.proofs.laws.reduced_scenarios_are_minimal.Goals as goal
 
 pub returns-clause-report : goal.returns-clause-report
 returns-clause-report a = λ c points listed.
-    findings_minimal c.asks c.points c.plans.seed c.max_hits (plans c) (first_failures (numbered (verdicts_from (say c) 0 (plans c))))
+    findings_minimal c.asks c.points c.given.plans.seed c.given.max_hits (plans c) (first_failures (numbered (verdicts_from (say c) 0 (plans c))))
     (plans_distinct c points listed) (each_fails (say c) (plans c) _ (firsts_of (verdicts_from (say c) 0 (plans c))))
 
 pub returns-clause-reduce : goal.returns-clause-reduce
 returns-clause-reduce a = λ c stream scenario distinct code fails.
-    reduced_minimal c.asks c.points c.plans.seed c.max_hits stream code scenario distinct (ap (fails_with code) fails ∙ eq-eqb code code refl)
+    reduced_minimal c.asks c.points c.given.plans.seed c.given.max_hits stream code scenario distinct (ap (fails_with code) fails ∙ eq-eqb code code refl)

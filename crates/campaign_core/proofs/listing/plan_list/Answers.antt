@@ -16,17 +16,17 @@ returns-in_err-grown-clause-fault g c =
     (unlisted k (plans_text k) w c.in_err-grown.field-0.0 (refl, c.requires)
     (λ is.
     let many = c.in_err-grown.ensures.many (ap Err is) in
-    let least = counted_least k 18446744073709551615 k.depth refl in
+    let least = counted_least k 18446744073709551615 k.given.depth refl in
     omega (arith, many, least)))
 
 pub end_list-requires : goal.end_list-requires
 end_list-requires g c =
     let k : Campaign = campaign_in g.T.Target c.args.subject.now in
-    subst (λ (o : Option (List (List Rig))). AreGrown k k.depth o) (sym c.as_ref-before.ensures.value)
-    (begun_full k k.depth 18446744073709551615 c.in_ok-grown.grown c.in_ok-grown.ensures.begun (omega arith))
+    subst (λ (o : Option (List (List Rig))). AreGrown k k.given.depth o) (sym c.as_ref-before.ensures.value)
+    (begun_full k k.given.depth 18446744073709551615 c.in_ok-grown.grown c.in_ok-grown.ensures.begun (omega arith))
 
 pub plans_with-plans-requires-clause-grown : goal.plans_with-plans-requires-clause-grown
 plans_with-plans-requires-clause-grown g c =
     let k : Campaign = campaign_in g.T.Target c.args.subject.now in
-    subst (λ (o : Option (List (List Rig))). AreGrown k k.depth o) (sym c.as_ref-before.ensures.value)
-    (begun_full k k.depth 18446744073709551615 c.in_ok-grown.grown c.in_ok-grown.ensures.begun (omega arith))
+    subst (λ (o : Option (List (List Rig))). AreGrown k k.given.depth o) (sym c.as_ref-before.ensures.value)
+    (begun_full k k.given.depth 18446744073709551615 c.in_ok-grown.grown c.in_ok-grown.ensures.begun (omega arith))

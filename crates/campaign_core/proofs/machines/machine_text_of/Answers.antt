@@ -19,7 +19,7 @@ pub json_text-requires-clause-reached : goal.json_text-requires-clause-reached
 json_text-requires-clause-reached g c =
     let k : Campaign = campaign_in g.T.Target c.args.subject.now in
     subst (λ (r : ReportFacts). IfSome r.growth (λ (x : GrowthFacts). length x.reached ≡ length k.points)) (sym c.in_ok-report.ensures.report)
-    (reached_counts k k.depth)
+    (reached_counts k k.given.depth)
 
 pub junit_text-requires : goal.junit_text-requires
 junit_text-requires g c =

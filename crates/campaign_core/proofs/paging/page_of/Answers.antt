@@ -18,7 +18,7 @@ pub page_text-requires-clause-reached : goal.page_text-requires-clause-reached
 page_text-requires-clause-reached g c =
     let k : Campaign = campaign_in g.T.Target c.args.subject.now in
     subst (λ (r : ReportFacts). IfSome r.growth (λ (x : GrowthFacts). length x.reached ≡ length k.points)) (sym c.in_ok-report.ensures.report)
-    (reached_counts k k.depth)
+    (reached_counts k k.given.depth)
 
 pub returns-clause-text : goal.returns-clause-text
 returns-clause-text g c =

@@ -11,7 +11,7 @@ returns-in-Ok-clause-begun g c =
     let k : Campaign = campaign_in g.T.Target c.args.subject.now in
     let on = c.conditions.result in
     let t : Subject = subject_in g.T.Target on in
-    let lawful : IsLawful (grower k) = c.each_target_is_a_lawful_subject.ensures c.args.subject.now.target.now c.args.subject.now.workload.now k.max_hits in
+    let lawful : IsLawful (grower k) = c.each_target_is_a_lawful_subject.ensures c.args.subject.now.target.now c.args.subject.now.workload.now k.given.max_hits in
     let same : begun t on.limits.depth c.args.count ≡ begun (grower k) c.args.depth c.args.count =
     ap (λ (u : Subject). begun u on.limits.depth c.args.count) c.conditions.ensures.grower ∙ ap (λ (n : ℕ). begun (grower k) n c.args.count) c.conditions.ensures.depth in
     let are : c.in-Ok.plans ≡ begun (grower k) c.args.depth c.args.count = c.in-Ok.ensures.begun ∙ same in

@@ -10,10 +10,10 @@ returns-in-Ok-clause-grown g c =
     let k : Campaign = campaign_in g.T.Target c.args.subject.now in
     let on = c.conditions.result in
     let t : Subject = subject_in g.T.Target on in
-    let lawful : IsLawful (grower k) = c.each_target_is_a_lawful_subject.ensures c.args.subject.now.target.now c.args.subject.now.workload.now k.max_hits in
+    let lawful : IsLawful (grower k) = c.each_target_is_a_lawful_subject.ensures c.args.subject.now.target.now c.args.subject.now.workload.now k.given.max_hits in
     record {
       has_grown =
-          subst (λ (u : Subject). HasGrown u k.plans.seed c.args.depth c.in-Ok.grown) c.conditions.ensures.grower
+          subst (λ (u : Subject). HasGrown u k.given.plans.seed c.args.depth c.in-Ok.grown) c.conditions.ensures.grower
           (subst (λ (n : ℕ). HasGrown t n c.args.depth c.in-Ok.grown) c.conditions.ensures.seed
           (subst (λ (n : ℕ). HasGrown t on.limits.seed n c.in-Ok.grown) c.conditions.ensures.depth c.in-Ok.ensures.grown));
       rigs = c.each_plan_can_be_rigged.ensures (grower k) lawful (search rules) c.args.depth c.requires;

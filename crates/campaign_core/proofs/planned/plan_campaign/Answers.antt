@@ -12,8 +12,8 @@ use Rattle.campaign_core.proofs.planned.plan_campaign.Goals as goal
 pub returns-in_err-grown-clause-many : goal.returns-in_err-grown-clause-many
 returns-in_err-grown-clause-many g c = λ h.
     let k : Campaign = campaign_in g.T.Target c.args.subject.now in
-    let depth : k.depth ≡ Some c.in-Some.depth = sym (ap (λ (s : Given). s.depth) c.settings.view_is) ∙ c.in-Some.is in
-    let counted = plans_counted k k.depth c.in-Some.depth depth in
+    let depth : k.given.depth ≡ Some c.in-Some.depth = sym (ap (λ (s : Given). s.depth) c.settings.view_is) ∙ c.in-Some.is in
+    let counted = plans_counted k k.given.depth c.in-Some.depth depth in
     let many = c.in_err-grown.ensures.many (search (h, rules)) in
     omega (arith, counted, many)
 
@@ -21,13 +21,13 @@ pub end_list-requires : goal.end_list-requires
 end_list-requires g c =
     let k : Campaign = campaign_in g.T.Target c.args.subject.now in
     let none : c.settings.inside.depth ≡ None = search rules in
-    let depth : k.depth ≡ None = sym (ap (λ (s : Given). s.depth) c.settings.view_is) ∙ none in
+    let depth : k.given.depth ≡ None = sym (ap (λ (s : Given). s.depth) c.settings.view_is) ∙ none in
     subst (λ (o : Option ℕ). AreGrown k o None) (sym depth) tt
 
 pub end_list-requires-2 : goal.end_list-requires-2
 end_list-requires-2 g c =
     let k : Campaign = campaign_in g.T.Target c.args.subject.now in
-    let depth : k.depth ≡ Some c.in-Some.depth = sym (ap (λ (s : Given). s.depth) c.settings.view_is) ∙ c.in-Some.is in
+    let depth : k.given.depth ≡ Some c.in-Some.depth = sym (ap (λ (s : Given). s.depth) c.settings.view_is) ∙ c.in-Some.is in
     let is = c.in_ok-grown.ensures.grown in
     subst (λ (o : Option ℕ). AreGrown k o (Some c.in_ok-grown.grown.plans)) (sym depth)
     (record {
@@ -40,7 +40,7 @@ end_list-requires-2 g c =
 pub returns-clause-planned : goal.returns-clause-planned
 returns-clause-planned g c =
     let k : Campaign = campaign_in g.T.Target c.args.subject.now in
-    let depth : k.depth ≡ Some c.in-Some.depth = sym (ap (λ (s : Given). s.depth) c.settings.view_is) ∙ c.in-Some.is in
+    let depth : k.given.depth ≡ Some c.in-Some.depth = sym (ap (λ (s : Given). s.depth) c.settings.view_is) ∙ c.in-Some.is in
     let end = c.in_ok-census-2.ensures in
     record {
       census = end.census;

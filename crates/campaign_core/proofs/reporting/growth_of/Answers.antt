@@ -7,5 +7,5 @@ use Rattle.campaign_core.proofs.reporting.growth_of.Goals as goal
 pub causes_of-requires : goal.causes_of-requires
 causes_of-requires g c =
     let k = campaign_in g.T.Target c.args.subject.now in
-    causes_of_plans k k.depth c.in-Some-grown.grown c.args.all.now c.as_slice.result.now
-    (subst (λ o. IsGrownTo k k.depth o) c.in-Some-grown.is c.requires.planned.grown) c.as_slice.ensures.value c.requires.plans
+    causes_of_plans k k.given.depth c.in-Some-grown.grown c.args.all.now c.as_slice.result.now
+    (subst (λ o. IsGrownTo k k.given.depth o) c.in-Some-grown.is c.requires.planned.grown) c.as_slice.ensures.value c.requires.plans

@@ -37,7 +37,7 @@ returns-clause-report g c =
     let counted = length_verdicts (say k) 0 (plans k) in
     let some : 0 < length items = omega (arith, many, counted, c.requires.planned.some) in
     let firsts : c.as_slice.result.now ≡ first_failures (numbered vs) = c.as_slice.ensures.value ∙ c.requires.results.1 in
-    report_is (say k) k.label k.plans.seed (census k) (plans k) (growth k)
+    report_is (say k) k.label k.given.plans.seed (census k) (plans k) (growth k)
     c.label.result.now c.settings.inside.seed c.index.result.now c.as_slice-2.result.now c.as_slice-3.result.now c.in_ok-findings.findings.items c.in_ok-growth.growth
     c.label.ensures (ap (λ (s : Given). s.plans.seed) c.settings.view_is)
     (get_or_read items 0 c.index.result.now some c.index.ensures verdict.Unresolved

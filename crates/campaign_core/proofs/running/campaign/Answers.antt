@@ -16,7 +16,7 @@ pub text-requires-clause-reached : goal.text-requires-clause-reached
 text-requires-clause-reached g c =
     let k : Campaign = campaign_in g.T.Target c.args.subject.now in
     subst (λ (r : ReportFacts). IfSome r.growth (λ (x : GrowthFacts). length x.reached ≡ length k.points)) (sym c.in_ok-report.ensures.report)
-    (reached_counts k k.depth)
+    (reached_counts k k.given.depth)
 
 pub returns-clause-promises : goal.returns-clause-promises
 returns-clause-promises g c =
