@@ -1,30 +1,19 @@
 -- What is still to be tried, by what answers tell.
-use Rattle.std.proofs.Common.{◌≡◌, ◌≤◌, ◌++◌, ℕ, zero, suc, List, [], ◌∷◌, Result, Ok, Err, length, refl, ap, sym, ◌∙◌, subst, arith}
-use Rattle.std.specs.Prelude.{Contains, IfErr, IsErrAnd, slice_index_or}
-use Rattle.std.specs.List.{AllByRecursion}
+use Rattle.std.proofs.Common.{◌≡◌, ◌++◌, ℕ, List, [], Result, Ok, Err, ap, sym, ◌∙◌, subst}
+use Rattle.std.specs.Prelude.{IfErr, IsErrAnd}
 use Rattle.scenario_values.specs.Scenario.{Entries}
 use Rattle.action_eval.specs.declared.rig.Rig.{Rig}
 use Rattle.plan_gen.specs.PlanList.{Asked}
 use Rattle.campaign_plans.specs.GrownScenarios.{grown_scenarios}
-use Rattle.grown_plans.specs.GrownPlans.{usual_kinds}
-use Rattle.grown_plans.proofs.Members.{all_weaker}
-use Rattle.known_runs.proofs.Kept.{part_short}
-use Rattle.answered_runs.specs.Answered.{Answered, known_plans, runs_in}
-use Rattle.answered_runs.specs.Broken.{line_told}
-use Rattle.answered_runs.specs.WholeList.{IsGap}
-use Rattle.answered_runs.specs.declared.whole.Gap.TheVariants as gap
-use Rattle.campaign_core.specs.declared.ending.CampaignFault.TheVariants as campaign
+use Rattle.answered_runs.specs.Answered.{Answered, known_plans}
 use Rattle.asked_lines.specs.Lines.{lines_for}
-use Rattle.outside_campaign.specs.declared.refusal.OutsideFault.TheVariants as refusal
 use Rattle.outside_campaign.proofs.Lines.{none_once}
-use Rattle.outside_grown.specs.Asked.{to_try, undecided, unrun}
+use Rattle.outside_grown.specs.Asked.{to_try}
 use Rattle.outside_grown.specs.Causes.{open_scenarios}
 use Rattle.outside_grown.specs.Further.{further_told}
 use Rattle.answered_campaigns.specs.Grown.{candidates, listed, or_else, untried}
 use Rattle.answered_campaigns.specs.declared.candidates.Told.{Told}
-use Rattle.answered_campaigns.specs.declared.fault.QuestionFault.{QuestionFault}
-use Rattle.answered_campaigns.specs.declared.fault.QuestionFault.TheVariants as fault
-use Rattle.answered_campaigns.specs.inside.Outcomes.{IsGapFault, IsTold, RefusesAsks, open_candidates}
+use Rattle.answered_campaigns.specs.inside.Outcomes.{IsTold, open_candidates}
 
 -- answers with a depth
 abbrev Known : Type 0
@@ -35,13 +24,6 @@ Known = Answered × ℕ
 pub grew_known : (k : Known) (a : Answered) (depth : ℕ) (plans : List (List Rig)) → (a, depth) ≡ k → plans ≡ known_plans a depth → plans ≡ known_plans k.0 k.1
 grew_known k a depth plans at is = is ∙ ap (λ (x : Known). known_plans x.0 x.1) at
 
--- they have few faults
-pub known_short : (k : Known) (plans : List (List Rig)) → k.1 ≤ 64 → plans ≡ known_plans k.0 k.1 → AllByRecursion (λ plan. length plan ≤ 64) plans
-known_short k plans low is =
-    subst (λ (ps : List (List Rig)). AllByRecursion (λ plan. length plan ≤ 64) ps) (sym is)
-    (all_weaker (λ (plan : List Rig). length plan ≤ k.1) (λ (plan : List Rig). length plan ≤ 64) (λ plan le. omega (arith, le, low)) (known_plans k.0 k.1)
-    (part_short (usual_kinds k.0.points) (runs_in k.0) k.1))
-
 -- what grew and what stands behind are the plans that are known
 pub listed_are : (k : Known) (a : Answered) (depth : ℕ) (asked asks : Asked) (points : List (List ℕ)) (plans : List Entries) (grew : List (List Rig)) (further : List Entries)
     → (a, depth) ≡ k → asks ≡ asked → points ≡ a.points → plans ≡ grown_scenarios points grew ++ further → grew ≡ known_plans a depth → further ≡ further_told a asks
@@ -51,27 +33,6 @@ listed_are k a depth asked asks points plans grew further at same names is known
     ∙ ap (λ (f : List Entries). grown_scenarios a.points (known_plans a depth) ++ f) behind ∙ ap (listed a depth) same ∙ ap (λ (x : Known). listed x.0 x.1 asked) at
 
 -- ---- faults
-
-none_before : (xs ys : List Entries) → xs ++ ys ≡ [] → xs ≡ []
-none_before [] ys h = refl
-none_before (x ∷ xs) ys h = absurd cc
-
-none_within : (xs : List Entries) (t : Entries) → xs ≡ [] → Contains xs t → ⊥
-none_within [] t is h = omega (arith, h.1)
-none_within (x ∷ xs) t is h = cc
-
--- where nothing is to be tried, no plan is without a run
-pub gap_refuses : (a : Answered) (depth : ℕ) (asked : Asked) (plans : List (List Rig)) (why : QuestionFault) → plans ≡ known_plans a depth → to_try a depth asked ≡ []
-    → IsGapFault a plans why → RefusesAsks a depth asked why
-gap_refuses a depth asked plans (fault.Unseen line) is none h =
-    subst (λ (ps : List (List Rig)). (n : ℕ) × IsGap (runs_in a) ps (gap.Unseen n) × (line ≡ line_told a (slice_index_or ps n []))) is h
-gap_refuses a depth asked plans (fault.Outside (refusal.NotAnswered t)) is none h =
-    none_within (unrun a plans) t (ap (unrun a) is ∙ none_before (unrun a (known_plans a depth)) (undecided a depth (further_told a asked)) none) h
-gap_refuses a depth asked plans (fault.Outside (refusal.Answers f)) is none h = absurd h
-gap_refuses a depth asked plans (fault.Outside (refusal.Campaign campaign.TooManyPlans)) is none h = absurd h
-gap_refuses a depth asked plans (fault.Outside (refusal.Campaign campaign.Memory)) is none h = tt
-gap_refuses a depth asked plans (fault.Outside (refusal.Campaign (campaign.Write n))) is none h = absurd h
-gap_refuses a depth asked plans (fault.Broken b) is none h = absurd h
 
 pub err_is : {T E : Type 0} (r : Result T E) (e : E) (P : E → Type 0) → IsErrAnd r (λ y. y ≡ e) → P e → IfErr r P
 err_is (Ok x) e P is h = tt

@@ -1,7 +1,10 @@
+pub mod KindLemmas
+mod Answered
 pub mod Asking
 pub mod Gaps
 pub mod Census
 pub mod Refused
 pub mod Told
 pub mod Reports
+pub mod Wholes
 pub mod Read

@@ -1,46 +1,94 @@
 -- What is told of a text of answers that was read.
-use Rattle.std.proofs.Common.{◌≡◌, ℕ, List, [], None, Option, Result, Ok, Err, ap, sym, ◌∙◌, subst}
+use Rattle.std.proofs.Common.{◌≡◌, ◌≤◌, ℕ, true, false, List, [], Some, None, Option, Result, Ok, Err, is_none, refl, ap, sym, ◌∙◌, subst}
 use Rattle.std.specs.Prelude.{IfOk, OnOk}
+use Rattle.std.specs.List.{AllByRecursion}
+use Rattle.action_eval.specs.declared.rig.Rig.{Rig}
+use Rattle.action_eval.specs.declared.rig.Kind.{Kind}
 use Rattle.grown_plans.specs.GrownPlans.{Subject}
+use Rattle.grown_plans.proofs.Members.{all_weaker}
 use Rattle.answer_text.specs.Runs.{known_runs, runs_of, told_in}
 use Rattle.answer_text.specs.declared.runs.RunLine.{RunLine}
+use Rattle.known_runs.specs.KnownPart.{are_told, known_part, to_run}
+use Rattle.known_runs.specs.ToldPart.{part_known}
+use Rattle.known_runs.specs.SeenPromises.{KeepsPromisesAsSeen}
+use Rattle.known_runs.proofs.Listed.{filter_all, part_is}
+use Rattle.known_runs.proofs.Seen.{ends_as_seen}
 use Rattle.answered_runs.specs.Answered.{Answered, known_plans, runs_in}
 use Rattle.answered_runs.specs.Components.{AgreesWithRuns, IsComponent}
-use Rattle.answered_runs.specs.WholeList.{AreSeen}
+use Rattle.answered_runs.specs.WholeList.{AreAllTold}
+use Rattle.answered_runs.proofs.Runs.{agree}
 use Rattle.campaign_given.specs.Description.{Description}
 use Rattle.campaign_given.specs.Given.{Given}
+use Rattle.campaign_core.specs.Headline.{Campaign, grower}
 use Rattle.outside_campaign.specs.declared.forms.Form.{Form}
-use Rattle.answered_campaigns.specs.Grown.{untried}
+use Rattle.answered_campaigns.specs.Kinds.{listed_kinds}
+use Rattle.answered_campaigns.specs.Grown.{campaign, untried}
 use Rattle.answered_campaigns.specs.Questions.{AreUnbroken, IsReportedText, Tells}
+use Rattle.answered_campaigns.specs.Seen.{IsReportAsSeen, first_number_seen, report_seen_in}
 use Rattle.answered_campaigns.specs.declared.fault.QuestionFault.{QuestionFault}
-use Rattle.answered_campaigns.specs.inside.Outcomes.{IsReportOf}
+use Rattle.answered_campaigns.specs.inside.Outcomes.{IsFirstNumberOf, IsTextOf}
+use Rattle.answered_campaigns.proofs.Reports.{grower_is}
+use Rattle.answered_campaigns.proofs.Wholes.{is_whole}
 
 pub tells : (outside : Description) (answers : List ℕ) (a : Answered) (codes points : List (List ℕ)) → codes ≡ outside.codes → points ≡ outside.points → a.points ≡ outside.points
-    → told_in a.book ≡ known_runs codes points answers → (lines : List RunLine) × (runs_of codes points answers ≡ Ok lines) → Tells outside answers a
-tells outside answers a codes points codes_are points_are same told read = record {
+    → a.listed ≡ listed_kinds outside → told_in a.book ≡ known_runs codes points answers → (lines : List RunLine) × (runs_of codes points answers ≡ Ok lines) → Tells outside answers a
+tells outside answers a codes points codes_are points_are same kinds told read = record {
   points = same;
+  listed = kinds;
   told = told ∙ ap (λ (cs : List (List ℕ)). known_runs cs points answers) codes_are ∙ ap (λ (ps : List (List ℕ)). known_runs outside.codes ps answers) points_are;
   lines = read.0;
   read = ap (λ (cs : List (List ℕ)). runs_of outside.codes cs answers) (sym points_are) ∙ ap (λ (cs : List (List ℕ)). runs_of cs points answers) (sym codes_are) ∙ read.1;
 }
 
-reported_text : (form : Form) (outside : Description) (given : Given) (a : Answered) (depth : ℕ) (answers text : List ℕ) (first : Option ℕ) → Tells outside answers a
-    → IsReportOf form outside given a depth text first → AreUnbroken a depth → AreSeen (runs_in a) (known_plans a depth) None → untried a depth given.plans ≡ []
+-- ---- each component's plans that are known are answered
+
+told_one : {A : Type 0} (o : Option A) → are_told o ≡ true → is_none o ≡ false
+told_one None e = absurd cc
+told_one (Some x) e = refl
+
+nothing_to_run : (a : Answered) (depth : ℕ) (t : Subject) → IsComponent a.points a.listed t → depth ≤ 64 → AgreesWithRuns t (told_in a.book) → AreAllTold (runs_in a) (known_plans a depth) → to_run t depth (runs_in a) ≡ []
+nothing_to_run a depth t is low agrees told =
+    let same : known_part t depth (runs_in a) ≡ known_plans a depth =
+    part_is t is.lawful depth (runs_in a) (agree t a.points a.listed (told_in a.book) depth is low agrees) ∙ ap (λ (ks : ℕ → List Kind). part_known ks (runs_in a) depth) is.kinds in
+    filter_all (λ (plan : List Rig). is_none (runs_in a plan)) false (known_part t depth (runs_in a))
+    (subst (λ (ps : List (List Rig)). AllByRecursion (λ plan. is_none (runs_in a plan) ≡ false) ps) (sym same)
+    (all_weaker (λ (plan : List Rig). are_told (runs_in a plan) ≡ true) (λ (plan : List Rig). is_none (runs_in a plan) ≡ false) (λ plan e. told_one (runs_in a plan) e) (known_plans a depth) told))
+
+-- ---- the report of each component
+
+as_seen : (form : Form) (outside : Description) (given : Given) (a : Answered) (depth : ℕ) (text : List ℕ) (first : Option ℕ) → depth ≤ 64 → a.points ≡ outside.points
+    → IsTextOf form outside given a depth text → IsFirstNumberOf outside given a depth first → AreAllTold (runs_in a) (known_plans a depth)
+    → (t : Subject) → IsComponent a.points a.listed t → AgreesWithRuns t (told_in a.book) → IsReportAsSeen form (campaign outside given depth t) depth (runs_in a) text first
+as_seen form outside given a depth text first low same is_text is_first told t is agrees =
+    let c : Campaign = campaign outside given depth t in
+    let own : t ≡ grower c = sym (grower_is outside given a depth t is agrees low same) in
+    let done : to_run t depth (runs_in a) ≡ [] = nothing_to_run a depth t is low agrees told in
+    let text_is : text ≡ report_seen_in form c depth (runs_in a) = is_text t is agrees in
+    let first_is : first ≡ first_number_seen c depth (runs_in a) = is_first t is agrees in
+    record {
+      text_is = text_is;
+      first_is = first_is;
+      whole = λ none. is_whole c depth (runs_in a) refl (subst (λ (g : Subject). to_run g depth (runs_in a) ≡ []) own done) none form text first text_is first_is;
+      promises = subst (λ (g : Subject). KeepsPromisesAsSeen g depth (runs_in a)) own (ends_as_seen t is.lawful depth (runs_in a) done);
+    }
+
+reported_text : (form : Form) (outside : Description) (given : Given) (a : Answered) (depth : ℕ) (answers text : List ℕ) (first : Option ℕ) → depth ≤ 64 → Tells outside answers a
+    → IsTextOf form outside given a depth text → IsFirstNumberOf outside given a depth first → AreUnbroken a depth → AreAllTold (runs_in a) (known_plans a depth) → untried a depth given.plans ≡ []
     → IsReportedText form outside given depth answers text first
-reported_text form outside given a depth answers text first t r unbroken seen all = record {
-  text_is = λ s agrees. r.text_is s (subst (λ (ps : List (List ℕ)). IsComponent ps s) (sym t.points) agrees.component) (subst (AgreesWithRuns s) (sym t.told) agrees.agrees);
-  first_is = λ s agrees. r.first_is s (subst (λ (ps : List (List ℕ)). IsComponent ps s) (sym t.points) agrees.component) (subst (AgreesWithRuns s) (sym t.told) agrees.agrees);
+reported_text form outside given a depth answers text first low t is_text is_first unbroken told all = record {
   runs = a;
   tells = t;
   unbroken = unbroken;
-  seen = seen;
   all = all;
+  each =
+      λ s agrees. as_seen form outside given a depth text first low t.points is_text is_first told s
+      (subst (λ (ps : List (List ℕ)). IsComponent ps a.listed s) (sym t.points) (subst (λ (ls : List (List Kind)). IsComponent outside.points ls s) (sym t.listed) agrees.component)) (subst (AgreesWithRuns s) (sym t.told) agrees.agrees);
 }
 
 pub reported : {A : Type 0} (form : Form) (outside : Description) (given : Given) (a : Answered) (depth : ℕ) (answers : List ℕ) (text : A → List ℕ) (first : A → Option ℕ)
-    (result : Result A QuestionFault) → Tells outside answers a → IfOk result (λ r. IsReportOf form outside given a depth (text r) (first r)) → OnOk result (AreUnbroken a depth)
-    → OnOk result (AreSeen (runs_in a) (known_plans a depth) None) → OnOk result (untried a depth given.plans ≡ [])
+    (result : Result A QuestionFault) → depth ≤ 64 → Tells outside answers a → IfOk result (λ r. IsTextOf form outside given a depth (text r)) → IfOk result (λ r. IsFirstNumberOf outside given a depth (first r))
+    → OnOk result (AreUnbroken a depth) → OnOk result (AreAllTold (runs_in a) (known_plans a depth)) → OnOk result (untried a depth given.plans ≡ [])
     → IfOk result (λ r. IsReportedText form outside given depth answers (text r) (first r))
-reported form outside given a depth answers text first (Ok r) t is unbroken seen all =
-    reported_text form outside given a depth answers (text r) (first r) t is unbroken seen all
-reported form outside given a depth answers text first (Err e) t is unbroken seen all = tt
+reported form outside given a depth answers text first (Ok r) low t is_text is_first unbroken told all =
+    reported_text form outside given a depth answers (text r) (first r) low t is_text is_first unbroken told all
+reported form outside given a depth answers text first (Err e) low t is_text is_first unbroken told all = tt

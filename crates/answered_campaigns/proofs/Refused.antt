@@ -7,21 +7,20 @@ use Rattle.scenario_values.specs.Tidied.{tidied}
 use Rattle.action_eval.specs.declared.rig.Rig.{Rig}
 use Rattle.campaign_plans.specs.GrownScenarios.{grown_scenario, grown_scenarios}
 use Rattle.grown_plans.proofs.Members.{all_weaker, contains_cases, contains_head, contains_none, contains_tail}
-use Rattle.known_runs.specs.Known.{KnownRuns, hits_of, hits_told}
+use Rattle.known_runs.specs.Known.{KnownRuns}
 use Rattle.known_runs.specs.KnownPart.{are_told}
 use Rattle.action_eval.specs.declared.rig.Kind.{Kind}
 use Rattle.known_runs.specs.ToldPart.{level_known, levels_known}
 use Rattle.known_runs.proofs.Kept.{part_short}
 use Rattle.plan_gen.specs.PlanList.{Asked}
-use Rattle.grown_plans.specs.GrownPlans.{usual_kinds}
 use Rattle.answer_text.specs.Known.{KnownVerdicts}
 use Rattle.answer_text.specs.Runs.{told_in}
 use Rattle.answer_text.specs.declared.runs.ToldRun.{ToldRun}
 use Rattle.target_trait.specs.declared.judgement.Verdict.{Verdict}
-use Rattle.answered_runs.specs.Answered.{Answered, known_plans, runs_in, told_of}
+use Rattle.answered_runs.specs.Answered.{Answered, known_plans, runs_in, told_of, kinds_over}
 use Rattle.answered_runs.specs.Rigged.{rigs_of_scenario}
 use Rattle.answered_runs.specs.Verdicts.{told_or, verdict_by, walked_by}
-use Rattle.answered_runs.specs.WholeList.{AreAllSeen}
+use Rattle.answered_runs.specs.WholeList.{AreAllTold}
 use Rattle.campaign_core.specs.declared.ending.CampaignFault.TheVariants as campaign
 use Rattle.outside_campaign.specs.Asked.{open_plans}
 use Rattle.outside_campaign.specs.declared.refusal.OutsideFault.TheVariants as refusal
@@ -31,7 +30,7 @@ use Rattle.answered_campaigns.specs.Grown.{candidates, known, listed, or_else, u
 use Rattle.answered_campaigns.specs.Questions.{RefusesBy}
 use Rattle.answered_campaigns.specs.declared.fault.QuestionFault.{QuestionFault}
 use Rattle.answered_campaigns.specs.declared.fault.QuestionFault.TheVariants as fault
-use Rattle.answered_campaigns.specs.inside.Outcomes.{IsFirstOf, IsGapFault, IsOpenPlan, RefusesAsks, RefusesKnown}
+use Rattle.answered_campaigns.specs.inside.Outcomes.{IsFirstOf, IsGapFault, IsOpenPlan, RefusesAsks}
 
 -- ---- known plans
 
@@ -39,7 +38,7 @@ pub known_short : (a : Answered) (depth : ℕ) (plans : List (List Rig)) → pla
 known_short a depth plans is low =
     subst (AllByRecursion (λ (plan : List Rig). length plan ≤ 64)) (sym is)
     (all_weaker (λ (plan : List Rig). length plan ≤ depth) (λ (plan : List Rig). length plan ≤ 64) (λ plan le. omega (arith, le, low)) (known_plans a depth)
-    (part_short (usual_kinds a.points) (runs_in a) depth))
+    (part_short (kinds_over a.points a.listed) (runs_in a) depth))
 
 -- ---- what is in a list
 
@@ -61,31 +60,26 @@ tried_first (x ∷ xs) others t there = there
 
 -- ---- faults
 
-pub known_asks : (a : Answered) (depth : ℕ) (asked : Asked) (why : QuestionFault) → RefusesKnown a depth asked why → RefusesAsks a depth asked why
-known_asks a depth asked (fault.Broken b) h = h
-known_asks a depth asked (fault.Unseen line) h = absurd h
-known_asks a depth asked (fault.Outside (refusal.NotAnswered t)) h = absurd h
-known_asks a depth asked (fault.Outside (refusal.Answers f)) h = h
-known_asks a depth asked (fault.Outside (refusal.Campaign campaign.TooManyPlans)) h = h
-known_asks a depth asked (fault.Outside (refusal.Campaign campaign.Memory)) h = h
-known_asks a depth asked (fault.Outside (refusal.Campaign (campaign.Write n))) h = h
-
 pub asks_refused : (a : Answered) (depth : ℕ) (asked : Asked) (why : QuestionFault) → RefusesAsks a depth asked why → RefusesBy a depth asked why
 asks_refused a depth asked (fault.Broken b) h = h
-asks_refused a depth asked (fault.Unseen line) h = h
 asks_refused a depth asked (fault.Outside (refusal.NotAnswered t)) h = absurd h
 asks_refused a depth asked (fault.Outside (refusal.Answers f)) h = h
+asks_refused a depth asked (fault.Outside (refusal.Census line)) h = h
+asks_refused a depth asked (fault.Scenario f) h = h
+asks_refused a depth asked (fault.Unseen line) h = h
 asks_refused a depth asked (fault.Outside (refusal.Campaign campaign.TooManyPlans)) h = h
 asks_refused a depth asked (fault.Outside (refusal.Campaign campaign.Memory)) h = h
 asks_refused a depth asked (fault.Outside (refusal.Campaign (campaign.Write n))) h = h
 
--- a plan isn't answered whole
+-- nothing is told of a plan's run
 by_gap : (a : Answered) (depth : ℕ) (asked : Asked) (why : QuestionFault) → IsGapFault a (known_plans a depth) why → RefusesBy a depth asked why
 by_gap a depth asked (fault.Broken b) h = absurd h
-by_gap a depth asked (fault.Unseen line) h = h
 by_gap a depth asked (fault.Outside (refusal.NotAnswered t)) h =
     tried_first (to_try a depth asked) (candidates a depth asked) t (contains_left (unrun a (known_plans a depth)) (undecided a depth (further_told a asked)) t h)
 by_gap a depth asked (fault.Outside (refusal.Answers f)) h = absurd h
+by_gap a depth asked (fault.Outside (refusal.Census line)) h = absurd h
+by_gap a depth asked (fault.Scenario f) h = absurd h
+by_gap a depth asked (fault.Unseen line) h = absurd h
 by_gap a depth asked (fault.Outside (refusal.Campaign campaign.TooManyPlans)) h = absurd h
 by_gap a depth asked (fault.Outside (refusal.Campaign campaign.Memory)) h = tt
 by_gap a depth asked (fault.Outside (refusal.Campaign (campaign.Write n))) h = absurd h
@@ -159,11 +153,13 @@ open_listed a depth asked t there =
 
 by_open : (a : Answered) (depth : ℕ) (asked : Asked) (why : QuestionFault) → IsOpenPlan (known a depth) (listed a depth asked) why → RefusesBy a depth asked why
 by_open a depth asked (fault.Broken b) h = absurd h
-by_open a depth asked (fault.Unseen line) h = absurd h
 by_open a depth asked (fault.Outside (refusal.NotAnswered t)) h =
     tried_first (to_try a depth asked) (candidates a depth asked) t
     (open_listed a depth asked t (subst (λ (l : List Entries). Contains l t) (sym h.1) (contains_head t h.0)))
 by_open a depth asked (fault.Outside (refusal.Answers f)) h = absurd h
+by_open a depth asked (fault.Outside (refusal.Census line)) h = absurd h
+by_open a depth asked (fault.Scenario f) h = absurd h
+by_open a depth asked (fault.Unseen line) h = absurd h
 by_open a depth asked (fault.Outside (refusal.Campaign campaign.TooManyPlans)) h = absurd h
 by_open a depth asked (fault.Outside (refusal.Campaign campaign.Memory)) h = tt
 by_open a depth asked (fault.Outside (refusal.Campaign (campaign.Write n))) h = absurd h
@@ -174,19 +170,19 @@ open_refused a depth asked plans why is h = by_open a depth asked why (subst (λ
 
 -- ---- nothing is still to be tried
 
-seen_run : (runs : KnownRuns) (plan : List Rig) → are_told (hits_of runs plan) ≡ true → is_none (runs plan) ≡ false
-seen_run runs plan e = at (runs plan) e
+told_run : (runs : KnownRuns) (plan : List Rig) → are_told (runs plan) ≡ true → is_none (runs plan) ≡ false
+told_run runs plan e = at (runs plan) e
   where
-    at : (o : Option _) → are_told (hits_told o) ≡ true → is_none o ≡ false
+    at : {A : Type 0} (o : Option A) → are_told o ≡ true → is_none o ≡ false
     at None h = cc
     at (Some x) h = refl
 
-none_unrun : (a : Answered) (plans : List (List Rig)) → AreAllSeen (runs_in a) plans → unrun a plans ≡ []
-none_unrun a [] seen = refl
-none_unrun a (p ∷ ps) seen =
+none_unrun : (a : Answered) (plans : List (List Rig)) → AreAllTold (runs_in a) plans → unrun a plans ≡ []
+none_unrun a [] told = refl
+none_unrun a (p ∷ ps) told =
     ap (λ (b : Bool). map (λ plan. tidied (grown_scenario a.points plan)) (cond b (p ∷ filter (λ plan. is_none (runs_in a plan)) ps) (filter (λ plan. is_none (runs_in a plan)) ps)))
-    (seen_run (runs_in a) p seen.0)
-    ∙ none_unrun a ps seen.1
+    (told_run (runs_in a) p told.0)
+    ∙ none_unrun a ps told.1
 
 right_none : (k : KnownVerdicts) (xs ys : List Entries) → open_plans k (xs ++ ys) ≡ [] → open_plans k ys ≡ []
 right_none k [] ys e = e
@@ -196,23 +192,25 @@ right_none k (x ∷ xs) ys e = at (λ h. right_none k xs ys h) (is_none (k (tidi
     at ih true h = cc
     at ih false h = ih h
 
-pub none_to_try : (a : Answered) (depth : ℕ) (asked : Asked) (plans : List Entries) → AreAllSeen (runs_in a) (known_plans a depth) → plans ≡ listed a depth asked
+pub none_to_try : (a : Answered) (depth : ℕ) (asked : Asked) (plans : List Entries) → AreAllTold (runs_in a) (known_plans a depth) → plans ≡ listed a depth asked
     → open_plans (known a depth) plans ≡ [] → to_try a depth asked ≡ []
-none_to_try a depth asked plans seen is none =
+none_to_try a depth asked plans told is none =
     let further : undecided a depth (further_told a asked) ≡ [] =
     sym (open_further a depth (further_told a asked))
     ∙ right_none (known a depth) (grown_scenarios a.points (known_plans a depth)) (further_told a asked) (ap (open_plans (known a depth)) (sym is) ∙ none) in
-    ap (λ (l : List Entries). l ++ undecided a depth (further_told a asked)) (none_unrun a (known_plans a depth) seen) ∙ further
+    ap (λ (l : List Entries). l ++ undecided a depth (further_told a asked)) (none_unrun a (known_plans a depth) told) ∙ further
 
 -- ---- candidates
 
 by_cards : (a : Answered) (depth : ℕ) (asked : Asked) (why : QuestionFault) (cards : List Entries) → cards ≡ candidates a depth asked → to_try a depth asked ≡ [] → IsFirstOf cards why
     → RefusesBy a depth asked why
 by_cards a depth asked (fault.Broken b) cards is none h = absurd h
-by_cards a depth asked (fault.Unseen line) cards is none h = absurd h
 by_cards a depth asked (fault.Outside (refusal.NotAnswered t)) cards is none h =
     subst (λ (l : List Entries). Contains (or_else l (candidates a depth asked)) t) (sym none) (subst (λ (l : List Entries). Contains l t) is h)
 by_cards a depth asked (fault.Outside (refusal.Answers f)) cards is none h = absurd h
+by_cards a depth asked (fault.Outside (refusal.Census line)) cards is none h = absurd h
+by_cards a depth asked (fault.Scenario f) cards is none h = absurd h
+by_cards a depth asked (fault.Unseen line) cards is none h = absurd h
 by_cards a depth asked (fault.Outside (refusal.Campaign campaign.TooManyPlans)) cards is none h = absurd h
 by_cards a depth asked (fault.Outside (refusal.Campaign campaign.Memory)) cards is none h = tt
 by_cards a depth asked (fault.Outside (refusal.Campaign (campaign.Write n))) cards is none h = absurd h
@@ -236,4 +234,4 @@ levels_some kinds runs zero = omega arith
 levels_some kinds runs (suc d) = left_some (levels_known kinds runs d) _ (levels_some kinds runs d)
 
 pub some_known : (a : Answered) (depth : ℕ) → 0 < length (known_plans a depth)
-some_known a depth = left_some (levels_known (usual_kinds a.points) (runs_in a) depth) _ (levels_some (usual_kinds a.points) (runs_in a) depth)
+some_known a depth = left_some (levels_known (kinds_over a.points a.listed) (runs_in a) depth) _ (levels_some (kinds_over a.points a.listed) (runs_in a) depth)

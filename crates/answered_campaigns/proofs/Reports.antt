@@ -1,7 +1,7 @@
 -- What is told of a campaign with a depth, for a component that agrees with the answers.
-use Rattle.std.proofs.Common.{◌≡◌, ◌≤◌, ◌<◌, ◌+◌, ◌&&◌, Bool, length-append, ℕ, zero, suc, List, [], ◌∷◌, Some, None, Option, length, map, refl, ap, sym, ◌∙◌, subst, arith}
+use Rattle.std.proofs.Common.{◌≡◌, ◌≤◌, ◌<◌, ◌+◌, ◌&&◌, Bool, length-append, ℕ, zero, suc, List, [], ◌∷◌, Some, Option, length, map, refl, ap, sym, ◌∙◌, subst, arith}
 use Rattle.std.specs.Prelude.{option_map, slice_get, slice_index_or}
-use Rattle.std.specs.List.{AllByRecursion}
+use Rattle.std.specs.List.{AllByRecursion, range_with_len}
 use Rattle.std.proofs.Math.Path.{fun_ext}
 use Rattle.campaign_plans.specs.GrownScenarios.{grown_scenarios}
 use Rattle.scenario_values.specs.Scenario.{Entries, IsScenario, all_faults}
@@ -15,8 +15,10 @@ use Rattle.target_trait.specs.Play.{Move}
 use Rattle.target_trait.specs.declared.judgement.Verdict.{Verdict}
 use Rattle.target_trait.specs.declared.judgement.Verdict.TheVariants as verdict
 use Rattle.target_trait.proofs.Verdicts.{outcome_same}
-use Rattle.plan_gen.specs.Census.{census_of, sites_of}
-use Rattle.grown_plans.specs.GrownPlans.{Subject, grown, grown_list, usual_kinds, usual_subject}
+use Rattle.grown_plans.specs.GrownPlans.{Subject}
+use Rattle.known_runs.specs.Known.{KnownRuns}
+use Rattle.known_runs.specs.KnownPart.{known_part}
+use Rattle.known_runs.specs.KnownPlans.{AreKnown, level_size}
 use Rattle.result_book.specs.Verdicts.{verdicts_from, numbered}
 use Rattle.result_book.specs.FirstFailures.{first_failures}
 use Rattle.ddmin_parallel.specs.Ddmin.{Reduced, ddmin}
@@ -29,27 +31,29 @@ use Rattle.answered_runs.proofs.Known.{true_of}
 use Rattle.campaign_given.specs.Description.{Description}
 use Rattle.campaign_given.specs.Given.{Given}
 use Rattle.campaign_core.specs.FaultTest.{fails_with, fault_test}
-use Rattle.campaign_core.specs.Findings.{finding, growth_of, plan_at, reduction}
-use Rattle.campaign_core.specs.Headline.{Campaign, census, grower, growth, plans, report, say}
+use Rattle.campaign_core.specs.Findings.{finding, plan_at, reduction}
+use Rattle.campaign_core.specs.Headline.{Campaign, grower, say}
 use Rattle.outside_campaign.specs.Campaigns.{code_name}
 use Rattle.outside_campaign.specs.Outside.{EachAgrees, say_each}
 use Rattle.action_eval.specs.declared.rig.Rig.{Rig}
-use Rattle.grown_plans.specs.GrownPlans.{beyond, onward}
-use Rattle.grown_runs.specs.Grown.{level_sizes, reached_each}
 use Rattle.grown_runs.specs.GrownRuns.{cause_at, over}
 use Rattle.report.specs.Reports.{CauseFacts}
 use Rattle.answered_runs.specs.Answered.{runs_in}
-use Rattle.answered_runs.specs.WholeList.{AreSeen, IsListOf}
+use Rattle.answered_runs.specs.WholeList.{unseen_count}
 use Rattle.answered_runs.specs.declared.whole.Listed.{Listed}
 use Rattle.campaign_core.specs.Findings.{cause_of}
 use Rattle.outside_campaign.specs.Asked.{known_failures}
 use Rattle.outside_campaign.specs.Forms.{ShownFacts, text_in}
 use Rattle.outside_campaign.specs.declared.forms.Form.{Form}
 use Rattle.outside_campaign.proofs.ResultLemmas.{failures_are_first}
+use Rattle.outside_grown.specs.Further.{census_seen, clean_hits}
+use Rattle.outside_grown.specs.Lists.{list_known}
+use Rattle.outside_grown.specs.Reached.{reached_seen}
 use Rattle.outside_grown.specs.declared.listing.GrownLists.{GrownLists}
-use Rattle.answered_campaigns.specs.Grown.{campaign, first_number, known, shown}
+use Rattle.answered_campaigns.specs.Grown.{campaign, known}
+use Rattle.answered_campaigns.specs.Seen.{growth_seen, onward_seen, plans_seen, report_seen, shown_seen}
 use Rattle.answered_campaigns.specs.declared.candidates.Told.{Told}
-use Rattle.answered_campaigns.specs.inside.Outcomes.{IsCleanCensus, IsDecided, IsTextOf}
+use Rattle.answered_campaigns.specs.inside.Outcomes.{IsCleanCensus, IsDecided, IsFirstNumberOf, IsTextOf}
 
 -- ---- verdicts by a stream number
 
@@ -110,12 +114,10 @@ findings_alike f alike plans lawful (x ∷ xs) =
 
 -- ---- a component as one whose plans grow
 
-pub usual_is : (t : Subject) (points : List (List ℕ)) → t.names ≡ points → t.kinds ≡ usual_kinds points → usual_subject t.asks points t.limit ≡ t
-usual_is t points names kinds =
-    ap (λ (ns : List (List ℕ)). record { asks = t.asks; names = ns; limit = t.limit; kinds = usual_kinds points }) (sym names)
-    ∙ ap (λ k. record { asks = t.asks; names = t.names; limit = t.limit; kinds = k }) (sym kinds)
+abbrev over_points : Subject → List (List ℕ) → Subject
+over_points t points = record { asks = t.asks; names = points; limit = t.limit; kinds = t.kinds }
 
-module _ (outside : Description) (given : Given) (a : Answered) (depth : ℕ) (t : Subject) (is : IsComponent a.points t)
+module _ (outside : Description) (given : Given) (a : Answered) (depth : ℕ) (t : Subject) (is : IsComponent a.points a.listed t)
     (agrees : AgreesWithRuns t (told_in a.book)) (low : depth ≤ 64) (same : a.points ≡ outside.points) where
   abbrev pub c : Campaign
   c = campaign outside given depth t
@@ -124,30 +126,32 @@ module _ (outside : Description) (given : Given) (a : Answered) (depth : ℕ) (t
   names = is.names ∙ same
 
   pub grower_is : grower c ≡ t
-  grower_is = usual_is t outside.points names (is.usual ∙ ap usual_kinds same)
+  grower_is = ap (over_points t) (sym names)
 
   -- what it says of scenarios is what is known
   pub agree_each : EachAgrees (say c) (known a depth)
   unfolding verdict_with
   agree_each n s v lawful k =
       ap (λ (ns : List (List ℕ)). (outcome t.asks (given_of s ns given.plans.seed n t.limit)).verdict) (sym names)
-      ∙ true_of t a.points (told_in a.book) depth is low agrees s v lawful k given.plans.seed n
+      ∙ true_of t a.points a.listed (told_in a.book) depth is low agrees s v lawful k given.plans.seed n
 
   pub alike : SaysAlike (say c)
   alike = says_alike t.asks outside.points given.plans.seed t.limit
 
-  pub census_names : census_of t.asks t.names given.plans.seed t.limit ≡ census c
-  census_names = ap (λ (ns : List (List ℕ)). census_of t.asks ns given.plans.seed t.limit) names
+  abbrev pub runs : KnownRuns
+  runs = runs_in a
 
-  pub plans_are : (list : List Entries) → list ≡ grown_list t depth given.plans (sites_of (census_of t.asks t.names given.plans.seed t.limit)) → list ≡ plans c
-  plans_are list is_list =
-      is_list ∙ ap (λ (g : Subject). grown_list g depth given.plans (sites_of (census_of t.asks t.names given.plans.seed t.limit))) (sym grower_is)
-      ∙ ap (λ (counts : List ℕ). grown_list (grower c) depth given.plans (sites_of counts)) census_names
+  pub census_names : census_seen t given.plans.seed (clean_hits a) ≡ census_seen (grower c) given.plans.seed (clean_hits a)
+  census_names = ap (λ (g : Subject). census_seen g given.plans.seed (clean_hits a)) (sym grower_is)
 
-  pub growth_is : (list : List Entries) → list ≡ plans c → growth_of t given.plans.seed list (Some depth) ≡ growth c
+  pub plans_are : (list : List Entries) → list ≡ list_known t depth given.plans runs → list ≡ plans_seen c depth runs
+  plans_are list is_list = is_list ∙ ap (λ (g : Subject). list_known g depth given.plans runs) (sym grower_is)
+
+  pub growth_is : (list : List Entries) → list ≡ plans_seen c depth runs
+      → growth_seen t given.plans.seed list depth runs ≡ growth_seen (grower c) given.plans.seed (plans_seen c depth runs) depth runs
   growth_is list e =
-      ap (λ (g : Subject). growth_of g given.plans.seed list (Some depth)) (sym grower_is)
-      ∙ ap (λ (l : List Entries). growth_of (grower c) given.plans.seed l (Some depth)) e
+      ap (λ (g : Subject). growth_seen g given.plans.seed list depth runs) (sym grower_is)
+      ∙ ap (λ (l : List Entries). growth_seen (grower c) given.plans.seed l depth runs) e
 
   abbrev pub first_ones : List Entries → List (ℕ × ℕ)
   first_ones list = first_failures (numbered (verdicts_from (say c) 0 list))
@@ -159,100 +163,121 @@ module _ (outside : Description) (given : Given) (a : Answered) (depth : ℕ) (t
     clean = slice_index_or verdicts 0 verdict.Unresolved;
     census = counts;
     verdicts = verdicts;
+    unmet = 0;
     findings = found;
     growth = g;
   }
 
   -- what is said of tidied scenarios makes the report
-  pub report_is : (list : List Entries) (vs : List Verdict) (found : List FindingFacts) (failures : List (ℕ × ℕ)) (counts : List ℕ) (g : Option GrowthFacts) → list ≡ plans c
+  pub report_is : (list : List Entries) (vs : List Verdict) (found : List FindingFacts) (failures : List (ℕ × ℕ)) (counts : List ℕ) (g : GrowthFacts) → list ≡ plans_seen c depth runs
       → AllByRecursion (λ s. IsScenario s) list → vs ≡ verdicts_from (say_each (say c)) 0 list → found ≡ map (finding (say_each (say c)) list) failures
-      → first_failures (numbered (verdicts_from (say_each (say c)) 0 list)) ≡ failures → counts ≡ census c → g ≡ growth c → facts vs found counts g ≡ report c
+      → first_failures (numbered (verdicts_from (say_each (say c)) 0 list)) ≡ failures → counts ≡ census_seen (grower c) given.plans.seed (clean_hits a)
+      → g ≡ growth_seen (grower c) given.plans.seed (plans_seen c depth runs) depth runs → facts vs found counts (Some g) ≡ report_seen c depth runs
   report_is list vs found failures counts g e lawful vs_are found_are first_are counted grew =
       let verdicts : verdicts_from (say_each (say c)) 0 list ≡ verdicts_from (say c) 0 list = verdicts_alike (say c) alike 0 list lawful in
       let firsts : failures ≡ first_ones list = sym first_are ∙ ap (λ (x : List Verdict). first_failures (numbered x)) verdicts in
       let findings : found ≡ map (finding (say c) list) (first_ones list) =
       found_are ∙ findings_alike (say c) alike list lawful failures ∙ ap (map (finding (say c) list)) firsts in
-      ap (λ (x : List Verdict). facts x found counts g) (vs_are ∙ verdicts)
-      ∙ ap (λ (x : List FindingFacts). facts (verdicts_from (say c) 0 list) x counts g) findings
-      ∙ ap (λ (x : List ℕ). facts (verdicts_from (say c) 0 list) (map (finding (say c) list) (first_ones list)) x g) counted
-      ∙ ap (λ (x : Option GrowthFacts). facts (verdicts_from (say c) 0 list) (map (finding (say c) list) (first_ones list)) (census c) x) grew
-      ∙ ap (λ (l : List Entries). facts (verdicts_from (say c) 0 l) (map (finding (say c) l) (first_ones l)) (census c) (growth c)) e
+      let counts' : List ℕ = census_seen (grower c) given.plans.seed (clean_hits a) in
+      let grown : GrowthFacts = growth_seen (grower c) given.plans.seed (plans_seen c depth runs) depth runs in
+      ap (λ (x : List Verdict). facts x found counts (Some g)) (vs_are ∙ verdicts)
+      ∙ ap (λ (x : List FindingFacts). facts (verdicts_from (say c) 0 list) x counts (Some g)) findings
+      ∙ ap (λ (x : List ℕ). facts (verdicts_from (say c) 0 list) (map (finding (say c) list) (first_ones list)) x (Some g)) counted
+      ∙ ap (λ (x : GrowthFacts). facts (verdicts_from (say c) 0 list) (map (finding (say c) list) (first_ones list)) counts' (Some x)) grew
+      ∙ ap (λ (l : List Entries). facts (verdicts_from (say c) 0 l) (map (finding (say c) l) (first_ones l)) counts' (Some grown)) e
 
   -- how the plans grew, by what is told of the list
-  abbrev grew_by : List ℕ → ℕ → ℕ → List ℕ → List CauseFacts → GrowthFacts
-  grew_by levels last past most causes = record { depth = depth; levels = levels; onward = last; beyond = past; reached = most; causes = causes }
+  abbrev grew_by : List ℕ → ℕ → ℕ → ℕ → List ℕ → List CauseFacts → GrowthFacts
+  grew_by levels last past untold most causes = record {
+    depth = depth;
+    levels = levels;
+    onward = last;
+    beyond = past;
+    unseen = untold;
+    reached = most;
+    causes = causes;
+  }
 
-  pub grew : (l : Listed) (list : List Entries) (most : List ℕ) (causes : List (ℕ × ℕ)) → IsListOf t depth l → list ≡ plans c → most ≡ reached_each t depth
-      → causes ≡ over (cause_at t given.plans.seed) (grown t depth) 0 (length (grown t depth))
-      → Some (grew_by l.known.levels.items l.known.onward l.known.beyond most (map (cause_of list) causes)) ≡ growth c
-  grew l list most causes whole e reached_is caused =
-      ap (λ (x : List ℕ). Some (grew_by x l.known.onward l.known.beyond most (map (cause_of list) causes))) whole.levels
-      ∙ ap (λ (x : ℕ). Some (grew_by (level_sizes t (depth + 1)) x l.known.beyond most (map (cause_of list) causes))) whole.onward_size
-      ∙ ap (λ (x : ℕ). Some (grew_by (level_sizes t (depth + 1)) (length (onward t depth)) x most (map (cause_of list) causes))) whole.beyond_size
-      ∙ ap (λ (x : List ℕ). Some (grew_by (level_sizes t (depth + 1)) (length (onward t depth)) (beyond t depth) x (map (cause_of list) causes))) reached_is
-      ∙ ap (λ (x : List (ℕ × ℕ)). Some (grew_by (level_sizes t (depth + 1)) (length (onward t depth)) (beyond t depth) (reached_each t depth) (map (cause_of list) x))) caused
+  abbrev causes_over : List Entries → List (List Rig) → List CauseFacts
+  causes_over list these = map (cause_of list) (over (cause_at t given.plans.seed) these 0 (length these))
+
+  pub grew : (l : Listed) (list : List Entries) (most : List ℕ) (causes : List (ℕ × ℕ)) → AreKnown t depth runs l.known → l.unseen ≡ unseen_count runs l.known.plans → list ≡ plans_seen c depth runs
+      → most ≡ reached_seen t depth runs → causes ≡ over (cause_at t given.plans.seed) l.known.plans 0 (length l.known.plans)
+      → grew_by l.known.levels.items l.known.onward l.known.beyond l.unseen most (map (cause_of list) causes)
+      ≡ growth_seen (grower c) given.plans.seed (plans_seen c depth runs) depth runs
+  grew l list most causes known untold e reached_is caused =
+      let levels : List ℕ = map (level_size t runs) (range_with_len 0 (depth + 1)) in
+      let past : ℕ = level_size t runs (depth + 1) in
+      let part : List (List Rig) = known_part t depth runs in
+      ap (λ (x : List ℕ). grew_by x l.known.onward l.known.beyond l.unseen most (map (cause_of list) causes)) known.levels
+      ∙ ap (λ (x : ℕ). grew_by levels x l.known.beyond l.unseen most (map (cause_of list) causes)) known.onward
+      ∙ ap (λ (x : ℕ). grew_by levels (onward_seen t depth runs) x l.unseen most (map (cause_of list) causes)) known.beyond
+      ∙ ap (λ (x : ℕ). grew_by levels (onward_seen t depth runs) past x most (map (cause_of list) causes)) (untold ∙ ap (unseen_count runs) known.plans)
+      ∙ ap (λ (x : List ℕ). grew_by levels (onward_seen t depth runs) past (unseen_count runs part) x (map (cause_of list) causes)) reached_is
+      ∙ ap (λ (x : List (ℕ × ℕ)). grew_by levels (onward_seen t depth runs) past (unseen_count runs part) (reached_seen t depth runs) (map (cause_of list) x)) caused
+      ∙ ap (λ (x : List (List Rig)). grew_by levels (onward_seen t depth runs) past (unseen_count runs part) (reached_seen t depth runs) (causes_over list x)) known.plans
       ∙ growth_is list e
 
   -- what is shown beside the report
   abbrev shown_by : List Entries → List (List Rig) → ℕ → ShownFacts
   shown_by list these last = record { plans = list; pairs = given.plans.pairs; grown = these; onward = last; settings = given.source }
 
-  pub shown_is : (l : Listed) (list : List Entries) → IsListOf t depth l → list ≡ plans c → shown_by list l.known.plans l.known.onward ≡ shown c
-  shown_is l list whole e =
+  pub shown_is : (l : Listed) (list : List Entries) → AreKnown t depth runs l.known → list ≡ plans_seen c depth runs → shown_by list l.known.plans l.known.onward ≡ shown_seen c depth runs
+  shown_is l list known e =
       ap (λ (x : List Entries). shown_by x l.known.plans l.known.onward) e
-      ∙ ap (λ (x : List (List Rig)). shown_by (plans c) x l.known.onward) (whole.plans ∙ ap (λ (g : Subject). grown g depth) (sym grower_is))
-      ∙ ap (λ (x : ℕ). shown_by (plans c) (grown (grower c) depth) x) (whole.onward_size ∙ ap (λ (g : Subject). length (onward g depth)) (sym grower_is))
+      ∙ ap (λ (x : List (List Rig)). shown_by (plans_seen c depth runs) x l.known.onward) (known.plans ∙ ap (λ (g : Subject). known_part g depth runs) (sym grower_is))
+      ∙ ap (λ (x : ℕ). shown_by (plans_seen c depth runs) (known_part (grower c) depth runs) x) (known.onward ∙ ap (λ (g : Subject). onward_seen g depth runs) (sym grower_is))
 
 -- the text of a report by what is told is that of each component that agrees
 pub text_is : (form : Form) (outside : Description) (given : Given) (a : Answered) (depth : ℕ) (lists : GrownLists) (list : List Entries) (all : List Verdict) (told : Told)
     (counts most : List ℕ) (facts' : ReportFacts) (shown' : ShownFacts) (text : List ℕ) → IsDecided outside given a depth lists list all told → IsCleanCensus a counts
-    → ((t : Subject) → IsComponent a.points t → depth ≤ 64 → AgreesWithRuns t (told_in a.book) → lists.listed.known.plans ≡ grown t depth → AreSeen (runs_in a) lists.listed.known.plans None → most ≡ reached_each t depth)
-    → AreSeen (runs_in a) lists.listed.known.plans None
+    → ((t : Subject) → IsComponent a.points a.listed t → depth ≤ 64 → AgreesWithRuns t (told_in a.book) → lists.listed.known.plans ≡ known_part t depth (runs_in a) → most ≡ reached_seen t depth (runs_in a))
     → facts' ≡ record {
       label = outside.label;
       seed = given.plans.seed;
       clean = slice_index_or all 0 verdict.Unresolved;
       census = counts;
       verdicts = all;
+      unmet = 0;
       findings = told.findings.items;
       growth = Some (record {
         depth = depth;
         levels = lists.listed.known.levels.items;
         onward = lists.listed.known.onward;
         beyond = lists.listed.known.beyond;
+        unseen = lists.listed.unseen;
         reached = most;
         causes = map (cause_of list) told.causes.items;
       });
     }
     → shown' ≡ record { plans = list; pairs = given.plans.pairs; grown = lists.listed.known.plans; onward = lists.listed.known.onward; settings = given.source }
     → text ≡ text_in form outside.points (code_name outside.codes) facts' shown' → IsTextOf form outside given a depth text
-text_is form outside given a depth lists list all told counts most facts' shown' text d counted reaches seen facts_are shown_are is_text t is agrees =
+text_is form outside given a depth lists list all told counts most facts' shown' text d counted reaches facts_are shown_are is_text t is agrees =
     let c' : Campaign = campaign outside given depth t in
-    let whole = d.lists_are.whole t is agrees d.lists_are.seen in
-    let e : list ≡ plans c' = plans_are outside given a depth t is agrees d.low d.points list (d.plans_are ∙ whole.list) in
+    let whole = d.lists_are.whole t is agrees in
+    let e : list ≡ plans_seen c' depth (runs_in a) = plans_are outside given a depth t is agrees d.low d.points list (d.plans_are ∙ whole.list) in
     let family = agree_each outside given a depth t is agrees d.low d.points in
-    let growth' = grew outside given a depth t is agrees d.low d.points lists.listed list most told.causes.items whole.grown e
-    (reaches t is d.low agrees whole.grown.plans seen) (d.told_is.causes t is d.low agrees whole.grown.plans given.plans.seed) in
+    let growth' = grew outside given a depth t is agrees d.low d.points lists.listed list most told.causes.items whole.grown d.lists_are.unseen e
+    (reaches t is d.low agrees whole.grown.plans) (d.told_is.causes t is d.low agrees given.plans.seed) in
     let report' = report_is outside given a depth t is agrees d.low d.points list all told.findings.items (known_failures (known a depth) list) counts _ e d.lawful
     (d.verdicts (say c') family) (d.told_is.findings (say c') family)
     (failures_are_first (known a depth) list (say c') d.lawful family d.none_open)
     (counted.each t is agrees given.plans.seed ∙ census_names outside given a depth t is agrees d.low d.points) growth' in
     is_text ∙ ap (λ (r : ReportFacts). text_in form outside.points (code_name outside.codes) r shown') (facts_are ∙ report')
-    ∙ ap (λ (s : ShownFacts). text_in form outside.points (code_name outside.codes) (report c') s)
+    ∙ ap (λ (s : ShownFacts). text_in form outside.points (code_name outside.codes) (report_seen c' depth (runs_in a)) s)
     (shown_are ∙ shown_is outside given a depth t is agrees d.low d.points lists.listed list whole.grown e)
 
 -- the number of the first failure that is told is that of each component's first plan that fails
 pub first_is : (outside : Description) (given : Given) (a : Answered) (depth : ℕ) (lists : GrownLists) (list : List Entries) (all : List Verdict) (told : Told) (first : Option ℕ)
-    → IsDecided outside given a depth lists list all told → first ≡ option_map (λ (f : FindingFacts). f.number) (slice_get told.findings.items 0)
-    → (t : Subject) → IsComponent a.points t → AgreesWithRuns t (told_in a.book) → first ≡ first_number (campaign outside given depth t)
+    → IsDecided outside given a depth lists list all told → first ≡ option_map (λ (f : FindingFacts). f.number) (slice_get told.findings.items 0) → IsFirstNumberOf outside given a depth first
 first_is outside given a depth lists list all told first d is_first t is agrees =
     let c' : Campaign = campaign outside given depth t in
-    let whole = d.lists_are.whole t is agrees d.lists_are.seen in
-    let e : list ≡ plans c' = plans_are outside given a depth t is agrees d.low d.points list (d.plans_are ∙ whole.list) in
+    let whole = d.lists_are.whole t is agrees in
+    let e : list ≡ plans_seen c' depth (runs_in a) = plans_are outside given a depth t is agrees d.low d.points list (d.plans_are ∙ whole.list) in
     let family = agree_each outside given a depth t is agrees d.low d.points in
     let f : Say = say c' in
     let verdicts : verdicts_from (say_each f) 0 list ≡ verdicts_from f 0 list = verdicts_alike f (alike outside given a depth t is agrees d.low d.points) 0 list d.lawful in
-    let firsts : known_failures (known a depth) list ≡ first_failures (numbered (verdicts_from f 0 (plans c'))) =
+    let firsts : known_failures (known a depth) list ≡ first_failures (numbered (verdicts_from f 0 (plans_seen c' depth (runs_in a)))) =
     sym (failures_are_first (known a depth) list f d.lawful family d.none_open) ∙ ap (λ (x : List Verdict). first_failures (numbered x)) verdicts
     ∙ ap (λ (l : List Entries). first_failures (numbered (verdicts_from f 0 l))) e in
     is_first ∙ ap (λ (x : List FindingFacts). option_map (λ (y : FindingFacts). y.number) (slice_get x 0)) (d.told_is.findings f family)

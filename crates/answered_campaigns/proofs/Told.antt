@@ -14,8 +14,7 @@ use Rattle.answer_text.specs.Known.{KnownVerdicts}
 use Rattle.answer_text.specs.Runs.{told_in}
 use Rattle.answered_runs.specs.Answered.{Answered, known_plans, runs_in}
 use Rattle.answered_runs.specs.Components.{AgreesWithRuns, IsComponent}
-use Rattle.answered_runs.specs.WholeList.{AreSeen}
-use Rattle.answered_runs.specs.declared.whole.Gap.{Gap}
+use Rattle.answered_runs.specs.WholeList.{AreTold, unseen_count}
 use Rattle.campaign_given.specs.Description.{Description}
 use Rattle.campaign_given.specs.Given.{Given}
 use Rattle.result_book.specs.Verdicts.{verdicts_from}
@@ -23,12 +22,12 @@ use Rattle.outside_campaign.specs.Asked.{open_plans, plan_verdicts}
 use Rattle.outside_campaign.specs.Outside.{Components, EachAgrees, say_each}
 use Rattle.outside_grown.specs.Causes.{open_scenarios}
 use Rattle.outside_grown.specs.Further.{HasFewHits, further_told}
-use Rattle.outside_grown.specs.Lists.{AreWholeSeen}
+use Rattle.outside_grown.specs.Lists.{AreListsOf}
 use Rattle.outside_grown.specs.declared.listing.GrownLists.{GrownLists}
 use Rattle.answered_campaigns.specs.Grown.{candidates, known, listed}
 use Rattle.answered_campaigns.specs.declared.candidates.Told.{Told}
 use Rattle.answered_campaigns.specs.declared.fault.QuestionFault.{QuestionFault}
-use Rattle.answered_campaigns.specs.inside.Outcomes.{AreSeenLists, IsDecided, IsTold, open_candidates}
+use Rattle.answered_campaigns.specs.inside.Outcomes.{AreToldLists, IsDecided, IsTold, open_candidates}
 use Rattle.answered_campaigns.proofs.Refused.{some_known}
 
 -- a fault that is passed up
@@ -37,21 +36,22 @@ err_with P (Ok x) why is h = tt
 err_with P (Err e) why is h = subst P (sym is) h
 
 -- the lists, by the answers and the depth as contracts see them
-pub lists_seen : (old new : Answered × ℕ) (asked' asked : Asked) (lists : GrownLists) → old ≡ new → asked' ≡ asked → lists.listed.known.plans ≡ known_plans old.0 old.1
-    → lists.further ≡ further_told old.0 asked' → lists.listed.gap ≡ None → AreSeen (runs_in old.0) lists.listed.known.plans lists.listed.gap
-    → ((t : Subject) → IsComponent old.0.points t → AgreesWithRuns t (told_in old.0.book) → AreWholeSeen t old.1 asked' old.0.points lists) → AreSeenLists new.0 new.1 asked lists
-lists_seen old new asked' asked lists same alike grown further none seen whole =
-    subst (λ (k : Answered × ℕ). AreSeenLists k.0 k.1 asked lists) same
-    (subst (λ (x : Asked). AreSeenLists old.0 old.1 x lists) alike
+pub lists_told : (old new : Answered × ℕ) (asked' asked : Asked) (lists : GrownLists) → old ≡ new → asked' ≡ asked → lists.listed.known.plans ≡ known_plans old.0 old.1
+    → lists.further ≡ further_told old.0 asked' → lists.listed.gap ≡ None → AreTold (runs_in old.0) lists.listed.known.plans lists.listed.gap
+    → (lists.listed.gap ≡ None → lists.listed.unseen ≡ unseen_count (runs_in old.0) lists.listed.known.plans)
+    → ((t : Subject) → IsComponent old.0.points old.0.listed t → AgreesWithRuns t (told_in old.0.book) → AreListsOf t old.1 asked' old.0 lists) → AreToldLists new.0 new.1 asked lists
+lists_told old new asked' asked lists same alike grown further none told unseen whole =
+    subst (λ (k : Answered × ℕ). AreToldLists k.0 k.1 asked lists) same
+    (subst (λ (x : Asked). AreToldLists old.0 old.1 x lists) alike
     (record {
       grown = grown;
       further = further;
-      seen = none;
-      all_seen = subst (λ (o : Option Gap). AreSeen (runs_in old.0) lists.listed.known.plans o) none seen;
+      told = subst (λ (o : Option ℕ). AreTold (runs_in old.0) lists.listed.known.plans o) none told;
+      unseen = unseen none;
       whole = whole;
     }))
 
-pub is_listed : (a : Answered) (depth : ℕ) (asked : Asked) (lists : GrownLists) (plans : List Entries) → AreSeenLists a depth asked lists
+pub is_listed : (a : Answered) (depth : ℕ) (asked : Asked) (lists : GrownLists) (plans : List Entries) → AreToldLists a depth asked lists
     → plans ≡ grown_scenarios a.points lists.listed.known.plans ++ lists.further → plans ≡ listed a depth asked
 is_listed a depth asked lists plans s is =
     is ∙ ap (λ (ps : List (List Rig)). grown_scenarios a.points ps ++ lists.further) s.grown
@@ -80,7 +80,7 @@ pub each_verdict : (k : KnownVerdicts) (plans : List Entries) (all : List Verdic
 each_verdict k plans all is = sym (length-map all (λ (v : Verdict). Some v)) ∙ ap length is ∙ length-map plans (λ (p : Entries). k (tidied p))
 
 pub decide : (outside : Description) (given : Given) (a : Answered) (depth : ℕ) (lists : GrownLists) (plans : List Entries) (all v : List Verdict) (told : Told) → a.points ≡ outside.points
-    → depth ≤ 64 → HasFewHits a → AreSeenLists a depth given.plans lists → plans ≡ grown_scenarios a.points lists.listed.known.plans ++ lists.further
+    → depth ≤ 64 → HasFewHits a → AreToldLists a depth given.plans lists → plans ≡ grown_scenarios a.points lists.listed.known.plans ++ lists.further
     → AllByRecursion (λ s. IsScenario s) plans → all ≡ v → AreAllVerdicts (known a depth) plans v → IsTold a depth plans lists.listed.known.plans told
     → IsDecided outside given a depth lists plans all told
 decide outside given a depth lists plans all v told points low clean s is lawful same verdicts h = record {
@@ -97,7 +97,7 @@ decide outside given a depth lists plans all v told points low clean s is lawful
 }
 
 -- there is a verdict, since there is a plan
-pub some_verdict : (a : Answered) (depth : ℕ) (asked : Asked) (lists : GrownLists) (plans : List Entries) (all v : List Verdict) → AreSeenLists a depth asked lists
+pub some_verdict : (a : Answered) (depth : ℕ) (asked : Asked) (lists : GrownLists) (plans : List Entries) (all v : List Verdict) → AreToldLists a depth asked lists
     → plans ≡ grown_scenarios a.points lists.listed.known.plans ++ lists.further → all ≡ v → AreAllVerdicts (known a depth) plans v → 0 < length all
 some_verdict a depth asked lists plans all v s is same verdicts =
     let many : length all ≡ length plans = ap length same ∙ each_verdict (known a depth) plans v verdicts.0 in

@@ -20,12 +20,13 @@ use Rattle.outside_campaign.specs.declared.forms.Form.{Form}
 use Rattle.outside_grown.specs.Asked.{to_try}
 use Rattle.outside_grown.specs.Causes.{open_scenarios}
 use Rattle.outside_grown.specs.Further.{further_told}
+use Rattle.answered_campaigns.specs.Kinds.{listed_kinds}
 
 -- ---- the report
 
--- a component that keeps a target's laws and agrees with each line of the answers
+-- a component that keeps a target's laws, whose faults are of the kinds that the settings list, and that agrees with each line of the answers
 pub record AgreesWithAnswers (outside : Description) (answers : List ℕ) (t : Subject) : Type 0 where
-  pub component : IsComponent outside.points t
+  pub component : IsComponent outside.points (listed_kinds outside) t
   pub agrees : AgreesWithRuns t (known_runs outside.codes outside.points answers)
 
 -- its campaign, as that of a target which the program runs itself
@@ -35,20 +36,25 @@ campaign outside given depth t = record {
   points = outside.points;
   codes = code_name outside.codes;
   label = outside.label;
-  max_hits = t.limit;
-  depth = Some depth;
-  plans = given.plans;
-  source = given.source;
+  kinds = t.kinds;
+  given = record {
+    workers = given.workers;
+    max_hits = t.limit;
+    depth = Some depth;
+    crash_states = given.crash_states;
+    plans = given.plans;
+    source = given.source;
+  };
 }
 
 -- what is shown of it beside its report
 abbrev pub shown : Campaign → ShownFacts
 shown c = record {
   plans = plans c;
-  pairs = c.plans.pairs;
-  grown = grown_to c c.depth;
-  onward = onward_to c c.depth;
-  settings = c.source;
+  pairs = c.given.plans.pairs;
+  grown = grown_to c c.given.depth;
+  onward = onward_to c c.given.depth;
+  settings = c.given.source;
 }
 
 abbrev pub report_in : Form → Campaign → List ℕ

@@ -1,19 +1,15 @@
 -- Questions on components that somebody else runs, of a campaign with or without a depth, by the settings and a text of answers.
-use Rattle.std.specs.Prelude.{◌≡◌, ◌≤◌, ◌<◌, ℕ, Bool, true, List, [], ◌∷◌, Option, None, Some, Ok, Err, length, slice_index_or, Contains}
+use Rattle.std.specs.Prelude.{◌≡◌, ◌≤◌, ◌<◌, ℕ, Bool, true, List, [], ◌∷◌, Option, None, Some, Ok, Err, length, Contains}
 use Rattle.scenario_values.specs.Scenario.{Entries}
 use Rattle.plan_gen.specs.PlanList.{Asked, most_plans}
 use Rattle.asked_lines.specs.Lines.{lines_for}
 use Rattle.asked_lines.specs.Parts.{part_text}
 use Rattle.asked_lines.specs.declared.parts.AskedPart.{AskedPart}
-use Rattle.answer_text.specs.Answers.{Answer, Says}
-use Rattle.answer_text.specs.FirstFault.{reading_of}
 use Rattle.answer_text.specs.Known.{AgreesWithText}
 use Rattle.answer_text.specs.Runs.{known_runs, runs_of, told_in}
 use Rattle.answer_text.specs.declared.runs.RunLine.{RunLine}
 use Rattle.answered_runs.specs.Answered.{Answered, known_plans, runs_in}
-use Rattle.answered_runs.specs.Broken.{AreBroken, IsFirstBreak, line_told}
-use Rattle.answered_runs.specs.WholeList.{AreSeen, IsGap}
-use Rattle.answered_runs.specs.declared.whole.Gap.TheVariants as gap
+use Rattle.answered_runs.specs.Broken.{AreBroken, IsFirstBreak}
 use Rattle.campaign_given.specs.Description.{Description}
 use Rattle.campaign_given.specs.Given.{Given}
 use Rattle.campaign_core.specs.Writes.{Change, IsUntouched, WritesPart, WritesWhole}
@@ -21,19 +17,23 @@ use Rattle.campaign_core.specs.declared.ending.CampaignFault.TheVariants as camp
 use Rattle.grown_plans.specs.GrownPlans.{Subject}
 use Rattle.outside_campaign.specs.Campaigns.{asks_text, first_failure, plans, report_in, untried_by}
 use Rattle.outside_campaign.specs.Outside.{Component}
+use Rattle.outside_campaign.specs.Readable.{IsReadable, IsUnreadable}
 use Rattle.outside_campaign.specs.Partial.{partial_by, partial_text, some_fails, some_fails_by}
 use Rattle.outside_campaign.specs.declared.forms.Form.{Form}
 use Rattle.outside_campaign.specs.declared.refusal.OutsideFault.TheVariants as refusal
 use Rattle.outside_grown.specs.Further.{AreTooMany}
+use Rattle.answered_campaigns.specs.Kinds.{listed_kinds}
 use Rattle.answered_campaigns.specs.Grown as grown
+use Rattle.answered_campaigns.specs.Seen.{IsReportAsSeen}
 use Rattle.answered_campaigns.specs.declared.fault.QuestionFault.{QuestionFault}
 use Rattle.answered_campaigns.specs.declared.fault.QuestionFault.TheVariants as fault
 
 -- ---- of a campaign with a depth
 
--- what a text of answers without a fault tells of runs
+-- what a text of answers without a fault tells of runs, whose faults are of the kinds that the settings list
 pub record Tells (outside : Description) (answers : List ℕ) (a : Answered) : Type 0 where
   pub points : a.points ≡ outside.points
+  pub listed : a.listed ≡ listed_kinds outside
   pub told : told_in a.book ≡ known_runs outside.codes outside.points answers
   pub lines : List RunLine
   pub read : runs_of outside.codes outside.points answers ≡ Ok lines
@@ -53,28 +53,27 @@ pub record IsAskedText (part : AskedPart) (outside : Description) (given : Given
   pub unbroken : AreUnbroken runs depth
   pub text_is : text ≡ part_text part (grown_lines given depth runs)
 
--- a text is the report of every component that agrees with the answers, and this the number of its first plan that fails: each plan is answered whole,
--- and nothing is still to be tried
+-- a text is the report of every component that agrees with the answers, as far as their runs were seen, and this the number of its first plan that
+-- fails: each plan is answered, and nothing is still to be tried
 pub record IsReportedText (form : Form) (outside : Description) (given : Given) (depth : ℕ) (answers text : List ℕ) (first : Option ℕ) : Type 0 where
-  pub text_is : (t : Subject) → grown.AgreesWithAnswers outside answers t → text ≡ grown.report_in form (grown.campaign outside given depth t)
-  pub first_is : (t : Subject) → grown.AgreesWithAnswers outside answers t → first ≡ grown.first_number (grown.campaign outside given depth t)
   pub runs : Answered
   pub tells : Tells outside answers runs
   pub unbroken : AreUnbroken runs depth
-  pub seen : AreSeen (runs_in runs) (known_plans runs depth) None
   pub all : grown.untried runs depth given.plans ≡ []
+  pub each : (t : Subject) → grown.AgreesWithAnswers outside answers t
+      → IsReportAsSeen form (grown.campaign outside given depth t) depth (runs_in runs) text first
 
--- why such a question is refused, by what the answers tell: a run breaks; the first plan that isn't answered whole is answered without hits, on this
--- line; something is still to be tried, this among it; or too many plans are known
+-- why such a question is refused, by what the answers tell: a run breaks; something is still to be tried, this among it; or too many plans are known
 abbrev pub RefusesBy : Answered → ℕ → Asked → QuestionFault → Type 0
 RefusesBy a depth asked (fault.Broken b) = IsFirstBreak a (known_plans a depth) b
-RefusesBy a depth asked (fault.Unseen line) =
-    (n : ℕ) × IsGap (runs_in a) (known_plans a depth) (gap.Unseen n) × (line ≡ line_told a (slice_index_or (known_plans a depth) n []))
 RefusesBy a depth asked (fault.Outside (refusal.NotAnswered t)) = Contains (grown.untried a depth asked) t
 RefusesBy a depth asked (fault.Outside (refusal.Campaign campaign.TooManyPlans)) = AreTooMany a asked (length (known_plans a depth))
 RefusesBy a depth asked (fault.Outside (refusal.Campaign campaign.Memory)) = Unit {0}
 RefusesBy a depth asked (fault.Outside (refusal.Campaign (campaign.Write n))) = ⊥
 RefusesBy a depth asked (fault.Outside (refusal.Answers f)) = ⊥
+RefusesBy a depth asked (fault.Outside (refusal.Census line)) = ⊥
+RefusesBy a depth asked (fault.Scenario f) = ⊥
+RefusesBy a depth asked (fault.Unseen line) = ⊥
 
 -- the same by the text of answers, whose first fault comes before all
 abbrev pub RefusesGrown : Description → Given → ℕ → List ℕ → QuestionFault → Type 0
@@ -82,13 +81,7 @@ RefusesGrown outside given depth answers (fault.Outside (refusal.Answers f)) = r
 RefusesGrown outside given depth answers (fault.Outside (refusal.Campaign campaign.Memory)) = Unit {0}
 RefusesGrown outside given depth answers why = (a : Answered) × Tells outside answers a × RefusesBy a depth given.plans why
 
--- the same of what is known so far, which waits for nothing and takes runs without hits
-abbrev pub RefusesPartly : Description → Given → ℕ → List ℕ → QuestionFault → Type 0
-RefusesPartly outside given depth answers (fault.Outside (refusal.NotAnswered t)) = ⊥
-RefusesPartly outside given depth answers (fault.Unseen line) = ⊥
-RefusesPartly outside given depth answers why = RefusesGrown outside given depth answers why
-
--- and of what is asked, which waits for nothing
+-- and of what is asked, and what is known so far, which wait for nothing
 abbrev pub RefusesAsked : Description → Given → ℕ → List ℕ → QuestionFault → Type 0
 RefusesAsked outside given depth answers (fault.Outside (refusal.NotAnswered t)) = ⊥
 RefusesAsked outside given depth answers why = RefusesGrown outside given depth answers why
@@ -107,13 +100,15 @@ IsWrittenInPart IsText w n = (text : List ℕ) × IsText text × WritesPart text
 pub record IsAskedByCensus (part : AskedPart) (outside : Description) (given : Given) (answers : List ℕ) (w : Change) : Type 0 where
   pub text : WritesWhole (asks_text part outside given answers) w
   pub few : length (plans outside given) ≤ most_plans
-  pub said : (all : List Answer) × Says outside.codes answers all
+  pub readable : IsReadable outside answers
 
 -- the report was written that each component has which agrees with the answers, and some component does; nothing is still to be tried
 pub record IsReportedByCensus (form : Form) (outside : Description) (given : Given) (answers : List ℕ) (w : Change) (first : Option ℕ) : Type 0 where
-  pub text : (component : Component) → AgreesWithText outside.codes answers component → WritesWhole (report_in form outside given component) w
-  pub first_is : (component : Component) → AgreesWithText outside.codes answers component → first ≡ first_failure outside given component
-  pub some : (component : Component) × AgreesWithText outside.codes answers component
+  pub text : (component : Component) → AgreesWithText outside.codes outside.points answers component
+      → WritesWhole (report_in form outside given answers component) w
+  pub first_is : (component : Component) → AgreesWithText outside.codes outside.points answers component → first ≡ first_failure outside given component
+  pub readable : IsReadable outside answers
+  pub some : (component : Component) × AgreesWithText outside.codes outside.points answers component
   pub all : untried_by outside given answers ≡ []
   pub few : length (plans outside given) ≤ most_plans
 
@@ -145,7 +140,7 @@ pub record IsKnownByCensus (outside : Description) (given : Given) (answers : Li
   pub text : WritesWhole (partial_by outside given answers) w
   pub found_is : found ≡ some_fails_by outside given answers
   pub few : length (plans outside given) ≤ most_plans
-  pub said : (all : List Answer) × Says outside.codes answers all
+  pub readable : IsReadable outside answers
 
 abbrev pub IsKnownTo : Option ℕ → Description → Given → List ℕ → Change → Bool → Type 0
 IsKnownTo None outside given answers w found = IsKnownByCensus outside given answers w found
@@ -164,7 +159,7 @@ IsAskedInPart (Some depth) part outside given answers w n = IsWrittenInPart (IsA
 -- or of the report of each component that agrees
 abbrev pub IsReportedInPart : Option ℕ → Form → Description → Given → List ℕ → Change → ℕ → Type 0
 IsReportedInPart None form outside given answers w n =
-    ((component : Component) → AgreesWithText outside.codes answers component → WritesPart (report_in form outside given component) n w)
+    ((component : Component) → AgreesWithText outside.codes outside.points answers component → WritesPart (report_in form outside given answers component) n w)
     × (w.failed ≡ true)
 IsReportedInPart (Some depth) form outside given answers w n =
     IsWrittenInPart (λ text. (first : Option ℕ) × IsReportedText form outside given depth answers text first) w n
@@ -177,12 +172,14 @@ IsKnownInPart (Some depth) outside given answers w n =
 
 -- why a question is refused, where that is no want of memory
 abbrev pub RefusesByCensus : Description → Given → List ℕ → QuestionFault → Type 0
-RefusesByCensus outside given answers (fault.Outside (refusal.Answers f)) = reading_of outside.codes answers ≡ Err f
+RefusesByCensus outside given answers (fault.Outside (refusal.Answers f)) = IsUnreadable outside answers (refusal.Answers f)
+RefusesByCensus outside given answers (fault.Outside (refusal.Census line)) = IsUnreadable outside answers (refusal.Census line)
 RefusesByCensus outside given answers (fault.Outside (refusal.NotAnswered t)) = (more : List Entries) × (untried_by outside given answers ≡ t ∷ more)
 RefusesByCensus outside given answers (fault.Outside (refusal.Campaign campaign.TooManyPlans)) = most_plans < length (plans outside given)
 RefusesByCensus outside given answers (fault.Outside (refusal.Campaign campaign.Memory)) = Unit {0}
 RefusesByCensus outside given answers (fault.Outside (refusal.Campaign (campaign.Write n))) = ⊥
 RefusesByCensus outside given answers (fault.Broken b) = ⊥
+RefusesByCensus outside given answers (fault.Scenario f) = ⊥
 RefusesByCensus outside given answers (fault.Unseen line) = ⊥
 
 abbrev pub Refuses : Option ℕ → Description → Given → List ℕ → QuestionFault → Type 0
@@ -202,9 +199,8 @@ ReportRefused form outside given answers w (fault.Outside (refusal.Campaign (cam
     IsReportedInPart given.depth form outside given answers w n
 ReportRefused form outside given answers w why = IsUntouched w × Refuses given.depth outside given answers why
 
--- and why what is known so far wasn't: it waits for nothing, and takes runs without hits
+-- and why what is known so far wasn't: it waits for nothing
 abbrev pub KnownRefused : Description → Given → List ℕ → Change → QuestionFault → Type 0
 KnownRefused outside given answers w (fault.Outside (refusal.Campaign (campaign.Write n))) = IsKnownInPart given.depth outside given answers w n
 KnownRefused outside given answers w (fault.Outside (refusal.NotAnswered t)) = ⊥
-KnownRefused outside given answers w (fault.Unseen line) = ⊥
 KnownRefused outside given answers w why = IsUntouched w × Refuses given.depth outside given answers why

@@ -1,12 +1,13 @@
 //! The questions, of a campaign with or without a depth.
 ghost use Rattle.std.specs.Prelude.{◌≡◌, ◌≤◌, false, Some, string_bytes, IfErr, IfOk, OnOk};
 ghost use Rattle.campaign_core.specs.Writes.{change};
-ghost use Rattle.answered_campaigns.specs.Questions.{AsksRefused, IsAsked, IsAskedText, IsKnownSoFar, IsPartialText, IsReported, IsReportedText, KnownRefused, RefusesAsked, RefusesGrown, RefusesPartly, ReportRefused};
+ghost use Rattle.answered_campaigns.specs.Questions.{AsksRefused, IsAsked, IsAskedText, IsKnownSoFar, IsPartialText, IsReported, IsReportedText, KnownRefused, RefusesAsked, RefusesGrown, ReportRefused};
 
 use crate::fault::QuestionFault;
 use crate::grown_asks::grown_lines;
 use crate::grown_partial::grown_partial;
 use crate::grown_report::grown_report;
+use crate::kinds::listed_kinds;
 use crate::table::KnownByRuns;
 use answer_text::read_runs;
 use answered_runs::AnsweredRuns;
@@ -38,7 +39,8 @@ fn asked_text(
         answers,
     )?;
     let points = borrowed(alloc, outside.points.as_slice())?;
-    let runs = AnsweredRuns::new(alloc, points.as_slice(), &told);
+    let kinds = listed_kinds(alloc, outside)?;
+    let runs = AnsweredRuns::new(alloc, points.as_slice(), kinds.as_slice(), &told);
     let known = KnownByRuns { runs: &runs, depth };
     let lines = grown_lines(alloc, &known, settings)?;
     Ok(lines.text(alloc, part)?)
@@ -64,7 +66,8 @@ fn report_text(
         answers,
     )?;
     let points = borrowed(alloc, outside.points.as_slice())?;
-    let runs = AnsweredRuns::new(alloc, points.as_slice(), &told);
+    let kinds = listed_kinds(alloc, outside)?;
+    let runs = AnsweredRuns::new(alloc, points.as_slice(), kinds.as_slice(), &told);
     let known = KnownByRuns { runs: &runs, depth };
     grown_report(alloc, form, outside, settings, &known)
 }
@@ -79,7 +82,7 @@ fn known_text(
 ) -> Result<(String, bool), QuestionFault>
     requires { depth ≤ 64 }
     ensures text { IfOk result (λ r. IsPartialText outside.now settings.now depth answers.now (string_bytes r.0) r.1) }
-    ensures fault { IfErr result (RefusesPartly outside.now settings.now depth answers.now) }
+    ensures fault { IfErr result (RefusesAsked outside.now settings.now depth answers.now) }
 {
     let told = read_runs(
         alloc,
@@ -88,7 +91,8 @@ fn known_text(
         answers,
     )?;
     let points = borrowed(alloc, outside.points.as_slice())?;
-    let runs = AnsweredRuns::new(alloc, points.as_slice(), &told);
+    let kinds = listed_kinds(alloc, outside)?;
+    let runs = AnsweredRuns::new(alloc, points.as_slice(), kinds.as_slice(), &told);
     let known = KnownByRuns { runs: &runs, depth };
     grown_partial(alloc, outside, settings, &known)
 }
@@ -104,9 +108,8 @@ fn known_text(
 ///
 /// Nothing is written before the whole text stands. Without a depth the faults are those of `outside_campaign`. With one the answers' first
 /// fault comes first; then `Broken`, where what the component asks next doesn't follow from the answers so far; `TooManyPlans` comes only
-/// where more than 65536 plans are known, or the run without faults has as many hits; and `Unseen`, where nothing is left to be asked and a
-/// plan's run is told without its hits. After each of these, and where memory was refused, the sink is as it was and hasn't failed; `Write` tells
-/// how many bytes of the text, fewer than all, went out before the sink failed.
+/// where more than 65536 plans are known, or the run without faults has as many hits. After each of these, and where memory was refused, the sink
+/// is as it was and hasn't failed; `Write` tells how many bytes of the text, fewer than all, went out before the sink failed.
 pub fn write_asks<W: Sink>(
     alloc: Global,
     outside: &Outside,
@@ -132,11 +135,13 @@ pub fn write_asks<W: Sink>(
 ///
 /// Without a depth it is what [`outside_campaign::write_report_in`] writes. With one it is, for every component that agrees with the answers and
 /// whose next hit is a function of the answers so far, the report of its campaign with this depth, as that of a target which the program runs
-/// itself. It is written only where nothing is still to be tried: of each plan that grows the run and its hits are told, and all that its causes
-/// and reductions ask is known.
+/// itself. It is written only where nothing is still to be tried: of each plan that grows the run is told, and all that its causes and reductions
+/// ask is known.
 ///
-/// The faults are those of [`write_asks`]; `NotAnswered` is a scenario that is still to be tried, where one is, and `Unseen` comes where the
-/// first plan that isn't answered whole is told without its hits.
+/// Nothing grows from a run that is told without its hits: the report is that of the campaign as far as its runs were seen, tells how many weren't,
+/// and promises nothing of scenarios whose runs begin like one of these. Where there is none it is that of the whole campaign.
+///
+/// The faults are those of [`write_asks`], and `NotAnswered`: a scenario that is still to be tried.
 pub fn write_report_in<W: Sink>(
     alloc: Global,
     form: &Form<'_>,
@@ -168,7 +173,7 @@ pub fn write_report_in<W: Sink>(
 /// Without a depth it is what [`outside_campaign::write_partial`] writes. With one the plans are those that are known by now: a plan is known once
 /// the hits of those that it grew from are told, and its number isn't, so the lines have scenarios in place of numbers.
 ///
-/// The faults are those of [`write_asks`] without `Unseen`: a run may be told without its hits.
+/// The faults are those of [`write_asks`].
 pub fn write_partial<W: Sink>(
     alloc: Global,
     outside: &Outside,

@@ -5,7 +5,7 @@ ghost use Rattle.campaign_core.specs.declared.ending.CampaignFault.TheVariants.{
 ghost use Rattle.outside_campaign.specs.Results.{answers_fault};
 ghost use Rattle.outside_campaign.specs.declared.refusal.OutsideFault.TheVariants.{Campaign};
 ghost use Rattle.answered_campaigns.specs.Faults.{known_fault};
-ghost use Rattle.answered_campaigns.specs.declared.fault.QuestionFault.TheVariants.{Outside};
+ghost use Rattle.answered_campaigns.specs.declared.fault.QuestionFault.TheVariants.{Outside, Scenario};
 
 use answer_text::AnswersFault;
 use answered_runs::BrokenRun;
@@ -14,6 +14,7 @@ use known_runs::KnownFault;
 use outside_campaign::OutsideFault;
 use plan_gen::PlanFault;
 use report::WriteFault;
+use scenario_grammar::ScenarioFault;
 use std::alloc::AllocError;
 
 /// Why a question on a component that somebody else runs isn't answered.
@@ -24,8 +25,9 @@ pub enum QuestionFault {
     /// A run breaks with that of the plan which its own grew from: what the component asks next doesn't follow from the answers so far, or the
     /// answers are those of two. Nothing was written.
     Broken(BrokenRun),
-    /// The line of this number answers the first plan that isn't answered whole: as unresolved, without hits that plans could grow from. Nothing
-    /// was written.
+    /// The text whose run is to be explained spells no scenario. Nothing was written.
+    Scenario(ScenarioFault),
+    /// The line of this number tells the run that is to be explained without its hits. Nothing was written.
     Unseen(u32),
 }
 
@@ -50,6 +52,14 @@ impl From<AnswersFault> for QuestionFault {
 
     fn from(cause: AnswersFault) -> QuestionFault {
         QuestionFault::Outside(OutsideFault::from(cause))
+    }
+}
+
+impl From<ScenarioFault> for QuestionFault {
+    ghost from_gives = { λ cause fault. fault ≡ Scenario cause };
+
+    fn from(cause: ScenarioFault) -> QuestionFault {
+        QuestionFault::Scenario(cause)
     }
 }
 

@@ -1,14 +1,13 @@
 //! What is still to be tried of a campaign with a depth.
-ghost use Rattle.std.specs.Prelude.{◌≡◌, ◌≤◌, [], IfErr, IfOk, OnOk};
+ghost use Rattle.std.specs.Prelude.{◌≡◌, ◌≤◌, IfErr, IfOk, OnOk};
 ghost use Rattle.asked_lines.specs.Lines.{lines_for};
-ghost use Rattle.outside_grown.specs.Asked.{to_try};
 ghost use Rattle.answered_campaigns.specs.Grown.{candidates};
 ghost use Rattle.answered_campaigns.specs.Questions.{AreUnbroken, grown_lines};
 ghost use Rattle.answered_campaigns.specs.inside.Outcomes.{RefusesAsks};
 
 use crate::candidates::{Outcome, outcome_known};
 use crate::fault::QuestionFault;
-use crate::grown::{refuse_broken, refuse_gap};
+use crate::grown::refuse_broken;
 use crate::table::KnownByRuns;
 use asked_lines::AskedLines;
 use campaign_given::CampaignSettings;
@@ -16,19 +15,17 @@ use campaign_plans::CampaignPlans;
 use outside_grown::{asks, grown_lists};
 use std::alloc::Global;
 
-/// The lines that ask for the scenarios that still decide causes and reductions, once each plan's run is known.
+/// The lines that ask for the scenarios that still decide causes and reductions, once each plan is answered.
 fn candidates(
     alloc: Global,
     known: &KnownByRuns<'_>,
     settings: &CampaignSettings,
 ) -> Result<AskedLines, QuestionFault>
-    requires depth { known.now.1 ≤ 64 }
-    requires answered { to_try known.now.0 known.now.1 settings.now.plans ≡ [] }
+    requires { known.now.1 ≤ 64 }
     ensures lines { IfOk result (λ lines. lines ≡ lines_for (candidates known.now.0 known.now.1 settings.now.plans)) }
     ensures fault { IfErr result (RefusesAsks known.now.0 known.now.1 settings.now.plans) }
 {
     let lists = grown_lists(alloc, known.runs, known.depth, &settings.plan_settings())?;
-    refuse_gap(alloc, known, &lists.listed)?;
     let grown = &lists.listed.known.plans;
     let plans = CampaignPlans::grown(Some(grown), known.runs.points(), &lists.further);
     match outcome_known(alloc, known, &plans, grown)? {

@@ -3,7 +3,7 @@ ghost use Rattle.std.specs.Prelude.{◌≡◌, ◌≤◌, string_bytes, true, If
 ghost use Rattle.outside_campaign.specs.Partial.{partial_text, some_fails};
 ghost use Rattle.answered_campaigns.specs.Grown.{known as known_verdicts, listed};
 ghost use Rattle.answered_campaigns.specs.Questions.{AreUnbroken};
-ghost use Rattle.answered_campaigns.specs.inside.Outcomes.{RefusesKnown};
+ghost use Rattle.answered_campaigns.specs.inside.Outcomes.{RefusesAsks};
 
 use crate::fault::QuestionFault;
 use crate::grown::refuse_broken;
@@ -26,7 +26,7 @@ pub fn grown_partial(
     ensures text { IfOk result (λ r. let k = known.now in string_bytes r.0
         ≡ partial_text outside.now settings.now.plans.seed true (known_verdicts k.0 k.1) (listed k.0 k.1 settings.now.plans)) }
     ensures fails { IfOk result (λ r. let k = known.now in r.1 ≡ some_fails (known_verdicts k.0 k.1) (listed k.0 k.1 settings.now.plans)) }
-    ensures fault { IfErr result (RefusesKnown known.now.0 known.now.1 settings.now.plans) }
+    ensures fault { IfErr result (RefusesAsks known.now.0 known.now.1 settings.now.plans) }
 {
     refuse_broken(alloc, known)?;
     let lists = grown_lists(alloc, known.runs, known.depth, &settings.plan_settings())?;

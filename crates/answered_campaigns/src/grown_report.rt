@@ -1,17 +1,17 @@
 //! The report of a campaign with a depth.
-ghost use Rattle.std.specs.Prelude.{◌≡◌, ◌≤◌, ◌<◌, [], None, Some, length, option_map, slice_get, slice_index_or, IfErr, IfOk, OnOk};
+ghost use Rattle.std.specs.Prelude.{◌≡◌, ◌≤◌, ◌<◌, [], length, replicate, slice_index_or, IfErr, IfOk, OnOk};
 ghost use Rattle.std.specs.List.{AllByRecursion};
 ghost use Rattle.scenario_values.specs.Scenario.{IsScenario};
 ghost use Rattle.target_trait.specs.declared.judgement.Verdict.TheVariants.{Unresolved};
 ghost use Rattle.answered_runs.specs.Answered.{known_plans, runs_in};
-ghost use Rattle.answered_runs.specs.WholeList.{AreSeen};
+ghost use Rattle.answered_runs.specs.WholeList.{AreAllTold};
 ghost use Rattle.outside_campaign.specs.Asked.{open_plans};
 ghost use Rattle.outside_campaign.specs.Told.{AreVerdicts};
 ghost use Rattle.outside_grown.specs.Further.{HasFewHits};
 ghost use Rattle.outside_campaign.specs.declared.verdicts.Verdicts.TheVariants.{All};
 ghost use Rattle.answered_campaigns.specs.Grown.{known as known_verdicts, untried};
 ghost use Rattle.answered_campaigns.specs.Questions.{AreUnbroken, RefusesBy};
-ghost use Rattle.answered_campaigns.specs.inside.Outcomes.{IsCleanCensus, IsDecided, IsFirstOf, IsOpenPlan, IsReportOf, IsTextOf};
+ghost use Rattle.answered_campaigns.specs.inside.Outcomes.{IsCleanCensus, IsDecided, IsFirstNumberOf, IsFirstOf, IsOpenPlan, IsTextOf};
 
 use crate::candidates::{Outcome, Told, outcome_known};
 use crate::fault::QuestionFault;
@@ -30,7 +30,7 @@ use scenario_values::Scenario;
 use std::alloc::{AllocError, Global};
 use target_trait::Verdict;
 
-/// A campaign with a depth in which each plan's run is known.
+/// A campaign with a depth in which each plan is answered.
 #[derive(Drop)]
 struct Campaign<'a> {
     outside: &'a Outside,
@@ -69,14 +69,23 @@ fn first_of(cards: Vec<Scenario>) -> QuestionFault
     }
 }
 
-/// How often each point is hit in the run without faults.
+/// No hits of so many points.
+fn no_hits(alloc: Global, points: usize) -> Result<Vec<u32>, AllocError>
+    ensures { IfOk result (λ none. none.items ≡ replicate points 0) }
+{
+    let mut none = Vec::new(alloc);
+    none.resize(points, 0)?;
+    Ok(none)
+}
+
+/// How often each point is hit in the run without faults; none is where its hits aren't told.
 fn clean_census(alloc: Global, known: &KnownByRuns<'_>) -> Result<Vec<u32>, AllocError>
     requires { HasFewHits known.now.0 }
     ensures { IfOk result (λ counts. IsCleanCensus known.now.0 counts.items) }
 {
     match census(alloc, known.runs)? {
         Some(counts) => Ok(counts),
-        None => Err(AllocError),
+        None => no_hits(alloc, known.runs.points().len()),
     }
 }
 
@@ -115,6 +124,7 @@ fn told_text<'a>(
         levels: grown.levels.as_slice(),
         onward: grown.onward,
         beyond: grown.beyond,
+        unseen: lists.listed.unseen,
         reached: reached.as_slice(),
         causes,
     };
@@ -124,6 +134,7 @@ fn told_text<'a>(
         clean: clean_of(verdicts),
         census: census.as_slice(),
         verdicts,
+        unmet: 0,
         findings: told.findings,
         growth: Some(growth),
     };
@@ -148,9 +159,10 @@ pub fn grown_report<'a>(
 ) -> Result<(Vec<u8>, Option<u32>), QuestionFault>
     requires depth { known.now.1 ≤ 64 }
     requires points { known.now.0.points ≡ outside.now.points }
-    ensures report { IfOk result (λ r. IsReportOf form.now outside.now settings.now known.now.0 known.now.1 r.0.items r.1) }
+    ensures text { IfOk result (λ r. IsTextOf form.now outside.now settings.now known.now.0 known.now.1 r.0.items) }
+    ensures first { IfOk result (λ r. IsFirstNumberOf outside.now settings.now known.now.0 known.now.1 r.1) }
     ensures unbroken { OnOk result (AreUnbroken known.now.0 known.now.1) }
-    ensures seen { OnOk result (AreSeen (runs_in known.now.0) (known_plans known.now.0 known.now.1) None) }
+    ensures told { OnOk result (AreAllTold (runs_in known.now.0) (known_plans known.now.0 known.now.1)) }
     ensures all { OnOk result (untried known.now.0 known.now.1 settings.now.plans ≡ []) }
     ensures fault { IfErr result (RefusesBy known.now.0 known.now.1 settings.now.plans) }
 {

@@ -4,12 +4,18 @@
 
 mod candidates;
 mod depth;
+mod explaining;
 mod fault;
 mod grown;
 mod grown_asks;
 mod grown_partial;
 mod grown_report;
+mod kinds;
+mod laws;
 mod table;
 
 pub use depth::{write_asks, write_partial, write_report_in};
+pub use explaining::write_explained;
 pub use fault::QuestionFault;
+pub use kinds::listed_kinds;
+pub use laws::kinds_of_settings_can_be_tried;

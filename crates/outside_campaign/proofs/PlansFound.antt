@@ -1,6 +1,6 @@
 -- What is found of plans that are looked at one after another.
 use Rattle.std.proofs.Common.{◌≡◌, ℕ, ◌+◌, ◌≤◌, Bool, false, cond, List, [], ◌∷◌, ◌++◌, Option, None, Some, length, refl, ap, sym, ◌∙◌, arith, subst, add-zero}
-use Rattle.std.specs.Prelude.{is_some, count_by, slice_get, string_bytes}
+use Rattle.std.specs.Prelude.{is_some, slice_get, string_bytes}
 use Rattle.std.specs.Option.{option_or}
 use Rattle.std.proofs.lemmas.List.{append_assoc, append-nil}
 use Rattle.std.proofs.lemmas.List.Concat.{flat_map-append}
@@ -94,12 +94,12 @@ written label seed counted last known text is =
 
 -- ---- by the settings and the answers
 
-pub partial_is : (outside : Description) (given : Given) (answers : List ℕ) (known : KnownVerdicts) (plans : List Entries) (seed : ℕ) (text : List ℕ) → known ≡ known_by outside.codes answers → plans ≡ listed outside given → seed ≡ given.plans.seed
+pub partial_is : (outside : Description) (given : Given) (answers : List ℕ) (known : KnownVerdicts) (plans : List Entries) (seed : ℕ) (text : List ℕ) → known ≡ known_by outside.codes outside.points answers → plans ≡ listed outside given → seed ≡ given.plans.seed
     → text ≡ partial_text outside seed false known plans → text ≡ partial_by outside given answers
 partial_is outside given answers known plans seed text k p s is =
     is ∙ ap (λ (n : ℕ). partial_text outside n false known plans) s ∙ ap (λ (ps : List Entries). partial_text outside given.plans.seed false known ps) p
     ∙ ap (λ (v : KnownVerdicts). partial_text outside given.plans.seed false v (listed outside given)) k
 
-pub fails_is : (outside : Description) (given : Given) (answers : List ℕ) (known : KnownVerdicts) (plans : List Entries) (fails : Bool) → known ≡ known_by outside.codes answers → plans ≡ listed outside given → fails ≡ some_fails known plans
+pub fails_is : (outside : Description) (given : Given) (answers : List ℕ) (known : KnownVerdicts) (plans : List Entries) (fails : Bool) → known ≡ known_by outside.codes outside.points answers → plans ≡ listed outside given → fails ≡ some_fails known plans
     → fails ≡ some_fails_by outside given answers
 fails_is outside given answers known plans fails k p is = is ∙ ap (some_fails known) p ∙ ap (λ (v : KnownVerdicts). some_fails v (listed outside given)) k

@@ -18,16 +18,18 @@ use Rattle.report.specs.Reports.{FindingFacts, ReportFacts}
 use Rattle.asked_lines.specs.Lines.{lines_for}
 use Rattle.asked_lines.specs.Parts.{part_text}
 use Rattle.asked_lines.specs.declared.parts.AskedPart.{AskedPart}
-use Rattle.answer_text.specs.Known.{KnownVerdicts, known_by, Agrees, AgreesWithText}
-use Rattle.answer_text.specs.Answers.{Answer, Says}
+use Rattle.answer_text.specs.Known.{KnownVerdicts, known_by, verdicts_in, Agrees, AgreesWithText}
+use Rattle.answer_text.specs.Runs.{KnownRuns}
 use Rattle.answer_text.proofs.Agreement.{agrees_by, some_agrees}
 use Rattle.campaign_given.specs.Description.{Description}
 use Rattle.campaign_given.specs.Given.{Given}
 use Rattle.campaign_core.specs.Findings.{finding}
 use Rattle.outside_campaign.specs.Outside.{Component, Components, say, say_each, EachAgrees}
 use Rattle.outside_campaign.specs.Asked.{open_plans, open_cards, plan_verdicts, known_failures}
-use Rattle.outside_campaign.specs.Campaigns.{plans as plans_of, code_name, report as report_by, report_in, shown, asks_text, first_failure, untried, untried_by, KnownTextFault}
+use Rattle.outside_campaign.specs.Campaigns.{plans as plans_of, code_name, report as report_by, report_in, shown, asks_text, first_failure, unmet_by, untried, untried_by, KnownTextFault}
 use Rattle.outside_campaign.specs.Forms.{text_in}
+use Rattle.outside_campaign.specs.Readable.{IsReadable, told_by}
+use Rattle.outside_campaign.specs.Unmet.{unmet_count}
 use Rattle.outside_campaign.specs.inside.ToldPlans.{AreOf, AreResults}
 use Rattle.outside_campaign.specs.inside.Results.{IsFirst, AreWithVerdicts, facts_of}
 use Rattle.outside_campaign.specs.declared.forms.Form.{Form}
@@ -91,18 +93,18 @@ told_all known plans failures findings (NotAnswered t) fe h w = (w.0, none_open 
 
 -- ---- the report
 
-pub agrees_with_known : (names : List (List ℕ)) (text : List ℕ) (known : KnownVerdicts) (component : Component) → known ≡ known_by names text → AgreesWithText names text component → Agrees component known
-agrees_with_known names text known component is agrees = subst (Agrees component) (sym is) (agrees_by names text component agrees)
+pub agrees_with_known : (outside : Description) (text : List ℕ) (known : KnownVerdicts) (component : Component) → known ≡ known_by outside.codes outside.points text → AgreesWithText outside.codes outside.points text component → Agrees component known
+agrees_with_known outside text known component is agrees = subst (Agrees component) (sym is) (agrees_by outside.codes outside.points text component agrees)
 
 -- the component under each stream number
 abbrev each : Component → Components
 each component stream = component
 
 -- by the verdicts and findings of a component the report is its own
-pub report_is : (outside : Description) (settings : Given) (component : Component) (plans : List Entries) (verdicts : List Verdict) (findings : List FindingFacts) → plans ≡ plans_of outside settings → AreOf (each component) plans verdicts findings
-    → facts_of outside settings.plans.seed verdicts findings ≡ report_by outside settings component
-report_is outside settings component plans verdicts findings is of =
-    let facts : List Verdict → List FindingFacts → ReportFacts = facts_of outside settings.plans.seed in
+pub report_is : (outside : Description) (settings : Given) (answers : List ℕ) (component : Component) (plans : List Entries) (verdicts : List Verdict) (findings : List FindingFacts) → plans ≡ plans_of outside settings → AreOf (each component) plans verdicts findings
+    → facts_of outside settings.plans.seed verdicts (unmet_by outside settings answers) findings ≡ report_by outside settings answers component
+report_is outside settings answers component plans verdicts findings is of =
+    let facts : List Verdict → List FindingFacts → ReportFacts = λ vs. facts_of outside settings.plans.seed vs (unmet_by outside settings answers) in
     let whole : List Entries → ReportFacts = λ ps. facts (verdicts_from (say component) 0 ps) (map (finding (say component) ps) (first_failures (numbered (verdicts_from (say component) 0 ps)))) in
     ap (λ (vs : List Verdict). facts vs findings) of.verdicts_are
     ∙ ap (λ (fs : List FindingFacts). facts (verdicts_from (say component) 0 plans) fs) of.findings_are
@@ -119,13 +121,13 @@ first_is outside settings component plans verdicts findings is of =
     ∙ first_of (finding (say component) plans) (first_failures (numbered (verdicts_from (say component) 0 plans))) (λ x. refl)
     ∙ ap (λ (ps : List Entries). option_map (λ x. x.0) (slice_get (first_failures (numbered (verdicts_from (say component) 0 ps))) 0)) is
 
-pub untried_is : (outside : Description) (settings : Given) (answers : List ℕ) (known : KnownVerdicts) (plans : List Entries) → known ≡ known_by outside.codes answers → plans ≡ plans_of outside settings → untried known plans ≡ untried_by outside settings answers
-untried_is outside settings answers known plans e is = ap (λ (k : KnownVerdicts). untried k plans) e ∙ ap (untried (known_by outside.codes answers)) is
+pub untried_is : (outside : Description) (settings : Given) (answers : List ℕ) (known : KnownVerdicts) (plans : List Entries) → known ≡ known_by outside.codes outside.points answers → plans ≡ plans_of outside settings → untried known plans ≡ untried_by outside settings answers
+untried_is outside settings answers known plans e is = ap (λ (k : KnownVerdicts). untried k plans) e ∙ ap (untried (known_by outside.codes outside.points answers)) is
 
 -- ---- faults
 
 -- the bytes that are asked
-pub asks_are : (part : AskedPart) (outside : Description) (settings : Given) (answers : List ℕ) (known : KnownVerdicts) (plans : List Entries) (bytes : List ℕ) → known ≡ known_by outside.codes answers → plans ≡ plans_of outside settings
+pub asks_are : (part : AskedPart) (outside : Description) (settings : Given) (answers : List ℕ) (known : KnownVerdicts) (plans : List Entries) (bytes : List ℕ) → known ≡ known_by outside.codes outside.points answers → plans ≡ plans_of outside settings
     → bytes ≡ part_text part (lines_for (untried known plans)) → bytes ≡ asks_text part outside settings answers
 asks_are part outside settings answers known plans bytes k p b = b ∙ ap (λ (ts : List Entries). part_text part (lines_for ts)) (untried_is outside settings answers known plans k p)
 
@@ -141,18 +143,18 @@ known_cut text outside settings answers old new failed bytes n (Err f) is whole 
 
 -- what is told is the report of each component that agrees
 pub report_told : (form : Form) (outside : Description) (settings : Given) (answers : List ℕ) (known : KnownVerdicts) (plans : List Entries) (verdicts : List Verdict) (findings : List FindingFacts) (report : ReportFacts) (bytes : List ℕ)
-    → known ≡ known_by outside.codes answers → plans ≡ plans_of outside settings → ((components : Components) → EachAgrees components known → AreOf components plans verdicts findings)
-    → report ≡ facts_of outside settings.plans.seed verdicts findings → bytes ≡ text_in form outside.points (code_name outside.codes) report (shown outside settings)
-    → (component : Component) → AgreesWithText outside.codes answers component → bytes ≡ report_in form outside settings component
+    → known ≡ known_by outside.codes outside.points answers → plans ≡ plans_of outside settings → ((components : Components) → EachAgrees components known → AreOf components plans verdicts findings)
+    → report ≡ facts_of outside settings.plans.seed verdicts (unmet_by outside settings answers) findings → bytes ≡ text_in form outside.points (code_name outside.codes) report (shown outside settings)
+    → (component : Component) → AgreesWithText outside.codes outside.points answers component → bytes ≡ report_in form outside settings answers component
 report_told form outside settings answers known plans verdicts findings report bytes k p own r b component agrees =
     b ∙ ap (λ (facts : ReportFacts). text_in form outside.points (code_name outside.codes) facts (shown outside settings))
-    (r ∙ report_is outside settings component plans verdicts findings p (own (each component) (λ stream. agrees_with_known outside.codes answers known component k agrees)))
+    (r ∙ report_is outside settings answers component plans verdicts findings p (own (each component) (λ stream. agrees_with_known outside answers known component k agrees)))
 
 pub first_told : (outside : Description) (settings : Given) (answers : List ℕ) (known : KnownVerdicts) (plans : List Entries) (verdicts : List Verdict) (findings : List FindingFacts) (first : Option ℕ)
-    → known ≡ known_by outside.codes answers → plans ≡ plans_of outside settings → ((components : Components) → EachAgrees components known → AreOf components plans verdicts findings)
-    → first ≡ option_map (λ f. f.number) (slice_get findings 0) → (component : Component) → AgreesWithText outside.codes answers component → first ≡ first_failure outside settings component
+    → known ≡ known_by outside.codes outside.points answers → plans ≡ plans_of outside settings → ((components : Components) → EachAgrees components known → AreOf components plans verdicts findings)
+    → first ≡ option_map (λ f. f.number) (slice_get findings 0) → (component : Component) → AgreesWithText outside.codes outside.points answers component → first ≡ first_failure outside settings component
 first_told outside settings answers known plans verdicts findings first k p own is component agrees =
-    is ∙ first_is outside settings component plans verdicts findings p (own (each component) (λ stream. agrees_with_known outside.codes answers known component k agrees))
+    is ∙ first_is outside settings component plans verdicts findings p (own (each component) (λ stream. agrees_with_known outside answers known component k agrees))
 
 -- there is a verdict for each plan
 pub verdicts_each : (known : KnownVerdicts) (plans : List Entries) (verdicts : List Verdict) (findings : List FindingFacts) → ((components : Components) → EachAgrees components known → AreOf components plans verdicts findings) → length verdicts ≡ length plans
@@ -160,7 +162,16 @@ verdicts_each known plans verdicts findings own =
     let of = own (each_by_known known) (each_by_known_agrees known) in
     ap length of.verdicts_are ∙ length_verdicts (say_each (each_by_known known)) 0 plans
 
-pub some_component : (outside : Description) (text : List ℕ) (codes : List (List ℕ)) → codes ≡ outside.codes → (answers : List Answer) → Says codes text answers → (component : Component) × AgreesWithText outside.codes text component
-some_component outside text codes is answers says =
-    let P : List (List ℕ) → Type 0 = λ names. (component : Component) × AgreesWithText names text component in
-    subst P is (some_agrees codes text answers says)
+pub some_component : (outside : Description) (answers : List ℕ) → IsReadable outside answers → (component : Component) × AgreesWithText outside.codes outside.points answers component
+some_component outside answers h = some_agrees outside.codes outside.points answers h.said h.says
+
+-- the verdicts that are known
+pub verdicts_are : (outside : Description) (answers : List ℕ) (known : KnownRuns) → known ≡ told_by outside answers → verdicts_in known ≡ known_by outside.codes outside.points answers
+verdicts_are outside answers known e = ap verdicts_in e
+
+-- the plans that are unmet
+pub unmet_is : (outside : Description) (settings : Given) (answers : List ℕ) (points : List (List ℕ)) (known : KnownRuns) (plans : List Entries) (n : ℕ) → points ≡ outside.points → known ≡ told_by outside answers → plans ≡ plans_of outside settings
+    → n ≡ unmet_count points known plans → n ≡ unmet_by outside settings answers
+unmet_is outside settings answers points known plans n e k p is =
+    is ∙ ap (λ (names : List (List ℕ)). unmet_count names known plans) e ∙ ap (λ (runs : KnownRuns). unmet_count outside.points runs plans) k
+    ∙ ap (unmet_count outside.points (told_by outside answers)) p

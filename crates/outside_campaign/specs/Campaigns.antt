@@ -1,6 +1,6 @@
 -- A campaign on a component that somebody else runs: its list of plans, what is still to be tried, and its report, by the settings and a
 -- text of answers.
-use Rattle.std.specs.Prelude.{◌≡◌, ◌≤◌, ◌<◌, ℕ, Bool, true, false, List, [], ◌∷◌, Option, None, option_map, length, slice_get, slice_index_or, take, Err}
+use Rattle.std.specs.Prelude.{◌≡◌, ◌≤◌, ◌<◌, ℕ, Bool, true, false, List, [], ◌∷◌, Option, None, option_map, length, slice_get, slice_index_or, take}
 use Rattle.std.specs.Io.KnownBytes.{Appends}
 use Rattle.scenario_values.specs.Scenario.{Entries}
 use Rattle.plan_gen.specs.PlanList.{most_plans, plan_list}
@@ -11,7 +11,6 @@ use Rattle.report.specs.ReportText.{text_of}
 use Rattle.asked_lines.specs.Lines.{lines_for}
 use Rattle.asked_lines.specs.Parts.{part_text}
 use Rattle.asked_lines.specs.declared.parts.AskedPart.{AskedPart}
-use Rattle.answer_text.specs.FirstFault.{reading_of}
 use Rattle.answer_text.specs.Known.{KnownVerdicts, known_by, AgreesWithText}
 use Rattle.campaign_given.specs.Description.{Description}
 use Rattle.campaign_given.specs.Given.{Given}
@@ -22,6 +21,8 @@ use Rattle.campaign_core.specs.declared.ending.CampaignFault.TheVariants as camp
 use Rattle.outside_campaign.specs.Outside.{Component, say}
 use Rattle.outside_campaign.specs.Asked.{to_try, known_failures}
 use Rattle.outside_campaign.specs.Forms.{ShownFacts, text_in}
+use Rattle.outside_campaign.specs.Readable.{IsUnreadable, told_by}
+use Rattle.outside_campaign.specs.Unmet.{unmet_count}
 use Rattle.outside_campaign.specs.declared.forms.Form.{Form}
 use Rattle.outside_campaign.specs.declared.refusal.OutsideFault.{OutsideFault}
 use Rattle.outside_campaign.specs.declared.refusal.OutsideFault.TheVariants as refusal
@@ -37,9 +38,14 @@ plans_text outside given = text_of (plan_lines 0 (plans outside given))
 abbrev pub code_name : List (List ℕ) → ℕ → List ℕ
 code_name codes number = slice_index_or codes number []
 
--- what the report tells, for a component
-abbrev pub report : Description → Given → Component → ReportFacts
-report outside given component = report_of (say component) outside.label given.plans.seed outside.hits (plans outside given) None
+-- how many plans pass without meeting all of their faults, by the hits that are told
+abbrev pub unmet_by : Description → Given → List ℕ → ℕ
+unmet_by outside given answers = unmet_count outside.points (told_by outside answers) (plans outside given)
+
+-- what the report tells, for a component, with the unmet plans of these answers
+abbrev pub report : Description → Given → List ℕ → Component → ReportFacts
+report outside given answers component =
+    record (report_of (say component) outside.label given.plans.seed outside.hits (plans outside given) None) { unmet = unmet_by outside given answers }
 
 -- what is shown beside it: none of the plans grew
 abbrev pub shown : Description → Given → ShownFacts
@@ -52,9 +58,9 @@ shown outside given = record {
 }
 
 -- the text of the report in a form
-abbrev pub report_in : Form → Description → Given → Component → List ℕ
-report_in form outside given component =
-    text_in form outside.points (code_name outside.codes) (report outside given component) (shown outside given)
+abbrev pub report_in : Form → Description → Given → List ℕ → Component → List ℕ
+report_in form outside given answers component =
+    text_in form outside.points (code_name outside.codes) (report outside given answers component) (shown outside given)
 
 -- the least number of a plan that fails
 abbrev pub first_failure : Description → Given → Component → Option ℕ
@@ -68,7 +74,7 @@ untried known plans = to_try known plans (known_failures known plans)
 
 -- the same by the settings and a text of answers
 abbrev pub untried_by : Description → Given → List ℕ → List Entries
-untried_by outside given answers = untried (known_by outside.codes answers) (plans outside given)
+untried_by outside given answers = untried (known_by outside.codes outside.points answers) (plans outside given)
 
 -- the text of a part of the lines that ask for it
 abbrev pub asks_text : AskedPart → Description → Given → List ℕ → List ℕ
@@ -87,13 +93,12 @@ IsUnwritten plans Cut old new failed campaign.TooManyPlans = (new ≡ old) × (f
 IsUnwritten plans Cut old new failed campaign.Memory = (new ≡ old) × (failed ≡ false)
 IsUnwritten plans Cut old new failed (campaign.Write n) = Cut n × (failed ≡ true) × (length plans ≤ most_plans)
 
--- why a text wasn't written that is told by whatever is known: the answers' first fault, or a fault as of the list of plans
+-- why a text wasn't written that is told by whatever is known: what is wrong with the answers, or a fault as of the list of plans
 abbrev pub KnownTextFault : List ℕ → Description → Given → List ℕ → Option (List ℕ) → Option (List ℕ) → Bool → OutsideFault → Type 0
-KnownTextFault text outside given answers old new failed (refusal.Answers fault) =
-    (new ≡ old) × (failed ≡ false) × (reading_of outside.codes answers ≡ Err fault)
 KnownTextFault text outside given answers old new failed (refusal.NotAnswered t) = ⊥
 KnownTextFault text outside given answers old new failed (refusal.Campaign fault) =
     IsUnwritten (plans outside given) (IsCut old new text) old new failed fault
+KnownTextFault text outside given answers old new failed fault = (new ≡ old) × (failed ≡ false) × IsUnreadable outside answers fault
 
 -- why what is to be tried wasn't written
 abbrev pub AsksFault : AskedPart → Description → Given → List ℕ → Option (List ℕ) → Option (List ℕ) → Bool → OutsideFault → Type 0
@@ -102,15 +107,14 @@ AsksFault part outside given answers = KnownTextFault (asks_text part outside gi
 -- the same of a text on a component, for each that agrees with the answers; and it isn't written where something is to be tried, of which
 -- this is the first
 abbrev pub TextFault : (Component → List ℕ) → Description → Given → List ℕ → Option (List ℕ) → Option (List ℕ) → Bool → OutsideFault → Type 0
-TextFault text outside given answers old new failed (refusal.Answers fault) =
-    (new ≡ old) × (failed ≡ false) × (reading_of outside.codes answers ≡ Err fault)
 TextFault text outside given answers old new failed (refusal.NotAnswered t) =
     (new ≡ old) × (failed ≡ false) × ((more : List Entries) × (untried_by outside given answers ≡ t ∷ more))
 TextFault text outside given answers old new failed (refusal.Campaign fault) =
     IsUnwritten (plans outside given)
-    (λ n. (component : Component) → AgreesWithText outside.codes answers component → IsCut old new (text component) n)
+    (λ n. (component : Component) → AgreesWithText outside.codes outside.points answers component → IsCut old new (text component) n)
     old new failed fault
+TextFault text outside given answers old new failed fault = (new ≡ old) × (failed ≡ false) × IsUnreadable outside answers fault
 
 -- of the report in a form
 abbrev pub ReportFault : Form → Description → Given → List ℕ → Option (List ℕ) → Option (List ℕ) → Bool → OutsideFault → Type 0
-ReportFault form outside given = TextFault (report_in form outside given) outside given
+ReportFault form outside given answers = TextFault (report_in form outside given answers) outside given answers

@@ -42,7 +42,7 @@ mapped linked report shown = record {
   linked = linked;
 }
 
--- what the page shows beside the report, by the text of the map. Answers give verdicts, so no run is told hit by hit.
+-- what the page shows beside the report, by the text of the map. No run is told hit by hit.
 abbrev pub about : List ℕ → NotesFacts → ShownFacts → AboutFacts
 about map notes shown = record {
   map = map;

@@ -2,6 +2,8 @@ pub mod Outside
 pub mod Reached
 pub mod Asked
 pub mod Forms
+pub mod Readable
+pub mod Unmet
 pub mod Campaigns
 pub mod Partial
 pub mod Results

@@ -78,10 +78,10 @@ some_fails known plans = is_some (first_so_far known plans)
 -- ---- by the settings and a text of answers, without a depth
 
 abbrev pub partial_by : Description → Given → List ℕ → List ℕ
-partial_by outside given answers = partial_text outside given.plans.seed false (known_by outside.codes answers) (listed outside given)
+partial_by outside given answers = partial_text outside given.plans.seed false (known_by outside.codes outside.points answers) (listed outside given)
 
 abbrev pub some_fails_by : Description → Given → List ℕ → Bool
-some_fails_by outside given answers = some_fails (known_by outside.codes answers) (listed outside given)
+some_fails_by outside given answers = some_fails (known_by outside.codes outside.points answers) (listed outside given)
 
 -- why it wasn't written
 abbrev pub PartialFault : Description → Given → List ℕ → Option (List ℕ) → Option (List ℕ) → Bool → OutsideFault → Type 0

@@ -1,14 +1,14 @@
 //! Campaigns on components that somebody else runs, by the settings and a text of answers: what is still to be tried.
-ghost use Rattle.std.specs.Prelude.{◌≡◌, ◌≤◌, false, length, IfErr, List, OnOk};
+ghost use Rattle.std.specs.Prelude.{◌≡◌, ◌≤◌, false, length, IfErr, OnOk};
 ghost use Rattle.std.specs.Io.KnownBytes.{Appends};
 ghost use Rattle.plan_gen.specs.PlanList.{most_plans};
-ghost use Rattle.answer_text.specs.Answers.{Answer, Says};
 ghost use Rattle.outside_campaign.specs.Campaigns.{plans, asks_text, AsksFault};
+ghost use Rattle.outside_campaign.specs.Readable.{IsReadable};
 
+use crate::answers::read_answers;
 use crate::asking::asks_text;
 use crate::planned::{borrowed, planned};
 use crate::refusal::OutsideFault;
-use answer_text::read;
 use asked_lines::AskedPart;
 use campaign_given::{CampaignSettings, Outside};
 use campaign_plans::CampaignPlans;
@@ -23,9 +23,10 @@ use target_trait::Sink;
 ///
 /// Of these lines a part is written: all of them, or one machine's shard, or one line in their place that says how many there are.
 ///
-/// Nothing is written before the whole text stands. `Answers` is the answers' first fault; `NotAnswered` never comes; and of a fault as of
-/// a campaign, `TooManyPlans` comes only where the list has more than 65536 plans. After each of these, and where memory was refused, the
-/// sink is as it was and hasn't failed; `Write` tells how many bytes of the text, fewer than all, went out before the sink failed.
+/// Nothing is written before the whole text stands. `Answers` is the answers' first fault; `Census` is the line that tells hits of the run without
+/// faults which aren't as many as the settings say; `NotAnswered` never comes; and of a fault as of a campaign, `TooManyPlans` comes only
+/// where the list has more than 65536 plans. After each of these, and where memory was refused, the sink is as it was and hasn't failed;
+/// `Write` tells how many bytes of the text, fewer than all, went out before the sink failed.
 pub fn write_asks<W: Sink>(
     alloc: Global,
     outside: &Outside,
@@ -38,12 +39,12 @@ pub fn write_asks<W: Sink>(
     ensures text { OnOk result (Appends (W.told sink.old) (W.told sink.new) (asks_text part outside.now settings.now answers.now)) }
     ensures few { OnOk result (length (plans outside.now settings.now) ≤ most_plans) }
     ensures sound { OnOk result (W.has_failed sink.new ≡ false) }
-    // Where the answers have a fault nothing is asked.
-    ensures said { OnOk result ((said : List Answer) × Says outside.now.codes answers.now said) }
+    // Where something is wrong with the answers nothing is asked.
+    ensures readable { OnOk result (IsReadable outside.now answers.now) }
     ensures fault { IfErr result (AsksFault part outside.now settings.now answers.now
         (W.told sink.old) (W.told sink.new) (W.has_failed sink.new)) }
 {
-    let known = read(alloc, outside.codes.as_slice(), answers)?;
+    let known = read_answers(alloc, outside, answers)?;
     let points = borrowed(alloc, outside.points.as_slice())?;
     let plans = planned(alloc, points.as_slice(), outside, settings)?;
     let text = asks_text(alloc, &known, &CampaignPlans::by_census(&plans), part)?;

@@ -1,6 +1,7 @@
 //! Campaigns on components that somebody else runs: what is still to be tried, and what is told, by the answers alone.
 #![tactic(auto)]
 
+mod answers;
 mod asking;
 mod driving;
 mod findings;
@@ -14,8 +15,10 @@ mod reporting;
 mod results;
 mod table;
 mod telling;
+mod unmet;
 mod verdicts;
 
+pub use answers::read_answers;
 pub use driving::write_asks;
 pub use findings::{Findings, findings_known};
 pub use forms::{Form, Shown, text_in};
@@ -29,4 +32,5 @@ pub use refusal::OutsideFault;
 pub use reporting::write_report_in;
 pub use table::VerdictTable;
 pub use telling::{Words, first_number};
+pub use unmet::count_unmet;
 pub use verdicts::{Verdicts, plan_verdicts, verdicts_known};

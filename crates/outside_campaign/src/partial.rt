@@ -1,21 +1,21 @@
 //! What a campaign on a component that somebody else runs has come to before all is answered.
-ghost use Rattle.std.specs.Prelude.{◌≡◌, ◌^◌, ◌<◌, ◌≤◌, ◌∷◌, ◌++◌, [], List, Some, false, codes, length, string_bytes, IfErr, IfOk, OnOk};
+ghost use Rattle.std.specs.Prelude.{◌≡◌, ◌^◌, ◌<◌, ◌≤◌, ◌∷◌, ◌++◌, [], Some, false, codes, length, string_bytes, IfErr, IfOk, OnOk};
 ghost use Rattle.std.specs.Fmt.{decimal};
 ghost use Rattle.std.specs.Io.KnownBytes.{Appends};
 ghost use Rattle.scenario_values.specs.Tidied.{tidied};
 ghost use Rattle.plan_gen.specs.PlanList.{most_plans};
 ghost use Rattle.report.specs.ReportText.{ended, text_of};
-ghost use Rattle.answer_text.specs.Answers.{Answer, Says};
 ghost use Rattle.outside_campaign.specs.Campaigns.{code_name, plans as listed};
 ghost use Rattle.outside_campaign.specs.Partial.{answered_line, first_line, known_line, partial_by, partial_text, some_fails, some_fails_by, PartialFault};
+ghost use Rattle.outside_campaign.specs.Readable.{IsReadable};
 ghost use Rattle.outside_campaign.specs.inside.Found.{IsAdded, IsFound};
 ghost use Rattle.outside_campaign.specs.inside.Results.{IsUntoldYet};
 
+use crate::answers::read_answers;
 use crate::planned::{borrowed, planned};
 use crate::refusal::OutsideFault;
 use crate::table::VerdictTable;
 use crate::telling::Words;
-use answer_text::read;
 use campaign_given::{CampaignSettings, Outside};
 use campaign_plans::{CampaignPlan, CampaignPlans};
 use report::{Names, write_report, write_scenario, write_verdict};
@@ -215,10 +215,10 @@ fn told_so_far(
     ensures text { IfOk result (λ r. string_bytes r.0 ≡ partial_by outside.now settings.now answers.now) }
     ensures fails { IfOk result (λ r. r.1 ≡ some_fails_by outside.now settings.now answers.now) }
     ensures few { OnOk result (length (listed outside.now settings.now) ≤ most_plans) }
-    ensures said { OnOk result ((said : List Answer) × Says outside.now.codes answers.now said) }
+    ensures readable { OnOk result (IsReadable outside.now answers.now) }
     ensures fault { IfErr result (IsUntoldYet outside.now settings.now answers.now) }
 {
-    let known = read(alloc, outside.codes.as_slice(), answers)?;
+    let known = read_answers(alloc, outside, answers)?;
     let points = borrowed(alloc, outside.points.as_slice())?;
     let list = planned(alloc, points.as_slice(), outside, settings)?;
     let words = Words { outside: &*outside };
@@ -233,9 +233,9 @@ fn told_so_far(
 /// whether one is known to fail.
 ///
 /// Nothing is written before the whole text stands. The faults are those of [`write_asks`](crate::write_asks): `Answers` is the answers' first
-/// fault; `NotAnswered` never comes; and of a fault as of a campaign, `TooManyPlans` comes only where the list has more than 65536 plans. After
-/// each of these, and where memory was refused, the sink is as it was and hasn't failed; `Write` tells how many bytes of the text, fewer than
-/// all, went out before the sink failed.
+/// fault; `Census` is a census that isn't the settings'; `NotAnswered` never comes; and of a fault as of a campaign, `TooManyPlans` comes only
+/// where the list has more than 65536 plans. After each of these, and where memory was refused, the sink is as it was and hasn't failed;
+/// `Write` tells how many bytes of the text, fewer than all, went out before the sink failed.
 pub fn write_partial<W: Sink>(
     alloc: Global,
     outside: &Outside,
@@ -248,8 +248,8 @@ pub fn write_partial<W: Sink>(
     ensures fails { IfOk result (λ fails. fails ≡ some_fails_by outside.now settings.now answers.now) }
     ensures few { OnOk result (length (listed outside.now settings.now) ≤ most_plans) }
     ensures sound { OnOk result (W.has_failed sink.new ≡ false) }
-    // Where the answers have a fault nothing is told.
-    ensures said { OnOk result ((said : List Answer) × Says outside.now.codes answers.now said) }
+    // Where something is wrong with the answers nothing is told.
+    ensures readable { OnOk result (IsReadable outside.now answers.now) }
     ensures fault { IfErr result (PartialFault outside.now settings.now answers.now (W.told sink.old) (W.told sink.new) (W.has_failed sink.new)) }
 {
     let (text, fails) = told_so_far(alloc, outside, settings, answers)?;

@@ -17,6 +17,9 @@ use std::alloc::AllocError;
 pub enum OutsideFault {
     /// The first fault of the answers; never want of memory. Nothing was written.
     Answers(AnswersFault),
+    /// The line of this number, from 1, is the first to answer the run without faults, and tells hits of which some point has more or fewer than
+    /// the settings say. Nothing was written.
+    Census(u32),
     /// This tidied scenario is still to be tried, the first of those that are. Nothing was written.
     NotAnswered(Scenario),
     /// A fault as of a campaign of the program's own.

@@ -5,14 +5,16 @@ ghost use Rattle.plan_gen.specs.PlanList.{most_plans};
 ghost use Rattle.answer_text.specs.Known.{AgreesWithText};
 ghost use Rattle.outside_campaign.specs.Outside.{Component};
 ghost use Rattle.outside_campaign.specs.Campaigns.{plans, report_in, first_failure, untried_by, ReportFault};
+ghost use Rattle.outside_campaign.specs.Readable.{IsReadable};
 ghost use Rattle.outside_campaign.specs.inside.Results.{IsUntold};
 
+use crate::answers::read_answers;
 use crate::forms::Form;
 use crate::planned::{borrowed, planned};
 use crate::refusal::OutsideFault;
 use crate::results::{Results, results_known};
 use crate::telling::{first_number, report_of, told_text};
-use answer_text::read;
+use crate::unmet::count_unmet;
 use campaign_core::Ending;
 use campaign_given::{CampaignSettings, Outside};
 use campaign_plans::CampaignPlans;
@@ -28,16 +30,17 @@ fn told(
     settings: &CampaignSettings,
     answers: &[u8],
 ) -> Result<(Vec<u8>, Option<u32>), OutsideFault>
-    ensures text { IfOk result (λ r. (component : Component) → AgreesWithText outside.now.codes answers.now component
-        → r.0.items ≡ report_in form.now outside.now settings.now component) }
-    ensures first { IfOk result (λ r. (component : Component) → AgreesWithText outside.now.codes answers.now component
+    ensures text { IfOk result (λ r. (component : Component) → AgreesWithText outside.now.codes outside.now.points answers.now component
+        → r.0.items ≡ report_in form.now outside.now settings.now answers.now component) }
+    ensures first { IfOk result (λ r. (component : Component) → AgreesWithText outside.now.codes outside.now.points answers.now component
         → r.1 ≡ first_failure outside.now settings.now component) }
-    ensures some { OnOk result ((component : Component) × AgreesWithText outside.now.codes answers.now component) }
+    ensures readable { OnOk result (IsReadable outside.now answers.now) }
+    ensures some { OnOk result ((component : Component) × AgreesWithText outside.now.codes outside.now.points answers.now component) }
     ensures all { OnOk result (untried_by outside.now settings.now answers.now ≡ []) }
     ensures few { OnOk result (length (plans outside.now settings.now) ≤ most_plans) }
     ensures fault { IfErr result (IsUntold outside.now settings.now answers.now) }
 {
-    let known = read(alloc, outside.codes.as_slice(), answers)?;
+    let known = read_answers(alloc, outside, answers)?;
     let points = borrowed(alloc, outside.points.as_slice())?;
     let list = planned(alloc, points.as_slice(), outside, settings)?;
     let plans = CampaignPlans::by_census(&list);
@@ -45,7 +48,8 @@ fn told(
         Results::NotAnswered(scenario) => Err(OutsideFault::NotAnswered(scenario)),
         Results::Told(verdicts, findings) => {
             let first = first_number(&findings);
-            let report = report_of(outside, settings.seed, verdicts.as_slice(), findings);
+            let unmet = count_unmet(alloc, &known, points.as_slice(), &plans)?;
+            let report = report_of(outside, settings.seed, verdicts.as_slice(), unmet, findings);
             let text = told_text(alloc, form, outside, settings, &report, &plans)?;
             Ok((text, first))
         }
@@ -70,12 +74,13 @@ pub fn write_report_in<W: Sink>(
 ) -> Result<Ending, OutsideFault>
     requires { W.has_failed sink.old ≡ false }
     // The promise: for every component that agrees with the answers.
-    ensures text { OnOk result ((component : Component) → AgreesWithText outside.now.codes answers.now component
-        → Appends (W.told sink.old) (W.told sink.new) (report_in form.now outside.now settings.now component)) }
-    ensures first { IfOk result (λ ending. (component : Component) → AgreesWithText outside.now.codes answers.now component
+    ensures text { OnOk result ((component : Component) → AgreesWithText outside.now.codes outside.now.points answers.now component
+        → Appends (W.told sink.old) (W.told sink.new) (report_in form.now outside.now settings.now answers.now component)) }
+    ensures first { IfOk result (λ ending. (component : Component) → AgreesWithText outside.now.codes outside.now.points answers.now component
         → ending.first ≡ first_failure outside.now settings.now component) }
     // Some component agrees with the answers, and nothing is still to be tried.
-    ensures some { OnOk result ((component : Component) × AgreesWithText outside.now.codes answers.now component) }
+    ensures readable { OnOk result (IsReadable outside.now answers.now) }
+    ensures some { OnOk result ((component : Component) × AgreesWithText outside.now.codes outside.now.points answers.now component) }
     ensures all { OnOk result (untried_by outside.now settings.now answers.now ≡ []) }
     ensures few { OnOk result (length (plans outside.now settings.now) ≤ most_plans) }
     ensures sound { OnOk result (W.has_failed sink.new ≡ false) }

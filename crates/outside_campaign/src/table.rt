@@ -2,7 +2,7 @@
 ghost use Rattle.std.specs.Prelude.{◌≡◌, IfOk};
 ghost use Rattle.scenario_values.specs.Tidied.{tidied};
 
-use answer_text::Known;
+use answer_text::Runs;
 use scenario_values::Scenario;
 use std::alloc::{AllocError, Global};
 use target_trait::Verdict;
@@ -20,10 +20,11 @@ pub trait VerdictTable {
 }
 
 /// What answers say.
-impl VerdictTable for Known {
-    ghost use Rattle.answer_text.specs.Known.{verdict_in};
+impl VerdictTable for Runs {
+    ghost use Rattle.answer_text.specs.Known.{verdicts_in};
+    ghost use Rattle.answer_text.specs.Runs.{told_in};
 
-    ghost verdicts = { verdict_in };
+    ghost verdicts = { λ book. verdicts_in (told_in book) };
 
     fn look_up(&self, alloc: Global, scenario: &Scenario) -> Result<Option<Verdict>, AllocError> {
         self.verdict_of(alloc, scenario)

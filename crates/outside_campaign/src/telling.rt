@@ -41,15 +41,16 @@ impl<'a> Names for Words<'a> {
     }
 }
 
-/// What is told by these verdicts and findings.
+/// What is told by these verdicts and findings, and by how many plans are unmet.
 pub fn report_of<'a>(
     outside: &'a Outside,
     seed: u64,
     verdicts: &'a [Verdict],
+    unmet: u32,
     findings: Vec<Finding>,
 ) -> Report<'a>
     requires { 0 < length verdicts.now }
-    ensures { result ≡ facts_of outside.now seed verdicts.now findings.items }
+    ensures { result ≡ facts_of outside.now seed verdicts.now unmet findings.items }
 {
     Report {
         label: outside.label.as_str(),
@@ -57,6 +58,7 @@ pub fn report_of<'a>(
         clean: verdicts[0],
         census: outside.hits.as_slice(),
         verdicts,
+        unmet,
         findings,
         growth: None,
     }

@@ -1,13 +1,12 @@
 -- What plans come to whose verdicts are known; the private contracts cite it.
-use Rattle.std.specs.Prelude.{◌≡◌, ◌≤◌, ◌<◌, ◌++◌, ℕ, All, List, [], ◌∷◌, None, length, map, slice_index_or, Contains, Option}
+use Rattle.std.specs.Prelude.{◌≡◌, ◌≤◌, ◌<◌, ◌++◌, ℕ, All, List, [], ◌∷◌, length, map, Contains, Option}
 use Rattle.std.specs.List.{AllByRecursion}
 use Rattle.scenario_values.specs.Scenario.{Entries, IsScenario}
 use Rattle.action_eval.specs.declared.rig.Rig.{Rig}
-use Rattle.plan_gen.specs.Census.{census_of, sites_of}
+use Rattle.plan_gen.specs.Census.{sites_of}
 use Rattle.plan_gen.specs.PlanList.{Asked, most_plans}
-use Rattle.scenario_values.specs.Tidied.{tidied}
-use Rattle.campaign_plans.specs.GrownScenarios.{grown_scenario, grown_scenarios}
-use Rattle.grown_plans.specs.GrownPlans.{Subject, grown}
+use Rattle.campaign_plans.specs.GrownScenarios.{grown_scenarios}
+use Rattle.grown_plans.specs.GrownPlans.{Subject}
 use Rattle.target_trait.specs.declared.judgement.Verdict.{Verdict}
 use Rattle.result_book.specs.Verdicts.{verdicts_from}
 use Rattle.answer_text.specs.Known.{KnownVerdicts}
@@ -19,21 +18,19 @@ use Rattle.outside_campaign.specs.Asked.{known_failures, open_cards, open_plans}
 use Rattle.outside_campaign.specs.Outside.{Components, EachAgrees, say_each}
 use Rattle.grown_runs.specs.GrownRuns.{cause_at, over}
 use Rattle.outside_grown.specs.Causes.{open_scenarios}
-use Rattle.outside_grown.specs.Further.{HasFewHits, further_told}
-use Rattle.outside_grown.specs.Lists.{AreWholeSeen}
+use Rattle.outside_grown.specs.Further.{HasFewHits, census_seen, clean_hits, further_told}
+use Rattle.outside_grown.specs.Lists.{AreListsOf}
 use Rattle.outside_grown.specs.declared.listing.GrownLists.{GrownLists}
 use Rattle.answered_runs.specs.Answered.{runs_in}
-use Rattle.answered_runs.specs.Broken.{line_told}
-use Rattle.answered_runs.specs.WholeList.{AreAllSeen, IsGap}
-use Rattle.answered_runs.specs.declared.whole.Gap.{Gap}
-use Rattle.answered_runs.specs.declared.whole.Gap.TheVariants as gap
+use Rattle.answered_runs.specs.WholeList.{AreAllTold, unseen_count}
 use Rattle.campaign_core.specs.declared.ending.CampaignFault.TheVariants as campaign
 use Rattle.campaign_given.specs.Description.{Description}
 use Rattle.campaign_given.specs.Given.{Given}
 use Rattle.outside_campaign.specs.declared.forms.Form.{Form}
 use Rattle.outside_campaign.specs.declared.refusal.OutsideFault.TheVariants as refusal
 use Rattle.outside_grown.specs.Asked.{unrun}
-use Rattle.answered_campaigns.specs.Grown.{first_number, known, report_in}
+use Rattle.answered_campaigns.specs.Grown.{known}
+use Rattle.answered_campaigns.specs.Seen.{first_number_seen, report_seen_in}
 use Rattle.answered_campaigns.specs.Grown.{campaign as campaign_of}
 use Rattle.answered_campaigns.specs.Questions.{RefusesBy}
 use Rattle.answered_campaigns.specs.declared.fault.QuestionFault.{QuestionFault}
@@ -52,8 +49,8 @@ pub record IsTold (a : Answered) (depth : ℕ) (plans : List Entries) (grew : Li
   pub none_lesser : open_scenarios a depth grew ≡ []
   pub findings : (components : Components) → EachAgrees components (known a depth)
       → told.findings.items ≡ map (finding (say_each components) plans) (known_failures (known a depth) plans)
-  pub causes : (t : Subject) → IsComponent a.points t → depth ≤ 64 → AgreesWithRuns t (told_in a.book) → grew ≡ grown t depth
-      → (seed : ℕ) → told.causes.items ≡ over (cause_at t seed) (grown t depth) 0 (length (grown t depth))
+  pub causes : (t : Subject) → IsComponent a.points a.listed t → depth ≤ 64 → AgreesWithRuns t (told_in a.book)
+      → (seed : ℕ) → told.causes.items ≡ over (cause_at t seed) grew 0 (length grew)
   pub among : All (λ cause. cause.0 < length grew) told.causes.items
 
 abbrev pub IsOutcome : Answered → ℕ → List Entries → List (List Rig) → Outcome → Type 0
@@ -61,47 +58,35 @@ IsOutcome a depth plans grew (outcome.Told told) = IsTold a depth plans grew tol
 IsOutcome a depth plans grew (outcome.Open cards) =
     (0 < length cards.items) × (cards.items ≡ open_candidates a depth plans ++ open_scenarios a depth grew)
 
--- the lists of a campaign with a depth, of whose plans that grew each is answered whole
-pub record AreSeenLists (a : Answered) (depth : ℕ) (asked : Asked) (lists : GrownLists) : Type 0 where
+-- the lists of a campaign with a depth, of whose plans that grew each is answered
+pub record AreToldLists (a : Answered) (depth : ℕ) (asked : Asked) (lists : GrownLists) : Type 0 where
   pub grown : lists.listed.known.plans ≡ known_plans a depth
   pub further : lists.further ≡ further_told a asked
-  pub seen : lists.listed.gap ≡ None
-  pub all_seen : AreAllSeen (runs_in a) lists.listed.known.plans
-  pub whole : (t : Subject) → IsComponent a.points t → AgreesWithRuns t (told_in a.book) → AreWholeSeen t depth asked a.points lists
+  pub told : AreAllTold (runs_in a) lists.listed.known.plans
+  pub unseen : lists.listed.unseen ≡ unseen_count (runs_in a) lists.listed.known.plans
+  pub whole : (t : Subject) → IsComponent a.points a.listed t → AgreesWithRuns t (told_in a.book) → AreListsOf t depth asked a lists
 
--- the number of the plan at a gap
-abbrev pub gap_number : Gap → ℕ
-gap_number (gap.ToRun n) = n
-gap_number (gap.Unseen n) = n
-
--- why a plan isn't answered whole
-abbrev pub IsLacking : Answered → List Rig → QuestionFault → Type 0
-IsLacking a plan (fault.Unseen line) = line ≡ line_told a plan
-IsLacking a plan (fault.Outside (refusal.NotAnswered t)) = (t ≡ tidied (grown_scenario a.points plan)) × (runs_in a plan ≡ None)
-IsLacking a plan why = ⊥
-
--- why a list of plans isn't answered whole: memory, or a plan of it
+-- why a list of plans isn't answered: memory, or a plan of it
 abbrev pub IsGapFault : Answered → List (List Rig) → QuestionFault → Type 0
 IsGapFault a plans (fault.Outside (refusal.Campaign campaign.Memory)) = Unit {0}
 IsGapFault a plans (fault.Outside (refusal.NotAnswered t)) = Contains (unrun a plans) t
-IsGapFault a plans (fault.Unseen line) = (n : ℕ) × IsGap (runs_in a) plans (gap.Unseen n) × (line ≡ line_told a (slice_index_or plans n []))
 IsGapFault a plans why = ⊥
 
--- why it isn't told what is known so far
-abbrev pub RefusesKnown : Answered → ℕ → Asked → QuestionFault → Type 0
-RefusesKnown a depth asked (fault.Outside (refusal.NotAnswered t)) = ⊥
-RefusesKnown a depth asked (fault.Unseen line) = ⊥
-RefusesKnown a depth asked why = RefusesBy a depth asked why
-
--- why it isn't answered which scenarios are still to be tried
+-- why a question that waits for nothing isn't answered
 abbrev pub RefusesAsks : Answered → ℕ → Asked → QuestionFault → Type 0
 RefusesAsks a depth asked (fault.Outside (refusal.NotAnswered t)) = ⊥
 RefusesAsks a depth asked why = RefusesBy a depth asked why
 
--- a text and a number are those of the report of each component that agrees
-pub record IsReportOf (form : Form) (outside : Description) (given : Given) (a : Answered) (depth : ℕ) (text : List ℕ) (first : Option ℕ) : Type 0 where
-  pub text_is : (t : Subject) → IsComponent a.points t → AgreesWithRuns t (told_in a.book) → text ≡ report_in form (campaign_of outside given depth t)
-  pub first_is : (t : Subject) → IsComponent a.points t → AgreesWithRuns t (told_in a.book) → first ≡ first_number (campaign_of outside given depth t)
+-- a text and a number are those of the report of each component that agrees, as far as its runs were seen
+abbrev pub IsTextOf : Form → Description → Given → Answered → ℕ → List ℕ → Type 0
+IsTextOf form outside given a depth text =
+    (t : Subject) → IsComponent a.points a.listed t → AgreesWithRuns t (told_in a.book)
+    → text ≡ report_seen_in form (campaign_of outside given depth t) depth (runs_in a)
+
+abbrev pub IsFirstNumberOf : Description → Given → Answered → ℕ → Option ℕ → Type 0
+IsFirstNumberOf outside given a depth first =
+    (t : Subject) → IsComponent a.points a.listed t → AgreesWithRuns t (told_in a.book)
+    → first ≡ first_number_seen (campaign_of outside given depth t) depth (runs_in a)
 
 -- the first open plan, or want of memory
 abbrev pub IsOpenPlan : KnownVerdicts → List Entries → QuestionFault → Type 0
@@ -117,7 +102,7 @@ IsFirstOf cards why = ⊥
 
 -- the counts of the run without faults, of each component that agrees
 pub record IsCleanCensus (a : Answered) (counts : List ℕ) : Type 0 where
-  pub each : (t : Subject) → IsComponent a.points t → AgreesWithRuns t (told_in a.book) → (seed : ℕ) → counts ≡ census_of t.asks t.names seed t.limit
+  pub each : (t : Subject) → IsComponent a.points a.listed t → AgreesWithRuns t (told_in a.book) → (seed : ℕ) → counts ≡ census_seen t seed (clean_hits a)
   pub many : length counts ≡ length a.points
   pub few : length (sites_of counts) ≤ most_plans
 
@@ -127,14 +112,10 @@ pub record IsDecided (outside : Description) (given : Given) (a : Answered) (dep
   pub points : a.points ≡ outside.points
   pub low : depth ≤ 64
   pub clean : HasFewHits a
-  pub lists_are : AreSeenLists a depth given.plans lists
+  pub lists_are : AreToldLists a depth given.plans lists
   pub plans_are : plans ≡ grown_scenarios a.points lists.listed.known.plans ++ lists.further
   pub lawful : AllByRecursion (λ s. IsScenario s) plans
   pub none_open : open_plans (known a depth) plans ≡ []
   pub verdicts : (components : Components) → EachAgrees components (known a depth) → all ≡ verdicts_from (say_each components) 0 plans
   pub many : length all ≡ length plans
   pub told_is : IsTold a depth plans lists.listed.known.plans told
-
-abbrev pub IsTextOf : Form → Description → Given → Answered → ℕ → List ℕ → Type 0
-IsTextOf form outside given a depth text =
-    (t : Subject) → IsComponent a.points t → AgreesWithRuns t (told_in a.book) → text ≡ report_in form (campaign_of outside given depth t)

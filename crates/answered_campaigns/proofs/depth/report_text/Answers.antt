@@ -1,4 +1,4 @@
-use Rattle.std.proofs.Common.{◌≡◌, ◌∙◌, ℕ, List, ap}
+use Rattle.std.proofs.Common.{◌∙◌, ap, map}
 use Rattle.action_eval.specs.Answers.{texts}
 use Rattle.answer_text.specs.Runs.{told_in}
 use Rattle.answered_runs.specs.Answered.{Answered}
@@ -13,7 +13,8 @@ returns-clause-report c =
     let points = c.as_slice-2.ensures.value ∙ ap (λ (d : Description). d.points) c.outside.view_is in
     let same = ap (λ (x : Answered). x.points) c.new-runs.ensures ∙ ap texts c.as_slice-4.ensures.value ∙ c.in_ok-points.ensures ∙ c.as_slice-3.ensures.value
     ∙ ap (λ (d : Description). d.points) c.outside.view_is in
+    let kinds = ap (λ (x : Answered). x.listed) c.new-runs.ensures ∙ ap (map (λ kinds. kinds.items)) c.as_slice-5.ensures.value ∙ c.in_ok-kinds.ensures.listed in
     let told = ap (λ (x : Answered). told_in x.book) c.new-runs.ensures ∙ c.in_ok-told.ensures.known in
-    reported c.args.form.now outside c.args.settings.now c.new-runs.result c.args.depth c.args.answers.now (λ r. r.0.items) (λ r. r.1) c.grown_report.result
-    (tells outside c.args.answers.now c.new-runs.result c.as_slice.result.now c.as_slice-2.result.now codes points same told c.in_ok-told.ensures.read)
-    c.grown_report.ensures.report c.grown_report.ensures.unbroken c.grown_report.ensures.seen c.grown_report.ensures.all
+    reported c.args.form.now outside c.args.settings.now c.new-runs.result c.args.depth c.args.answers.now (λ r. r.0.items) (λ r. r.1) c.grown_report.result c.requires
+    (tells outside c.args.answers.now c.new-runs.result c.as_slice.result.now c.as_slice-2.result.now codes points same kinds told c.in_ok-told.ensures.read)
+    c.grown_report.ensures.text c.grown_report.ensures.first c.grown_report.ensures.unbroken c.grown_report.ensures.told c.grown_report.ensures.all

@@ -1,20 +1,5 @@
-use Rattle.answered_campaigns.specs.inside.Outcomes.{RefusesAsks}
-use Rattle.answered_campaigns.proofs.Asking.{cards_asked, err_is, gap_refuses, grew_known, known_short, listed_are, none_asked}
+use Rattle.answered_campaigns.proofs.Asking.{cards_asked, grew_known, listed_are, none_asked}
 use Rattle.answered_campaigns.proofs.grown_asks.candidates.Goals as goal
-
-pub refuse_gap-requires-clause-short : goal.refuse_gap-requires-clause-short
-refuse_gap-requires-clause-short c =
-    let grew = c.in_ok-lists.lists.listed.known.plans in
-    known_short c.args.known.now grew c.requires.depth (grew_known c.args.known.now _ _ grew c.known.view_is c.in_ok-lists.ensures.grown)
-
-pub returns-in_err-refuse_gap-clause-fault : goal.returns-in_err-refuse_gap-clause-fault
-returns-in_err-refuse_gap-clause-fault c =
-    let a = c.args.known.now.0 in
-    let depth = c.args.known.now.1 in
-    let grew = c.in_ok-lists.lists.listed.known.plans in
-    err_is c.from_residual-in_err-refuse_gap.result c.in_err-refuse_gap.field-0.0 (RefusesAsks a depth c.args.settings.now.plans) c.from_residual-in_err-refuse_gap.ensures.1
-    (gap_refuses a depth c.args.settings.now.plans grew c.in_err-refuse_gap.field-0.0 (grew_known c.args.known.now _ _ grew c.known.view_is c.in_ok-lists.ensures.grown)
-    c.requires.answered c.in_err-refuse_gap.ensures.fault)
 
 pub returns-in-Told-clause-lines : goal.returns-in-Told-clause-lines
 returns-in-Told-clause-lines c =

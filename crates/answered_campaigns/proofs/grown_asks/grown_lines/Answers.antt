@@ -1,19 +1,12 @@
 use Rattle.std.proofs.lemmas.Result.{IfOk-weaker}
 use Rattle.answered_campaigns.specs.inside.Outcomes.{RefusesAsks}
 use Rattle.answered_campaigns.proofs.Asking.{err_is, none_to_try, others_asked}
-use Rattle.answered_campaigns.proofs.Refused.{known_asks}
 use Rattle.answered_campaigns.proofs.grown_asks.grown_lines.Goals as goal
 
 pub returns-in_err-refuse_broken-clause-fault : goal.returns-in_err-refuse_broken-clause-fault
 returns-in_err-refuse_broken-clause-fault c =
     err_is c.from_residual.result c.in_err-refuse_broken.field-0.0 (RefusesAsks c.args.known.now.0 c.args.known.now.1 c.args.settings.now.plans) c.from_residual.ensures.1
-    (known_asks c.args.known.now.0 c.args.known.now.1 c.args.settings.now.plans c.in_err-refuse_broken.field-0.0
-    (c.in_err-refuse_broken.ensures.fault c.args.settings.now.plans))
-
-pub candidates-requires-clause-answered : goal.candidates-requires-clause-answered
-candidates-requires-clause-answered c =
-    none_to_try c.args.known.now _ _ c.args.settings.now.plans c.plan_settings.result c.in_ok-plans.plans c.known.view_is c.plan_settings.ensures.asked c.in_ok-plans.ensures.lines
-    (c.is_empty.ensures.0 c.if-not-is_empty.false)
+    (c.in_err-refuse_broken.ensures.fault c.args.settings.now.plans)
 
 pub returns-clause-lines : goal.returns-clause-lines
 returns-clause-lines c =

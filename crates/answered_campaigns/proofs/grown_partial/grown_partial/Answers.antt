@@ -1,4 +1,4 @@
-use Rattle.std.proofs.Common.{◌≡◌, ◌∙◌, ℕ, List, ap, refl, true}
+use Rattle.std.proofs.Common.{◌≡◌, ◌∙◌, ℕ, List, ap, true}
 use Rattle.scenario_values.specs.Scenario.{Entries}
 use Rattle.plan_gen.specs.PlanList.{Asked}
 use Rattle.answered_runs.specs.Answered.{Answered}
@@ -6,13 +6,13 @@ use Rattle.campaign_given.specs.Description.{Description}
 use Rattle.campaign_given.specs.Given.{Given}
 use Rattle.outside_campaign.specs.Partial.{partial_text}
 use Rattle.answered_campaigns.specs.Grown.{known, listed}
-use Rattle.answered_campaigns.specs.inside.Outcomes.{RefusesKnown}
+use Rattle.answered_campaigns.specs.inside.Outcomes.{RefusesAsks}
 use Rattle.answered_campaigns.proofs.Asking.{err_is, listed_are}
 use Rattle.answered_campaigns.proofs.grown_partial.grown_partial.Goals as goal
 
 pub returns-in_err-refuse_broken-clause-fault : goal.returns-in_err-refuse_broken-clause-fault
 returns-in_err-refuse_broken-clause-fault c =
-    err_is c.from_residual.result c.in_err-refuse_broken.field-0.0 (RefusesKnown c.args.known.now.0 c.args.known.now.1 c.args.settings.now.plans) c.from_residual.ensures.1
+    err_is c.from_residual.result c.in_err-refuse_broken.field-0.0 (RefusesAsks c.args.known.now.0 c.args.known.now.1 c.args.settings.now.plans) c.from_residual.ensures.1
     (c.in_err-refuse_broken.ensures.fault c.args.settings.now.plans)
 
 -- the text is that of the plans that are listed

@@ -3,18 +3,17 @@ use Rattle.std.specs.Prelude.{option_map, slice_get}
 use Rattle.campaign_plans.specs.GrownScenarios.{grown_scenarios}
 use Rattle.report.specs.Reports.{FindingFacts}
 use Rattle.answered_runs.specs.Answered.{Answered, known_plans, runs_in}
-use Rattle.answered_runs.specs.WholeList.{AreAllSeen}
+use Rattle.answered_runs.specs.WholeList.{AreAllTold}
 use Rattle.outside_grown.specs.Further.{HasFewHits}
-use Rattle.answered_campaigns.proofs.Refused.{asks_refused, known_asks, cards_refused, gap_refused, known_short, none_to_try, nothing_left, open_refused}
-use Rattle.answered_campaigns.proofs.Told.{are_candidates, decide, err_with, is_listed, lists_seen, no_candidates, some_verdict}
+use Rattle.answered_campaigns.proofs.Refused.{asks_refused, cards_refused, gap_refused, known_short, none_to_try, nothing_left, open_refused}
+use Rattle.answered_campaigns.proofs.Told.{are_candidates, decide, err_with, is_listed, lists_told, no_candidates, some_verdict}
 use Rattle.answered_campaigns.proofs.Reports.{first_is}
 use Rattle.answered_campaigns.proofs.grown_report.grown_report.Goals as goal
 
 pub returns-in_err-refuse_broken-clause-fault : goal.returns-in_err-refuse_broken-clause-fault
 returns-in_err-refuse_broken-clause-fault c =
     err_with _ c.from_residual.result c.in_err-refuse_broken.field-0.0 c.from_residual.ensures.1
-    (asks_refused c.args.known.now.0 c.args.known.now.1 c.args.settings.now.plans c.in_err-refuse_broken.field-0.0
-    (known_asks c.args.known.now.0 c.args.known.now.1 c.args.settings.now.plans c.in_err-refuse_broken.field-0.0 (c.in_err-refuse_broken.ensures.fault c.args.settings.now.plans)))
+    (asks_refused c.args.known.now.0 c.args.known.now.1 c.args.settings.now.plans c.in_err-refuse_broken.field-0.0 (c.in_err-refuse_broken.ensures.fault c.args.settings.now.plans))
 
 pub refuse_gap-requires-clause-short : goal.refuse_gap-requires-clause-short
 refuse_gap-requires-clause-short c =
@@ -32,8 +31,8 @@ pub returns-in_err-verdicts-clause-fault : goal.returns-in_err-verdicts-clause-f
 returns-in_err-verdicts-clause-fault c =
     let a = c.args.known.now.0 in
     let lists = c.in_ok-lists.lists in
-    let s = lists_seen (c.known.inside.runs.now, c.known.inside.depth) c.args.known.now c.plan_settings.result c.args.settings.now.plans lists c.known.view_is c.plan_settings.ensures.asked
-    c.in_ok-lists.ensures.grown c.in_ok-lists.ensures.further c.in_ok-refuse_gap.ensures.ok c.in_ok-lists.ensures.seen c.in_ok-lists.ensures.whole in
+    let s = lists_told (c.known.inside.runs.now, c.known.inside.depth) c.args.known.now c.plan_settings.result c.args.settings.now.plans lists c.known.view_is c.plan_settings.ensures.asked
+    c.in_ok-lists.ensures.grown c.in_ok-lists.ensures.further c.in_ok-refuse_gap.ensures.ok c.in_ok-lists.ensures.told c.in_ok-lists.ensures.unseen c.in_ok-lists.ensures.whole in
     let plans = c.grown-plans.ensures ∙ ap (λ names. grown_scenarios names lists.listed.known.plans ++ lists.further) (c.points.ensures.names ∙ ap (λ (k : Answered × ℕ). k.0.points) c.known.view_is) in
     err_with _ c.from_residual-in_err-verdicts.result c.in_err-verdicts.field-0.0 c.from_residual-in_err-verdicts.ensures.1
     (open_refused a c.args.known.now.1 c.args.settings.now.plans c.grown-plans.result c.in_err-verdicts.field-0.0
@@ -45,21 +44,21 @@ returns-in-Open-clause-fault c =
     let depth = c.args.known.now.1 in
     let asked = c.args.settings.now.plans in
     let lists = c.in_ok-lists.lists in
-    let s = lists_seen (c.known.inside.runs.now, c.known.inside.depth) c.args.known.now c.plan_settings.result asked lists c.known.view_is c.plan_settings.ensures.asked
-    c.in_ok-lists.ensures.grown c.in_ok-lists.ensures.further c.in_ok-refuse_gap.ensures.ok c.in_ok-lists.ensures.seen c.in_ok-lists.ensures.whole in
+    let s = lists_told (c.known.inside.runs.now, c.known.inside.depth) c.args.known.now c.plan_settings.result asked lists c.known.view_is c.plan_settings.ensures.asked
+    c.in_ok-lists.ensures.grown c.in_ok-lists.ensures.further c.in_ok-refuse_gap.ensures.ok c.in_ok-lists.ensures.told c.in_ok-lists.ensures.unseen c.in_ok-lists.ensures.whole in
     let plans = c.grown-plans.ensures ∙ ap (λ names. grown_scenarios names lists.listed.known.plans ++ lists.further) (c.points.ensures.names ∙ ap (λ (k : Answered × ℕ). k.0.points) c.known.view_is) in
     let is = is_listed a depth asked lists c.grown-plans.result s plans in
     let h = rw c.in-Open.is at c.in_ok-cards.ensures in
     cards_refused a depth asked c.first_of.result c.in-Open.cards.items (h.1 ∙ are_candidates a depth asked c.grown-plans.result lists.listed.known.plans is s.grown)
-    (none_to_try a depth asked c.grown-plans.result (subst (AreAllSeen (runs_in a)) s.grown s.all_seen) is c.in_ok-verdicts.ensures.all.1) c.first_of.ensures
+    (none_to_try a depth asked c.grown-plans.result (subst (AreAllTold (runs_in a)) s.grown s.told) is c.in_ok-verdicts.ensures.all.1) c.first_of.ensures
 
 pub told_text-requires : goal.told_text-requires
 told_text-requires c =
     let a = c.args.known.now.0 in
     let depth = c.args.known.now.1 in
     let lists = c.in_ok-lists.lists in
-    let s = lists_seen (c.known.inside.runs.now, c.known.inside.depth) c.args.known.now c.plan_settings.result c.args.settings.now.plans lists c.known.view_is c.plan_settings.ensures.asked
-    c.in_ok-lists.ensures.grown c.in_ok-lists.ensures.further c.in_ok-refuse_gap.ensures.ok c.in_ok-lists.ensures.seen c.in_ok-lists.ensures.whole in
+    let s = lists_told (c.known.inside.runs.now, c.known.inside.depth) c.args.known.now c.plan_settings.result c.args.settings.now.plans lists c.known.view_is c.plan_settings.ensures.asked
+    c.in_ok-lists.ensures.grown c.in_ok-lists.ensures.further c.in_ok-refuse_gap.ensures.ok c.in_ok-lists.ensures.told c.in_ok-lists.ensures.unseen c.in_ok-lists.ensures.whole in
     let plans = c.grown-plans.ensures ∙ ap (λ names. grown_scenarios names lists.listed.known.plans ++ lists.further) (c.points.ensures.names ∙ ap (λ (k : Answered × ℕ). k.0.points) c.known.view_is) in
     let clean = subst (λ (k : Answered × ℕ). HasFewHits k.0) c.known.view_is c.in_ok-lists.ensures.clean in
     let told = rw c.in-Told.is at c.in_ok-cards.ensures in
@@ -69,23 +68,29 @@ told_text-requires c =
           c.in_ok-verdicts.ensures.lawful c.as_slice.ensures.value c.in_ok-verdicts.ensures.all told;
     }
 
-pub returns-clause-report : goal.returns-clause-report
-returns-clause-report c =
+pub returns-clause-first : goal.returns-clause-first
+returns-clause-first c =
     let a = c.args.known.now.0 in
     let depth = c.args.known.now.1 in
     let lists = c.in_ok-lists.lists in
-    let s = lists_seen (c.known.inside.runs.now, c.known.inside.depth) c.args.known.now c.plan_settings.result c.args.settings.now.plans lists c.known.view_is c.plan_settings.ensures.asked
-    c.in_ok-lists.ensures.grown c.in_ok-lists.ensures.further c.in_ok-refuse_gap.ensures.ok c.in_ok-lists.ensures.seen c.in_ok-lists.ensures.whole in
+    let s = lists_told (c.known.inside.runs.now, c.known.inside.depth) c.args.known.now c.plan_settings.result c.args.settings.now.plans lists c.known.view_is c.plan_settings.ensures.asked
+    c.in_ok-lists.ensures.grown c.in_ok-lists.ensures.further c.in_ok-refuse_gap.ensures.ok c.in_ok-lists.ensures.told c.in_ok-lists.ensures.unseen c.in_ok-lists.ensures.whole in
     let plans = c.grown-plans.ensures ∙ ap (λ names. grown_scenarios names lists.listed.known.plans ++ lists.further) (c.points.ensures.names ∙ ap (λ (k : Answered × ℕ). k.0.points) c.known.view_is) in
     let clean = subst (λ (k : Answered × ℕ). HasFewHits k.0) c.known.view_is c.in_ok-lists.ensures.clean in
     let told = rw c.in-Told.is at c.in_ok-cards.ensures in
     let decided = decide c.args.outside.now c.args.settings.now a depth lists c.grown-plans.result c.as_slice.result.now _ c.in-Told.told c.requires.points c.requires.depth clean s plans
     c.in_ok-verdicts.ensures.lawful c.as_slice.ensures.value c.in_ok-verdicts.ensures.all told in
-    record {
-      text_is = c.in_ok-text-in-Told.ensures;
-      first_is = first_is c.args.outside.now c.args.settings.now a depth lists c.grown-plans.result c.as_slice.result.now c.in-Told.told c.first_number-first.result decided
-          (c.first_number-first.ensures ∙ ap (λ (fs : List FindingFacts). option_map (λ f. f.number) (slice_get fs 0)) c.deref.ensures.value);
-    }
+    first_is c.args.outside.now c.args.settings.now a depth lists c.grown-plans.result c.as_slice.result.now c.in-Told.told c.first_number-first.result decided
+    (c.first_number-first.ensures ∙ ap (λ (fs : List FindingFacts). option_map (λ f. f.number) (slice_get fs 0)) c.deref.ensures.value)
+
+pub returns-clause-told : goal.returns-clause-told
+returns-clause-told c =
+    let a = c.args.known.now.0 in
+    let depth = c.args.known.now.1 in
+    let lists = c.in_ok-lists.lists in
+    let s = lists_told (c.known.inside.runs.now, c.known.inside.depth) c.args.known.now c.plan_settings.result c.args.settings.now.plans lists c.known.view_is c.plan_settings.ensures.asked
+    c.in_ok-lists.ensures.grown c.in_ok-lists.ensures.further c.in_ok-refuse_gap.ensures.ok c.in_ok-lists.ensures.told c.in_ok-lists.ensures.unseen c.in_ok-lists.ensures.whole in
+    subst (AreAllTold (runs_in a)) s.grown s.told
 
 pub returns-clause-all : goal.returns-clause-all
 returns-clause-all c =
@@ -93,10 +98,10 @@ returns-clause-all c =
     let depth = c.args.known.now.1 in
     let asked = c.args.settings.now.plans in
     let lists = c.in_ok-lists.lists in
-    let s = lists_seen (c.known.inside.runs.now, c.known.inside.depth) c.args.known.now c.plan_settings.result asked lists c.known.view_is c.plan_settings.ensures.asked
-    c.in_ok-lists.ensures.grown c.in_ok-lists.ensures.further c.in_ok-refuse_gap.ensures.ok c.in_ok-lists.ensures.seen c.in_ok-lists.ensures.whole in
+    let s = lists_told (c.known.inside.runs.now, c.known.inside.depth) c.args.known.now c.plan_settings.result asked lists c.known.view_is c.plan_settings.ensures.asked
+    c.in_ok-lists.ensures.grown c.in_ok-lists.ensures.further c.in_ok-refuse_gap.ensures.ok c.in_ok-lists.ensures.told c.in_ok-lists.ensures.unseen c.in_ok-lists.ensures.whole in
     let plans = c.grown-plans.ensures ∙ ap (λ names. grown_scenarios names lists.listed.known.plans ++ lists.further) (c.points.ensures.names ∙ ap (λ (k : Answered × ℕ). k.0.points) c.known.view_is) in
     let is = is_listed a depth asked lists c.grown-plans.result s plans in
     let told = rw c.in-Told.is at c.in_ok-cards.ensures in
-    nothing_left a depth asked (none_to_try a depth asked c.grown-plans.result (subst (AreAllSeen (runs_in a)) s.grown s.all_seen) is c.in_ok-verdicts.ensures.all.1)
+    nothing_left a depth asked (none_to_try a depth asked c.grown-plans.result (subst (AreAllTold (runs_in a)) s.grown s.told) is c.in_ok-verdicts.ensures.all.1)
     (no_candidates a depth asked c.grown-plans.result lists.listed.known.plans c.in-Told.told is s.grown told)

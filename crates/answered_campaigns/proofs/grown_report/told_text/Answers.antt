@@ -1,15 +1,15 @@
-use Rattle.std.proofs.Common.{◌≡◌, ◌≤◌, ◌∙◌, ℕ, List, None, Some, ap, map, subst}
+use Rattle.std.proofs.Common.{◌≡◌, ◌≤◌, ◌∙◌, ℕ, List, Some, ap, map, subst}
 use Rattle.std.proofs.lemmas.Result.{IfOk-weaker}
 use Rattle.campaign_given.specs.Description.{Description}
 use Rattle.campaign_given.specs.Given.{Given}
 use Rattle.campaign_core.specs.Findings.{cause_of}
-use Rattle.grown_plans.specs.GrownPlans.{Subject, grown}
-use Rattle.grown_runs.specs.Grown.{reached_each}
+use Rattle.grown_plans.specs.GrownPlans.{Subject}
+use Rattle.known_runs.specs.KnownPart.{known_part}
+use Rattle.outside_grown.specs.Reached.{reached_seen}
 use Rattle.report.specs.Reports.{CauseFacts, ReportFacts}
 use Rattle.answer_text.specs.Runs.{told_in}
 use Rattle.answered_runs.specs.Answered.{Answered, runs_in}
 use Rattle.answered_runs.specs.Components.{AgreesWithRuns, IsComponent}
-use Rattle.answered_runs.specs.WholeList.{AreSeen}
 use Rattle.outside_campaign.specs.Forms.{ShownFacts}
 use Rattle.target_trait.specs.declared.judgement.Verdict.{Verdict}
 use Rattle.answered_campaigns.proofs.Reports.{cause_within, text_is}
@@ -29,19 +29,28 @@ returns c =
     let d = c.requires.decided in
     let runs_are : c.known.inside.runs.now ≡ k.known.now.0 = ap (λ x. x.0) c.known.view_is in
     let depth_is : c.known.inside.depth ≡ k.known.now.1 = ap (λ x. x.1) c.known.view_is in
-    let reaches : (t : Subject) → IsComponent k.known.now.0.points t → k.known.now.1 ≤ 64 → AgreesWithRuns t (told_in k.known.now.0.book) → lists.listed.known.plans ≡ grown t k.known.now.1
-    → AreSeen (runs_in k.known.now.0) lists.listed.known.plans None → c.in_ok-reached.reached.items ≡ reached_each t k.known.now.1 =
-    subst (λ (a : Answered). (t : Subject) → IsComponent a.points t → k.known.now.1 ≤ 64 → AgreesWithRuns t (told_in a.book) → lists.listed.known.plans ≡ grown t k.known.now.1
-    → AreSeen (runs_in a) lists.listed.known.plans None → c.in_ok-reached.reached.items ≡ reached_each t k.known.now.1) runs_are
-    (λ t is low agrees e seen. c.in_ok-reached.ensures.whole t k.known.now.1 is low agrees e seen) in
+    let reaches : (t : Subject) → IsComponent k.known.now.0.points k.known.now.0.listed t → k.known.now.1 ≤ 64 → AgreesWithRuns t (told_in k.known.now.0.book)
+    → lists.listed.known.plans ≡ known_part t k.known.now.1 (runs_in k.known.now.0) → c.in_ok-reached.reached.items ≡ reached_seen t k.known.now.1 (runs_in k.known.now.0) =
+    subst (λ (a : Answered). (t : Subject) → IsComponent a.points a.listed t → k.known.now.1 ≤ 64 → AgreesWithRuns t (told_in a.book) → lists.listed.known.plans ≡ known_part t k.known.now.1 (runs_in a)
+    → c.in_ok-reached.reached.items ≡ reached_seen t k.known.now.1 (runs_in a)) runs_are
+    (λ t is low agrees e. c.in_ok-reached.ensures.known t k.known.now.1 is low agrees e) in
     let F : Verdict → List ℕ → ℕ → List ℕ → ℕ → List ℕ → List ℕ → List CauseFacts → ReportFacts = λ clean label seed counts depth levels most causes. record {
       label = label;
       seed = seed;
       clean = clean;
       census = counts;
       verdicts = c.args.verdicts.now;
+      unmet = 0;
       findings = c.args.told.findings.items;
-      growth = Some (record { depth = depth; levels = levels; onward = lists.listed.known.onward; beyond = lists.listed.known.beyond; reached = most; causes = causes });
+      growth = Some (record {
+        depth = depth;
+        levels = levels;
+        onward = lists.listed.known.onward;
+        beyond = lists.listed.known.beyond;
+        unseen = lists.listed.unseen;
+        reached = most;
+        causes = causes;
+      });
     } in
     let label_is : c.as_str.result.now ≡ outside.label = c.as_str.ensures ∙ ap (λ (x : Description). x.label) c.outside.view_is in
     let seed_is : c.settings.inside.seed ≡ given.plans.seed = ap (λ (g : Given). g.plans.seed) c.settings.view_is in
@@ -70,5 +79,5 @@ returns c =
     ∙ ap (λ (x : List ℕ). S given.plans.pairs x) (c.as_str-2.ensures ∙ ap (λ (g : Given). g.source) c.settings.view_is) in
     IfOk-weaker c.text_in.result _ _
     (λ text is. text_is c.args.form.now outside given k.known.now.0 k.known.now.1 lists k.plans.now c.args.verdicts.now c.args.told counts most _ _ text.items d c.in_ok-census.ensures reaches
-    d.lists_are.all_seen facts shown is)
+    facts shown is)
     c.text_in.ensures

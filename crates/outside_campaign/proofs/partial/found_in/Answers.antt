@@ -1,9 +1,8 @@
-use Rattle.std.proofs.Common.{◌≡◌, ◌+◌, ◌<◌, List, [], ◌∷◌, drop, length, refl, ap, sym, ◌∙◌, arith}
-use Rattle.std.proofs.lemmas.List.{drop_all}
+use Rattle.std.proofs.Common.{◌≡◌, ◌+◌, ◌<◌, List, [], ◌∷◌, drop, length, ap, sym, ◌∙◌, arith}
 use Rattle.scenario_values.specs.Scenario.{Entries}
 use Rattle.report.proofs.Written.{next_of}
 use Rattle.outside_campaign.specs.Campaigns.{code_name}
-use Rattle.outside_campaign.proofs.PlansFound.{adds, all_looked_at, begins, few_answered}
+use Rattle.outside_campaign.proofs.PlansFound.{adds, few_answered}
 use Rattle.outside_campaign.proofs.partial.found_in.Goals as goal
 
 pub look_at-requires : goal.look_at-requires

@@ -1,0 +1,77 @@
+-- The report of a campaign with a depth as far as its runs were seen: nothing grows from a run that is told without its hits.
+use Rattle.std.specs.Prelude.{◌≡◌, ℕ, ◌+◌, List, [], Option, Some, length, map, option_map, slice_get}
+use Rattle.std.specs.List.{filter, range_with_len}
+use Rattle.scenario_values.specs.Scenario.{Entries}
+use Rattle.grown_plans.specs.GrownPlans.{Subject, onward}
+use Rattle.grown_runs.specs.GrownRuns.{cause_at, over}
+use Rattle.known_runs.specs.Known.{KnownRuns, hits_of}
+use Rattle.known_runs.specs.KnownPart.{is_reached_onward, known_part}
+use Rattle.known_runs.specs.KnownPlans.{level_size}
+use Rattle.known_runs.specs.SeenPromises.{KeepsPromisesAsSeen}
+use Rattle.known_runs.specs.Unseen.{unseen}
+use Rattle.result_book.specs.Verdicts.{numbered, verdicts_from}
+use Rattle.result_book.specs.FirstFailures.{first_failures}
+use Rattle.report.specs.Reports.{GrowthFacts, ReportFacts}
+use Rattle.campaign_core.specs.Findings.{cause_of, report_of}
+use Rattle.campaign_core.specs.Headline.{Campaign, grower, say}
+use Rattle.outside_campaign.specs.Forms.{ShownFacts, text_in}
+use Rattle.outside_campaign.specs.declared.forms.Form.{Form}
+use Rattle.outside_grown.specs.Further.{census_seen}
+use Rattle.outside_grown.specs.Lists.{list_known}
+use Rattle.outside_grown.specs.Reached.{reached_seen}
+use Rattle.answered_campaigns.specs.Grown.{first_number, report_in}
+
+-- the list of plans
+abbrev pub plans_seen : Campaign → ℕ → KnownRuns → List Entries
+plans_seen c depth known = list_known (grower c) depth c.given.plans known
+
+-- how many of them have their last fault from then on
+abbrev pub onward_seen : Subject → ℕ → KnownRuns → ℕ
+onward_seen t depth known = length (filter (is_reached_onward known) (onward t depth))
+
+-- how they grew
+abbrev pub growth_seen : Subject → ℕ → List Entries → ℕ → KnownRuns → GrowthFacts
+growth_seen t seed plans depth known = record {
+  depth = depth;
+  levels = map (level_size t known) (range_with_len 0 (depth + 1));
+  onward = onward_seen t depth known;
+  beyond = level_size t known (depth + 1);
+  unseen = length (unseen t depth known);
+  reached = reached_seen t depth known;
+  causes = map (cause_of plans) (over (cause_at t seed) (known_part t depth known) 0 (length (known_part t depth known)));
+}
+
+-- what the report tells
+abbrev pub report_seen : Campaign → ℕ → KnownRuns → ReportFacts
+report_seen c depth known =
+    report_of (say c) c.label c.given.plans.seed (census_seen (grower c) c.given.plans.seed (hits_of known [])) (plans_seen c depth known)
+    (Some (growth_seen (grower c) c.given.plans.seed (plans_seen c depth known) depth known))
+
+-- what is shown beside it
+abbrev pub shown_seen : Campaign → ℕ → KnownRuns → ShownFacts
+shown_seen c depth known = record {
+  plans = plans_seen c depth known;
+  pairs = c.given.plans.pairs;
+  grown = known_part (grower c) depth known;
+  onward = onward_seen (grower c) depth known;
+  settings = c.given.source;
+}
+
+abbrev pub report_seen_in : Form → Campaign → ℕ → KnownRuns → List ℕ
+report_seen_in form c depth known = text_in form c.points c.codes (report_seen c depth known) (shown_seen c depth known)
+
+-- the least number of a plan that fails
+abbrev pub first_number_seen : Campaign → ℕ → KnownRuns → Option ℕ
+first_number_seen c depth known = option_map (λ first. first.0) (slice_get (first_failures (numbered (verdicts_from (say c) 0 (plans_seen c depth known)))) 0)
+
+-- where nothing is unseen, a text and a number are those of the whole campaign
+pub record IsReportOf (form : Form) (c : Campaign) (text : List ℕ) (first : Option ℕ) : Type 0 where
+  pub text_is : text ≡ report_in form c
+  pub first_is : first ≡ first_number c
+
+-- a text and the number of the first plan that fails are those of a campaign as far as it was seen, whose plans keep their promises so far
+pub record IsReportAsSeen (form : Form) (c : Campaign) (depth : ℕ) (known : KnownRuns) (text : List ℕ) (first : Option ℕ) : Type 0 where
+  pub text_is : text ≡ report_seen_in form c depth known
+  pub first_is : first ≡ first_number_seen c depth known
+  pub whole : unseen (grower c) depth known ≡ [] → IsReportOf form c text first
+  pub promises : KeepsPromisesAsSeen (grower c) depth known
