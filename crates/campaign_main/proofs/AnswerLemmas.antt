@@ -115,7 +115,7 @@ module _ (c : Campaign) (form : Form) (strict : Bool) (w : Change) where
 
 module _ (c : Campaign) (w : Change) where
   abbrev listed : List ℕ
-  listed = listed_notes c.points c.plans.listed
+  listed = listed_notes c.points c.given.plans.listed
 
   pub map-done : (found : Conclusion) (first : Option ℕ) (some : Bool) (notes : List ℕ) → length (plans c) ≤ most_plans → WritesWhole (campaign_map_text c) w
       → found ≡ concluded some false → some ≡ is_some first → first ≡ option_map (λ f. f.0) (first_failure c) → notes ≡ listed → IsDone (map_answer c) w found notes

@@ -58,11 +58,11 @@ module _ (c : Campaign) where
 
   may-map : NotesFor order.Map (map_answer c)
   unfolding map_answer
-  may-map = of-few (MayNote order.Map) _ _ (c.points, (c.plans.listed, refl))
+  may-map = of-few (MayNote order.Map) _ _ (c.points, (c.given.plans.listed, refl))
 
   may-plans : NotesFor order.Plans (plans_answer c)
   unfolding plans_answer
-  may-plans = of-few (MayNote order.Plans) _ _ (c.points, (c.plans.listed, refl))
+  may-plans = of-few (MayNote order.Plans) _ _ (c.points, (c.given.plans.listed, refl))
 
   may-try : (which : Which) (read : Result (ℕ × Entries) Refusal) → NotesFor (order.Try which) (taken_answer (try_answer c) read)
   unfolding try_answer

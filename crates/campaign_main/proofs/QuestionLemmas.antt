@@ -1,8 +1,10 @@
 -- Ends of questions, by what they came to and by what was read.
-use Rattle.std.proofs.Common.{◌∙◌, ◌≡◌, ◌≤◌, ◌<◌, ◌==◌, [], ℕ, Bool, true, false, List, Option, Some, None, IfSome, IfOk, IfErr, IsErrAnd, Result, Ok, Err, length, refl, sym, ap, inl, inr, subst, if◌then◌else◌}
+use Rattle.std.proofs.Common.{Global, String, string_bytes, ◌∙◌, ◌≡◌, ◌≤◌, ◌<◌, ◌==◌, [], ℕ, Bool, true, false, List, Option, Some, None, IfSome, IfOk, IfErr, IsErrAnd, Result, Ok, Err, length, refl, sym, ap, inl, inr, subst, if◌then◌else◌}
 use Rattle.std.specs.Str.{IsUtf8}
-use Rattle.answer_text.specs.Answers.{Answer as Told, most_bytes}
-use Rattle.answer_text.specs.FirstFault.{pieces_from, reading_of}
+use Rattle.std.specs.Prelude.{is_some}
+use Rattle.scenario_grammar.specs.declared.fault.ScenarioFault.{ScenarioFault}
+use Rattle.scenario_grammar.specs.declared.fault.ScenarioFault.TheVariants as scenario
+use Rattle.answer_text.specs.Answers.{most_bytes}
 use Rattle.answer_text.specs.declared.fault.AnswersFault.{AnswersFault}
 use Rattle.answer_text.specs.declared.fault.AnswersFault.TheVariants as answers
 use Rattle.std.specs.List.{slice_split}
@@ -17,11 +19,11 @@ use Rattle.campaign_core.specs.Writes.{Change, IsUntouched}
 use Rattle.campaign_core.specs.declared.ending.CampaignFault.TheVariants as campaign
 use Rattle.command_words.specs.declared.words.AskedPart.{AskedPart}
 use Rattle.command_words.specs.declared.words.Question.{Question}
-use Rattle.command_words.specs.declared.words.Question.TheVariants.{Asks, Report}
-use Rattle.command_words.specs.declared.words.ToldForm.{ToldForm}
-use Rattle.answer_text.specs.Runs.{runs_of}
-use Rattle.answer_text.specs.Runs.{pieces_from as run_pieces_from}
+use Rattle.command_words.specs.declared.words.Question.TheVariants.{Asks, Report, Explain}
+use Rattle.command_words.specs.declared.words.Shown.{Shown}
+use Rattle.answer_text.specs.Runs.{pieces_from, reading_of}
 use Rattle.answer_text.specs.declared.runs.RunLine.{RunLine}
+use Rattle.answered_campaigns.specs.Explained.{ExplainRefused, IsExplained}
 use Rattle.answered_campaigns.specs.Questions.{AsksRefused, IsAskedInPart, IsAskedTo, IsKnownInPart, IsKnownTo, IsReportedInPart, IsReportedTo, KnownRefused, Refuses, ReportRefused}
 use Rattle.answered_campaigns.specs.declared.fault.QuestionFault.{QuestionFault}
 use Rattle.answered_campaigns.specs.declared.fault.QuestionFault.TheVariants as fault
@@ -33,44 +35,76 @@ use Rattle.campaign_main.specs.declared.exit.Exit.{Exit}
 use Rattle.campaign_main.specs.declared.exit.Exit.TheVariants as exit
 use Rattle.campaign_main.specs.declared.input.ReadFault.{ReadFault}
 use Rattle.campaign_main.specs.declared.input.ReadFault.TheVariants as read
-use Rattle.campaign_main.specs.Commands.{Refusal, bad_answers, bad_settings, broken_run, not_answered, not_text, too_many_plans, unseen_hits}
+use Rattle.campaign_main.specs.Commands.{Refusal, bad_answers, bad_scenario, bad_settings, broken_run, not_answered, not_text, other_census, too_many_plans, unseen_hits}
 use Rattle.campaign_main.specs.Ends.{IsNoted, Leaves, OnWhole, RefusesWith, TellsOf}
 use Rattle.campaign_main.specs.Exit.{concluded, exit_of}
 use Rattle.campaign_main.specs.FaultLines.{answers_read_line, read_fault_line, refusal_line, settings_line, unreadable_answers_line, unreadable_line}
 use Rattle.campaign_main.specs.QuestionNotes.{is_question_doubted, question_notes}
-use Rattle.campaign_main.specs.Questions.{ComesToText, ConcludesText, EndsAnswered, EndsQuestion, FallsShortOf, IsAnswered, IsConcluded, IsEndOfQuestion, IsNotAnswered, IsPart, IsUnnoted, NotesText, RefusesQuestion, Subject, TellsOfQuestion, TellsWhy, chosen_subject, given_subject, subject_of, text_subject, IsToldIn, IsToldInPart, WaitsIn, asked_part, report_form}
+use Rattle.campaign_main.specs.Questions.{ComesToText, ConcludesText, EndsAnswered, EndsQuestion, FallsShortOf, IsAnswered, IsConcluded, IsEndOfQuestion, IsNotAnswered, IsPart, IsUnnoted, IsUnnotedTo, NotesText, RefusesAnswers, RefusesQuestion, Subject, TellsOfQuestion, TellsWhy, chosen_subject, given_subject, subject_of, text_subject, IsToldIn, IsToldInPart, WaitsIn, asked_part, report_form}
 use Rattle.campaign_main.proofs.EndLemmas.{broken-meaning, if_some, long-meaning, memory-apart, read-meaning, tells-of, text-meaning, unset-cause}
 
 -- ---- by what the lower crate came to
 
+-- what an answer alone is refused for, a campaign never is
+never-scenario : {A : Type 0} (depth : Option ℕ) (d : Description) (s : Given) (answers : List ℕ) (f : ScenarioFault) → Refuses depth d s answers (fault.Scenario f) → A
+never-scenario None d s answers f h = absurd h
+never-scenario (Some depth) d s answers f h = absurd h.2
+
+never-unseen : {A : Type 0} (depth : Option ℕ) (d : Description) (s : Given) (answers : List ℕ) (line : ℕ) → Refuses depth d s answers (fault.Unseen line) → A
+never-unseen None d s answers line h = absurd h
+never-unseen (Some depth) d s answers line h = absurd h.2
+
 module _ (s : Given) (d : Description) (answers : List ℕ) (w : Change) where
   asks-short : (part : AskedPart) (f : QuestionFault) → AsksRefused (asked_part part) d s answers w f → FallsShortOf (Asks part) (s, d) answers w f
   asks-short part (fault.Outside (outside.Answers f)) h = h
+  asks-short part (fault.Outside (outside.Census line)) h = h
   asks-short part (fault.Outside (outside.NotAnswered t)) h = absurd h
   asks-short part (fault.Outside (outside.Campaign campaign.TooManyPlans)) h = h
   asks-short part (fault.Outside (outside.Campaign campaign.Memory)) h = h.0
   asks-short part (fault.Outside (outside.Campaign (campaign.Write n))) h = h
   asks-short part (fault.Broken b) h = h
-  asks-short part (fault.Unseen line) h = h
+  asks-short part (fault.Scenario f) h = never-scenario s.depth d s answers f h.1
+  asks-short part (fault.Unseen line) h = never-unseen s.depth d s answers line h.1
 
-  report-short : (form : ToldForm) (shown : Form) (f : QuestionFault) → report_form form ≡ Some shown → ReportRefused shown d s answers w f
+  report-short : (form : Shown) (shown : Form) (f : QuestionFault) → report_form form ≡ Some shown → ReportRefused shown d s answers w f
       → FallsShortOf (Report form false) (s, d) answers w f
   report-short form shown (fault.Outside (outside.Answers f)) is h = h
+  report-short form shown (fault.Outside (outside.Census line)) is h = h
   report-short form shown (fault.Outside (outside.NotAnswered t)) is h = let P : Option Form → Type 0 = λ o. WaitsIn o (s, d) answers t in (h.0, subst P (sym is) h.1)
   report-short form shown (fault.Outside (outside.Campaign campaign.TooManyPlans)) is h = h
   report-short form shown (fault.Outside (outside.Campaign campaign.Memory)) is h = h.0
   report-short form shown (fault.Outside (outside.Campaign (campaign.Write n))) is h = let P : Option Form → Type 0 = λ o. IsToldInPart o (s, d) answers w n in subst P (sym is) h
   report-short form shown (fault.Broken b) is h = h
-  report-short form shown (fault.Unseen line) is h = h
+  report-short form shown (fault.Scenario f) is h = never-scenario s.depth d s answers f h.1
+  report-short form shown (fault.Unseen line) is h = never-unseen s.depth d s answers line h.1
 
-  known-short : (form : ToldForm) (f : QuestionFault) → report_form form ≡ None → KnownRefused d s answers w f → FallsShortOf (Report form false) (s, d) answers w f
+  known-short : (form : Shown) (f : QuestionFault) → report_form form ≡ None → KnownRefused d s answers w f → FallsShortOf (Report form false) (s, d) answers w f
   known-short form (fault.Outside (outside.Answers f)) is h = h
+  known-short form (fault.Outside (outside.Census line)) is h = h
   known-short form (fault.Outside (outside.NotAnswered t)) is h = absurd h
   known-short form (fault.Outside (outside.Campaign campaign.TooManyPlans)) is h = h
   known-short form (fault.Outside (outside.Campaign campaign.Memory)) is h = h.0
   known-short form (fault.Outside (outside.Campaign (campaign.Write n))) is h = let P : Option Form → Type 0 = λ o. IsToldInPart o (s, d) answers w n in subst P (sym is) h
   known-short form (fault.Broken b) is h = h
-  known-short form (fault.Unseen line) is h = absurd h
+  known-short form (fault.Scenario f) is h = never-scenario s.depth d s answers f h.1
+  known-short form (fault.Unseen line) is h = never-unseen s.depth d s answers line h.1
+
+  explain-short : (text : String Global) (f : QuestionFault) → ExplainRefused (string_bytes text) d s answers w f → FallsShortOf (Explain text) (s, d) answers w f
+  explain-short text (fault.Outside (outside.Answers f)) h = h
+  explain-short text (fault.Outside (outside.Census line)) h = absurd h.1
+  explain-short text (fault.Outside (outside.NotAnswered t)) h = h
+  explain-short text (fault.Outside (outside.Campaign campaign.TooManyPlans)) h = absurd h.1
+  explain-short text (fault.Outside (outside.Campaign campaign.Memory)) h = h.0
+  explain-short text (fault.Outside (outside.Campaign (campaign.Write n))) h = h
+  explain-short text (fault.Broken b) h = absurd h.1
+  explain-short text (fault.Scenario scenario.Memory) h = h.0
+  explain-short text (fault.Scenario (scenario.Bad kind entry term)) h = h
+  explain-short text (fault.Unseen line) h = h
+
+  pub explained : (text : String Global) (result : Result Bool QuestionFault) → IfOk result (IsExplained (string_bytes text) d s answers w)
+      → IfErr result (ExplainRefused (string_bytes text) d s answers w) → ComesToText (Explain text) (s, d) answers w result
+  explained text (Ok found) ok err = ok
+  explained text (Err e) ok err = explain-short text e err
 
   -- a fault that is passed up
   short-of-up : (question : Question) (result : Result Bool QuestionFault) (f : QuestionFault) → IsErrAnd result (λ e. e ≡ f)
@@ -82,50 +116,62 @@ module _ (s : Given) (d : Description) (answers : List ℕ) (w : Change) where
       → ComesToText (Asks part) (s, d) answers w result
   asks-up part result f is h = short-of-up (Asks part) result f is (asks-short part f h)
 
-  pub report-up : (form : ToldForm) (shown : Form) (result : Result Bool QuestionFault) (f : QuestionFault) → report_form form ≡ Some shown → IsErrAnd result (λ e. e ≡ f)
+  pub report-up : (form : Shown) (shown : Form) (result : Result Bool QuestionFault) (f : QuestionFault) → report_form form ≡ Some shown → IsErrAnd result (λ e. e ≡ f)
       → ReportRefused shown d s answers w f → ComesToText (Report form false) (s, d) answers w result
   report-up form shown result f told is h = short-of-up (Report form false) result f is (report-short form shown f told h)
 
   -- the report was written
-  pub report-told : (form : ToldForm) (shown : Form) (found : Bool) → report_form form ≡ Some shown → IsToldIn (Some shown) (s, d) answers w found
+  pub report-told : (form : Shown) (shown : Form) (found : Bool) → report_form form ≡ Some shown → IsToldIn (Some shown) (s, d) answers w found
       → ComesToText (Report form false) (s, d) answers w (Ok found)
   report-told form shown found is h = let P : Option Form → Type 0 = λ o. IsToldIn o (s, d) answers w found in subst P (sym is) h
 
   -- and what is known so far
-  known-told : (form : ToldForm) (found : Bool) → report_form form ≡ None → IsToldIn None (s, d) answers w found → ComesToText (Report form false) (s, d) answers w (Ok found)
+  known-told : (form : Shown) (found : Bool) → report_form form ≡ None → IsToldIn None (s, d) answers w found → ComesToText (Report form false) (s, d) answers w (Ok found)
   known-told form found is h = let P : Option Form → Type 0 = λ o. IsToldIn o (s, d) answers w found in subst P (sym is) h
 
-  pub known-up : (form : ToldForm) (result : Result Bool QuestionFault) → report_form form ≡ None → IfOk result (λ found. IsToldIn None (s, d) answers w found)
+  pub known-up : (form : Shown) (result : Result Bool QuestionFault) → report_form form ≡ None → IfOk result (λ found. IsToldIn None (s, d) answers w found)
       → IfErr result (KnownRefused d s answers w) → ComesToText (Report form false) (s, d) answers w result
   known-up form (Ok found) is ok err = known-told form found is ok
   known-up form (Err e) is ok err = known-short form e is err
 
 -- ---- by what is noted
 
-module _ (question : Question) (s : Subject) (answers : List ℕ) where
+module _ (s : Subject) (answers : List ℕ) (w : Change) (untouched : IsUntouched w) where
   -- nothing is written before notes stand
   never-cut : {A : Type 0} (depth : Option ℕ) (n : ℕ) → Refuses depth s.1 s.0 answers (fault.Outside (outside.Campaign (campaign.Write n))) → A
   never-cut None n h = absurd h
   never-cut (Some depth) n h = absurd h.2
 
   -- a fault that is passed up, before anything is written
-  unnoted-short : (f : QuestionFault) (w : Change) → IsUntouched w → IsUnnoted s answers f → FallsShortOf question s answers w f
-  unnoted-short (fault.Outside (outside.Answers f)) w untouched h = (untouched, h)
-  unnoted-short (fault.Outside (outside.NotAnswered t)) w untouched h = absurd h
-  unnoted-short (fault.Outside (outside.Campaign campaign.TooManyPlans)) w untouched h = (untouched, h)
-  unnoted-short (fault.Outside (outside.Campaign campaign.Memory)) w untouched h = untouched
-  unnoted-short (fault.Outside (outside.Campaign (campaign.Write n))) w untouched h = never-cut s.0.depth n h
-  unnoted-short (fault.Broken b) w untouched h = (untouched, h)
-  unnoted-short (fault.Unseen line) w untouched h = (untouched, h)
+  strict-short : (what : Shown) (f : QuestionFault) → IsUnnotedTo s.0.depth s answers f → FallsShortOf (Report what true) s answers w f
+  strict-short what (fault.Outside (outside.Answers f)) h = (untouched, h)
+  strict-short what (fault.Outside (outside.Census line)) h = (untouched, h)
+  strict-short what (fault.Outside (outside.NotAnswered t)) h = absurd h
+  strict-short what (fault.Outside (outside.Campaign campaign.TooManyPlans)) h = (untouched, h)
+  strict-short what (fault.Outside (outside.Campaign campaign.Memory)) h = untouched
+  strict-short what (fault.Outside (outside.Campaign (campaign.Write n))) h = never-cut s.0.depth n h
+  strict-short what (fault.Broken b) h = (untouched, h)
+  strict-short what (fault.Scenario f) h = never-scenario s.0.depth s.1 s.0 answers f h
+  strict-short what (fault.Unseen line) h = never-unseen s.0.depth s.1 s.0 answers line h
 
+  memory-short : (question : Question) (f : QuestionFault) → f ≡ fault.Outside (outside.Campaign campaign.Memory) → FallsShortOf question s answers w f
+  memory-short question f is = let P : QuestionFault → Type 0 = λ x. FallsShortOf question s answers w x in subst P (sym is) untouched
+
+  unnoted-short : (question : Question) (f : QuestionFault) → IsUnnoted question s answers f → FallsShortOf question s answers w f
+  unnoted-short (Report what true) f h = strict-short what f h
+  unnoted-short (Report what false) f h = memory-short (Report what false) f h
+  unnoted-short (Asks part) f h = memory-short (Asks part) f h
+  unnoted-short (Explain text) f h = memory-short (Explain text) f h
+
+module _ (question : Question) (s : Subject) (answers : List ℕ) where
   pub fault-up : (result : Result Conclusion QuestionFault) (f : QuestionFault) (w : Change) → IsErrAnd result (λ e. e ≡ f)
       → FallsShortOf question s answers w f → ConcludesText question s answers w result
   fault-up (Ok c) f w is short = absurd is
   fault-up (Err e) f w is short = let P : QuestionFault → Type 0 = λ x. FallsShortOf question s answers w x in subst P (sym is) short
 
   pub unnoted-up : (result : Result Conclusion QuestionFault) (f : QuestionFault) (w : Change) → IsErrAnd result (λ e. e ≡ f)
-      → IsUntouched w → IsUnnoted s answers f → ConcludesText question s answers w result
-  unnoted-up result f w is untouched h = fault-up result f w is (unnoted-short f w untouched h)
+      → IsUntouched w → IsUnnoted question s answers f → ConcludesText question s answers w result
+  unnoted-up result f w is untouched h = fault-up result f w is (unnoted-short s answers w untouched question f h)
 
   pub up-notes : (result : Result Conclusion QuestionFault) (f : QuestionFault) (w : Change) → IsErrAnd result (λ e. e ≡ f) → IsUntouched w → NotesText question s answers w result
   up-notes (Ok c) f w is untouched = absurd is
@@ -181,11 +227,13 @@ module _ (question : Question) (s : Subject) (answers : List ℕ) where
 
     answered-sound : (q : Question) (found : Bool) → IsAnswered q s answers w found → w.failed ≡ false
     answered-sound (Asks part) found h = asked-sound s.0.depth part h.0
-    answered-sound (Report form strict) found h = told-sound (report_form form) found h
+    answered-sound (Report what strict) found h = told-sound (report_form what) found h
+    answered-sound (Explain text) found h = h.2.1
 
     part-broken : (q : Question) (n : ℕ) → IsPart q s answers w n → w.failed ≡ true
     part-broken (Asks part) n h = asked-broken s.0.depth part n h
-    part-broken (Report form strict) n h = told-broken (report_form form) n h
+    part-broken (Report what strict) n h = told-broken (report_form what) n h
+    part-broken (Explain text) n h = h.2.2
 
     pub answered-leaves : (end : Exit) → EndsAnswered question s answers end w → Leaves end w
     answered-leaves exit.Kept h = answered-sound question h.0 h.1
@@ -206,11 +254,14 @@ module _ (question : Question) (s : Subject) (answers : List ℕ) where
 
       pub short-ends : (f : QuestionFault) (end : Exit) → FallsShortOf question s answers w f → IsEndOfQuestion f end v → EndsAnswered question s answers end w
       short-ends (fault.Outside (outside.Answers f)) end short is = refused-ends _ end short.0 is
+      short-ends (fault.Outside (outside.Census line)) end short is = refused-ends _ end short.0 is
       short-ends (fault.Outside (outside.NotAnswered t)) end short is = refused-ends _ end short.0 is
       short-ends (fault.Outside (outside.Campaign campaign.TooManyPlans)) end short is = let P : Exit → Type 0 = λ e. EndsAnswered question s answers e w in subst P (sym is.0) short.0
       short-ends (fault.Outside (outside.Campaign campaign.Memory)) end short is = let P : Exit → Type 0 = λ e. EndsAnswered question s answers e w in subst P (sym is.0) short
       short-ends (fault.Outside (outside.Campaign (campaign.Write n))) end short is = let P : Exit → Type 0 = λ e. EndsAnswered question s answers e w in subst P (sym is.0) short
       short-ends (fault.Broken b) end short is = refused-ends _ end short.0 is
+      short-ends (fault.Scenario scenario.Memory) end short is = let P : Exit → Type 0 = λ e. EndsAnswered question s answers e w in subst P (sym is.0) short
+      short-ends (fault.Scenario (scenario.Bad kind entry term)) end short is = refused-ends _ end short.0 is
       short-ends (fault.Unseen line) end short is = refused-ends _ end short.0 is
 
       -- a refusal whose line is told
@@ -224,11 +275,14 @@ module _ (question : Question) (s : Subject) (answers : List ℕ) where
 
         pub short-tells : (f : QuestionFault) (end : Exit) → FallsShortOf question s answers w f → IsEndOfQuestion f end v → tells end
         short-tells (fault.Outside (outside.Answers f)) end short is = tells-of _ _ _ end v is (why (bad_answers f) end short.1 is)
+        short-tells (fault.Outside (outside.Census line)) end short is = tells-of _ _ _ end v is (why (other_census line) end short.1 is)
         short-tells (fault.Outside (outside.NotAnswered t)) end short is = tells-of _ _ _ end v is (why (not_answered t) end short.1 is)
         short-tells (fault.Outside (outside.Campaign campaign.TooManyPlans)) end short is = subst tells (sym is.0) (too_many_plans, short.1, is.1)
         short-tells (fault.Outside (outside.Campaign campaign.Memory)) end short is = subst tells (sym is.0) is.1
         short-tells (fault.Outside (outside.Campaign (campaign.Write n))) end short is = subst tells (sym is.0) is.1
         short-tells (fault.Broken b) end short is = tells-of _ _ _ end v is (why (broken_run b) end short.1 is)
+        short-tells (fault.Scenario scenario.Memory) end short is = subst tells (sym is.0) is.1
+        short-tells (fault.Scenario (scenario.Bad kind entry term)) end short is = tells-of _ _ _ end v is (why (bad_scenario _) end short.1 is)
         short-tells (fault.Unseen number) end short is = tells-of _ _ _ end v is (why (unseen_hits number) end short.1 is)
 
   -- the same where nothing was told before
@@ -282,23 +336,21 @@ refused-question question (Err r) answers line exit.Memory w v told h = h
 refused-question question read answers line (exit.Write n) w v told h = absurd told
 
 -- a text that is too long
-long-answers : (names : List (List ℕ)) (text : List ℕ) → most_bytes < length text → reading_of names text ≡ Err answers.TooLong
+long-reading : (needed : Bool) (names points : List (List ℕ)) (text : List ℕ) → most_bytes < length text → reading_of needed names points text ≡ Err answers.TooLong
 unfolding reading_of
-long-answers names text many =
-    let rest : Result (List Told) AnswersFault = pieces_from names [] (slice_split (λ b. b == 10) text) in
-    let f : Bool → Result (List Told) AnswersFault = λ b. if b then Err answers.TooLong else rest in
-    ap f (lt-ltb most_bytes (length text) many)
-
-long-runs : (names points : List (List ℕ)) (text : List ℕ) → most_bytes < length text → runs_of names points text ≡ Err answers.TooLong
-unfolding runs_of
-long-runs names points text many =
-    let rest : Result (List RunLine) AnswersFault = run_pieces_from names points [] (slice_split (λ b. b == 10) text) in
+long-reading needed names points text many =
+    let rest : Result (List RunLine) AnswersFault = pieces_from needed names points [] (slice_split (λ b. b == 10) text) in
     let f : Bool → Result (List RunLine) AnswersFault = λ b. if b then Err answers.TooLong else rest in
     ap f (lt-ltb most_bytes (length text) many)
 
-too-long : (depth : Option ℕ) (s : Subject) (text : List ℕ) → most_bytes < length text → Refuses depth s.1 s.0 text (fault.Outside (outside.Answers answers.TooLong))
-too-long None s text many = long-answers s.1.codes text many
-too-long (Some depth) s text many = long-runs s.1.codes s.1.points text many
+refuses-long : (depth : Option ℕ) (s : Subject) (text : List ℕ) → most_bytes < length text → Refuses depth s.1 s.0 text (fault.Outside (outside.Answers answers.TooLong))
+refuses-long None s text many = long-reading false s.1.codes s.1.points text many
+refuses-long (Some depth) s text many = long-reading true s.1.codes s.1.points text many
+
+too-long : (question : Question) (s : Subject) (text : List ℕ) → most_bytes < length text → RefusesAnswers question s text (bad_answers answers.TooLong)
+too-long (Asks part) s text many = refuses-long s.0.depth s text many
+too-long (Report what strict) s text many = refuses-long s.0.depth s text many
+too-long (Explain words) s text many = long-reading (is_some s.0.depth) s.1.codes s.1.points text many
 
 -- ---- by the answers that a reader gave
 
@@ -314,7 +366,7 @@ module _ (question : Question) (s : Subject) (known : Option (List ℕ)) where
   cause-unread-answers read.TooLong end w long told memory refused =
       let P : Exit → Type 0 = λ e. RefusesWith (answers_read_line read.TooLong) e w in
       if_some known _ (λ bytes. IsNotAnswered question (Ok s) bytes w)
-      (λ bytes h. inl (bad_answers _, too-long s.0.depth s bytes h, subst P refused told)) (long refl)
+      (λ bytes h. inl (bad_answers _, too-long question s bytes h, subst P refused told)) (long refl)
   cause-unread-answers read.NotUtf8 end w long told memory refused =
       let P : Exit → Type 0 = λ e. RefusesWith unreadable_answers_line e w in
       elim known as (λ k. IfSome k (λ bytes. IsNotAnswered question (Ok s) bytes w)) [ None ↦ tt | Some bytes ↦ inr (inr (subst P refused told)) ]

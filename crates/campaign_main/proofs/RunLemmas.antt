@@ -4,9 +4,9 @@ use Rattle.std.proofs.lemmas.List.Elements.{All-filter}
 use Rattle.std.proofs.lemmas.List.FromFn.{get_or-range_with_len, length-range_with_len}
 use Rattle.std.specs.Prelude.{IsErrAnd}
 use Rattle.std.specs.List.{range_with_len}
+use Rattle.action_eval.specs.declared.rig.Kind.{Kind}
 use Rattle.plan_gen.specs.PlanList.{Asked}
-use Rattle.answer_text.specs.FirstFault.{Tells as TellsAnswers}
-use Rattle.answer_text.specs.Runs.{KnownRuns, TellsRuns, known_runs, told_in}
+use Rattle.answer_text.specs.Runs.{KnownRuns, TellsAnswers, TellsRuns, known_runs, told_in}
 use Rattle.answer_text.specs.declared.fault.AnswersFault.{AnswersFault}
 use Rattle.answer_text.specs.declared.fault.AnswersFault.TheVariants as answers
 use Rattle.known_runs.specs.declared.growing.KnownFault.{KnownFault}
@@ -18,6 +18,7 @@ use Rattle.outside_campaign.specs.Results.{answers_fault}
 use Rattle.outside_campaign.specs.declared.refusal.OutsideFault.TheVariants as outside
 use Rattle.outside_grown.specs.Further.{AreTooMany}
 use Rattle.answered_campaigns.specs.Faults.{known_fault}
+use Rattle.answered_campaigns.specs.Kinds.{listed_kinds}
 use Rattle.answered_campaigns.specs.Questions.{Tells}
 use Rattle.answered_campaigns.specs.declared.fault.QuestionFault.TheVariants as fault
 use Rattle.campaign_main.specs.QuestionNotes.{run_doubts, strict_doubts}
@@ -91,11 +92,12 @@ many_up a asks asked n (Err e) f same up many is =
 
 module _ (d : Description) (given : Given) (depth : ℕ) (text : List ℕ) where
   -- what is noted by what a text tells
-  pub told_doubts : (lines : List ℕ) (a : Answered) → a.points ≡ d.points → told_in a.book ≡ known_runs d.codes d.points text
-      → lines ≡ run_doubts a.points (told_in a.book) depth given → lines ≡ strict_doubts (Some depth) given d text
-  told_doubts lines a points told is =
-      is ∙ ap (λ (names : List (List ℕ)). run_doubts names (told_in a.book) depth given) points
-      ∙ ap (λ (runs : KnownRuns). run_doubts d.points runs depth given) told
+  pub told_doubts : (lines : List ℕ) (a : Answered) → a.points ≡ d.points → a.listed ≡ listed_kinds d → told_in a.book ≡ known_runs d.codes d.points text
+      → lines ≡ run_doubts a.points a.listed (told_in a.book) depth given → lines ≡ strict_doubts (Some depth) given d text
+  told_doubts lines a points listed told is =
+      is ∙ ap (λ (names : List (List ℕ)). run_doubts names a.listed (told_in a.book) depth given) points
+      ∙ ap (λ (kinds : List (List Kind)). run_doubts d.points kinds (told_in a.book) depth given) listed
+      ∙ ap (λ (runs : KnownRuns). run_doubts d.points (listed_kinds d) runs depth given) told
 
   -- why nothing is noted
   pub unread_runs : (f : AnswersFault) → TellsRuns f d.codes d.points text
@@ -115,12 +117,13 @@ module _ (d : Description) (given : Given) (depth : ℕ) (text : List ℕ) where
   many_runs a tells known.TooManyPlans many = (a, tells, many refl)
   many_runs a tells known.Memory many = tt
 
-  pub unread_answers : (f : AnswersFault) → TellsAnswers f d.codes text
+  pub unread_answers : (f : AnswersFault) → TellsAnswers f d.codes d.points text
       → IsUnnotedTo None (given, d) text (fault.Outside (answers_fault f))
   unread_answers answers.TooLong h = h
   unread_answers (answers.Line number f) h = h
   unread_answers answers.Memory h = tt
 
-  pub answers_unread : (f : AnswersFault) (codes : List (List ℕ)) → codes ≡ d.codes → TellsAnswers f codes text
+  pub answers_unread : (f : AnswersFault) (codes points : List (List ℕ)) → codes ≡ d.codes → points ≡ d.points → TellsAnswers f codes points text
       → IsUnnotedTo None (given, d) text (fault.Outside (answers_fault f))
-  answers_unread f codes codes_are h = unread_answers f (subst (λ (names : List (List ℕ)). TellsAnswers f names text) codes_are h)
+  answers_unread f codes points codes_are points_are h =
+      unread_answers f (subst (λ (names : List (List ℕ)). TellsAnswers f d.codes names text) points_are (subst (λ (names : List (List ℕ)). TellsAnswers f names points text) codes_are h))

@@ -6,7 +6,7 @@ use Rattle.plan_survey.specs.Runs.{runs_from, unreached_in}
 use Rattle.campaign_core.specs.CommandTexts.{tried}
 use Rattle.campaign_core.specs.Headline.{Campaign, plans}
 use Rattle.campaign_main.specs.Notes.{doubt_notes, doubts_of, strict_notes, unreached_line, unreached_lines}
-use Rattle.campaign_main.specs.QuestionNotes.{unhit_lines}
+use Rattle.campaign_main.specs.QuestionNotes.{unhit_lines, unmet_notes, unseen_notes}
 use Rattle.campaign_main.specs.declared.notes.Doubts.{Doubts}
 
 -- equal parts make equal doubts
@@ -29,21 +29,31 @@ strict-is c d names unreached empty one two same points left none first second =
     ap (λ n. unreached_lines n unreached) points ∙ ap (unreached_lines c.points) left in
     second ∙ ap (λ (x : List ℕ). x ++ text_of (unreached_lines names unreached)) start ∙ ap (λ l. doubt_notes (doubts_of c) ++ text_of l) rest
 
--- the same of a report by answers
-pub answered-is : (d e : Doubts) (names points : List (List ℕ)) (hits counts empty one two : List ℕ) → d ≡ e → names ≡ points → hits ≡ counts
-    → empty ≡ [] → one ≡ empty ++ doubt_notes d → two ≡ one ++ text_of (unhit_lines names hits) → two ≡ doubt_notes e ++ text_of (unhit_lines points counts)
-answered-is d e names points hits counts empty one two same named counted none first second =
+-- doubts, a count of plans and lines, one after another
+three-notes : (counted : ℕ → ℕ → List ℕ) (d e : Doubts) (n m : ℕ) (lines rest empty one two three : List ℕ) → d ≡ e → n ≡ m → lines ≡ rest → empty ≡ []
+    → one ≡ empty ++ doubt_notes d → two ≡ one ++ counted n d.plans → three ≡ two ++ lines → three ≡ doubt_notes e ++ (counted m e.plans ++ rest)
+three-notes counted d e n m lines rest empty one two three same count left none first second third =
     let start : one ≡ doubt_notes e = first ∙ ap (λ (x : List ℕ). x ++ doubt_notes d) none ∙ ap doubt_notes same in
-    let rest : unhit_lines names hits ≡ unhit_lines points counts = ap (λ n. unhit_lines n hits) named ∙ ap (unhit_lines points) counted in
-    second ∙ ap (λ (x : List ℕ). x ++ text_of (unhit_lines names hits)) start ∙ ap (λ l. doubt_notes e ++ text_of l) rest
+    let middle : counted n d.plans ≡ counted m e.plans = ap (λ k. counted k d.plans) count ∙ ap (λ (x : Doubts). counted m x.plans) same in
+    third ∙ ap (λ (x : List ℕ). x ++ lines) (second ∙ ap (λ (x : List ℕ). x ++ counted n d.plans) start)
+    ∙ ap (λ (l : List ℕ). (doubt_notes e ++ l) ++ lines) middle ∙ ap (λ (l : List ℕ). (doubt_notes e ++ counted m e.plans) ++ l) left
+    ∙ append_assoc (doubt_notes e) (counted m e.plans) rest
+
+-- the same of a report by answers
+pub answered-is : (d e : Doubts) (names points : List (List ℕ)) (hits counts : List ℕ) (n unmet : ℕ) (empty one two three : List ℕ) → d ≡ e → names ≡ points → hits ≡ counts
+    → n ≡ unmet → empty ≡ [] → one ≡ empty ++ doubt_notes d → two ≡ one ++ unmet_notes n d.plans → three ≡ two ++ text_of (unhit_lines names hits)
+    → three ≡ doubt_notes e ++ (unmet_notes unmet e.plans ++ text_of (unhit_lines points counts))
+answered-is d e names points hits counts n unmet empty one two three same named counted count none first second third =
+    let rest : text_of (unhit_lines names hits) ≡ text_of (unhit_lines points counts) = ap (λ p. text_of (unhit_lines p hits)) named ∙ ap (λ h. text_of (unhit_lines points h)) counted in
+    three-notes unmet_notes d e n unmet _ _ empty one two three same count rest none first second third
 
 -- the same of a report with a depth
-pub runs-is : (d e : Doubts) (names points : List (List ℕ)) (places unreached empty one two : List ℕ) → d ≡ e → names ≡ points → places ≡ unreached
-    → empty ≡ [] → one ≡ empty ++ doubt_notes d → two ≡ one ++ text_of (unreached_lines names places) → two ≡ doubt_notes e ++ text_of (unreached_lines points unreached)
-runs-is d e names points places unreached empty one two same named left none first second =
-    let start : one ≡ doubt_notes e = first ∙ ap (λ (x : List ℕ). x ++ doubt_notes d) none ∙ ap doubt_notes same in
-    let rest : unreached_lines names places ≡ unreached_lines points unreached = ap (λ n. unreached_lines n places) named ∙ ap (unreached_lines points) left in
-    second ∙ ap (λ (x : List ℕ). x ++ text_of (unreached_lines names places)) start ∙ ap (λ l. doubt_notes e ++ text_of l) rest
+pub runs-is : (d e : Doubts) (names points : List (List ℕ)) (places unreached : List ℕ) (n unseen : ℕ) (empty one two three : List ℕ) → d ≡ e → names ≡ points
+    → places ≡ unreached → n ≡ unseen → empty ≡ [] → one ≡ empty ++ doubt_notes d → two ≡ one ++ unseen_notes n d.plans
+    → three ≡ two ++ text_of (unreached_lines names places) → three ≡ doubt_notes e ++ (unseen_notes unseen e.plans ++ text_of (unreached_lines points unreached))
+runs-is d e names points places unreached n unseen empty one two three same named left count none first second third =
+    let rest : text_of (unreached_lines names places) ≡ text_of (unreached_lines points unreached) = ap (λ p. text_of (unreached_lines p places)) named ∙ ap (λ l. text_of (unreached_lines points l)) left in
+    three-notes unseen_notes d e n unseen _ _ empty one two three same count rest none first second third
 
 -- one more of the lines for points that no run asks
 pub unreached-step : (points : List (List ℕ)) (left : List ℕ) (k d : ℕ) (out new whole : List ℕ) → k < length left

@@ -56,7 +56,8 @@ use Rattle.campaign_main.specs.Notes.{is_doubted, listed_notes, notes_of, report
 
 -- why a command is refused: its settings are no UTF-8 or have a fault, its scenario has one, there are too many plans, or none of this
 -- number; it would run a component from outside, would list the plans of one that grow from what answers tell, or asks about a target that isn't
--- from outside; the answers have a fault, or lack this scenario; a run that they tell breaks with another, or this line of them tells no hits
+-- from outside; the answers have a fault, this line of them tells another census than the settings, or they lack this scenario; a run that they tell
+-- breaks with another, or this line tells the one that is to be explained without its hits
 pub data Refusal : Type 0 where
   not_text : Refusal
   bad_settings : Cause → Refusal
@@ -67,6 +68,7 @@ pub data Refusal : Type 0 where
   outside_with_depth : Refusal
   bundled_target : Refusal
   bad_answers : AnswersFault → Refusal
+  other_census : ℕ → Refusal
   not_answered : Entries → Refusal
   broken_run : BrokenRun → Refusal
   unseen_hits : ℕ → Refusal
@@ -101,11 +103,11 @@ run_answer form strict c =
 -- the map, whether a plan fails, and what is noted of the listed scenarios
 unfoldable pub map_answer : Campaign → Answer
 map_answer c =
-    of_few_plans (plans c) (campaign_map_text c, concluded (is_some (first_failure c)) false, listed_notes c.points c.plans.listed)
+    of_few_plans (plans c) (campaign_map_text c, concluded (is_some (first_failure c)) false, listed_notes c.points c.given.plans.listed)
 
 -- the list of plans, and the same notes
 unfoldable pub plans_answer : Campaign → Answer
-plans_answer c = of_few_plans (plans c) (plans_text c, Clean, listed_notes c.points c.plans.listed)
+plans_answer c = of_few_plans (plans c) (plans_text c, Clean, listed_notes c.points c.given.plans.listed)
 
 -- what a text with this verdict comes to
 abbrev pub of_verdict : Verdict → Conclusion
@@ -175,7 +177,7 @@ keeps_asked points asked = count_by (λ p. p == length points) asked
 -- the calls that a run's hits of the cut stand for
 abbrev pub calls_met : (Run → List (List ℕ)) → List (List ℕ) → Campaign → ℕ → Entries → List (List ℕ)
 calls_met calls points c stream scenario =
-    take (keeps_asked points (tried c stream scenario).asked) (calls (given_of scenario points c.plans.seed stream c.max_hits))
+    take (keeps_asked points (tried c stream scenario).asked) (calls (given_of scenario points c.given.plans.seed stream c.given.max_hits))
 
 -- a scenario's run under a stream number, told hit by hit, and which write each hit of the cut stands for
 unfoldable pub cut_explain_answer : (Run → List (List ℕ)) → List (List ℕ) → Campaign → ℕ → Entries → Answer

@@ -16,7 +16,7 @@ use Rattle.campaign_settings.specs.declared.fault.SettingsFault.TheVariants as s
 use Rattle.campaign_settings.specs.declared.keys.KeyFault.TheVariants as fault
 use Rattle.campaign_main.specs.declared.input.ReadFault.{ReadFault}
 use Rattle.campaign_main.specs.declared.input.ReadFault.TheVariants as read
-use Rattle.campaign_main.specs.Commands.{Refusal, not_text, bad_settings, bad_scenario, no_plan, too_many_plans, outside_target, outside_with_depth, bundled_target, bad_answers, not_answered, broken_run, unseen_hits}
+use Rattle.campaign_main.specs.Commands.{Refusal, not_text, bad_settings, bad_scenario, no_plan, too_many_plans, outside_target, outside_with_depth, bundled_target, bad_answers, other_census, not_answered, broken_run, unseen_hits}
 
 -- what is wrong with the settings
 abbrev pub settings_line : SettingsFault → List ℕ
@@ -65,6 +65,7 @@ refusal_line outside_target = codes "settings: target outside: only plans, asks 
 refusal_line outside_with_depth = codes "settings: target outside with a depth: only asks and report\n"
 refusal_line bundled_target = codes "settings: target not outside: only run, plans, map, try, reduce and explain\n"
 refusal_line (bad_answers f) = ended (answers_line_of f)
+refusal_line (other_census line) = codes "answers: line " ++ (decimal line ++ codes ": hits differ from the settings\n")
 refusal_line (not_answered s) = ended (codes "not answered " ++ scenario_text s)
 refusal_line (broken_run b) = ended (broken_text b)
 refusal_line (unseen_hits line) = codes "answers: line " ++ (decimal line ++ codes ": hits unknown\n")

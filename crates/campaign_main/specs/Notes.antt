@@ -82,7 +82,7 @@ doubts_of c = record {
   unresolved = unresolved_in (runs_from (tried c) 0 (plans c));
   plans = length (plans c);
   unhit = is_unhit (census c);
-  unstormed = draws_nothing c.plans;
+  unstormed = draws_nothing c.given.plans;
 }
 
 -- the line for a point that no run of a plan asks
@@ -99,8 +99,8 @@ strict_notes c =
 
 -- what is noted beside a report
 abbrev pub report_notes : Bool → Campaign → List ℕ
-report_notes true c = listed_notes c.points c.plans.listed ++ strict_notes c
-report_notes false c = listed_notes c.points c.plans.listed
+report_notes true c = listed_notes c.points c.given.plans.listed ++ strict_notes c
+report_notes false c = listed_notes c.points c.given.plans.listed
 
 -- something is noted that is to count
 abbrev pub is_doubted : Bool → List ℕ → Bool

@@ -1,14 +1,16 @@
 -- What is answered to a question on a component that somebody else runs, by the bytes of the settings and of the answers, and what was
 -- written.
-use Rattle.std.specs.Prelude.{◌≡◌, ◌⊎◌, ℕ, Bool, false, List, codes, Option, None, Some, is_some, Result, Ok, Err}
+use Rattle.std.specs.Prelude.{◌≡◌, ◌⊎◌, ℕ, Bool, true, false, List, codes, string_bytes, Option, None, Some, is_some, Result, Ok, Err}
 use Rattle.scenario_values.specs.Scenario.{Entries}
+use Rattle.scenario_grammar.specs.declared.fault.ScenarioFault.TheVariants as scenario
 use Rattle.asked_lines.specs.declared.parts.AskedPart.{AskedPart}
 use Rattle.asked_lines.specs.declared.parts.AskedPart.TheVariants as part
 use Rattle.campaign_core.specs.Pages.{NotesFacts}
 use Rattle.command_words.specs.declared.words.AskedPart.{AskedPart as Part}
 use Rattle.command_words.specs.declared.words.AskedPart.TheVariants as words
-use Rattle.command_words.specs.declared.words.ToldForm.{ToldForm}
-use Rattle.command_words.specs.declared.words.ToldForm.TheVariants as told
+use Rattle.command_words.specs.declared.words.Form.TheVariants as form
+use Rattle.command_words.specs.declared.words.Shown.{Shown}
+use Rattle.command_words.specs.declared.words.Shown.TheVariants as shown
 use Rattle.campaign_given.specs.Description.{Description}
 use Rattle.campaign_given.specs.Given.{Given}
 use Rattle.campaign_settings.specs.Settings.{Read, settings_of}
@@ -18,10 +20,11 @@ use Rattle.campaign_settings.specs.declared.settings.Settings.{Settings}
 use Rattle.campaign_core.specs.Writes.{Change, IsUntouched}
 use Rattle.campaign_core.specs.declared.ending.CampaignFault.TheVariants as campaign
 use Rattle.command_words.specs.declared.words.Question.{Question}
-use Rattle.command_words.specs.declared.words.Question.TheVariants.{Asks, Report}
+use Rattle.command_words.specs.declared.words.Question.TheVariants.{Asks, Report, Explain}
 use Rattle.outside_campaign.specs.declared.forms.Form.{Form}
 use Rattle.outside_campaign.specs.declared.forms.Form.TheVariants as forms
 use Rattle.outside_campaign.specs.declared.refusal.OutsideFault.TheVariants as outside
+use Rattle.answered_campaigns.specs.Explained.{IsExplained, IsExplainedInPart, RefusesText, spelled}
 use Rattle.answered_campaigns.specs.Questions.{IsAsked, IsAskedInPart, IsKnownInPart, IsKnownSoFar, IsReported, IsReportedInPart, Refuses}
 use Rattle.answered_campaigns.specs.declared.fault.QuestionFault.{QuestionFault}
 use Rattle.answered_campaigns.specs.declared.fault.QuestionFault.TheVariants as fault
@@ -30,7 +33,7 @@ use Rattle.campaign_main.specs.declared.exit.Conclusion.TheVariants.{Clean, Fail
 use Rattle.campaign_main.specs.declared.exit.Exit.{Exit}
 use Rattle.campaign_main.specs.declared.exit.Exit.TheVariants.{Kept, Found, Refused, Memory, Write, Doubted}
 use Rattle.campaign_main.specs.declared.fault.CommandFault.TheVariants as command
-use Rattle.campaign_main.specs.Commands.{Refusal, bad_answers, bad_settings, broken_run, bundled_target, not_answered, of_text, page_notes, too_many_plans, unseen_hits}
+use Rattle.campaign_main.specs.Commands.{Refusal, bad_answers, bad_scenario, bad_settings, broken_run, bundled_target, not_answered, of_text, other_census, page_notes, too_many_plans, unseen_hits}
 use Rattle.campaign_main.specs.Ends.{IsEndOf, IsNoted, IsTold, RefusesWith, TellsOf}
 use Rattle.campaign_main.specs.Exit.{concluded}
 use Rattle.campaign_main.specs.QuestionNotes.{is_question_doubted, question_notes}
@@ -67,14 +70,14 @@ abbrev pub told_notes : NotesFacts
 told_notes = record { version = page_notes.version; command = codes "paklour report --page FILE < ANSWERS" }
 
 -- the form in which a report by answers is written; what is known so far is no report
-abbrev pub report_form : ToldForm → Option Form
-report_form told.Whole = Some forms.Whole
-report_form told.Brief = Some forms.Brief
-report_form told.Json = Some forms.Json
-report_form told.Junit = Some forms.Junit
-report_form told.Map = Some forms.Map
-report_form told.Page = Some (forms.Page told_notes)
-report_form told.Partial = None
+abbrev pub report_form : Shown → Option Form
+report_form (shown.Report form.Whole) = Some forms.Whole
+report_form (shown.Report form.Brief) = Some forms.Brief
+report_form (shown.Report form.Json) = Some forms.Json
+report_form (shown.Report form.Junit) = Some forms.Junit
+report_form (shown.Report form.Page) = Some (forms.Page told_notes)
+report_form shown.Map = Some forms.Map
+report_form shown.Partial = None
 
 -- the part of the lines that ask which is written
 abbrev pub asked_part : Part → AskedPart
@@ -90,10 +93,11 @@ abbrev pub IsToldIn : Option Form → Subject → List ℕ → Change → Bool �
 IsToldIn (Some form) s answers w found = (first : Option ℕ) × IsReported form s.1 s.0 answers w first × (found ≡ is_some first)
 IsToldIn None s answers w found = IsKnownSoFar s.1 s.0 answers w found
 
--- that was written, or a part of the lines that ask for what is still to be tried
+-- that was written, or a part of the lines that ask for what is still to be tried, or the run that the answers tell of a scenario
 abbrev pub IsAnswered : Question → Subject → List ℕ → Change → Bool → Type 0
 IsAnswered (Asks part) s answers w found = IsAsked (asked_part part) s.1 s.0 answers w × (found ≡ false)
-IsAnswered (Report form strict) s answers w found = IsToldIn (report_form form) s answers w found
+IsAnswered (Report what strict) s answers w found = IsToldIn (report_form what) s answers w found
+IsAnswered (Explain text) s answers w found = IsExplained (string_bytes text) s.1 s.0 answers w found
 
 -- so many bytes of that text, and not all, were written before the sink failed
 abbrev pub IsToldInPart : Option Form → Subject → List ℕ → Change → ℕ → Type 0
@@ -102,7 +106,8 @@ IsToldInPart None s answers w n = IsKnownInPart s.0.depth s.1 s.0 answers w n
 
 abbrev pub IsPart : Question → Subject → List ℕ → Change → ℕ → Type 0
 IsPart (Asks part) s answers w n = IsAskedInPart s.0.depth (asked_part part) s.1 s.0 answers w n
-IsPart (Report form strict) s answers w n = IsToldInPart (report_form form) s answers w n
+IsPart (Report what strict) s answers w n = IsToldInPart (report_form what) s answers w n
+IsPart (Explain text) s answers w n = IsExplainedInPart (string_bytes text) s.1 s.0 answers w n
 
 -- the text was written whole, and this is what it comes to
 abbrev pub IsConcluded : Question → Subject → List ℕ → Change → Conclusion → Type 0
@@ -142,8 +147,10 @@ abbrev pub IsUnnotedTo : Option ℕ → Subject → List ℕ → QuestionFault �
 IsUnnotedTo depth s answers (fault.Outside (outside.NotAnswered t)) = ⊥
 IsUnnotedTo depth s answers why = Refuses depth s.1 s.0 answers why
 
-abbrev pub IsUnnoted : Subject → List ℕ → QuestionFault → Type 0
-IsUnnoted s answers why = IsUnnotedTo s.0.depth s answers why
+-- the same of a report that is to be strict; beside all else names alone are noted, and only memory may be refused
+abbrev pub IsUnnoted : Question → Subject → List ℕ → QuestionFault → Type 0
+IsUnnoted (Report what true) s answers why = IsUnnotedTo s.0.depth s answers why
+IsUnnoted question s answers why = why ≡ fault.Outside (outside.Campaign campaign.Memory)
 
 -- ---- refusals
 
@@ -152,18 +159,28 @@ abbrev pub WaitsIn : Option Form → Subject → List ℕ → Entries → Type 0
 WaitsIn (Some form) s answers t = Refuses s.0.depth s.1 s.0 answers (fault.Outside (outside.NotAnswered t))
 WaitsIn None s answers t = ⊥
 
-abbrev pub IsWaitedFor : Question → Subject → List ℕ → Entries → Type 0
-IsWaitedFor (Asks part) s answers t = ⊥
-IsWaitedFor (Report form strict) s answers t = WaitsIn (report_form form) s answers t
+-- why a question on a campaign is refused, by the answers; a report has a form
+abbrev pub RefusesShown : Option Form → Subject → List ℕ → Refusal → Type 0
+RefusesShown form s answers (bad_answers f) = Refuses s.0.depth s.1 s.0 answers (fault.Outside (outside.Answers f))
+RefusesShown form s answers (other_census line) = Refuses s.0.depth s.1 s.0 answers (fault.Outside (outside.Census line))
+RefusesShown form s answers too_many_plans = Refuses s.0.depth s.1 s.0 answers (fault.Outside (outside.Campaign campaign.TooManyPlans))
+RefusesShown form s answers (not_answered t) = WaitsIn form s answers t
+RefusesShown form s answers (broken_run b) = Refuses s.0.depth s.1 s.0 answers (fault.Broken b)
+RefusesShown form s answers _ = ⊥
+
+-- why the run of a text's scenario isn't explained
+abbrev pub RefusesRun : List ℕ → Subject → List ℕ → Refusal → Type 0
+RefusesRun text s answers (bad_scenario f) = spelled text ≡ Err f
+RefusesRun text s answers (bad_answers f) = RefusesText text s.1 s.0 answers (fault.Outside (outside.Answers f))
+RefusesRun text s answers (not_answered t) = RefusesText text s.1 s.0 answers (fault.Outside (outside.NotAnswered t))
+RefusesRun text s answers (unseen_hits line) = RefusesText text s.1 s.0 answers (fault.Unseen line)
+RefusesRun text s answers _ = ⊥
 
 -- why a question is refused, by the answers
 abbrev pub RefusesAnswers : Question → Subject → List ℕ → Refusal → Type 0
-RefusesAnswers question s answers (bad_answers f) = Refuses s.0.depth s.1 s.0 answers (fault.Outside (outside.Answers f))
-RefusesAnswers question s answers too_many_plans = Refuses s.0.depth s.1 s.0 answers (fault.Outside (outside.Campaign campaign.TooManyPlans))
-RefusesAnswers question s answers (not_answered t) = IsWaitedFor question s answers t
-RefusesAnswers question s answers (broken_run b) = Refuses s.0.depth s.1 s.0 answers (fault.Broken b)
-RefusesAnswers question s answers (unseen_hits line) = Refuses s.0.depth s.1 s.0 answers (fault.Unseen line)
-RefusesAnswers question s answers _ = ⊥
+RefusesAnswers (Asks part) s answers refusal = RefusesShown None s answers refusal
+RefusesAnswers (Report what strict) s answers refusal = RefusesShown (report_form what) s answers refusal
+RefusesAnswers (Explain text) s answers refusal = RefusesRun (string_bytes text) s answers refusal
 
 -- the same by what the settings come to
 abbrev pub RefusesQuestion : Question → Result Subject Refusal → List ℕ → Refusal → Type 0
@@ -189,15 +206,19 @@ TellsOfQuestion end w =
 -- how a question ends that came to a fault, and what it tells
 abbrev pub IsEndOfQuestion : QuestionFault → Exit → Change → Type 0
 IsEndOfQuestion (fault.Outside (outside.Answers f)) end w = RefusesWith (refusal_line (bad_answers f)) end w
+IsEndOfQuestion (fault.Outside (outside.Census line)) end w = RefusesWith (refusal_line (other_census line)) end w
 IsEndOfQuestion (fault.Outside (outside.NotAnswered t)) end w = RefusesWith (refusal_line (not_answered t)) end w
 IsEndOfQuestion (fault.Outside (outside.Campaign f)) end w = IsEndOf (command.Campaign f) end w
 IsEndOfQuestion (fault.Broken b) end w = RefusesWith (refusal_line (broken_run b)) end w
+IsEndOfQuestion (fault.Scenario f) end w = IsEndOf (command.Scenario f) end w
 IsEndOfQuestion (fault.Unseen line) end w = RefusesWith (refusal_line (unseen_hits line)) end w
 
 -- what was written by a question that came to a fault, and why
 abbrev pub FallsShortOf : Question → Subject → List ℕ → Change → QuestionFault → Type 0
 FallsShortOf question s answers w (fault.Outside (outside.Answers f)) =
     IsUntouched w × RefusesAnswers question s answers (bad_answers f)
+FallsShortOf question s answers w (fault.Outside (outside.Census line)) =
+    IsUntouched w × RefusesAnswers question s answers (other_census line)
 FallsShortOf question s answers w (fault.Outside (outside.NotAnswered t)) =
     IsUntouched w × RefusesAnswers question s answers (not_answered t)
 FallsShortOf question s answers w (fault.Outside (outside.Campaign campaign.TooManyPlans)) =
@@ -206,6 +227,9 @@ FallsShortOf question s answers w (fault.Outside (outside.Campaign campaign.Memo
 FallsShortOf question s answers w (fault.Outside (outside.Campaign (campaign.Write n))) = IsPart question s answers w n
 FallsShortOf question s answers w (fault.Broken b) =
     IsUntouched w × RefusesAnswers question s answers (broken_run b)
+FallsShortOf question s answers w (fault.Scenario scenario.Memory) = IsUntouched w
+FallsShortOf question s answers w (fault.Scenario (scenario.Bad kind entry term)) =
+    IsUntouched w × RefusesAnswers question s answers (bad_scenario (record { kind = kind; entry = entry; term = term }))
 FallsShortOf question s answers w (fault.Unseen line) =
     IsUntouched w × RefusesAnswers question s answers (unseen_hits line)
 

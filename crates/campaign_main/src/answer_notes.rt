@@ -4,22 +4,24 @@ ghost use Rattle.std.specs.List.{slice_split};
 ghost use Rattle.action_eval.specs.Answers.{texts};
 ghost use Rattle.report.specs.ReportText.{ended, text_of};
 ghost use Rattle.answer_text.specs.FirstFault.{answer_in};
-ghost use Rattle.answer_text.specs.Known.{verdict_in};
-ghost use Rattle.answer_text.specs.Runs.{run_in};
+ghost use Rattle.answer_text.specs.Known.{verdicts_in};
+ghost use Rattle.answer_text.specs.Runs.{told_in};
 ghost use Rattle.campaign_main.specs.Commands.{outside_plans};
-ghost use Rattle.campaign_main.specs.QuestionNotes.{answer_strangers, answered_doubts, census_doubts, doubts_by, is_left_open, is_question_doubted, name_notes, question_notes, run_strangers, run_strangers_from, strangers_from, strict_doubts, unhit_line, unhit_lines, unhit_of};
+ghost use Rattle.campaign_main.specs.QuestionNotes.{answer_strangers, answered_doubts, census_doubts, doubts_by, is_left_open, is_question_doubted, name_notes, question_notes, strangers_from, strict_doubts, unhit_line, unhit_lines, unhit_of, unmet_line, unmet_notes};
 ghost use Rattle.campaign_main.specs.Questions.{IsUnnoted, IsUnnotedTo};
 
 use crate::notes::{
-    Doubts, Origin, draws_nothing, is_doubted, is_unhit, listed_on, write_doubts, write_strangers,
+    Doubts, Origin, draws_nothing, is_doubted, is_some_number, is_unhit, listed_on, write_doubts,
+    write_strangers,
 };
 use crate::run_notes::run_doubts;
-use answer_text::{Known, LineError, answer_in, read, read_runs, run_in};
-use answered_campaigns::QuestionFault;
+use answer_text::{LineError, Runs, answer_in, read, read_runs};
+use answered_campaigns::{QuestionFault, listed_kinds};
 use answered_runs::AnsweredRuns;
 use campaign_given::{CampaignSettings, Outside};
+use campaign_plans::CampaignPlans;
 use command_words::Question;
-use outside_campaign::{borrowed, outside_plans};
+use outside_campaign::{borrowed, count_unmet, outside_plans};
 use plan_gen::PlanList;
 use scenario_grammar::Scenario;
 use scenario_values::build;
@@ -27,7 +29,8 @@ use std::alloc::{AllocError, Global};
 use std::fmt::Write;
 use target_trait::Verdict;
 
-/// A line for each name that no point has, of the scenario in the line of answers of this number; a line that gives no answer has none.
+/// A line for each name that no point has, of the scenario in the line of answers of this number; where its verdict or its scenario has a fault there
+/// is none. Its hits aren't looked at.
 fn write_line_strangers(
     alloc: Global,
     out: &mut String,
@@ -40,7 +43,7 @@ fn write_line_strangers(
         ++ text_of (answer_strangers (texts points.now) number (answer_in outside.now.codes line.now))) }
 {
     match answer_in(alloc, outside.codes.as_slice(), line) {
-        Ok((scenario, _)) => write_strangers(out, points, Origin::Answered(number), &scenario),
+        Ok(((scenario, _), _)) => write_strangers(out, points, Origin::Answered(number), &scenario),
         Err(LineError::Bad(_)) => Ok(()),
         Err(LineError::Memory) => Err(AllocError),
     }
@@ -71,48 +74,6 @@ fn write_answers_strangers(
     Ok(())
 }
 
-/// The same of a line that tells the hits of a run.
-fn write_run_strangers(
-    alloc: Global,
-    out: &mut String,
-    points: &[&str],
-    outside: &Outside,
-    number: usize,
-    line: &[u8],
-) -> Result<(), AllocError>
-    ensures { OnOk result (string_bytes out.new ≡ string_bytes out.old
-        ++ text_of (run_strangers (texts points.now) number (run_in outside.now.codes outside.now.points line.now))) }
-{
-    match run_in(
-        alloc,
-        outside.codes.as_slice(),
-        outside.points.as_slice(),
-        line,
-    ) {
-        Ok(run) => write_strangers(out, points, Origin::Answered(number), &run.scenario),
-        Err(LineError::Bad(_)) => Ok(()),
-        Err(LineError::Memory) => Err(AllocError),
-    }
-}
-
-/// What is noted of a text of answers that tell hits, whose lines are numbered from 1.
-fn write_runs_strangers(
-    alloc: Global,
-    out: &mut String,
-    points: &[&str],
-    outside: &Outside,
-    answers: &[u8],
-) -> Result<(), AllocError>
-    ensures { OnOk result (string_bytes out.new ≡ string_bytes out.old
-        ++ run_strangers_from (texts points.now) outside.now 1 (slice_split (λ b. b == 10) answers.now)) }
-{
-    let lines = pieces(alloc, answers)?;
-    for place in 0..lines.len() {
-        write_run_strangers(alloc, out, points, outside, place + 1, lines[place])?;
-    }
-    Ok(())
-}
-
 /// What is noted of names that no point has: those of the listed scenarios, and then those of the answers.
 fn name_notes_on(
     alloc: Global,
@@ -125,16 +86,13 @@ fn name_notes_on(
     let points = borrowed(alloc, outside.points.as_slice())?;
     let points = points.as_slice();
     let mut lines = listed_on(alloc, points, settings.scenarios.as_slice())?;
-    match settings.depth {
-        None => write_answers_strangers(alloc, &mut lines, points, outside, answers)?,
-        Some(_) => write_runs_strangers(alloc, &mut lines, points, outside, answers)?,
-    }
+    write_answers_strangers(alloc, &mut lines, points, outside, answers)?;
     Ok(lines)
 }
 
 /// Whether a scenario is answered as unresolved.
-fn is_left_open(alloc: Global, known: &Known, scenario: &Scenario) -> Result<bool, AllocError>
-    ensures { IfOk result (λ found. found ≡ is_left_open (verdict_in known.now) scenario.now) }
+fn is_left_open(alloc: Global, known: &Runs, scenario: &Scenario) -> Result<bool, AllocError>
+    ensures { IfOk result (λ found. found ≡ is_left_open (verdicts_in (told_in known.now)) scenario.now) }
 {
     match known.verdict_of(alloc, scenario)? {
         Some(Verdict::Unresolved) => Ok(true),
@@ -145,12 +103,12 @@ fn is_left_open(alloc: Global, known: &Known, scenario: &Scenario) -> Result<boo
 /// One, where the plan of this number is answered as unresolved.
 fn count_of(
     alloc: Global,
-    known: &Known,
+    known: &Runs,
     plans: &PlanList<'_>,
     number: usize,
 ) -> Result<u32, AllocError>
     requires { number < length plans.now }
-    ensures { IfOk result (λ n. n ≡ if is_left_open (verdict_in known.now) (slice_index_or plans.now number []) then 1 else 0) }
+    ensures { IfOk result (λ n. n ≡ if is_left_open (verdicts_in (told_in known.now)) (slice_index_or plans.now number []) then 1 else 0) }
 {
     let scenario = plans.plan(number).scenario(alloc)?;
     if is_left_open(alloc, known, &scenario)? {
@@ -161,8 +119,8 @@ fn count_of(
 }
 
 /// How many of the plans are answered as unresolved.
-fn count_left_open(alloc: Global, known: &Known, plans: &PlanList<'_>) -> Result<u32, AllocError>
-    ensures { IfOk result (λ n. n ≡ count_by (is_left_open (verdict_in known.now)) plans.now) }
+fn count_left_open(alloc: Global, known: &Runs, plans: &PlanList<'_>) -> Result<u32, AllocError>
+    ensures { IfOk result (λ n. n ≡ count_by (is_left_open (verdicts_in (told_in known.now))) plans.now) }
 {
     let mut count = 0;
     for number in 0..plans.len() {
@@ -174,13 +132,13 @@ fn count_left_open(alloc: Global, known: &Known, plans: &PlanList<'_>) -> Result
 /// What makes a report by these answers say less than it seems to.
 fn doubts_known(
     alloc: Global,
-    known: &Known,
+    known: &Runs,
     outside: &Outside,
     settings: &CampaignSettings,
     plans: &PlanList<'_>,
 ) -> Result<Doubts, AllocError>
     requires { plans.now ≡ outside_plans settings.now outside.now }
-    ensures { IfOk result (λ doubts. doubts ≡ doubts_by (verdict_in known.now) settings.now outside.now) }
+    ensures { IfOk result (λ doubts. doubts ≡ doubts_by (verdicts_in (told_in known.now)) settings.now outside.now) }
 {
     let none = build(alloc, &[])?;
     Ok(Doubts {
@@ -190,6 +148,24 @@ fn doubts_known(
         unhit: is_unhit(outside.hits.as_slice()),
         unstormed: draws_nothing(settings),
     })
+}
+
+fn write_unmet_line(out: &mut String, unmet: u32, plans: u32) -> Result<(), AllocError>
+    ensures { OnOk result (string_bytes out.new ≡ string_bytes out.old ++ ended (unmet_line unmet plans)) }
+{
+    writeln!(
+        out,
+        "strict: {unmet} of {plans} plans pass without meeting all of their faults"
+    )
+}
+
+fn write_unmet(out: &mut String, unmet: u32, plans: u32) -> Result<(), AllocError>
+    ensures { OnOk result (string_bytes out.new ≡ string_bytes out.old ++ unmet_notes unmet plans) }
+{
+    if is_some_number(unmet) {
+        return write_unmet_line(out, unmet, plans);
+    }
+    Ok(())
 }
 
 fn write_unhit(out: &mut String, name: &str) -> Result<(), AllocError>
@@ -234,13 +210,20 @@ fn strict_by_census(
     ensures ok { IfOk result (λ lines. string_bytes lines ≡ census_doubts settings.now outside.now answers.now) }
     ensures fault { IfErr result (IsUnnotedTo None (settings.now, outside.now) answers.now) }
 {
-    let known = read(alloc, outside.codes.as_slice(), answers)?;
+    let known = read(
+        alloc,
+        outside.codes.as_slice(),
+        outside.points.as_slice(),
+        answers,
+    )?;
     let points = borrowed(alloc, outside.points.as_slice())?;
     let points = points.as_slice();
     let plans = outside_plans(alloc, points, outside, settings)?;
     let doubts = doubts_known(alloc, &known, outside, settings, &plans)?;
+    let unmet = count_unmet(alloc, &known, points, &CampaignPlans::by_census(&plans))?;
     let mut lines = String::new(alloc);
     write_doubts(&mut lines, &doubts)?;
+    write_unmet(&mut lines, unmet, doubts.plans)?;
     write_all_unhit(&mut lines, points, outside.hits.as_slice())?;
     Ok(lines)
 }
@@ -264,7 +247,8 @@ fn strict_by_runs(
         answers,
     )?;
     let points = borrowed(alloc, outside.points.as_slice())?;
-    let runs = AnsweredRuns::new(alloc, points.as_slice(), &told);
+    let kinds = listed_kinds(alloc, outside)?;
+    let runs = AnsweredRuns::new(alloc, points.as_slice(), kinds.as_slice(), &told);
     let lines = run_doubts(alloc, &runs, settings, depth)?;
     Ok(lines)
 }
@@ -277,7 +261,7 @@ fn strict_answered(
     answers: &[u8],
 ) -> Result<String, QuestionFault>
     ensures ok { IfOk result (λ lines. string_bytes lines ≡ answered_doubts true settings.now outside.now answers.now) }
-    ensures fault { IfErr result (IsUnnoted (settings.now, outside.now) answers.now) }
+    ensures fault { IfErr result (IsUnnotedTo settings.now.depth (settings.now, outside.now) answers.now) }
 {
     match settings.depth {
         None => strict_by_census(alloc, outside, settings, answers),
@@ -294,7 +278,7 @@ pub fn question_notes_on(
     answers: &[u8],
 ) -> Result<String, QuestionFault>
     ensures ok { IfOk result (λ lines. string_bytes lines ≡ question_notes question.now settings.now outside.now answers.now) }
-    ensures fault { IfErr result (IsUnnoted (settings.now, outside.now) answers.now) }
+    ensures fault { IfErr result (IsUnnoted question.now (settings.now, outside.now) answers.now) }
 {
     let mut lines = name_notes_on(alloc, outside, settings, answers)?;
     if let Question::Report { strict: true, .. } = question {
@@ -309,7 +293,7 @@ pub fn is_question_doubted(question: &Question, notes: &str) -> bool
     ensures { result ≡ is_question_doubted question.now notes.now }
 {
     match question {
-        Question::Asks(_) => false,
+        Question::Asks(_) | Question::Explain(_) => false,
         Question::Report { strict, .. } => is_doubted(*strict, notes),
     }
 }

@@ -1,7 +1,7 @@
 //! The ends of a command: what is noted beside its text, or the line that says why there is none. A line that can't be written changes no end.
 ghost use Rattle.std.specs.Prelude.{◌≡◌, ℕ, List, false, IfOk, string_bytes};
 ghost use Rattle.campaign_settings.specs.declared.fault.SettingsFault.TheVariants as settings;
-ghost use Rattle.campaign_main.specs.Commands.{bad_answers, broken_run, bundled_target, no_plan, not_answered, unseen_hits};
+ghost use Rattle.campaign_main.specs.Commands.{bad_answers, broken_run, bundled_target, no_plan, not_answered, other_census, unseen_hits};
 ghost use Rattle.campaign_core.specs.Writes.{change};
 ghost use Rattle.campaign_main.specs.Ends.{IsEndOf, IsEndOfCommand, IsNoted, IsTold, RefusesWith};
 ghost use Rattle.campaign_main.specs.FaultLines.{answers_read_line, cut_off_line, memory_line, read_fault_line, refusal_line, scenario_line, settings_line};
@@ -243,6 +243,13 @@ fn answers_line(alloc: Global, fault: &AnswersFault) -> Result<String, AllocErro
     format!(in alloc; "{fault}\n")
 }
 
+/// The line for an answer that tells another census than the settings.
+fn census_line(alloc: Global, line: u32) -> Result<String, AllocError>
+    ensures { IfOk result (λ text. string_bytes text ≡ refusal_line (other_census line)) }
+{
+    format!(in alloc; "answers: line {line}: hits differ from the settings\n")
+}
+
 /// The line for a scenario that is still to be tried.
 fn waiting_line(alloc: Global, scenario: &Scenario) -> Result<String, AllocError>
     ensures { IfOk result (λ line. string_bytes line ≡ refusal_line (not_answered scenario.now)) }
@@ -260,7 +267,7 @@ fn broken_line(alloc: Global, broken: &BrokenRun) -> Result<String, AllocError>
     format!(in alloc; "{broken}\n")
 }
 
-/// The line for an answer without the hits that plans grow from.
+/// The line for an answer without the hits of the run that is to be explained.
 fn unseen_line(alloc: Global, line: u32) -> Result<String, AllocError>
     ensures { IfOk result (λ text. string_bytes text ≡ refusal_line (unseen_hits line)) }
 {
@@ -276,11 +283,15 @@ pub fn end_question<E: Sink>(alloc: Global, fault: &QuestionFault, faults: &mut 
         QuestionFault::Outside(OutsideFault::Answers(cause)) => {
             refused_by(answers_line(alloc, cause), faults)
         }
+        QuestionFault::Outside(OutsideFault::Census(line)) => {
+            refused_by(census_line(alloc, *line), faults)
+        }
         QuestionFault::Outside(OutsideFault::NotAnswered(scenario)) => {
             refused_by(waiting_line(alloc, scenario), faults)
         }
         QuestionFault::Outside(OutsideFault::Campaign(cause)) => end_unwritten(*cause, faults),
         QuestionFault::Broken(broken) => refused_by(broken_line(alloc, broken), faults),
+        QuestionFault::Scenario(cause) => end_bad_scenario(alloc, cause, faults),
         QuestionFault::Unseen(line) => refused_by(unseen_line(alloc, *line), faults),
     }
 }

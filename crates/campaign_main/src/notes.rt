@@ -184,7 +184,7 @@ fn write_if_unresolved(
     Ok(())
 }
 
-fn is_some_number(number: u32) -> bool
+pub fn is_some_number(number: u32) -> bool
     ensures { result ≡ nat_lt 0 number }
 {
     number > 0

@@ -13,12 +13,14 @@ use crate::lines::{
     refuse_bundled,
 };
 use answer_text::LIMIT;
-use answered_campaigns::{QuestionFault, write_asks, write_partial, write_report_in};
+use answered_campaigns::{
+    QuestionFault, write_asks, write_explained, write_partial, write_report_in,
+};
 use asked_lines::AskedPart;
 use campaign_core::PageNotes;
 use campaign_given::{CampaignSettings, Outside};
 use campaign_settings::{Choice, Settings};
-use command_words::{AskedPart as Part, Question, ToldForm, VERSION};
+use command_words::{AskedPart as Part, Form as ReportForm, Question, Shown, VERSION};
 use outside_campaign::Form;
 use std::alloc::Global;
 use std::io::Read;
@@ -55,36 +57,36 @@ fn write_asked<W: Sink>(
 }
 
 /// The form in which a report by answers is written; `None` for what is known so far, which is no report.
-fn report_form(form: ToldForm) -> Option<Form<'static>>
-    ensures { result ≡ report_form form }
+fn report_form(shown: Shown) -> Option<Form<'static>>
+    ensures { result ≡ report_form shown }
 {
-    match form {
-        ToldForm::Whole => Some(Form::Whole),
-        ToldForm::Brief => Some(Form::Brief),
-        ToldForm::Json => Some(Form::Json),
-        ToldForm::Junit => Some(Form::Junit),
-        ToldForm::Map => Some(Form::Map),
-        ToldForm::Page => Some(Form::Page(PageNotes {
+    match shown {
+        Shown::Report(ReportForm::Whole) => Some(Form::Whole),
+        Shown::Report(ReportForm::Brief) => Some(Form::Brief),
+        Shown::Report(ReportForm::Json) => Some(Form::Json),
+        Shown::Report(ReportForm::Junit) => Some(Form::Junit),
+        Shown::Report(ReportForm::Page) => Some(Form::Page(PageNotes {
             version: VERSION,
             command: "paklour report --page FILE < ANSWERS",
         })),
-        ToldForm::Partial => None,
+        Shown::Map => Some(Form::Map),
+        Shown::Partial => None,
     }
 }
 
 /// Writes the report in this form, and answers whether a plan fails; or what is known so far, and whether a plan is known to.
 fn write_reported<W: Sink>(
     alloc: Global,
-    form: ToldForm,
+    shown: Shown,
     outside: &Outside,
     settings: &CampaignSettings,
     answers: &[u8],
     output: &mut W,
 ) -> Result<bool, QuestionFault>
     requires { W.has_failed output.old ≡ false }
-    ensures { ComesToText (Question.Report form false) (settings.now, outside.now) answers.now (change W.Sink output.old output.new) result }
+    ensures { ComesToText (Question.Report shown false) (settings.now, outside.now) answers.now (change W.Sink output.old output.new) result }
 {
-    match report_form(form) {
+    match report_form(shown) {
         Some(form) => {
             let ending = write_report_in(alloc, &form, outside, settings, answers, output)?;
             Ok(ending.first.is_some())
@@ -107,8 +109,11 @@ fn write_answer<W: Sink>(
 {
     match question {
         Question::Asks(part) => write_asked(alloc, *part, outside, settings, answers, output),
-        Question::Report { form, .. } => {
-            write_reported(alloc, *form, outside, settings, answers, output)
+        Question::Report { shown, .. } => {
+            write_reported(alloc, *shown, outside, settings, answers, output)
+        }
+        Question::Explain(text) => {
+            write_explained(alloc, outside, settings, text.as_str(), answers, output)
         }
     }
 }
@@ -257,14 +262,15 @@ fn answer_text<A: Read, W: Sink, E: Sink>(
 }
 
 /// Reads settings, and answers a question on the component from outside that they describe: which scenarios are still to be tried, how many,
-/// the report, or what is known so far. What is known of the component is what a second reader has left: a text of answers, of which up to
-/// 268435456 bytes are read.
+/// the report, what is known so far, or the run that answers tell of a scenario. What is known of the component is what a second reader has
+/// left: a text of answers, of which up to 268435456 bytes are read.
 ///
-/// It answers Kept, Found where the report tells a failure, or Doubted where it tells none, is to be strict and something was told beside
+/// It answers Kept, Found where the text tells a failure, or Doubted where it tells none, is to be strict and something was told beside
 /// it, where the whole text stands in the output. Else one line on the sink of faults says why there is none: Refused for settings that
 /// can't be read or have a fault, that choose a bundled target, or that have more than 65536 plans; for answers that can't be read or have
 /// a fault, of which the first is named; and for a report where something is still to be tried. Of a campaign with a depth also where a run
-/// that answers tell breaks with that of the plan which its own grew from, and where a plan is answered without hits that plans grow from.
+/// that answers tell breaks with that of the plan which its own grew from. For a run that is to be explained: where its text spells no scenario,
+/// which comes before all of the answers, where no answer tells it, and where the answer tells no hits.
 /// Memory is for memory that was refused, and both leave the output unchanged. Write tells how many bytes of the text, fewer than all, went
 /// out before the output failed. Where that line can't be written whole the answer stays. Where settings are refused, no answers are read.
 ///

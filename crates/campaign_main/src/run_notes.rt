@@ -1,23 +1,28 @@
 //! What is noted beside the report of a campaign with a depth on a component that somebody else runs, by the runs that answers tell.
-ghost use Rattle.std.specs.Prelude.{◌≡◌, ◌≤◌, ◌<◌, ◌==◌, All, [], count_by, false, length, slice_index_or, string_bytes, IfOk, IsErrOf, if◌then◌else◌};
+ghost use Rattle.std.specs.Prelude.{◌≡◌, ◌≤◌, ◌<◌, ◌==◌, ◌++◌, ◌^◌, All, [], count_by, false, length, slice_index_or, string_bytes, IfOk, IsErrOf, OnOk, if◌then◌else◌};
 ghost use Rattle.std.specs.List.{filter, range_with_len};
 ghost use Rattle.std.specs.Option.{option_map_or};
 ghost use Rattle.answer_text.specs.Runs.{told_in};
-ghost use Rattle.answered_runs.specs.Answered.{known_plans};
+ghost use Rattle.known_runs.specs.Unseen.{is_unseen};
+ghost use Rattle.report.specs.ReportText.{ended};
+ghost use Rattle.answered_runs.specs.Answered.{known_plans, runs_in};
 ghost use Rattle.answered_runs.specs.Verdicts.{verdict_by};
 ghost use Rattle.outside_grown.specs.Further.{AreTooMany};
 ghost use Rattle.campaign_main.specs.Notes.{is_unhit};
-ghost use Rattle.campaign_main.specs.QuestionNotes.{census_told, doubts_told, is_left_open, list_told, run_doubts, unreached_told};
+ghost use Rattle.campaign_main.specs.QuestionNotes.{census_told, doubts_told, is_left_open, list_told, run_doubts, unreached_told, unseen_line, unseen_notes};
 
-use crate::notes::{Doubts, draws_nothing, is_unhit, write_all_unreached, write_doubts};
+use crate::notes::{
+    Doubts, draws_nothing, is_some_number, is_unhit, write_all_unreached, write_doubts,
+};
 use answered_runs::AnsweredRuns;
 use campaign_given::CampaignSettings;
 use campaign_plans::CampaignPlans;
 use grown_plans::GrownPlans;
-use known_runs::KnownFault;
+use known_runs::{KnownFault, Look, RunTable};
 use outside_grown::{census, grown_lists, reached};
 use scenario_values::{Scenario, build};
 use std::alloc::{AllocError, Global};
+use std::fmt::Write;
 use target_trait::Verdict;
 
 /// Whether it is known of a scenario that it is unresolved.
@@ -89,8 +94,8 @@ fn doubts_told(
     depth: u32,
     plans: &CampaignPlans<'_>,
 ) -> Result<Doubts, AllocError>
-    requires { plans.now ≡ list_told runs.now.points (told_in runs.now.book) depth settings.now.plans }
-    ensures { IfOk result (λ doubts. doubts ≡ doubts_told runs.now.points (told_in runs.now.book) depth settings.now) }
+    requires { plans.now ≡ list_told runs.now.points runs.now.listed (told_in runs.now.book) depth settings.now.plans }
+    ensures { IfOk result (λ doubts. doubts ≡ doubts_told runs.now.points runs.now.listed (told_in runs.now.book) depth settings.now) }
 {
     let none = build(alloc, &[])?;
     Ok(Doubts {
@@ -100,6 +105,56 @@ fn doubts_told(
         unhit: is_told_unhit(alloc, runs)?,
         unstormed: draws_nothing(settings),
     })
+}
+
+/// One, where nobody knows the hits of the plan of this number.
+fn count_unseen_of(
+    alloc: Global,
+    runs: &AnsweredRuns<'_>,
+    plans: &GrownPlans,
+    number: usize,
+) -> Result<u32, AllocError>
+    requires { number < length plans.now }
+    ensures { IfOk result (λ n. n ≡ if is_unseen (runs_in runs.now) (slice_index_or plans.now number []) then 1 else 0) }
+{
+    let mut faults = Vec::new(alloc);
+    let mut hits = Vec::new(alloc);
+    plans.faults_of(number, &mut faults)?;
+    match runs.look(faults.as_slice(), &mut hits)? {
+        Look::Unseen(_) => Ok(1),
+        Look::Seen(_) | Look::Unknown => Ok(0),
+    }
+}
+
+/// Of how many plans that grew nobody knows the hits.
+fn count_unseen(
+    alloc: Global,
+    runs: &AnsweredRuns<'_>,
+    plans: &GrownPlans,
+) -> Result<u32, AllocError>
+    requires { length plans.now < 2 ^ 32 }
+    ensures { IfOk result (λ n. n ≡ count_by (is_unseen (runs_in runs.now)) plans.now) }
+{
+    let mut count = 0;
+    for number in 0..plans.len() {
+        count += count_unseen_of(alloc, runs, plans, number)?;
+    }
+    Ok(count)
+}
+
+fn write_unseen_line(out: &mut String, unseen: u32, plans: u32) -> Result<(), AllocError>
+    ensures { OnOk result (string_bytes out.new ≡ string_bytes out.old ++ ended (unseen_line unseen plans)) }
+{
+    writeln!(out, "strict: {unseen} of {plans} plans without known hits")
+}
+
+fn write_unseen(out: &mut String, unseen: u32, plans: u32) -> Result<(), AllocError>
+    ensures { OnOk result (string_bytes out.new ≡ string_bytes out.old ++ unseen_notes unseen plans) }
+{
+    if is_some_number(unseen) {
+        return write_unseen_line(out, unseen, plans);
+    }
+    Ok(())
 }
 
 fn is_never(hits: u32) -> bool
@@ -130,7 +185,7 @@ fn unreached(
     plans: &GrownPlans,
 ) -> Result<Vec<u32>, AllocError>
     requires { plans.now ≡ known_plans runs.now depth }
-    ensures told { IfOk result (λ places. places.items ≡ unreached_told runs.now.points (told_in runs.now.book) depth) }
+    ensures told { IfOk result (λ places. places.items ≡ unreached_told runs.now.points runs.now.listed (told_in runs.now.book) depth) }
     ensures within { IfOk result (λ places. All (λ p. p < length runs.now.points) places.items) }
 {
     let _ = runs.points();
@@ -147,16 +202,18 @@ pub fn run_doubts(
     depth: u32,
 ) -> Result<String, KnownFault>
     requires { depth ≤ 64 }
-    ensures ok { IfOk result (λ lines. string_bytes lines ≡ run_doubts runs.now.points (told_in runs.now.book) depth settings.now) }
+    ensures ok { IfOk result (λ lines. string_bytes lines ≡ run_doubts runs.now.points runs.now.listed (told_in runs.now.book) depth settings.now) }
     ensures many { IsErrOf result KnownFault.TooManyPlans → AreTooMany runs.now settings.now.plans (length (known_plans runs.now depth)) }
 {
     let lists = grown_lists(alloc, runs, depth, &settings.plan_settings())?;
     let grown = &lists.listed.known.plans;
     let plans = CampaignPlans::grown(Some(grown), runs.points(), &lists.further);
     let doubts = doubts_told(alloc, runs, settings, depth, &plans)?;
+    let unseen = count_unseen(alloc, runs, grown)?;
     let places = unreached(alloc, runs, depth, grown)?;
     let mut lines = String::new(alloc);
     write_doubts(&mut lines, &doubts)?;
+    write_unseen(&mut lines, unseen, doubts.plans)?;
     write_all_unreached(&mut lines, runs.points(), places.as_slice())?;
     Ok(lines)
 }

@@ -1,5 +1,5 @@
 -- The program's command line: the command that clap builds, and what its matches mean.
-use Rattle.std.specs.Prelude.{◌≡◌, ◌⊎◌, ◌||◌, ◌&&◌, ◌==◌, ◌<◌, ◌≤◌, ◌++◌, nat_lt, nat_le, ℕ, Bool, List, [], ◌∷◌, true, false, Option, Some, None, Result, Ok, Err, codes, if◌then◌else◌, is_some, option_map, String, string_bytes}
+use Rattle.std.specs.Prelude.{◌≡◌, ◌⊎◌, ◌||◌, ◌&&◌, ◌==◌, ◌<◌, ◌≤◌, ◌++◌, nat_lt, nat_le, ℕ, Bool, List, [], ◌∷◌, true, false, not, Option, Some, None, Result, Ok, Err, codes, if◌then◌else◌, is_some, option_map, String, string_bytes}
 use Rattle.std.specs.List.{after_first, before_first}
 use Rattle.std.specs.Option.{option_map_or}
 use Rattle.std.specs.Str.{bytes_eq}
@@ -25,9 +25,9 @@ use Rattle.command_words.specs.declared.words.Order.TheVariants as order
 use Rattle.command_words.specs.declared.words.ProgressForm.{ProgressForm}
 use Rattle.command_words.specs.declared.words.ProgressForm.TheVariants as shows
 use Rattle.command_words.specs.declared.words.Question.{Question}
-use Rattle.command_words.specs.declared.words.Question.TheVariants.{Asks, Report}
-use Rattle.command_words.specs.declared.words.ToldForm.{ToldForm}
-use Rattle.command_words.specs.declared.words.ToldForm.TheVariants as told
+use Rattle.command_words.specs.declared.words.Question.TheVariants.{Asks, Report, Explain}
+use Rattle.command_words.specs.declared.words.Shown.{Shown}
+use Rattle.command_words.specs.declared.words.Shown.TheVariants as shown
 use Rattle.command_words.specs.declared.words.Which.{Which}
 use Rattle.command_words.specs.declared.words.Which.TheVariants.{Scenario, Plan}
 use Rattle.command_words.specs.declared.words.WordsFault.{WordsFault}
@@ -82,6 +82,10 @@ page_rule = flag_rule (codes "page")
 -- --partial, a flag
 abbrev pub partial_rule : Rule
 partial_rule = flag_rule (codes "partial")
+
+-- --explain TEXT
+abbrev pub explain_rule : Rule
+explain_rule = value_rule (codes "explain")
 
 -- --left, a flag
 abbrev pub left_rule : Rule
@@ -141,9 +145,9 @@ asks_app name = with_rule (with_rule (with_rule (new_app name) left_rule) shard_
 abbrev pub told_app : App → App
 told_app app = with_rule (with_rule (with_rule (formed_app app) map_rule) page_rule) partial_rule
 
--- the one of these that writes a report, on which it may be strict
+-- the one of these that writes a report, on which it may be strict, or explains a run
 abbrev pub question_report_app : Text → App
-question_report_app name = with_rule (with_rule (told_app (new_app name)) strict_rule) needed_file_rule
+question_report_app name = with_rule (with_rule (with_rule (told_app (new_app name)) explain_rule) strict_rule) needed_file_rule
 
 abbrev pub with_commands : App → List Shape → App
 with_commands app [] = app
@@ -195,6 +199,7 @@ pub record Values : Type 0 where
   pub map : Option Text
   pub page : Option Text
   pub partial : Option Text
+  pub explain : Option Text
   pub left : Option Text
   pub shard : Option Text
   pub strict : Option Text
@@ -213,6 +218,7 @@ values_in rows = record {
   map = first_of (codes "map") rows;
   page = first_of (codes "page") rows;
   partial = first_of (codes "partial") rows;
+  explain = first_of (codes "explain") rows;
   left = first_of (codes "left") rows;
   shard = first_of (codes "shard") rows;
   strict = first_of (codes "strict") rows;
@@ -233,6 +239,7 @@ values_of f = record {
   map = first_value f (codes "map");
   page = first_value f (codes "page");
   partial = first_value f (codes "partial");
+  explain = first_value f (codes "explain");
   left = first_value f (codes "left");
   shard = first_value f (codes "shard");
   strict = first_value f (codes "strict");
@@ -255,36 +262,30 @@ IsWhich v (Plan number) = (v.scenario ≡ None) × ((text : Text) × (v.plan ≡
 abbrev pub is_set : Option Text → Bool
 is_set value = option_map_or (bytes_eq (codes "true")) value false
 
--- the form of a report, by whether --brief, --json and --junit were given: one of them at most, and whole where none was
-abbrev pub form_by : Bool → Bool → Bool → Option Form
-form_by false false false = Some Whole
-form_by true false false = Some Brief
-form_by false true false = Some Json
-form_by false false true = Some Junit
-form_by true true junit = None
-form_by true false true = None
-form_by false true true = None
+-- what a flag names that was given
+abbrev pub named_if : {A : Type 0} → Option Text → A → List A
+named_if value x = if is_set value then x ∷ [] else []
 
+-- one that was named at most, and this one where none was
+abbrev pub only : {A : Type 0} → A → List A → Option A
+only usual [] = Some usual
+only usual (x ∷ []) = Some x
+only usual (x ∷ (other ∷ more)) = None
+
+-- the form of a report
 abbrev pub form_of : Values → Option Form
-form_of v = form_by (is_set v.brief) (is_set v.json) (is_set v.junit)
+form_of v = only Whole (named_if v.brief Brief ++ named_if v.json Json ++ named_if v.junit Junit)
 
--- the forms of a report by answers whose flags were given
-abbrev pub named_if : Option Text → ToldForm → List ToldForm
-named_if value form = if is_set value then form ∷ [] else []
+-- what a question on a campaign shows
+abbrev pub named_shown : Values → List Shown
+named_shown v =
+    named_if v.brief (shown.Report Brief) ++ named_if v.json (shown.Report Json) ++ named_if v.junit (shown.Report Junit) ++ named_if v.map shown.Map
+    ++ named_if v.page (shown.Report Page) ++ named_if v.partial shown.Partial
 
-abbrev pub told_forms : Values → List ToldForm
-told_forms v =
-    named_if v.brief told.Brief ++ named_if v.json told.Json ++ named_if v.junit told.Junit ++ named_if v.map told.Map ++ named_if v.page told.Page
-    ++ named_if v.partial told.Partial
-
--- one of them at most, and whole where none was
-abbrev pub only_form : List ToldForm → Option ToldForm
-only_form [] = Some told.Whole
-only_form (form ∷ []) = Some form
-only_form (form ∷ (other ∷ more)) = None
-
-abbrev pub told_form_of : Values → Option ToldForm
-told_form_of v = only_form (told_forms v)
+-- beside --explain TEXT nothing else is named, and nothing is to be strict
+abbrev pub is_alone : List Shown → Bool → Bool
+is_alone [] strict = not strict
+is_alone (x ∷ more) strict = false
 
 -- in which form it is shown how far a command is, and whether it is: plain lines where both flags were given
 abbrev pub progress_form_of : Values → ProgressForm
@@ -318,10 +319,17 @@ IsPart v part.All = (is_set v.left ≡ false) × (v.shard ≡ None)
 IsPart v (part.Shard number of) = (is_set v.left ≡ false) × ((text : Text) × (v.shard ≡ Some text) × SpellsShard text number of)
 IsPart v part.Left = (is_set v.left ≡ true) × (v.shard ≡ None)
 
+-- a command shows a campaign, or explains the run of the scenario of TEXT
+abbrev pub IsReportQuestion : Values → Question → Type 0
+IsReportQuestion v (Asks part) = ⊥
+IsReportQuestion v (Report what strict) =
+    (v.explain ≡ None) × (only (shown.Report Whole) (named_shown v) ≡ Some what) × (strict ≡ is_set v.strict)
+IsReportQuestion v (Explain text) = (v.explain ≡ Some (string_bytes text)) × (is_alone (named_shown v) (is_set v.strict) ≡ true)
+
 -- the question that a command's name and its values give
 abbrev pub IsQuestion : Text → Values → Question → Type 0
 IsQuestion name v (Asks part) = (name ≡ codes "asks") × IsPart v part
-IsQuestion name v (Report form strict) = (name ≡ codes "report") × (told_form_of v ≡ Some form) × (strict ≡ is_set v.strict)
+IsQuestion name v question = (name ≡ codes "report") × IsReportQuestion v question
 
 -- the order of no command is Run, with the whole report, on the settings that come from standard input, and nothing more is shown
 abbrev pub IsRun : Line → Type 0
@@ -380,14 +388,18 @@ which_kinds (Some text) None = []
 which_kinds None (Some number) = number_kinds number
 which_kinds (Some text) (Some number) = ArgumentConflict ∷ []
 
--- which kind a refusal of the flags has that name a form: there is none of two of them
-abbrev pub form_kinds : Option Form → Kinds
-form_kinds (Some form) = []
-form_kinds None = ArgumentConflict ∷ []
+-- which kind a refusal of the flags has that name a form, or what is shown: there is none of two of them
+abbrev pub only_kinds : {A : Type 0} → Option A → Kinds
+only_kinds (Some x) = []
+only_kinds None = ArgumentConflict ∷ []
 
-abbrev pub told_form_kinds : Option ToldForm → Kinds
-told_form_kinds (Some form) = []
-told_form_kinds None = ArgumentConflict ∷ []
+-- the same with --explain TEXT, beside which there is none
+abbrev pub shown_kinds : List Shown → Bool → Option Text → Kinds
+shown_kinds named strict None = only_kinds (only (shown.Report Whole) named)
+shown_kinds named strict (Some text) = if is_alone named strict then [] else ArgumentConflict ∷ []
+
+abbrev pub report_kinds : Values → Kinds
+report_kinds v = shown_kinds (named_shown v) (is_set v.strict) v.explain
 
 -- which kind a refusal of --left and K/N has: there is none of the two, K and N are numbers from 0 to 65535, and K is one from 1 to N
 abbrev pub order_kinds : ℕ → ℕ → Kinds
@@ -411,9 +423,9 @@ part_kinds false (Some text) = shard_kinds text
 abbrev pub choice_kinds : Text → Values → Kinds
 choice_kinds name v =
     if takes_scenario name then which_kinds v.scenario v.plan
-    else if bytes_eq name (codes "run") then form_kinds (form_of v)
+    else if bytes_eq name (codes "run") then only_kinds (form_of v)
     else if bytes_eq name (codes "asks") then part_kinds (is_set v.left) v.shard
-    else if bytes_eq name (codes "report") then told_form_kinds (told_form_of v)
+    else if bytes_eq name (codes "report") then report_kinds v
     else []
 
 -- the same of the matches

@@ -63,7 +63,7 @@ pub const NEEDED_FILE: &str =
 pub const SCENARIO: &str = "The scenario, as 'POINT=TERM->TERM;POINT=TERM'";
 
 pub const BRIEF: &str =
-    "Count the verdicts that pass, and write the scenario beside each other verdict";
+    "Count verdicts that pass, and write the scenario beside each other verdict";
 
 pub const JSON: &str = "Write a JSON document with all that the report tells";
 
@@ -74,6 +74,9 @@ pub const MAP_FORM: &str = "Write the map, an SVG picture";
 pub const PAGE_FORM: &str = "Write a page to look at, as HTML; it tells no run hit by hit";
 
 pub const PARTIAL: &str = "Write what is known so far, before all is answered; no report";
+
+pub const EXPLAIN_ANSWER: &str =
+    "Write instead the run that an answer tells of this scenario, hit by hit";
 
 pub const LEFT: &str = "Write how many lines ask, as `left 12`, in place of them";
 
@@ -121,12 +124,11 @@ Examples:
 pub const ANSWERS: &str = "\
 Somebody else runs the component, as a loop in a shell does, and the settings say so. Standard input
 has the answers so far, up to 268435456 bytes, a line for each run:
-  VERDICT<TAB>SCENARIO
-or, where the settings have a depth:
   VERDICT<TAB>SCENARIO<TAB>HITS
 The verdict is `pass`, `unresolved`, or `fail` and one of the settings' codes. The scenario is
 `none`, the one without faults, or a text as in `paklour help try`. The hits are the points of the
 run, in order, as `libc::open;4*libc::write`; `-` for an unresolved run of which nobody knows them.
+Where the settings have no depth, the tab and the hits may be left out.
 Answers may come in any order, and again; two that contradict each other are refused.
 
 `asks` writes scenarios that have no answer, one a line and each once, and nothing where all is
@@ -138,6 +140,7 @@ Example:
   paklour report --brief my.toml < answers
   paklour report --page my.toml < answers > page.html
   paklour report --partial my.toml < answers      what is known so far
+  paklour report --explain 'libc::fsync=1*return' my.toml < answers      one run, hit by hit
   paklour asks --shard 1/3 my.toml < answers      what the first of three machines tries
 with settings as
   target = \"outside\"
@@ -202,4 +205,5 @@ Exit status:
   3  memory is refused
   4  a write failed
   5  with --strict: no verdict is fail, and something was told on standard error: an unresolved run,
-     no hits without faults, a point that no run reaches, a name that no point has, storms of rate 0";
+     no hits without faults, a point that no run reaches, a name that no point has, hits that nobody
+     knows, a fault that its run doesn't meet, storms of rate 0";

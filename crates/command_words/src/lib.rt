@@ -3,9 +3,10 @@
 
 mod help;
 mod numbers;
+mod refusing;
 mod words;
 
 pub use words::{
-    AskedPart, Form, Line, Order, ProgressForm, Question, ToldForm, VERSION, Which, WordsFault,
+    AskedPart, Form, Line, Order, ProgressForm, Question, Shown, VERSION, Which, WordsFault,
     read_words,
 };

@@ -1,11 +1,12 @@
-ghost use Rattle.std.specs.Prelude.{◌≡◌, ◌↔◌, ◌∷◌, [], IsTrue, Some, None, option_map, is_some, true, false, ◌++◌, IfOk, IfErr, IfSome, OnOk, map, codes, string_bytes};
+ghost use Rattle.std.specs.Prelude.{◌≡◌, ◌↔◌, ◌∷◌, [], IsTrue, Some, None, not, option_map, is_some, true, false, ◌++◌, IfOk, IfErr, IfSome, OnOk, map, codes, string_bytes};
 ghost use Rattle.clap.specs.Words.{app_of, fault_of, first_value, found_of, new_app, rule_of, subcommand_of, takes};
 ghost use Rattle.clap.specs.declared.builder.command.Command.TheViews.{out-Command as fields_of};
-ghost use Rattle.command_words.specs.Words.{AsksToSee, HasAlso, HasNeeded, IsFaultOf, IsLine, IsLineOf, IsName, IsOrder, IsOrderName, IsPart, IsQuestion, IsQuestionName, IsRefusedFor, IsScenarioName, IsWhich, bare_app, campaign_commands, choice_fault, choice_kinds, file_app, file_rule, flag_rule, form_kinds, form_of, formed_app, told_app, told_form_kinds, told_form_of, told_forms, named_if, needed_file_rule, paklour, is_set, part_kinds, progress_form_of, spelled, spelled_word, asks_app, question_commands, question_report_app, rechecked_app, report_app, scenario_app, scenario_commands, shown_app, value_rule, values_of, which_kinds, with_commands, words_fault};
+ghost use Rattle.command_words.specs.Words.{AsksToSee, HasAlso, HasNeeded, IsFaultOf, IsLine, IsLineOf, IsName, IsOrder, IsOrderName, IsPart, IsQuestion, IsQuestionName, IsRefusedFor, IsScenarioName, IsWhich, bare_app, campaign_commands, choice_fault, choice_kinds, file_app, file_rule, flag_rule, form_of, formed_app, told_app, named_if, needed_file_rule, paklour, is_set, part_kinds, progress_form_of, spelled, spelled_word, asks_app, question_commands, question_report_app, rechecked_app, report_app, scenario_app, scenario_commands, shown_app, value_rule, values_of, which_kinds, with_commands, words_fault, IsReportQuestion, is_alone, named_shown, only, only_kinds, report_kinds};
 ghost use Rattle.command_words.specs.declared.words.WordsFault.TheVariants.{Memory};
 
 use crate::help;
 use crate::numbers::{shard_of, small_number};
+use crate::refusing::{no_number, no_shard, two_forms, unfit, usage};
 use clap::error::ErrorKind;
 use clap::{Arg, ArgAction, ArgMatches, Command};
 use std::alloc::{AllocError, Global};
@@ -39,36 +40,28 @@ pub enum Form {
     Page,
 }
 
-/// In which form a report by answers is written.
+/// What a question on a campaign by answers shows of it.
 #[derive(Clone, Copy, Debug)]
-pub enum ToldForm {
-    /// A text with the verdict of each plan.
-    Whole,
-    /// The text with one line of counts for all verdicts that pass, and the scenario beside each other verdict.
-    Brief,
-    /// A JSON document.
-    Json,
-    /// JUnit's XML.
-    Junit,
-    /// The map, an SVG picture.
+pub enum Shown {
+    /// Its report, in a form.
+    Report(Form),
+    /// Its map, an SVG picture.
     Map,
-    /// A page, as HTML.
-    Page,
     /// What is known so far, while something is still to be tried.
     Partial,
 }
 
-impl ToldForm {
-    // The flag that names the form. The whole report has none.
+impl Shown {
+    // The flag that names it. The whole report has none.
     fn flag(self) -> &'static str {
         match self {
-            ToldForm::Whole => "",
-            ToldForm::Brief => "brief",
-            ToldForm::Json => "json",
-            ToldForm::Junit => "junit",
-            ToldForm::Map => "map",
-            ToldForm::Page => "page",
-            ToldForm::Partial => "partial",
+            Shown::Report(Form::Whole) => "",
+            Shown::Report(Form::Brief) => "brief",
+            Shown::Report(Form::Json) => "json",
+            Shown::Report(Form::Junit) => "junit",
+            Shown::Report(Form::Page) => "page",
+            Shown::Map => "map",
+            Shown::Partial => "partial",
         }
     }
 }
@@ -118,12 +111,14 @@ pub enum AskedPart {
 }
 
 /// What is asked of the answers on standard input, about a component that somebody else runs.
-#[derive(Clone, Copy, Debug)]
+#[derive(Debug, Drop)]
 pub enum Question {
     /// Which scenarios are still to be tried.
     Asks(AskedPart),
-    /// The campaign's report, in a form. Where `strict` is set, what makes it say less than it seems to is told beside it.
-    Report { form: ToldForm, strict: bool },
+    /// The campaign. Where `strict` is set, what makes a report of it say less than it seems to is told beside it.
+    Report { shown: Shown, strict: bool },
+    /// The run that is told of the scenario of this text, hit by hit.
+    Explain(String),
 }
 
 /// What the words ask for.
@@ -353,13 +348,14 @@ fn question_report_command<'a>(
     ensures app { IfOk result (λ command. app_of command ≡ question_report_app name.entry.now) }
     ensures local { IfOk result (λ command. (fields_of command).has_globals ≡ false) }
 {
-    with_told_forms(alloc, named(alloc, name, about, help::ANSWERS))?
+    with_shown(alloc, named(alloc, name, about, help::ANSWERS))?
+        .arg(value_arg(alloc, "explain", "TEXT", help::EXPLAIN_ANSWER))?
         .arg(flag_arg(alloc, "strict", help::STRICT))?
         .arg(needed_file_arg(alloc))
 }
 
-// The command with the flags that name the form of a report by answers, of which one at most may be given.
-fn with_told_forms<'a>(alloc: Global, command: Command<'a>) -> Result<Command<'a>, AllocError>
+// The command with the flags that name what is shown by answers, of which one at most may be given.
+fn with_shown<'a>(alloc: Global, command: Command<'a>) -> Result<Command<'a>, AllocError>
     requires { (fields_of command).has_globals ≡ false }
     ensures app { IfOk result (λ more. app_of more ≡ told_app (app_of command.entry)) }
     ensures local { IfOk result (λ more. (fields_of more).has_globals ≡ false) }
@@ -555,10 +551,7 @@ fn question_of<'a>(
 {
     match name {
         "asks" => Ok(Some(Question::Asks(part_of(alloc, own)?))),
-        "report" => Ok(Some(Question::Report {
-            form: told_form_of(alloc, own)?,
-            strict: is_strict(own),
-        })),
+        "report" => Ok(Some(report_question(alloc, own)?)),
         _ => Ok(None),
     }
 }
@@ -585,66 +578,82 @@ fn part_of<'a>(alloc: Global, own: &ArgMatches<'a>) -> Result<AskedPart, WordsFa
     }
 }
 
-// The refusal of a K/N that names no part.
-fn no_shard(alloc: Global, text: &str) -> WordsFault
-    ensures { IsRefusedFor (ErrorKind.ValueValidation ∷ []) result }
-{
-    let Ok(message) = format!(in alloc;
-        "invalid value '{text}' for '--shard <K/N>': not K/N with K from 1 to N, and N up to 65535"
-    ) else {
-        return WordsFault::Memory;
-    };
-    unfit(alloc, "asks", ErrorKind::ValueValidation, message.as_str())
-}
-
-// Adds the form where its flag was given.
+// Adds what is shown where its flag was given.
 fn add_named<'a>(
-    forms: &mut Vec<ToldForm>,
+    named: &mut Vec<Shown>,
     own: &ArgMatches<'a>,
     flag: &str,
-    form: ToldForm,
+    shown: Shown,
 ) -> Result<(), AllocError>
-    ensures { OnOk result (forms.new.items ≡ forms.old.items ++ named_if (first_value (found_of own.now) flag.now) form) }
+    ensures { OnOk result (named.new.items ≡ named.old.items ++ named_if (first_value (found_of own.now) flag.now) shown) }
 {
     if is_set(own, flag) {
-        forms.push(form)?;
+        named.push(shown)?;
     }
     Ok(())
 }
 
-// The forms of a report by answers whose flags were given.
-fn told_forms<'a>(alloc: Global, own: &ArgMatches<'a>) -> Result<Vec<ToldForm>, AllocError>
-    ensures { IfOk result (λ forms. forms.items ≡ told_forms (values_of (found_of own.now))) }
+// What the flags that were given name.
+fn named_shown<'a>(alloc: Global, own: &ArgMatches<'a>) -> Result<Vec<Shown>, AllocError>
+    ensures { IfOk result (λ named. named.items ≡ named_shown (values_of (found_of own.now))) }
 {
-    let mut forms = Vec::new(alloc);
-    add_named(&mut forms, own, "brief", ToldForm::Brief)?;
-    add_named(&mut forms, own, "json", ToldForm::Json)?;
-    add_named(&mut forms, own, "junit", ToldForm::Junit)?;
-    add_named(&mut forms, own, "map", ToldForm::Map)?;
-    add_named(&mut forms, own, "page", ToldForm::Page)?;
-    add_named(&mut forms, own, "partial", ToldForm::Partial)?;
-    Ok(forms)
+    let mut named = Vec::new(alloc);
+    add_named(&mut named, own, "brief", Shown::Report(Form::Brief))?;
+    add_named(&mut named, own, "json", Shown::Report(Form::Json))?;
+    add_named(&mut named, own, "junit", Shown::Report(Form::Junit))?;
+    add_named(&mut named, own, "map", Shown::Map)?;
+    add_named(&mut named, own, "page", Shown::Report(Form::Page))?;
+    add_named(&mut named, own, "partial", Shown::Partial)?;
+    Ok(named)
 }
 
-// The form of the report by answers, which one flag at most names.
-fn told_form_of<'a>(alloc: Global, own: &ArgMatches<'a>) -> Result<ToldForm, WordsFault>
-    ensures ok { IfOk result (λ form. told_form_of (values_of (found_of own.now)) ≡ Some form) }
-    ensures taken { IfOk result (λ _. told_form_kinds (told_form_of (values_of (found_of own.now))) ≡ []) }
-    ensures refused { IfErr result (IsRefusedFor (told_form_kinds (told_form_of (values_of (found_of own.now))))) }
+// What is shown, which one flag at most names.
+fn only_shown(alloc: Global, named: &[Shown]) -> Result<Shown, WordsFault>
+    ensures ok { IfOk result (λ shown. only (Shown.Report Form.Whole) named.now ≡ Some shown) }
+    ensures taken { IfOk result (λ _. only_kinds (only (Shown.Report Form.Whole) named.now) ≡ []) }
+    ensures refused { IfErr result (IsRefusedFor (only_kinds (only (Shown.Report Form.Whole) named.now))) }
 {
-    let forms = told_forms(alloc, own)?;
-    match forms.as_slice() {
-        [] => Ok(ToldForm::Whole),
-        [form] => Ok(*form),
+    match named {
+        [] => Ok(Shown::Report(Form::Whole)),
+        [shown] => Ok(*shown),
         [one, other, ..] => Err(two_forms(alloc, "report", one.flag(), other.flag())),
+    }
+}
+
+// The flag that may not stand beside --explain TEXT, where one was given.
+fn flag_beside(named: &[Shown], strict: bool) -> Option<&'static str>
+    ensures { is_some result ≡ not (is_alone named.now strict) }
+{
+    match named.first() {
+        Some(shown) => Some(shown.flag()),
+        None if strict => Some("strict"),
+        None => None,
+    }
+}
+
+// What the command that writes a report by answers asks.
+fn report_question<'a>(alloc: Global, own: &ArgMatches<'a>) -> Result<Question, WordsFault>
+    ensures ok { IfOk result (IsReportQuestion (values_of (found_of own.now))) }
+    ensures taken { IfOk result (λ _. report_kinds (values_of (found_of own.now)) ≡ []) }
+    ensures refused { IfErr result (IsRefusedFor (report_kinds (values_of (found_of own.now)))) }
+{
+    let named = named_shown(alloc, own)?;
+    let strict = is_strict(own);
+    let Some(text) = own.get_str("explain") else {
+        let shown = only_shown(alloc, named.as_slice())?;
+        return Ok(Question::Report { shown, strict });
+    };
+    match flag_beside(named.as_slice(), strict) {
+        Some(flag) => Err(two_forms(alloc, "report", "explain <TEXT>", flag)),
+        None => Ok(Question::Explain(String::from_str(alloc, text)?)),
     }
 }
 
 // The form of the report that `run` writes, which one flag at most names.
 fn form_of<'a>(alloc: Global, own: &ArgMatches<'a>) -> Result<Form, WordsFault>
     ensures ok { IfOk result (λ form. form_of (values_of (found_of own.now)) ≡ Some form) }
-    ensures taken { IfOk result (λ _. form_kinds (form_of (values_of (found_of own.now))) ≡ []) }
-    ensures refused { IfErr result (IsRefusedFor (form_kinds (form_of (values_of (found_of own.now))))) }
+    ensures taken { IfOk result (λ _. only_kinds (form_of (values_of (found_of own.now))) ≡ []) }
+    ensures refused { IfErr result (IsRefusedFor (only_kinds (form_of (values_of (found_of own.now))))) }
 {
     let (brief, json, junit) = (
         is_set(own, "brief"),
@@ -660,17 +669,6 @@ fn form_of<'a>(alloc: Global, own: &ArgMatches<'a>) -> Result<Form, WordsFault>
         (true, false, true) => Err(two_forms(alloc, "run", "brief", "junit")),
         (false, true, true) => Err(two_forms(alloc, "run", "json", "junit")),
     }
-}
-
-// The refusal of two flags of a command that each name a form.
-fn two_forms(alloc: Global, name: &str, one: &str, other: &str) -> WordsFault
-    ensures { IsRefusedFor (ErrorKind.ArgumentConflict ∷ []) result }
-{
-    let Ok(message) = format!(in alloc; "the argument '--{one}' cannot be used with '--{other}'")
-    else {
-        return WordsFault::Memory;
-    };
-    unfit(alloc, name, ErrorKind::ArgumentConflict, message.as_str())
 }
 
 // Whether the report is to be strict.
@@ -739,41 +737,6 @@ fn which_of<'a>(alloc: Global, name: &str, own: &ArgMatches<'a>) -> Result<Which
             ErrorKind::ArgumentConflict,
             "the argument '--scenario <TEXT>' cannot be used with '--plan <N>'",
         )),
-    }
-}
-
-// The refusal of an N that is no number of a plan.
-fn no_number(alloc: Global, name: &str, text: &str) -> WordsFault
-    ensures { IsRefusedFor (ErrorKind.ValueValidation ∷ []) result }
-{
-    let Ok(message) = format!(in alloc;
-        "invalid value '{text}' for '--plan <N>': not a number from 0 to 65535"
-    ) else {
-        return WordsFault::Memory;
-    };
-    unfit(alloc, name, ErrorKind::ValueValidation, message.as_str())
-}
-
-// A refusal of the words for the command of this name, in the form of those of clap.
-fn unfit(alloc: Global, name: &str, kind: ErrorKind, message: &str) -> WordsFault
-    ensures { IsRefusedFor (kind ∷ []) result }
-{
-    let mut command = Command::new(alloc, name).override_usage(usage(name));
-    match command.error(kind, message) {
-        Ok(error) => WordsFault::Refused(error),
-        Err(_) => WordsFault::Memory,
-    }
-}
-
-// How a command is used whose options the reader of command lines can't refuse by itself.
-fn usage(name: &str) -> &'static str {
-    match name {
-        "run" => "paklour run [OPTIONS] [FILE]",
-        "asks" => "paklour asks [OPTIONS] <FILE>",
-        "report" => "paklour report [OPTIONS] <FILE>",
-        "try" => "paklour try <--scenario <TEXT>|--plan <N>> [FILE]",
-        "explain" => "paklour explain <--scenario <TEXT>|--plan <N>> [FILE]",
-        _ => "paklour reduce [OPTIONS] <--scenario <TEXT>|--plan <N>> [FILE]",
     }
 }
 

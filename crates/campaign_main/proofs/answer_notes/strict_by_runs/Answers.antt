@@ -1,4 +1,4 @@
-use Rattle.std.proofs.Common.{◌≡◌, ◌∙◌, Err, Some, ap}
+use Rattle.std.proofs.Common.{◌≡◌, ◌∙◌, Err, Some, ap, map}
 use Rattle.action_eval.specs.Answers.{texts}
 use Rattle.answer_text.specs.Runs.{told_in}
 use Rattle.answered_runs.specs.Answered.{Answered}
@@ -20,9 +20,10 @@ returns-clause-ok c =
     let points = c.as_slice-2.ensures.value ∙ ap (λ (d : Description). d.points) c.outside.view_is in
     let same = ap (λ (x : Answered). x.points) c.new-runs.ensures ∙ ap texts c.as_slice-4.ensures.value ∙ c.in_ok-points.ensures ∙ c.as_slice-3.ensures.value
     ∙ ap (λ (d : Description). d.points) c.outside.view_is in
+    let kinds = ap (λ (x : Answered). x.listed) c.new-runs.ensures ∙ ap (map (λ kinds. kinds.items)) c.as_slice-5.ensures.value ∙ c.in_ok-kinds.ensures.listed in
     let told = ap (λ (x : Answered). told_in x.book) c.new-runs.ensures ∙ c.in_ok-told.ensures.known in
-    let read = tells outside c.args.answers.now c.new-runs.result c.as_slice.result.now c.as_slice-2.result.now codes points same told c.in_ok-told.ensures.read in
-    told_doubts outside c.args.settings.now c.args.depth c.args.answers.now _ c.new-runs.result read.points read.told c.in_ok-lines.ensures.ok
+    let read = tells outside c.args.answers.now c.new-runs.result c.as_slice.result.now c.as_slice-2.result.now codes points same kinds told c.in_ok-told.ensures.read in
+    told_doubts outside c.args.settings.now c.args.depth c.args.answers.now _ c.new-runs.result read.points read.listed read.told c.in_ok-lines.ensures.ok
 
 pub returns-in_err-told-clause-fault : goal.returns-in_err-told-clause-fault
 returns-in_err-told-clause-fault c =
@@ -40,8 +41,9 @@ returns-in_err-lines-clause-fault c =
     let points = c.as_slice-2.ensures.value ∙ ap (λ (d : Description). d.points) c.outside.view_is in
     let same = ap (λ (x : Answered). x.points) c.new-runs.ensures ∙ ap texts c.as_slice-4.ensures.value ∙ c.in_ok-points.ensures ∙ c.as_slice-3.ensures.value
     ∙ ap (λ (d : Description). d.points) c.outside.view_is in
+    let kinds = ap (λ (x : Answered). x.listed) c.new-runs.ensures ∙ ap (map (λ kinds. kinds.items)) c.as_slice-5.ensures.value ∙ c.in_ok-kinds.ensures.listed in
     let told = ap (λ (x : Answered). told_in x.book) c.new-runs.ensures ∙ c.in_ok-told.ensures.known in
-    let read = tells outside c.args.answers.now c.new-runs.result c.as_slice.result.now c.as_slice-2.result.now codes points same told c.in_ok-told.ensures.read in
+    let read = tells outside c.args.answers.now c.new-runs.result c.as_slice.result.now c.as_slice-2.result.now codes points same kinds told c.in_ok-told.ensures.read in
     err_is c.from_residual-in_err-lines.result (Outside (Campaign (known_fault c.in_err-lines.field-0.0)))
     (IsUnnotedTo (Some c.args.depth) (c.args.settings.now, outside) c.args.answers.now) c.from_residual-in_err-lines.ensures.1
     (many_runs outside c.args.settings.now c.args.depth c.args.answers.now c.new-runs.result read c.in_err-lines.field-0.0 (λ e. c.in_err-lines.ensures.many (ap (λ f. Err f) e)))

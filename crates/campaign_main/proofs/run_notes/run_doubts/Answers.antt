@@ -1,5 +1,11 @@
 use Rattle.std.proofs.Common.{◌≡◌, ◌<◌, ◌∙◌, All, Bor, Err, List, ap, length, refl, subst, sym, ℕ}
 use Rattle.std.proofs.lemmas.List.{length-map}
+use Rattle.std.specs.Prelude.{count_by}
+use Rattle.action_eval.specs.declared.rig.Rig.{Rig}
+use Rattle.known_runs.specs.Unseen.{is_unseen}
+use Rattle.answer_text.specs.Runs.{told_in}
+use Rattle.answered_runs.specs.Answered.{runs_in}
+use Rattle.campaign_main.specs.QuestionNotes.{unseen_told}
 use Rattle.answered_campaigns.proofs.Asking.{listed_are}
 use Rattle.campaign_main.proofs.RunLemmas.{many_up}
 use Rattle.campaign_main.proofs.StrictLemmas.{runs-is}
@@ -13,8 +19,11 @@ doubts_told-requires c =
 
 pub returns-clause-ok : goal.returns-clause-ok
 returns-clause-ok c =
-    runs-is _ _ _ c.args.runs.now.points _ _ _ _ _ c.in_ok-doubts.ensures c.points-2.ensures.names (c.as_slice.ensures.value ∙ c.in_ok-places.ensures.told)
-    c.new-lines.ensures.bytes c.in_ok-write_doubts.ensures c.in_ok-write_all_unreached.ensures
+    let a = c.args.runs.now in
+    let told : c.in_ok-unseen.unseen ≡ unseen_told a.points a.listed (told_in a.book) c.args.depth =
+    c.in_ok-unseen.ensures ∙ ap (λ (plans : List (List Rig)). count_by (is_unseen (runs_in a)) plans) c.in_ok-lists.ensures.grown in
+    runs-is _ _ _ a.points _ _ _ _ _ _ _ _ c.in_ok-doubts.ensures c.points-2.ensures.names (c.as_slice.ensures.value ∙ c.in_ok-places.ensures.told) told
+    c.new-lines.ensures.bytes c.in_ok-write_doubts.ensures c.in_ok-write_unseen.ensures c.in_ok-write_all_unreached.ensures
 
 pub returns-in_err-lists-clause-many : goal.returns-in_err-lists-clause-many
 returns-in_err-lists-clause-many c =
