@@ -17,7 +17,7 @@ No line of it is longer than 100 letters, as has just been seen. It says what ea
     [FILE]  TOML settings, of which `paklour help` lists the keys; left out, standard input is read
   
   Options:
-        --brief     Count the verdicts that pass, and write the scenario beside each other verdict
+        --brief     Count verdicts that pass, and write the scenario beside each other verdict
         --json      Write a JSON document with all that the report tells
         --junit     Write JUnit's XML, with a case for each plan
         --strict    Tell on standard error what the report doesn't show, and end with 5 then
@@ -67,12 +67,14 @@ Each option has an example.
   Example:
     paklour page my.toml > page.html
   tells what was tried and found, with the map and the run of each first failure, hit by hit.
-  $ paklour help report | grep -e --brief -e --map -e --page
-        --brief    Count the verdicts that pass, and write the scenario beside each other verdict
-        --map      Write the map, an SVG picture
-        --page     Write a page to look at, as HTML; it tells no run hit by hit
+  $ paklour help report | grep -e --brief -e --map -e --page -e --explain
+        --brief           Count verdicts that pass, and write the scenario beside each other verdict
+        --map             Write the map, an SVG picture
+        --page            Write a page to look at, as HTML; it tells no run hit by hit
+        --explain <TEXT>  Write instead the run that an answer tells of this scenario, hit by hit
     paklour report --brief my.toml < answers
     paklour report --page my.toml < answers > page.html
+    paklour report --explain 'libc::fsync=1*return' my.toml < answers      one run, hit by hit
 
 The help of the program names the keys of settings, their ranges and defaults, as settings.t and settings_tables.t show them, and the exit
 statuses.
@@ -122,12 +124,12 @@ statuses.
     3  memory is refused
     4  a write failed
     5  with --strict: no verdict is fail, and something was told on standard error: an unresolved run,
-       no hits without faults, a point that no run reaches, a name that no point has, storms of rate 0
+       no hits without faults, a point that no run reaches, a name that no point has, hits that nobody
+       knows, a fault that its run doesn't meet, storms of rate 0
 
 The help of the commands on a component that somebody else runs says what an answer is.
 
   $ paklour help asks | grep -e ^Usage: -e VERDICT -e '<FILE>  '
   Usage: paklour asks [OPTIONS] <FILE>
     <FILE>  TOML settings, of which `paklour help` lists the keys; standard input has the answers
-    VERDICT<TAB>SCENARIO
     VERDICT<TAB>SCENARIO<TAB>HITS

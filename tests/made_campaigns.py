@@ -6,7 +6,7 @@ report are worked out here by the definitions alone; however the answers come, t
 
 `paklour` has to be on the PATH. Of each campaign the answers come in rounds, each a part of what is asked, in any order, some again, some unasked, scenarios
 spelled otherwise, hits in a row told as `2*a`. Between rounds it is looked at which lines a shard has, how many are left, and what is known. Of what a failure is reduced to it is looked at that it fails so, and without any one of its faults doesn't;
-how many tests that took isn't. Then one answer is changed so that the component isn't one: the lines that are told are worked out too. Prints each
+how many tests that took isn't. Some components hide the hits of their unresolved runs: nothing grows from these, and the report counts them. Then one answer is changed so that the component isn't one: the lines that are told are worked out too. Prints each
 difference, and at last how many campaigns there were, with how many plans. Fails where something differs.
 """
 import hashlib
@@ -37,6 +37,7 @@ class Component:
         self.depth = draw.randint(1, 3)
         listed = [f"{draw.choice(self.points)}={draw.choice(['return', '1*off->panic', '2*return'])}" for _ in range(draw.randint(0, 2))]
         self.listed = listed if draw.random() < 0.3 else []
+        self.hides = draw.random() < 0.3
 
     def drawn(self, what, answers):
         """A number below 1000 that goes by these answers."""
@@ -56,7 +57,10 @@ class Component:
         drawn = self.drawn("verdict", answers) % 100
         if drawn < self.failing and answers.strip(GO):
             return "fail " + CODES[drawn % 2]
-        return "unresolved" if drawn > 97 else "pass"
+        return "unresolved" if drawn > (90 if self.hides else 97) else "pass"
+
+    def is_hidden(self, answers):
+        return self.hides and self.verdict(answers) == "unresolved"
 
 
 def by_text(scenario):
@@ -122,13 +126,24 @@ class Expected:
             self.runs[plan] = self.component.play(by_faults(plan))
         return self.runs[plan]
 
-    def after(self, plan):
-        """The hits behind the last fault, as point and ordinal; none of a run that isn't known."""
-        if self.known is not None and text_of(self.component.points, plan) not in self.known:
-            return []
+    def is_hidden(self, plan):
+        return self.component.is_hidden(self.run(plan)[1])
+
+    def seen(self, plan):
+        """The hits of a run, as far as they are told."""
+        return [] if self.is_hidden(plan) else self.run(plan)[0]
+
+    def behind(self, plan):
+        """The hits behind the last fault, as point and ordinal."""
         hits, _ = self.run(plan)
         sites = [(point, hits[:at + 1].count(point)) for at, point in enumerate(hits)]
         return sites[sites.index(plan[-1][:2]) + 1:] if plan else sites
+
+    def after(self, plan):
+        """The same as far as they are told: none of a run that isn't known, or whose hits aren't."""
+        if self.known is not None and text_of(self.component.points, plan) not in self.known:
+            return []
+        return [] if self.is_hidden(plan) else self.behind(plan)
 
     def children(self, plan):
         return [plan + ((point, ordinal, fault),) for point, ordinal in self.after(plan) for fault in (RETURN, PANIC)]
@@ -152,13 +167,15 @@ class Expected:
     def report(self):
         """Its lines, but for those of what a failure is reduced to."""
         points, depth = self.component.points, self.component.depth
-        clean = self.run(())[0]
+        clean = self.seen(())
         yield from (f"target made {self.component.number}", "seed 0", f"clean {self.verdict(())}")
         yield from (f"census {point} {clean.count(point)}" for point in points)
         yield f"depth {depth}"
         yield from (f"level {number} {len(level)}" for number, level in enumerate(self.levels))
         yield from (f"onward {len(self.onward)}", f"beyond {sum(len(self.children(plan)) for plan in self.levels[-1])}")
-        yield from (f"reached {point} {max(self.run(plan)[0].count(point) for plan in self.plans)}" for point in points)
+        unseen = sum(map(self.is_hidden, self.plans))
+        yield from [f"unseen {unseen}"] if unseen else []
+        yield from (f"reached {point} {max(self.seen(plan).count(point) for plan in self.plans)}" for point in points)
         texts = [text_of(points, plan) for plan in self.plans] + self.component.listed
         verdicts = [self.component.verdict(self.component.play(by_text(text))[1]) for text in texts]
         yield f"plans {len(texts)}"
@@ -216,7 +233,7 @@ class Campaign:
 
     def answer(self, scenario):
         hits, answers = self.component.play(by_text(scenario))
-        return self.component.verdict(answers), scenario, hits_text(hits)
+        return self.component.verdict(answers), scenario, "-" if self.component.is_hidden(answers) else hits_text(hits)
 
     def spelled(self, answer):
         verdict, scenario, hits = answer
@@ -288,7 +305,7 @@ class Campaign:
         plan = self.draw.choice(level)
         text, parent = text_of(self.component.points, plan), text_of(self.component.points, plan[:-1])
         hits = list(expected.run(plan)[0])
-        fault = len(hits) - len(expected.after(plan)) - 1
+        fault = len(hits) - len(expected.behind(plan)) - 1
         at = self.draw.randint(0, fault)
         if self.draw.random() < 0.5 or len(self.component.points) == 1:
             hits, why = hits[:at], "fault not met"

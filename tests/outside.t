@@ -158,6 +158,70 @@ A failure is reduced: the candidates of its first round are asked before the oth
   tests 3
   [1]
 
+Answers may tell hits without a depth too. Then each run that tells them is explained, and plans are counted that pass without meeting all of their faults.
+
+  $ cat > met.toml << END
+  > target = "outside"
+  > scenarios = ["a=return;b=1*return"]
+  > [outside]
+  > label = "two points"
+  > codes = ["lost"]
+  > points = ["a", "b"]
+  > hits = [1, 0]
+  > END
+  $ { printf 'pass\tnone\ta\npass\ta=1*return\t2*a\npass\ta=return\n'; printf 'unresolved\ta=1*panic\t-\npass\ta=return;b=1*return\t2*a\n'; } > told
+  $ paklour asks met.toml < told
+  $ paklour report met.toml < told
+  target two points
+  seed 0
+  clean pass
+  census a 1
+  census b 0
+  plans 5
+  verdict 0 pass
+  verdict 1 pass
+  verdict 2 pass
+  verdict 3 unresolved
+  verdict 4 pass
+  unmet 1
+  first none
+  $ paklour report --brief met.toml < told | tail -n 4
+  counts pass 4 unresolved 1
+  verdict 3 unresolved a=1*panic
+  unmet 1
+  first none
+  $ paklour report --explain ' a = return ;b=1*return' met.toml < told
+  verdict pass
+  hit 1 a 1 return
+  hit 2 a 2 return
+  idle b=1*return
+  $ paklour report --explain a=return met.toml < told
+  answers: line 3: hits unknown
+  [2]
+  $ paklour report --explain a=1*panic met.toml < told
+  answers: line 4: hits unknown
+  [2]
+  $ paklour report --explain b=return met.toml < told
+  not answered b=return
+  [2]
+
+The hits of the run without faults have to be those of the settings. What one line tells of hits and another doesn't, or tells otherwise, contradicts it.
+
+  $ for question in asks report 'report --partial'; do sed 's/none\ta/none\t2*a/' told | paklour $question met.toml; done
+  answers: line 1: hits differ from the settings
+  answers: line 1: hits differ from the settings
+  answers: line 1: hits differ from the settings
+  [2]
+  $ (cat told; printf 'pass\ta=return\ta\n') | paklour asks met.toml
+  answers: line 6: contradicts line 3
+  [2]
+  $ (cat told; printf 'pass\tnone\n') | paklour asks met.toml
+  answers: line 6: contradicts line 1
+  [2]
+  $ printf 'pass\tnone\ta;c\n' | paklour asks met.toml
+  answers: line 1: unknown point
+  [2]
+
 Each fault of the answers is told with its line; the first one is told.
 
   $ told() { printf "$1" | paklour report small.toml; }

@@ -4,7 +4,7 @@ A thousand made components, whose next hit is drawn once for all from the answer
 script by the definitions alone, and so is the line that is refused where a component breaks.
 
   $ "$TESTDIR/made_campaigns.py" 1000
-  1000 campaigns of 32016 plans, 0 differ
+  1000 campaigns of 30505 plans, 0 differ
 
 One by hand. Without faults it hits `a` and `b`; where one fails, `c` cleans up, and a panic ends it. The first failure behind a failure that is lost is that of
 `a`, whose clean-up fails.
@@ -81,6 +81,35 @@ No level waits for the one before, and the report waits for the first plan in or
   strict: 1 of 9 plans unresolved
   [1]
 
+Each run that is told is explained, hit by hit; any spelling of its scenario does.
+
+  $ paklour report --explain none three.toml < answers
+  verdict pass
+  hit 1 a 1 go
+  hit 2 b 1 go
+  $ paklour report --explain 'a=1*return; c = 1*return ' three.toml < answers
+  verdict fail lost
+  hit 1 a 1 return
+  hit 2 c 1 return
+  [1]
+  $ paklour report --explain a=1*panic three.toml < answers
+  verdict unresolved
+  hit 1 a 1 panic
+  stopped panic
+  $ { cat answers; line pass 'b=1*off->return;c=pause' 'a;b'; } > more
+  $ paklour report --explain 'b=1*off->return;c=pause' three.toml < more
+  verdict pass
+  hit 1 a 1 go
+  hit 2 b 1 go
+  idle b=return
+  idle c=pause
+  $ paklour report --explain c=1*return three.toml < answers
+  not answered c=1*return
+  [2]
+  $ paklour report --explain 'c=1*return->1*return;c' three.toml < answers
+  scenario: NoAction entry 2 term 0
+  [2]
+
 To depth 1 the same answers do, with nothing behind them: `a` isn't hit again after its failure, nor is `b`.
 
   $ sed 's/depth = 2/depth = 1/' three.toml > one.toml
@@ -95,6 +124,60 @@ To depth 1 the same answers do, with nothing behind them: `a` isn't hit again af
   counts pass 4 unresolved 1
   first none
   causes 0
+
+Settings may list which faults are tried at a point, and in which order: here a disk that is full, then any other failure, and no panic. From then on each
+return goes on with its own text.
+
+  $ cat > kinds.toml << END
+  > target = "outside"
+  > depth = 1
+  > [outside]
+  > label = "a full disk"
+  > codes = ["lost"]
+  > points = ["a", "b"]
+  > [outside.kinds]
+  > a = ["return(ENOSPC)", "return"]
+  > END
+  $ line pass none 'a;b' > answers
+  $ paklour asks kinds.toml < answers
+  a=1*return(ENOSPC)
+  a=1*return
+  b=1*return
+  b=1*panic
+  $ line 'fail lost' 'a=1*return(ENOSPC)' '2*a' >> answers; line pass a=1*return a >> answers
+  $ line pass b=1*return 'a;b' >> answers; line pass b=1*panic 'a;b' >> answers
+  $ paklour asks kinds.toml < answers
+  a=return(ENOSPC)
+  $ line 'fail lost' 'a=return(ENOSPC)' '2*a' >> answers
+  $ paklour asks kinds.toml < answers
+  $ paklour report kinds.toml < answers
+  target a full disk
+  seed 0
+  clean pass
+  census a 1
+  census b 1
+  depth 1
+  level 0 1
+  level 1 4
+  onward 1
+  beyond 2
+  reached a 2
+  reached b 1
+  plans 6
+  verdict 0 pass
+  verdict 1 fail lost
+  verdict 2 pass
+  verdict 3 pass
+  verdict 4 pass
+  verdict 5 fail lost
+  first 1 lost
+  scenario a=1*return(ENOSPC)
+  reduced a=1*return(ENOSPC)
+  tests 1
+  causes 2
+  cause 1 lost a=1*return(ENOSPC)
+  cause 5 lost a=return(ENOSPC)
+  [1]
 
 Hits in a row, and a fault from then on, which is asked where its point is hit again.
 
@@ -183,13 +266,6 @@ What is wrong with a line
   answers: line 2: contradicts line 1
   [2]
 
-Without a depth nobody asks for hits.
-
-  $ printf '%s\n' 'target = "outside"' '[outside]' 'label = "x"' 'codes = []' 'points = ["a"]' 'hits = [1]' > flat.toml
-  $ line pass none a | paklour asks flat.toml
-  answers: line 1: control byte
-  [2]
-
 A component that doesn't do the same twice
 ------------------------------------------
 
@@ -230,7 +306,7 @@ The first of them by the plans' order is told, whatever the lines' order; and no
 Hits that nobody knows
 ----------------------
 
-A run without them has no children; once nothing else is left to ask, its line is told. Another verdict than `unresolved` tells hits.
+A run without them has no children, and the report counts it. Another verdict than `unresolved` tells hits.
 
   $ told pass none -
   answers: line 1: unknown point
@@ -242,14 +318,58 @@ A run without them has no children; once nothing else is left to ask, its line i
   b=1*panic
   $ { line pass a=1*panic a; line pass b=1*return 'a;b'; line pass b=1*panic 'a;b'; } >> unknown
   $ paklour asks three.toml < unknown
-  answers: line 2: hits unknown
-  [2]
-  $ paklour report three.toml < unknown
-  answers: line 2: hits unknown
-  [2]
-  $ { sed 2d unknown; line unresolved 'a=1*return' a; } | paklour report --brief three.toml | grep -E '^(plans|counts)'
+  $ paklour report --brief three.toml < unknown
+  target three points
+  seed 0
+  clean pass
+  census a 1
+  census b 1
+  census c 0
+  depth 2
+  level 0 1
+  level 1 4
+  level 2 0
+  onward 0
+  beyond 0
+  unseen 1
+  reached a 1
+  reached b 1
+  reached c 0
   plans 5
   counts pass 4 unresolved 1
+  verdict 1 unresolved a=1*return
+  first none
+  causes 0
+  $ { sed 2d unknown; line unresolved 'a=1*return' a; } | paklour report --brief three.toml | grep -E '^(beyond|unseen|reached a|plans|counts)'
+  beyond 0
+  reached a 1
+  plans 5
+  counts pass 4 unresolved 1
+  $ paklour report --explain 'a = 1*return' three.toml < unknown
+  answers: line 2: hits unknown
+  [2]
+
+Of a run without faults nobody may know them either: then there is no census, and no plan but it.
+
+  $ line unresolved none - | paklour asks three.toml
+  $ line unresolved none - | paklour report three.toml | grep -vE '^(target|seed|depth)'
+  clean unresolved
+  census a 0
+  census b 0
+  census c 0
+  level 0 1
+  level 1 0
+  level 2 0
+  onward 0
+  beyond 0
+  unseen 1
+  reached a 0
+  reached b 0
+  reached c 0
+  plans 1
+  verdict 0 unresolved
+  first none
+  causes 0
 
 So it goes in the loop, where a run takes too long and nobody knows its hits; without its line it is tried again, and nothing else is.
 
@@ -269,10 +389,16 @@ So it goes in the loop, where a run takes too long and nobody knows its hits; wi
   $ chmod +x try.sh
   $ loop() { "$TESTDIR/../outside/loop" -j 1 --seconds 5 --brief three.toml looped ./try.sh; }
   $ touch slow
-  $ loop
+  $ loop 2> ended | grep -E '^(level|unseen|counts|first|cause)'; cat ended
+  level 0 1
+  level 1 4
+  level 2 2
+  unseen 1
+  counts pass 5 unresolved 1 lost 1
+  first 5 lost
+  causes 1
+  cause 5 lost a=1*return;c=1*return
   loop: ended after 5 seconds: b=1*return
-  answers: line 4: hits unknown
-  [2]
   $ rm slow tried
   $ sed -i '/\t-$/d' looped
   $ loop | grep -E '^(counts|first|cause)'

@@ -305,3 +305,66 @@ As many as there are points.
   settings: out of range outside.hits
   $ outside 'hits = [-1, 1]'
   settings: out of range outside.hits
+
+The kinds
+---------
+
+Beside a depth a table may tell which faults are tried at points: at each 1 to 8 of `return`, `return(TEXT)` and `panic`, none twice.
+
+  $ deep() {
+  >     outside -hits --top 'depth = 2' "$@" | sed 's/^settings: target outside with a depth: only asks and report$/accepted/'
+  > }
+  $ deep '[outside.kinds]' '"io::write" = ["return", "return(ENOSPC)", "return(HALF)", "panic"]' '"io::open" = ["panic"]'
+  accepted
+  $ deep 'kinds = {}'
+  accepted
+  $ outside 'kinds = {}'
+  settings: out of range outside.kinds
+  $ outside 'kinds = 1'
+  settings: out of range outside.kinds
+  $ outside -hits 'kinds = 1'
+  settings: missing outside.hits
+  $ outside --top 'depth = 1' 'kinds = 1'
+  settings: out of range outside.hits
+
+Names that aren't among the points come first, then types, then what the lists say.
+
+  $ deep 'kinds = 1'
+  settings: wrong type outside.kinds
+  $ deep 'kinds = ["return"]'
+  settings: wrong type outside.kinds
+  $ deep 'kinds = { "io::read" = 1, "io::close" = [], "io::open" = 1 }'
+  settings: unknown key outside.kinds.io::close
+  $ deep 'kinds = { "io::open" = "return" }'
+  settings: wrong type outside.kinds
+  $ deep 'kinds = { "io::open" = [], "io::write" = ["return", 1] }'
+  settings: wrong type outside.kinds
+  $ deep 'kinds = { "io::open" = ["return"], "io::write" = [] }'
+  settings: out of range outside.kinds
+
+How many, and none twice. No text and an empty one are different.
+
+  $ deep "kinds = { \"io::open\" = [$(seq -s ', ' -f '"return(%g)"' 8)] }"
+  accepted
+  $ deep "kinds = { \"io::open\" = [$(seq -s ', ' -f '"return(%g)"' 9)] }"
+  settings: out of range outside.kinds
+  $ deep 'kinds = { "io::open" = ["return", "return()", "return(a)"] }'
+  accepted
+  $ deep 'kinds = { "io::open" = ["return(a)", "panic", "return(a)"] }'
+  settings: out of range outside.kinds
+  $ deep 'kinds = { "io::open" = ["panic"], "io::write" = ["panic"] }'
+  accepted
+
+A text is of up to 32 bytes, has no control character, and may stand in a scenario: without `;` and `->`.
+
+  $ fault() { deep "kinds = { \"io::open\" = [\"$1\"] }"; }
+  $ fault "return($(repeat 32 x))"
+  accepted
+  $ fault "return($(repeat 33 x))"
+  settings: out of range outside.kinds
+  $ for text in 'return( )' 'return(a(b)' 'return(a)b)' 'return(a=b)'; do fault "$text"; done | uniq
+  accepted
+  $ for text in 'return(a;b)' 'return(a->b)' 'return(a\tb)' 'return(' 'return(a' 'return(a)b'; do fault "$text"; done | uniq
+  settings: out of range outside.kinds
+  $ for text in '' off Return ' return' 'return ' 'returns' 'return (a)' 'panic(a)' 'panic()' '1*return' 'sleep(1)'; do fault "$text"; done | uniq
+  settings: out of range outside.kinds

@@ -171,5 +171,25 @@ Where nothing is told the status is 0, a failing plan keeps 1, and an answer tha
   strict: storms of rate 0
   strict: no hit without faults of a
   [5]
+
+Where answers tell hits, plans that pass without meeting all of their faults are told too: here `b` is never hit, nor is `c`. With a depth it is runs whose hits
+nobody knows.
+
+  $ { printf 'pass\tnone\ta\npass\ta=1*return\ta\npass\ta=return\ta\npass\ta=1*panic\ta\n'; printf 'pass\tb=1*panic\ta\npass\tc=return\ta\n'; } > told
+  $ paklour report --strict outside.toml < told > nothing
+  settings: scenario 2: no point is named c
+  answers: line 6: no point is named c
+  strict: 2 of 6 plans pass without meeting all of their faults
+  strict: no hit without faults of b
+  [5]
+  $ sed -e 's/^scenarios.*/depth = 1/' -e '/^hits/d' outside.toml > deep.toml
+  $ printf 'pass\tnone\ta;b\nunresolved\ta=1*return\t-\nunresolved\ta=1*panic\ta\npass\tb=1*return\ta;b\npass\tb=1*panic\ta;b\n' > told
+  $ paklour report --strict deep.toml < told > seen
+  strict: 2 of 5 plans unresolved
+  strict: 1 of 5 plans without known hits
+  [5]
+  $ grep -E '^(unseen|plans)' seen
+  unseen 1
+  plans 5
   $ paklour asks --strict green.toml < three 2>&1 | head -n 1
   error: unexpected argument '--strict' found

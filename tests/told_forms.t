@@ -40,6 +40,16 @@ In all else it is the page of the target. In the map the cells of the three plan
   0
   [1]
 
+With a depth answers tell what a run hits, so each is explained as the target explains it; but nobody knows the limit of a component that somebody else runs.
+
+  $ sed '/^seed/a depth = 2' late.toml > deep.toml
+  $ "$TESTDIR/as_outside.sh" deep.toml '"torn", "stale"'
+  $ cut -f 2 answers | while read -r scenario; do
+  >     paklour report --explain "$scenario" outside.toml < answers > told
+  >     paklour explain --scenario "${scenario#none}" deep.toml | grep -v '^stopped limit$' | cmp - told && echo same
+  > done | sort | uniq -c | tr -s ' '
+   19 same
+
 Pairs, plans that are drawn, listed scenarios with many faults, and two codes.
 
   $ sed '/^seed/a pairs = true\nstorms = 20\nrate = 300\nscenarios = ["replace::write=return(<&>);replace::sync=return"]' late.toml | sed 's/late/ignore/' > more.toml

@@ -257,6 +257,20 @@ A plan has one of 65536 numbers, and a scenario is given in one way.
   error: the argument '--brief' cannot be used with '--partial'
   $ refused report --left f
   error: unexpected argument '--left' found
+  $ refused report --brief --explain a=off f
+  error: the argument '--explain <TEXT>' cannot be used with '--brief'
+  $ refused report --explain a=off --partial f
+  error: the argument '--explain <TEXT>' cannot be used with '--partial'
+  $ refused report --explain a=off --strict f
+  error: the argument '--explain <TEXT>' cannot be used with '--strict'
+  $ refused report --explain a=off --explain a=off f
+  error: the argument '--explain <TEXT>' cannot be used multiple times
+  $ refused report f --explain
+  error: a value is required for '--explain <TEXT>' but none was supplied
+  $ refused report --explain f
+  error: the following required arguments were not provided:
+  $ refused asks --explain a=off f
+  error: unexpected argument '--explain' found
   $ paklour reduce --scenario a=off --plan 1 f
   error: the argument '--scenario <TEXT>' cannot be used with '--plan <N>'
   

@@ -166,6 +166,12 @@ PATH="$here/bin:$PATH" ./loop "$here/three" "$here/answers" "$here/bin/tells_hit
 is 'without a depth no hits are asked for' none "$(cut -f 3 "$here/answers" | sort -u)"
 unset HITS
 rm "$here/answers"
+PATH="$here/bin:$PATH" ./loop --hits "$here/three" "$here/answers" "$here/bin/tells_hits" > "$here/said" 2>&1
+is 'unless the loop is told so' yes "$(cut -f 3 "$here/answers" | sort -u)"
+rm "$here/answers"
+PATH="$here/bin:$PATH" ./loop --hits --seconds 1 "$here/three" "$here/answers" "$here/bin/hangs" > "$here/said" 2> "$here/told"
+is 'and then a run that was ended tells none' 'unresolved	a=off' "$(grep 'a=off' "$here/answers")"
+rm "$here/answers" "$here"/bin/hangs.*.pid
 for line in 'depth = 2' '  "depth"	=2'; do
     { cat "$here/three"; echo "$line"; } > "$here/deep"
     PATH="$here/bin:$PATH" ./loop "$here/deep" "$here/answers" "$here/bin/tells_hits" > "$here/said" 2>&1

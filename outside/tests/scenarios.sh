@@ -102,6 +102,31 @@ is 'with those of sockets' "points = [$files, \"libc::connect\", \"libc::accept\
 printf '1\tlibc::write\t1\tgo\tx\n2\tpower::keep\t1\tgo\tx\n3\tb\t1\tgo\tx\n' > "$here/cut"
 is 'and what a power cut asks last' "points = [$files, \"b\", \"power::keep\"]" "$(./census --points "$here/cut")"
 
+# What is tried at the points of a trace.
+try none mkdir b create a write b write c fsync rename a sub/b folder . fsync
+is 'kinds where calls take room' "points = [$files]
+
+[outside.kinds]
+\"libc::open\" = [\"return\", \"return(ENOSPC)\", \"panic\"]
+\"libc::write\" = [\"return\", \"return(ENOSPC)\", \"return(HALF)\", \"panic\"]
+\"libc::rename\" = [\"return\", \"return(ENOSPC)\", \"panic\"]
+\"libc::mkdir\" = [\"return\", \"return(ENOSPC)\", \"panic\"]" "$(./census --kinds "$here/run/trace")"
+printf '1\tlibc::open@a\t1\tgo\ta\t1\tO_RDONLY\t3\n2\tlibc::read@a\t1\tgo\ta\t1\t-\t3\n3\tlibc::open@b\t1\tgo\tb\t1\tO_WRONLY|O_CREAT\t3\n' > "$here/by_file"
+printf '4\tlibc::symlink@c\t1\tgo\tc\t1\t-\t0\n5\tlibc::link@d\t1\tgo\td\t1\t-\t0\n6\tlibc::ftruncate@b\t1\tgo\tb\t1\t-\t0\n' >> "$here/by_file"
+is 'by file, and opens where one may make it' '"libc::open@b" = ["return", "return(ENOSPC)", "panic"]
+"libc::symlink@c" = ["return", "return(ENOSPC)", "panic"]
+"libc::link@d" = ["return", "return(ENOSPC)", "panic"]
+"libc::ftruncate@b" = ["return", "return(ENOSPC)", "panic"]' "$(./census --kinds "$here/by_file" | sed '1,/^.outside.kinds.$/d')"
+printf '1\tlibc::connect\t1\tgo\tx\n2\tlibc::send\t1\tgo\tx\n3\tlibc::recv\t1\tgo\tx\n4\twrite\t1\tgo\tx\n' > "$here/messages"
+is 'of messages' "points = [$files, \"libc::connect\", \"libc::accept\", \"libc::send\", \"libc::recv\", \"write\"]
+
+[outside.kinds]
+\"libc::send\" = [\"return\", \"return(HALF)\", \"return(DROP)\", \"panic\"]
+\"libc::recv\" = [\"return\", \"return(HALF)\", \"panic\"]" "$(FAULTS_SOCKETS=1 ./census --kinds "$here/messages")"
+is 'no table where nothing is in it' "points = [$files, \"store::flush\"]" "$(./census --kinds "$here/mixed")"
+try 'libc::write=1*off->1*return(ENOSPC)' create a write b write c
+is 'no kinds of a run with faults' 'census: line 3 has a fault: return(ENOSPC)' "$(./census --kinds "$here/run/trace" 2>&1)"
+
 # The hits of a run, as an answer tells them.
 try none mkdir b create a write b write c fsync rename a sub/b folder . fsync
 is 'the hits of a run, those of one point in a row together' \
