@@ -1,5 +1,5 @@
 //! The report of a campaign with a depth.
-ghost use Rattle.std.specs.Prelude.{◌≡◌, ◌≤◌, ◌<◌, [], length, replicate, slice_index_or, IfErr, IfOk, OnOk};
+ghost use Rattle.std.specs.Prelude.{◌≡◌, ◌≤◌, ◌<◌, [], length, slice_index_or, IfErr, IfOk, OnOk};
 ghost use Rattle.std.specs.List.{AllByRecursion};
 ghost use Rattle.scenario_values.specs.Scenario.{IsScenario};
 ghost use Rattle.target_trait.specs.declared.judgement.Verdict.TheVariants.{Unresolved};
@@ -69,15 +69,6 @@ fn first_of(cards: Vec<Scenario>) -> QuestionFault
     }
 }
 
-/// No hits of so many points.
-fn no_hits(alloc: Global, points: usize) -> Result<Vec<u32>, AllocError>
-    ensures { IfOk result (λ none. none.items ≡ replicate points 0) }
-{
-    let mut none = Vec::new(alloc);
-    none.resize(points, 0)?;
-    Ok(none)
-}
-
 /// How often each point is hit in the run without faults; none is where its hits aren't told.
 fn clean_census(alloc: Global, known: &KnownByRuns<'_>) -> Result<Vec<u32>, AllocError>
     requires { HasFewHits known.now.0 }
@@ -85,7 +76,7 @@ fn clean_census(alloc: Global, known: &KnownByRuns<'_>) -> Result<Vec<u32>, Allo
 {
     match census(alloc, known.runs)? {
         Some(counts) => Ok(counts),
-        None => no_hits(alloc, known.runs.points().len()),
+        None => Ok(vec![in alloc; 0u32; known.runs.points().len()]?),
     }
 }
 

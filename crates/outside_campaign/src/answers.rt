@@ -1,6 +1,5 @@
 //! Answers, read and held against the settings.
-ghost use Rattle.std.specs.Prelude.{◌≡◌, ◌≢◌, ◌<◌, ◌==◌, ◌^◌, count_by, length, true, false, IfErr, IfOk, OnOk};
-ghost use Rattle.plan_gen.specs.Census.{counts_of};
+ghost use Rattle.std.specs.Prelude.{◌≡◌, ◌≢◌, true, false, IfErr, IfOk, OnOk};
 ghost use Rattle.answer_text.specs.Runs.{told_in};
 ghost use Rattle.outside_campaign.specs.Readable.{IsReadable, IsUnreadable, KeepsCensus, census_of, told_by};
 ghost use Rattle.outside_campaign.specs.inside.Census.{IsCensusFault};
@@ -8,28 +7,9 @@ ghost use Rattle.outside_campaign.specs.inside.Census.{IsCensusFault};
 use crate::refusal::OutsideFault;
 use answer_text::{Hits, Runs, read};
 use campaign_given::Outside;
+use plan_gen::counts_of;
 use scenario_values::build;
 use std::alloc::{AllocError, Global};
-
-/// How often a point is hit.
-fn count_of(hits: &[u32], point: u32) -> u32
-    requires { length hits.now < 2 ^ 32 }
-    ensures { result ≡ count_by (λ q. q == point) hits.now }
-{
-    hits.iter().filter(|q| **q == point).count() as u32
-}
-
-/// How often each of so many points is hit.
-fn counts_of(alloc: Global, points: u32, hits: &[u32]) -> Result<Vec<u32>, AllocError>
-    requires { length hits.now < 2 ^ 32 }
-    ensures { IfOk result (λ counts. counts.items ≡ counts_of points hits.now) }
-{
-    let mut counts = Vec::with_capacity(alloc, points as usize)?;
-    for point in 0..points {
-        counts.push(count_of(hits, point))?;
-    }
-    Ok(counts)
-}
 
 /// Whether these hits have the settings' census.
 fn keeps_census(alloc: Global, outside: &Outside, hits: &Hits) -> Result<bool, AllocError>

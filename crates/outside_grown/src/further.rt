@@ -1,5 +1,5 @@
 //! The storms and listed scenarios that stand behind plans that grow.
-ghost use Rattle.std.specs.Prelude.{◌≡◌, ◌<◌, ◌≤◌, ◌⊎◌, ◌+◌, ◌==◌, ◌^◌, ℕ, [], length, option_map, count_by, IfOk, IfSome, IsErrOf, OnOk};
+ghost use Rattle.std.specs.Prelude.{◌≡◌, ◌<◌, ◌≤◌, ◌⊎◌, ◌+◌, ◌^◌, ℕ, [], length, option_map, IfOk, IfSome, IsErrOf, OnOk};
 ghost use Rattle.action_eval.specs.Answers.{texts};
 ghost use Rattle.action_eval.specs.Catalogue.{IsCatalogue};
 ghost use Rattle.plan_gen.specs.Census.{census_of, counts_of};
@@ -11,32 +11,12 @@ ghost use Rattle.outside_grown.specs.Further.{AreTooMany, HasFewHits, census_tol
 
 use answered_runs::AnsweredRuns;
 use known_runs::{KnownFault, Look, RunTable};
-use plan_gen::{Census, PlanFault, PlanList, PlanSettings};
+use plan_gen::{Census, PlanFault, PlanList, PlanSettings, counts_of};
 use scenario_values::Scenario;
 use std::alloc::{AllocError, Global};
 
 /// A list has at most so many plans.
 pub const MOST_PLANS: usize = 65536;
-
-/// How often a point is asked.
-fn count_of(asked: &[u32], point: u32) -> u32
-    requires { length asked.now < 2 ^ 32 }
-    ensures { result ≡ count_by (λ q. q == point) asked.now }
-{
-    asked.iter().filter(|q| **q == point).count() as u32
-}
-
-/// How often each of so many points is asked.
-pub(crate) fn counts_of(alloc: Global, points: u32, asked: &[u32]) -> Result<Vec<u32>, AllocError>
-    requires { length asked.now < 2 ^ 32 }
-    ensures { IfOk result (λ counts. counts.items ≡ counts_of points asked.now) }
-{
-    let mut counts = Vec::with_capacity(alloc, points as usize)?;
-    for point in 0..points {
-        counts.push(count_of(asked, point))?;
-    }
-    Ok(counts)
-}
 
 /// The points of the hits of the run without faults, where they are told.
 fn clean_hits(alloc: Global, runs: &AnsweredRuns<'_>) -> Result<Option<Vec<u32>>, AllocError>

@@ -1,5 +1,5 @@
 //! The most hits of each point that a run has.
-ghost use Rattle.std.specs.Prelude.{◌≡◌, ◌<◌, ◌≤◌, ℕ, length, max, replicate, slice_index_or, IfOk, OnOk};
+ghost use Rattle.std.specs.Prelude.{◌≡◌, ◌<◌, ◌≤◌, ℕ, length, max, slice_index_or, IfOk, OnOk};
 ghost use Rattle.answer_text.specs.Runs.{told_in};
 ghost use Rattle.grown_plans.specs.GrownPlans.{Subject};
 ghost use Rattle.known_runs.specs.Known.{hits_of};
@@ -8,11 +8,11 @@ ghost use Rattle.answered_runs.specs.Answered.{runs_in};
 ghost use Rattle.answered_runs.specs.Components.{AgreesWithRuns, IsComponent};
 ghost use Rattle.outside_grown.specs.Reached.{AreMostTold, reached_seen, times_told};
 
-use crate::further::counts_of;
 use action_eval::Rig;
 use answered_runs::AnsweredRuns;
 use grown_plans::GrownPlans;
 use known_runs::{Look, RunTable, Workspace};
+use plan_gen::counts_of;
 use std::alloc::{AllocError, Global};
 
 /// Raises each of these counts to that which stands at its place.
@@ -48,15 +48,6 @@ fn raise_by(
     Ok(())
 }
 
-/// No hits of so many points.
-fn no_hits(alloc: Global, points: usize) -> Result<Vec<u32>, AllocError>
-    ensures { IfOk result (λ none. none.items ≡ replicate points 0) }
-{
-    let mut none = Vec::new(alloc);
-    none.resize(points, 0)?;
-    Ok(none)
-}
-
 /// The most hits of each point that a run of these plans has, in the catalogue's order, by what answers tell: 0 is a point that none of
 /// these runs hits, as far as hits are told. An error means that memory was refused.
 pub fn reached(
@@ -70,7 +61,7 @@ pub fn reached(
     ensures known { IfOk result (λ most. (t : Subject) (depth : ℕ) → IsComponent runs.now.points runs.now.listed t → depth ≤ 64
         → AgreesWithRuns t (told_in runs.now.book) → plans.now ≡ known_part t depth (runs_in runs.now) → most.items ≡ reached_seen t depth (runs_in runs.now)) }
 {
-    let mut most = no_hits(alloc, runs.points().len())?;
+    let mut most = vec![in alloc; 0u32; runs.points().len()]?;
     let mut workspace = Workspace::new(alloc);
     for number in 0..plans.len() {
         plans.faults_of(number, &mut workspace.faults)?;

@@ -22,8 +22,8 @@ pub fn count_of(asked: &[u32], point: u32) -> u32
     asked.iter().filter(|q| **q == point).count() as u32
 }
 
-/// How often each point is asked.
-fn counts_of(alloc: Global, points: u32, asked: &[u32]) -> Result<Vec<u32>, AllocError>
+/// How often each of so many points is asked, in their order. An error means that memory was refused.
+pub fn counts_of(alloc: Global, points: u32, asked: &[u32]) -> Result<Vec<u32>, AllocError>
     requires { length asked.now < 2 ^ 32 }
     ensures { IfOk result (λ counts. counts.items ≡ counts_of points asked.now) }
 {
