@@ -96,7 +96,7 @@ statuses.
                default none: plans come from the run without faults
     crash_states  true or false: the power cut asks power::keep for each pending write; default false
     scenarios  scenarios to run as plans too, up to 1000 texts; default none
-  and the table of the target, with all of its keys:
+  and the table of the target, in which a key that names no default has to be there:
     [replace]
       old           the contents at first, a text of up to 65536 bytes
       replacements  up to 1000 lists of up to 1000 chunks
@@ -111,6 +111,9 @@ statuses.
       points        the names of its points, 1 to 64 texts of up to 200 bytes
       hits          how often each point is hit without faults, as many numbers from 0 to 100000;
                     with a depth the answers tell that, and this key is out of range
+      kinds         with a depth alone: a table that lists for a point which faults are tried at its
+                    hits, 1 to 8 of "return", "return(TEXT)" and "panic", none twice; TEXT has
+                    up to 32 bytes; default return and panic, at power::keep return
   With "outside" somebody else runs the component: only plans, asks and report take such settings, in
   which variant, workers, max_hits and crash_states are unknown keys. With a depth plans takes none.
   A chunk is a text of up to 4096 bytes. `paklour help try` says what a scenario may hold.

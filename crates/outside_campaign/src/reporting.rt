@@ -60,10 +60,10 @@ fn told(
 /// them, a function from tidied scenarios to verdicts, it is the report over all plans, with the first failure of each code reduced by what
 /// that component says.
 ///
-/// Nothing is written before the whole text stands. `Answers` is the answers' first fault; `NotAnswered` is the first scenario that is
-/// still to be tried, where one is; and of a fault as of a campaign, `TooManyPlans` comes only where the list has more than 65536 plans.
-/// After each of these, and where memory was refused, the sink is as it was and hasn't failed; `Write` tells how many bytes of the text,
-/// fewer than all, went out before the sink failed.
+/// Nothing is written before the whole text stands. `Answers` is the answers' first fault; `Census` is the line that tells hits of the run
+/// without faults which aren't as many as the settings say; `NotAnswered` is the first scenario that is still to be tried, where one is; and
+/// of a fault as of a campaign, `TooManyPlans` comes only where the list has more than 65536 plans. After each of these, and where memory was
+/// refused, the sink is as it was and hasn't failed; `Write` tells how many bytes of the text, fewer than all, went out before the sink failed.
 pub fn write_report_in<W: Sink>(
     alloc: Global,
     form: &Form<'_>,
