@@ -41,7 +41,7 @@ Each line has one of these forms. The pace is told once a second of the plans ha
   1
 
 In a campaign that takes more than a second, the pace stands there, and the rest takes about as long as plans do at that pace: as many as
-have begun have ended, but for those of a row of 16.
+have begun have ended, but for those of a range of 16.
 
   $ long() {
   >     printf 'target = "replace"\nvariant = "late_sync"\nseed = 7\nmax_hits = 100000\nstorms = 10000\n[replace]\nold = "old"\nreplacements = [["ne", "w"]'

@@ -1,4 +1,4 @@
--- How a rigging's terms are laid, and how a session finds them.
+-- How a fault table's terms are laid, and how a session finds them.
 use Rattle.std.proofs.Common.{◌≡◌, ℕ, zero, suc, ◌+◌, ◌-◌, ◌<◌, ◌≤◌, cond, false, Option, Some, None, List, [], ◌∷◌, ◌++◌, map, take, drop, length, get_or, length-append, length-drop, drop-cons, add-one, refl, ap, sym, subst, ◌∙◌, arith}
 use Rattle.std.specs.Prelude.{option_map}
 use Rattle.std.specs.List.{AllByRecursion}
@@ -12,7 +12,7 @@ use Rattle.scenario_values.specs.Scenario.{Entries, New, entry_of, chain_at}
 use Rattle.action_eval.specs.declared.rig.Rig.{Rig}
 use Rattle.action_eval.specs.declared.found.Head.{Head}
 use Rattle.action_eval.specs.Catalogue.{HasDistinct}
-use Rattle.action_eval.specs.Rigging.{chain_from, entry, entries_from, rigging}
+use Rattle.action_eval.specs.RiggedScenario.{chain_from, entry, entries_from, rigged_scenario}
 use Rattle.action_eval.specs.inside.Session.{found_of, start_of, left_row, left_counts, head_of}
 use Rattle.action_eval.specs.inside.Laid.{laid, AreSizes, joined, sizes_of}
 use Rattle.action_eval.proofs.NamedCounts.{length-left_row}
@@ -88,8 +88,8 @@ loaded_sizes catalogue rs count sizes terms e f g =
     (subst (λ (t : List Term). AreSizes (texts catalogue) (sizes_of 0 (length (texts catalogue)) rs) t) (ap (λ n. joined 0 n rs) many ∙ sym g) (sizes_joined 0 (texts catalogue) rs))
 
 pub loaded_entries : (catalogue : List (Bor (List ℕ))) (rs : List Rig) (count : ℕ) (sizes : List ℕ) (terms : List Term) → count ≡ length catalogue → sizes ≡ sizes_of 0 count rs → terms ≡ joined 0 count rs
-    → laid (texts catalogue) sizes terms ≡ rigging (texts catalogue) rs
-unfolding rigging
+    → laid (texts catalogue) sizes terms ≡ rigged_scenario (texts catalogue) rs
+unfolding rigged_scenario
 loaded_entries catalogue rs count sizes terms e f g =
     let many : count ≡ length (texts catalogue) = e ∙ sym (texts_length catalogue) in
     ap (λ (s : List ℕ). laid (texts catalogue) s terms) (f ∙ ap (λ n. sizes_of 0 n rs) many)

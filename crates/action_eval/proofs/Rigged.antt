@@ -15,7 +15,7 @@ use Rattle.action_eval.specs.declared.rig.Rig.{Rig}
 use Rattle.action_eval.specs.declared.rig.Kind.{Kind}
 use Rattle.action_eval.specs.declared.rig.Kind.TheVariants.{OnceReturn, OnwardReturn, OncePanic}
 use Rattle.action_eval.specs.Catalogue.{IsCatalogue, HasDistinct}
-use Rattle.action_eval.specs.Rigging.{chain_from, terms_at, done_after, rigged, offs, term_of, entry, entries_from, rigging, full, HasLawfulText, HaveLawfulTexts}
+use Rattle.action_eval.specs.RiggedScenario.{chain_from, terms_at, done_after, rigged, offs, term_of, entry, entries_from, rigged_scenario, full, HasLawfulText, HaveLawfulTexts}
 
 -- what was built and what is left are the whole, also after one step
 pub goes_on : {A : Type 0} (old new here rest whole : List A) → old ++ (here ++ rest) ≡ whole → new ≡ old ++ here → new ++ rest ≡ whole
@@ -308,9 +308,9 @@ short_chain : (a n : ℕ) → a ≤ 2 * n → n ≤ 64 → a ≤ 256
 short_chain a n h k = omega arith
 
 -- rigged hits make a scenario
-pub rigging_keeps : (names : List (List ℕ)) (rs : List Rig) → IsCatalogue names → length rs ≤ 64 → AreSmall rs → HaveLawfulTexts rs → IsScenario (rigging names rs)
-unfolding rigging
-rigging_keeps names rs c few small texts = record {
+pub rigged_scenario_keeps : (names : List (List ℕ)) (rs : List Rig) → IsCatalogue names → length rs ≤ 64 → AreSmall rs → HaveLawfulTexts rs → IsScenario (rigged_scenario names rs)
+unfolding rigged_scenario
+rigged_scenario_keeps names rs c few small texts = record {
   few_entries = omega (arith, entries_few 0 names rs, c.few);
   no_empty_chain = entries_all (λ e. 0 < length e.1) (λ _. Unit {0}) rs (λ n p _ h. h) 0 names (any names);
   short_chains = entries_all (λ e. length e.1 ≤ 256) (λ _. Unit {0}) rs (λ n p _ _. short_chain (length (chain_from p 0 rs)) (length rs) (chain_few p 0 rs) few) 0 names (any names);

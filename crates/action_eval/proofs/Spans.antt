@@ -9,7 +9,7 @@ use Rattle.scenario_values.specs.declared.term.Term.{Term}
 use Rattle.scenario_values.specs.Scenario.{Entries, chain_at, entry_of}
 use Rattle.action_eval.specs.declared.found.Span.{Span}
 use Rattle.action_eval.specs.declared.found.Head.{Head}
-use Rattle.action_eval.specs.Rigging.{entry}
+use Rattle.action_eval.specs.RiggedScenario.{entry}
 use Rattle.action_eval.specs.inside.Session.{found_of, start_of, terms_of, seen_in, Rest, IsSpan, AreSpans, spanned, first_head, head_of}
 use Rattle.action_eval.specs.inside.Laid.{laid, AreSizes}
 use Rattle.action_eval.proofs.NamedCounts.{range_left, range_right}

@@ -4,7 +4,7 @@ pub mod Answers
 pub mod MayAct
 pub mod SameMeaning
 pub mod Catalogue
-pub mod Rigging
+pub mod RiggedScenario
 pub mod FullShares
 pub mod LeftTerms
 pub mod LeftFrom

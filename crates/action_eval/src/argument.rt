@@ -1,7 +1,7 @@
 //! The arguments of faults that are rigged.
 ghost use Rattle.std.specs.Prelude.{◌≡◌, ◌≤◌, ◌↔◌, true, None, length, option_map, IfSome, IsSome};
 ghost use Rattle.scenario_values.specs.Scenario.{is_argument};
-ghost use Rattle.action_eval.specs.Rigging.{is_same_text, most_text};
+ghost use Rattle.action_eval.specs.RiggedScenario.{is_same_text, most_text};
 
 use std::marker::Model;
 use std::str;

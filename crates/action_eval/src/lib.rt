@@ -5,17 +5,18 @@ mod answer;
 mod argument;
 mod counts;
 mod draws;
+mod fault_table;
 mod found;
 mod laws;
 mod quiet;
 mod replay;
 mod rig;
-mod rigging;
 mod session;
 mod terms;
 
 pub use answer::{Answer, Note, Stop};
 pub use argument::{Argument, is_same_text};
+pub use fault_table::{FaultTable, push_chain};
 pub use laws::{
     clean_until_a_fault_acts, dropped_faults_never_act, dropped_terms_never_act,
     faults_left_by_tidying, history_of_a_part, keep_of_tidied, keep_then_tidy,
@@ -23,5 +24,4 @@ pub use laws::{
 };
 pub use replay::{Answered, history, name_of};
 pub use rig::{Kind, Rig, Site, have_lawful_texts};
-pub use rigging::{Rigging, push_chain};
-pub use session::{Room, Session};
+pub use session::{Session, SessionBuffers};

@@ -20,7 +20,7 @@ pub fn quiet_of(head: Head, left: &[u32]) -> u32
     }
 }
 
-/// Hits a point as often as that surely comes to nothing, at most so often, and gives how often that was.
+/// Hits a point while a hit is sure to come to nothing, at most so many times, and gives how many times it did.
 #[inline(always)]
 pub fn pass_hits(
     heads: &[Head],
@@ -172,8 +172,8 @@ fn push_rounds(hits: &mut Vec<u32>, points: &[u32], times: u32) -> Result<(), Al
     Ok(())
 }
 
-/// Hits these points in turn, round after round, as often as that surely comes to nothing, at most so many rounds, and gives how many these
-/// were.
+/// Hits these points in turn, round after round, while every hit is sure to come to nothing, for at most so many rounds. Gives the number of
+/// rounds.
 #[inline(always)]
 pub fn pass_points(
     heads: &[Head],

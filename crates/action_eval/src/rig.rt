@@ -1,6 +1,6 @@
 //! Hits that faults are planned at.
 ghost use Rattle.std.specs.Prelude.{◌≡◌};
-ghost use Rattle.action_eval.specs.Rigging.{text_of, HasLawfulText, HaveLawfulTexts};
+ghost use Rattle.action_eval.specs.RiggedScenario.{text_of, HasLawfulText, HaveLawfulTexts};
 
 use crate::argument::Argument;
 

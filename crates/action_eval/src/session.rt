@@ -9,9 +9,9 @@ ghost use Rattle.action_eval.specs.inside.Layout.{faults_of, IsLayout};
 use crate::answer::{Answer, Note, Stop, answer_of, millis_of, push_note, stop_of};
 use crate::counts::{fill_counts, spend};
 use crate::draws::Draws;
+use crate::fault_table::FaultTable;
 use crate::found::{Found, Head, Layout, Span, chain_in, find_all, first_head, without_spent};
 use crate::quiet::{pass_hits, pass_points};
-use crate::rigging::Rigging;
 use crate::terms::{task_at, try_terms};
 use scenario_values::{Scenario, Task, Term};
 use std::alloc::{AllocError, Global};
@@ -77,16 +77,16 @@ struct Records {
     notes: Vec<Note>,
 }
 
-/// Room that a session leaves for another one: memory, and nothing of its run.
+/// The buffers that a session leaves for another one: memory, and nothing of its run.
 ///
 /// Contracts see it as how many hits there is room for.
 #[derive(Drop)]
-pub struct Room {
+pub struct SessionBuffers {
     records: Records,
     layout: Layout,
 }
 
-impl Model for Room {
+impl Model for SessionBuffers {
     ghost use Rattle.std.specs.Prelude.{ℕ, vec_capacity};
 
     ghost Value = { ℕ };
@@ -94,12 +94,12 @@ impl Model for Room {
     ghost view = { λ r. vec_capacity r.records.hits };
 }
 
-impl Room {
-    /// Room for nothing yet.
+impl SessionBuffers {
+    /// Buffers for nothing yet.
     pub fn new(alloc: Global) -> Self
         ensures { result ≡ 0 }
     {
-        Room {
+        SessionBuffers {
             records: Records {
                 hits: Vec::new(alloc),
                 notes: Vec::new(alloc),
@@ -117,7 +117,7 @@ impl Room {
 #[derive(Clone, Copy)]
 pub enum Faults<'a> {
     Written(&'a Scenario),
-    Rigged(&'a Rigging<'a>),
+    Rigged(&'a FaultTable<'a>),
 }
 
 impl<'a> Faults<'a> {
@@ -128,7 +128,7 @@ impl<'a> Faults<'a> {
     {
         match self {
             Faults::Written(scenario) => chain_in(scenario, span),
-            Faults::Rigged(rigging) => rigging.terms(span.start, span.end),
+            Faults::Rigged(table) => table.terms(span.start, span.end),
         }
     }
 }
@@ -192,52 +192,52 @@ impl<'a> Session<'a> {
             Faults::Written(scenario),
             catalogue,
             layout,
-            Room::new(alloc).records,
+            SessionBuffers::new(alloc).records,
             seed,
             stream,
             max_hits,
         )
     }
 
-    /// A session with no hit yet of the points of a rigging, whose faults it is answered by: that of its scenario, without a name looked
+    /// A session with no hit yet of the points of a fault table, whose faults it is answered by: that of its scenario, without a name looked
     /// up.
     pub fn over(
         alloc: Global,
-        rigging: &'a Rigging<'a>,
+        table: &'a FaultTable<'a>,
         seed: u64,
         stream: u64,
         max_hits: u32,
     ) -> Result<Self, AllocError>
-        ensures { IfOk result (λ s. s ≡ start (given_of rigging.now.scenario rigging.now.names seed stream max_hits)) }
+        ensures { IfOk result (λ s. s ≡ start (given_of table.now.scenario table.now.names seed stream max_hits)) }
     {
-        Session::over_in(Room::new(alloc), rigging, seed, stream, max_hits)
+        Session::over_in(SessionBuffers::new(alloc), table, seed, stream, max_hits)
     }
 
-    /// The same in the room that an earlier session left, of whatever run that was. Want of memory gives the room back to the system.
+    /// The same in the buffers that an earlier session of any run left. Want of memory gives them back to the system.
     // A session has the place of a generator in it: made within its caller, it isn't moved.
     #[inline(always)]
     pub fn over_in(
-        room: Room,
-        rigging: &'a Rigging<'a>,
+        buffers: SessionBuffers,
+        table: &'a FaultTable<'a>,
         seed: u64,
         stream: u64,
         max_hits: u32,
     ) -> Result<Self, AllocError>
-        ensures { IfOk result (λ s. s ≡ start (given_of rigging.now.scenario rigging.now.names seed stream max_hits)) }
+        ensures { IfOk result (λ s. s ≡ start (given_of table.now.scenario table.now.names seed stream max_hits)) }
     {
-        let layout = rigging.layout(room.layout)?;
+        let layout = table.layout(buffers.layout)?;
         Session::begin(
-            Faults::Rigged(rigging),
-            rigging.catalogue(),
+            Faults::Rigged(table),
+            table.catalogue(),
             layout,
-            room.records,
+            buffers.records,
             seed,
             stream,
             max_hits,
         )
     }
 
-    /// A session with no hit yet, where the chains of the points are known. It writes into the room of these records.
+    /// A session with no hit yet, where the chains of the points are known. It writes into the memory of these records.
     #[inline(always)]
     fn begin(
         faults: Faults<'a>,
@@ -434,8 +434,8 @@ impl<'a> Session<'a> {
         Ok(count)
     }
 
-    /// Hits these points of the catalogue in turn, round after round, as often as that surely comes to nothing, at most so many rounds, and
-    /// gives how many these were. Each of these hits is answered `Go`; 0 says nothing of the next one, which is for `hit`.
+    /// Hits these points of the catalogue in turn, round after round, while every hit is sure to come to nothing, for at most so many rounds.
+    /// Gives the number of rounds. Each of these hits is answered `Go`; 0 says nothing of the next one, which is for `hit`.
     ///
     /// Want of memory leaves the session as it was.
     // A caller mostly hits the same points again and again: within it, they are known where this is compiled.
@@ -485,11 +485,11 @@ impl<'a> Session<'a> {
         self.notes
     }
 
-    /// The room that the session has taken, for another one: room for as many hits as it had, at least.
-    pub fn into_room(self) -> Room
+    /// The buffers that the session has taken, for another one: they have room for as many hits as it had, at least.
+    pub fn into_buffers(self) -> SessionBuffers
         ensures { length self.entry.hits ≤ result }
     {
-        Room {
+        SessionBuffers {
             records: Records {
                 hits: self.hits,
                 notes: self.notes,

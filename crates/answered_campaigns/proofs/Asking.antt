@@ -55,10 +55,10 @@ pub none_asked : (a : Answered) (depth : ℕ) (asked : Asked) (plans : List Entr
 none_asked a depth asked plans grew told lines h is known empty =
     empty ∙ ap lines_for (sym (told_none a depth plans grew told h) ∙ asked_by a depth asked plans grew is known)
 
-pub cards_asked : (a : Answered) (depth : ℕ) (asked : Asked) (plans : List Entries) (grew : List (List Rig)) (cards slice : List Entries) (lines : List (List ℕ))
-    → cards ≡ open_candidates a depth plans ++ open_scenarios a depth grew → plans ≡ listed a depth asked → grew ≡ known_plans a depth → slice ≡ cards → lines ≡ lines_for slice
+pub requests_asked : (a : Answered) (depth : ℕ) (asked : Asked) (plans : List Entries) (grew : List (List Rig)) (requests slice : List Entries) (lines : List (List ℕ))
+    → requests ≡ open_candidates a depth plans ++ open_scenarios a depth grew → plans ≡ listed a depth asked → grew ≡ known_plans a depth → slice ≡ requests → lines ≡ lines_for slice
     → lines ≡ lines_for (candidates a depth asked)
-cards_asked a depth asked plans grew cards slice lines h is known same asks = asks ∙ ap lines_for (same ∙ h ∙ asked_by a depth asked plans grew is known)
+requests_asked a depth asked plans grew requests slice lines h is known same asks = asks ∙ ap lines_for (same ∙ h ∙ asked_by a depth asked plans grew is known)
 
 -- ---- the text
 

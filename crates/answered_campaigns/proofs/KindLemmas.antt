@@ -5,7 +5,7 @@ use Rattle.std.specs.List.{AllByRecursion}
 use Rattle.std.proofs.lemmas.Bool.{leb-true}
 use Rattle.std.proofs.lemmas.List.{length-map}
 use Rattle.scenario_values.specs.Scenario.{is_argument}
-use Rattle.action_eval.specs.Rigging.{HasLawfulText, most_text}
+use Rattle.action_eval.specs.RiggedScenario.{HasLawfulText, most_text}
 use Rattle.action_eval.specs.declared.rig.Kind.{Kind}
 use Rattle.action_eval.specs.declared.rig.Kind.TheVariants.{OnceReturn, OncePanic}
 use Rattle.plan_gen.specs.RiggedAnswers.{is_onward}

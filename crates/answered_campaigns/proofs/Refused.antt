@@ -202,25 +202,25 @@ none_to_try a depth asked plans told is none =
 
 -- ---- candidates
 
-by_cards : (a : Answered) (depth : ℕ) (asked : Asked) (why : QuestionFault) (cards : List Entries) → cards ≡ candidates a depth asked → to_try a depth asked ≡ [] → IsFirstOf cards why
+by_requests : (a : Answered) (depth : ℕ) (asked : Asked) (why : QuestionFault) (requests : List Entries) → requests ≡ candidates a depth asked → to_try a depth asked ≡ [] → IsFirstOf requests why
     → RefusesBy a depth asked why
-by_cards a depth asked (fault.Broken b) cards is none h = absurd h
-by_cards a depth asked (fault.Outside (refusal.NotAnswered t)) cards is none h =
+by_requests a depth asked (fault.Broken b) requests is none h = absurd h
+by_requests a depth asked (fault.Outside (refusal.NotAnswered t)) requests is none h =
     subst (λ (l : List Entries). Contains (or_else l (candidates a depth asked)) t) (sym none) (subst (λ (l : List Entries). Contains l t) is h)
-by_cards a depth asked (fault.Outside (refusal.Answers f)) cards is none h = absurd h
-by_cards a depth asked (fault.Outside (refusal.Census line)) cards is none h = absurd h
-by_cards a depth asked (fault.Scenario f) cards is none h = absurd h
-by_cards a depth asked (fault.Unseen line) cards is none h = absurd h
-by_cards a depth asked (fault.Outside (refusal.Campaign campaign.TooManyPlans)) cards is none h = absurd h
-by_cards a depth asked (fault.Outside (refusal.Campaign campaign.Memory)) cards is none h = tt
-by_cards a depth asked (fault.Outside (refusal.Campaign (campaign.Write n))) cards is none h = absurd h
+by_requests a depth asked (fault.Outside (refusal.Answers f)) requests is none h = absurd h
+by_requests a depth asked (fault.Outside (refusal.Census line)) requests is none h = absurd h
+by_requests a depth asked (fault.Scenario f) requests is none h = absurd h
+by_requests a depth asked (fault.Unseen line) requests is none h = absurd h
+by_requests a depth asked (fault.Outside (refusal.Campaign campaign.TooManyPlans)) requests is none h = absurd h
+by_requests a depth asked (fault.Outside (refusal.Campaign campaign.Memory)) requests is none h = tt
+by_requests a depth asked (fault.Outside (refusal.Campaign (campaign.Write n))) requests is none h = absurd h
 
-pub cards_refused : (a : Answered) (depth : ℕ) (asked : Asked) (why : QuestionFault) (cards : List Entries) → cards ≡ candidates a depth asked → to_try a depth asked ≡ []
-    → IsFirstOf cards why → RefusesBy a depth asked why
-cards_refused = by_cards
+pub requests_refused : (a : Answered) (depth : ℕ) (asked : Asked) (why : QuestionFault) (requests : List Entries) → requests ≡ candidates a depth asked → to_try a depth asked ≡ []
+    → IsFirstOf requests why → RefusesBy a depth asked why
+requests_refused = by_requests
 
 pub nothing_left : (a : Answered) (depth : ℕ) (asked : Asked) → to_try a depth asked ≡ [] → candidates a depth asked ≡ [] → untried a depth asked ≡ []
-nothing_left a depth asked none no_cards = ap (λ (l : List Entries). or_else l (candidates a depth asked)) none ∙ no_cards
+nothing_left a depth asked none no_requests = ap (λ (l : List Entries). or_else l (candidates a depth asked)) none ∙ no_requests
 
 -- ---- the list has a plan
 

@@ -13,7 +13,7 @@ use Rattle.answered_runs.specs.Verdicts.{verdict_by}
 use Rattle.campaign_given.specs.Description.{Description}
 use Rattle.campaign_given.specs.Given.{Given}
 use Rattle.campaign_core.specs.Headline.{Campaign, first_failure, grown_to, onward_to, plans, report}
-use Rattle.outside_campaign.specs.Asked.{known_failures, open_cards}
+use Rattle.outside_campaign.specs.Asked.{known_failures, open_requests}
 use Rattle.outside_campaign.specs.Campaigns.{code_name}
 use Rattle.outside_campaign.specs.Forms.{ShownFacts, text_in}
 use Rattle.outside_campaign.specs.declared.forms.Form.{Form}
@@ -77,7 +77,7 @@ listed a depth asked = grown_scenarios a.points (known_plans a depth) ++ further
 -- on what it depends what plans come to whose runs are all known: what the first failures are reduced to, and which plans are causes
 abbrev pub candidates : Answered → ℕ → Asked → List Entries
 candidates a depth asked =
-    open_cards (known a depth) (listed a depth asked) (known_failures (known a depth) (listed a depth asked)) ++ open_scenarios a depth (known_plans a depth)
+    open_requests (known a depth) (listed a depth asked) (known_failures (known a depth) (listed a depth asked)) ++ open_scenarios a depth (known_plans a depth)
 
 abbrev pub or_else : List Entries → List Entries → List Entries
 or_else [] others = others

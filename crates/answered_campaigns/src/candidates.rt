@@ -2,7 +2,7 @@
 //! are reduced.
 ghost use Rattle.std.specs.Prelude.{◌≡◌, ◌≤◌, ◌<◌, ◌^◌, ◌++◌, length, IfOk};
 ghost use Rattle.std.specs.List.{AllByRecursion};
-ghost use Rattle.action_eval.specs.Rigging.{CanBeRigged};
+ghost use Rattle.action_eval.specs.RiggedScenario.{CanBeRigged};
 ghost use Rattle.grown_plans.specs.GrownPlans.{rigs_of};
 ghost use Rattle.answered_campaigns.specs.inside.Outcomes.{IsOutcome};
 

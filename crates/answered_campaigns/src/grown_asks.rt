@@ -30,7 +30,7 @@ fn candidates(
     let plans = CampaignPlans::grown(Some(grown), known.runs.points(), &lists.further);
     match outcome_known(alloc, known, &plans, grown)? {
         Outcome::Told(_) => Ok(AskedLines::new(alloc)),
-        Outcome::Open(cards) => Ok(AskedLines::of(alloc, cards.as_slice())?),
+        Outcome::Open(requests) => Ok(AskedLines::of(alloc, requests.as_slice())?),
     }
 }
 

@@ -60,11 +60,11 @@ fn all_verdicts(
 }
 
 /// The first of what is still to be tried.
-fn first_of(cards: Vec<Scenario>) -> QuestionFault
-    ensures { IsFirstOf cards.items result }
+fn first_of(requests: Vec<Scenario>) -> QuestionFault
+    ensures { IsFirstOf requests.items result }
 {
-    match cards.into_iter().next() {
-        Some(card) => QuestionFault::Outside(OutsideFault::NotAnswered(card)),
+    match requests.into_iter().next() {
+        Some(request) => QuestionFault::Outside(OutsideFault::NotAnswered(request)),
         None => QuestionFault::from(AllocError),
     }
 }
@@ -89,7 +89,7 @@ fn clean_of(verdicts: &[Verdict]) -> Verdict
 }
 
 /// The text of the report in a form.
-fn told_text<'a>(
+fn reported_text<'a>(
     alloc: Global,
     form: &Form<'_>,
     campaign: &'a Campaign<'a>,
@@ -164,7 +164,7 @@ pub fn grown_report<'a>(
     let plans = CampaignPlans::grown(Some(grown), known.runs.points(), &lists.further);
     let verdicts = all_verdicts(alloc, known, &plans)?;
     match outcome_known(alloc, known, &plans, grown)? {
-        Outcome::Open(cards) => Err(first_of(cards)),
+        Outcome::Open(requests) => Err(first_of(requests)),
         Outcome::Told(told) => {
             let first = first_number(&told.findings);
             let campaign = Campaign {
@@ -174,7 +174,7 @@ pub fn grown_report<'a>(
                 lists: &lists,
                 plans: &plans,
             };
-            let text = told_text(alloc, form, &campaign, verdicts.as_slice(), told)?;
+            let text = reported_text(alloc, form, &campaign, verdicts.as_slice(), told)?;
             Ok((text, first))
         }
     }

@@ -6,11 +6,11 @@ use Rattle.std.proofs.lemmas.Slice.Eq.{bytes_eq-Decides}
 use Rattle.action_eval.specs.declared.rig.Kind.{Kind}
 use Rattle.action_eval.specs.declared.rig.Kind.TheVariants.{OnceReturn, OnwardReturn, OncePanic}
 use Rattle.action_eval.specs.declared.rig.Rig.{Rig}
-use Rattle.action_eval.specs.Rigging.{HasLawfulText, HaveLawfulTexts, is_same_text}
+use Rattle.action_eval.specs.RiggedScenario.{HasLawfulText, HaveLawfulTexts, is_same_text}
 use Rattle.plan_gen.specs.RiggedAnswers.{is_onward}
 use Rattle.grown_plans.specs.Promises.{EachTwo}
 use Rattle.grown_plans.proofs.Members.{all_contains, all_weaker, contains_head, contains_tail}
-use Rattle.grown_plans.proofs.Riggings.{same_text}
+use Rattle.grown_plans.proofs.RiggedScenarios.{same_text}
 use Rattle.known_runs.specs.Walks.{once}
 
 pub same_kind : Kind → Kind → Bool

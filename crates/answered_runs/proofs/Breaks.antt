@@ -7,7 +7,7 @@ use Rattle.std.specs.List.{AllByRecursion, filter}
 use Rattle.action_eval.specs.declared.rig.Kind.{Kind}
 use Rattle.action_eval.specs.declared.rig.Rig.{Rig}
 use Rattle.action_eval.specs.declared.rig.Kind.TheVariants.{OnwardReturn}
-use Rattle.action_eval.specs.Rigging.{text_of, rig}
+use Rattle.action_eval.specs.RiggedScenario.{text_of, rig}
 use Rattle.plan_gen.specs.RiggedAnswers.{is_onward}
 use Rattle.grown_plans.specs.GrownPlans.{Subject, run_of_plan, hits_past, grown_at, children, level, levels, onward, onward_of, grown, is_once_return, is_hit_again}
 use Rattle.grown_plans.specs.Promises.{IsLawful}

@@ -12,8 +12,8 @@ use Rattle.action_eval.specs.Catalogue.{IsCatalogue}
 use Rattle.action_eval.specs.declared.rig.Kind.{Kind}
 use Rattle.action_eval.specs.declared.rig.Rig.{Rig}
 use Rattle.action_eval.specs.declared.rig.Site.{Site}
-use Rattle.action_eval.specs.Rigging.{rigging, most_text, text_of, HasLawfulText, HaveLawfulTexts}
-use Rattle.action_eval.proofs.Rigged.{rigging_keeps}
+use Rattle.action_eval.specs.RiggedScenario.{rigged_scenario, most_text, text_of, HasLawfulText, HaveLawfulTexts}
+use Rattle.action_eval.proofs.Rigged.{rigged_scenario_keeps}
 use Rattle.target_trait.specs.Outcomes.{outcome, verdict_with}
 use Rattle.target_trait.specs.declared.judgement.Verdict.{Verdict}
 use Rattle.target_trait.proofs.Verdicts.{verdict_is}
@@ -149,13 +149,13 @@ true_of t points listed told depth is low agrees s v ok known seed stream = by_t
     by_rigs None e k = absurd cc
     by_rigs (Some rigs) e k =
         let m = made points s rigs e in
-        let l = lawful rigs (left (are_lawful rigs) (bytes_eq (printed (rigging points rigs)) (printed s)) m) in
-        let prints : printed (rigging points rigs) ≡ printed s = (bytes_eq-Decides (printed (rigging points rigs)) (printed s)).0 (right (are_lawful rigs) (bytes_eq (printed (rigging points rigs)) (printed s)) m) in
-        let same : rigging points rigs ≡ s = same_printed (rigging points rigs) s (rigging_keeps points rigs catalogue l.few l.small l.texts) ok prints in
+        let l = lawful rigs (left (are_lawful rigs) (bytes_eq (printed (rigged_scenario points rigs)) (printed s)) m) in
+        let prints : printed (rigged_scenario points rigs) ≡ printed s = (bytes_eq-Decides (printed (rigged_scenario points rigs)) (printed s)).0 (right (are_lawful rigs) (bytes_eq (printed (rigged_scenario points rigs)) (printed s)) m) in
+        let same : rigged_scenario points rigs ≡ s = same_printed (rigged_scenario points rigs) s (rigged_scenario_keeps points rigs catalogue l.few l.small l.texts) ok prints in
         let any = lawful_any t rigs is.lawful l.texts in
         let known = agree_lawful (with_any t rigs) points told depth any is.names is.few low (agrees_any t rigs told agrees) in
         let w : (seed stream : ℕ) → verdict_of_rigs t seed stream rigs ≡ v = same_verdict (plan_runs points told) rigs depth (Some v) (sym k) (with_any t rigs) any known l.ordered (any_in rigs) in
-        sym (verdict_is t.asks t.names seed t.limit stream s) ∙ ap (verdict_with t.asks t.names seed t.limit stream) (sym same ∙ ap (λ (names : List (List ℕ)). rigging names rigs) (sym is.names)) ∙ w seed stream
+        sym (verdict_is t.asks t.names seed t.limit stream s) ∙ ap (verdict_with t.asks t.names seed t.limit stream) (sym same ∙ ap (λ (names : List (List ℕ)). rigged_scenario names rigs) (sym is.names)) ∙ w seed stream
 
     by_told : (o : Option ToldRun) → IfSome o (IsTrueRun t s) → told_or (walked_by (plan_runs points told) depth (rigs_of_scenario points s)) o ≡ Some v → (outcome t.asks (given_of s t.names seed stream t.limit)).verdict ≡ v
     by_told (Some r) h k = h.verdict seed stream ∙ verdict_some r.verdict v k

@@ -9,7 +9,7 @@ use Rattle.scenario_values.specs.Tidied.{tidied}
 use Rattle.action_eval.specs.declared.rig.Kind.{Kind}
 use Rattle.action_eval.specs.declared.rig.Rig.{Rig}
 use Rattle.action_eval.specs.declared.rig.Site.{Site}
-use Rattle.action_eval.specs.Rigging.{CanBeRigged, HasLawfulText, rig}
+use Rattle.action_eval.specs.RiggedScenario.{CanBeRigged, HasLawfulText, rig}
 use Rattle.answer_text.specs.Hits.{most_hits, points_of}
 use Rattle.answer_text.specs.Runs.{KnownRuns as Answers}
 use Rattle.answer_text.specs.declared.hits.Stretch.{Stretch}

@@ -11,7 +11,7 @@ use Rattle.scenario_values.specs.declared.term.Term.{Term}
 use Rattle.action_eval.specs.declared.rig.Kind.{Kind}
 use Rattle.action_eval.specs.declared.rig.Kind.TheVariants.{OnceReturn, OnwardReturn, OncePanic}
 use Rattle.action_eval.specs.declared.rig.Rig.{Rig}
-use Rattle.action_eval.specs.Rigging.{rig, rigging, most_text, text_of}
+use Rattle.action_eval.specs.RiggedScenario.{rig, rigged_scenario, most_text, text_of}
 use Rattle.grown_plans.specs.GrownPlans.{is_before}
 
 abbrev pub most_hit : ℕ
@@ -75,7 +75,7 @@ abbrev pub are_lawful : List Rig → Bool
 are_lawful rigs = nat_le (length rigs) 64 && are_small rigs && are_short rigs && are_in_order rigs
 
 abbrev pub make : List (List ℕ) → List Rig → Entries → Bool
-make points rigs s = are_lawful rigs && bytes_eq (printed (rigging points rigs)) (printed s)
+make points rigs s = are_lawful rigs && bytes_eq (printed (rigged_scenario points rigs)) (printed s)
 
 abbrev pub if_made : List (List ℕ) → Entries → List Rig → Option (List Rig)
 if_made points s rigs = if make points rigs s then Some rigs else None

@@ -3,7 +3,7 @@ ghost use Rattle.std.specs.Prelude.{◌≡◌, ◌≤◌, None, Some, nat_le, le
 ghost use Rattle.std.specs.List.{list_all};
 ghost use Rattle.action_eval.specs.Answers.{texts};
 ghost use Rattle.action_eval.specs.Catalogue.{IsCatalogue};
-ghost use Rattle.action_eval.specs.Rigging.{text_of};
+ghost use Rattle.action_eval.specs.RiggedScenario.{text_of};
 ghost use Rattle.grown_plans.specs.GrownPlans.{is_before};
 ghost use Rattle.answered_runs.specs.Rigged.{are_in_order, are_lawful, are_short, are_small, chain_into, chain_named, if_short, is_short, make, most_hit, points_into, rigs_of_scenario, term_into, with_kind, with_task};
 ghost use Rattle.answered_runs.specs.inside.Steps.{Took, TookTo, return_kind};

@@ -3,7 +3,7 @@ ghost use Rattle.std.specs.Prelude.{◌≡◌, ◌<◌, ◌≤◌, ◌^◌, leng
 ghost use Rattle.std.specs.List.{AllByRecursion};
 ghost use Rattle.action_eval.specs.Answers.{texts};
 ghost use Rattle.action_eval.specs.Catalogue.{IsCatalogue};
-ghost use Rattle.action_eval.specs.Rigging.{rigging};
+ghost use Rattle.action_eval.specs.RiggedScenario.{rigged_scenario};
 ghost use Rattle.campaign_plans.specs.GrownScenarios.{grown_scenario};
 
 use action_eval::{Rig, have_lawful_texts};
@@ -23,7 +23,7 @@ fn fit(rigs: &[Rig]) -> bool
 pub fn rigged_scenario(alloc: Global, points: &[&str], rigs: &[Rig]) -> Result<Scenario, AllocError>
     requires lawful { IsCatalogue (texts points.now) }
     requires few { length rigs.now ≤ 64 }
-    ensures { IfOk result (λ scenario. scenario ≡ rigging (texts points.now) rigs.now) }
+    ensures { IfOk result (λ scenario. scenario ≡ rigged_scenario (texts points.now) rigs.now) }
 {
     let _ = fit(rigs);
     have_lawful_texts(rigs);

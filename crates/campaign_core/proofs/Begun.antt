@@ -5,7 +5,7 @@ use Rattle.std.specs.List.{AllByRecursion}
 use Rattle.std.proofs.lemmas.List.{length-map, map-append}
 use Rattle.scenario_values.specs.Scenario.{Entries}
 use Rattle.action_eval.specs.declared.rig.Rig.{Rig}
-use Rattle.action_eval.specs.Rigging.{CanBeRigged}
+use Rattle.action_eval.specs.RiggedScenario.{CanBeRigged}
 use Rattle.plan_gen.specs.PlanList.{further_list}
 use Rattle.grown_plans.specs.GrownPlans.{usual_kinds, Subject, rigs_of, grown}
 use Rattle.grown_plans.proofs.Members.{all_left}

@@ -5,7 +5,7 @@ use Rattle.std.proofs.lemmas.List.{append-nil, length-map}
 use Rattle.std.proofs.lemmas.List.Sums.{sum_by-cons}
 use Rattle.scenario_values.specs.Scenario.{Entries}
 use Rattle.action_eval.specs.Answers.{Reply, given_of}
-use Rattle.action_eval.specs.Rigging.{rigging, entries_from, rig}
+use Rattle.action_eval.specs.RiggedScenario.{rigged_scenario, entries_from, rig}
 use Rattle.action_eval.specs.declared.rig.Rig.{Rig}
 use Rattle.action_eval.specs.declared.rig.Site.{Site}
 use Rattle.action_eval.specs.declared.rig.Kind.{Kind}
@@ -75,8 +75,8 @@ no_entries : (p : ℕ) (names : List (List ℕ)) → entries_from p names [] ≡
 no_entries p [] = refl
 no_entries p (name ∷ names) = no_entries (p + 1) names
 
-no_rigs : (names : List (List ℕ)) → rigging names [] ≡ []
-unfolding rigging
+no_rigs : (names : List (List ℕ)) → rigged_scenario names [] ≡ []
+unfolding rigged_scenario
 no_rigs names = no_entries 0 names
 
 length_sites : (before asked : List ℕ) → length (sites_from before asked) ≡ length asked
@@ -106,10 +106,10 @@ unfolding level
 first_level asks names limit seed grows =
     let t : Subject = usual_subject asks names limit in
     let asked : Entries → List ℕ = λ s. (outcome asks (given_of s names seed 0 limit)).asked in
-    let sites = sites_from [] (asked (rigging names [])) in
+    let sites = sites_from [] (asked (rigged_scenario names [])) in
     let many = ap length (append-nil (children t []) ∙ grows seed 0) in
     let each = each_has_one (cut_point names) sites in
-    let all : length sites ≡ length (asked []) = length_sites [] (asked (rigging names [])) ∙ ap (λ s. length (asked s)) (no_rigs names) in
+    let all : length sites ≡ length (asked []) = length_sites [] (asked (rigged_scenario names [])) ∙ ap (λ s. length (asked s)) (no_rigs names) in
     omega (arith, many, each, all)
 
 -- ---- the first level is one of those that grow

@@ -6,14 +6,14 @@ use Rattle.std.proofs.lemmas.List.Elements.{All-from_recursion}
 use Rattle.std.proofs.lemmas.List.FromFn.{length-map-range_with_len}
 use Rattle.scenario_values.specs.Scenario.{Entries}
 use Rattle.action_eval.specs.Answers.{Reply}
-use Rattle.action_eval.specs.Rigging.{rigging}
+use Rattle.action_eval.specs.RiggedScenario.{rigged_scenario}
 use Rattle.action_eval.specs.declared.rig.Rig.{Rig}
 use Rattle.target_trait.specs.Play.{Move}
 use Rattle.target_trait.specs.Outcomes.{verdict_with}
 use Rattle.target_trait.specs.declared.judgement.Verdict.{Verdict}
 use Rattle.target_trait.specs.declared.judgement.Verdict.TheVariants as verdict
 use Rattle.plan_gen.specs.Census.{sites_of}
-use Rattle.action_eval.specs.Rigging.{CanBeRigged}
+use Rattle.action_eval.specs.RiggedScenario.{CanBeRigged}
 use Rattle.plan_gen.specs.PlanList.{Asked, storm_part, further_list}
 use Rattle.plan_gen.proofs.Counting.{further_judged}
 use Rattle.grown_plans.specs.GrownPlans.{Subject, usual_subject, rigs_of, scenario_of, level, levels, onward, grown, grown_list, reached}
@@ -25,7 +25,7 @@ use Rattle.campaign_core.specs.Headline.{Campaign, census, grower, plans, plans_
 use Rattle.report.specs.Reports.{GrowthFacts}
 use Rattle.campaign_core.specs.Findings.{growth_of}
 use Rattle.campaign_core.specs.Planned.{IsGrownTo, listed_to, AreKnown}
-use Rattle.result_book.specs.Rows.{AreSaid}
+use Rattle.result_book.specs.Ranges.{AreSaid}
 
 over_length : {A : Type 0} (f : ℕ → List Rig → A) (plans : List (List Rig)) (first count : ℕ) → length (over (λ n p. f n p ∷ []) plans first count) ≡ count
 over_length f plans first zero = refl
@@ -61,7 +61,7 @@ unfolding verdict_with
 verdicts_said t seed d asked counts verdicts are k v lt =
     let plans = grown t d in
     let said : ℕ → Entries → Verdict = verdict_with t.asks t.names seed t.limit in
-    let f : ℕ → List Rig → Verdict = λ n plan. said n (rigging t.names (rigs_of plan)) in
+    let f : ℕ → List Rig → Verdict = λ n plan. said n (rigged_scenario t.names (rigs_of plan)) in
     let some : k < length plans = (let e = ap length are ∙ over_length f plans 0 (length plans) in omega (arith, e, lt)) in
     let at : 0 + k ≡ k = omega arith in
     let made = length-map plans (scenario_of t) in

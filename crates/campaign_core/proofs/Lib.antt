@@ -4,7 +4,7 @@ mod PageRuns
 mod ToldRuns
 pub mod PlanNames
 pub mod Gathered
-pub mod PlanRows
+pub mod PlanRanges
 pub mod Sites
 pub mod Shown
 pub mod FirstLevel

@@ -9,7 +9,7 @@ use Rattle.action_eval.specs.Catalogue.{HasDistinct}
 use Rattle.action_eval.specs.declared.rig.Rig.{Rig}
 use Rattle.action_eval.specs.declared.rig.Site.{Site}
 use Rattle.action_eval.specs.declared.rig.Kind.TheVariants.{OnceReturn}
-use Rattle.action_eval.specs.Rigging.{chain_from, entry, entries_from, rig, rigging}
+use Rattle.action_eval.specs.RiggedScenario.{chain_from, entry, entries_from, rig, rigged_scenario}
 use Rattle.plan_gen.specs.Census.{sites_of}
 use Rattle.grown_plans.specs.GrownPlans.{Subject, rigs_of, scenario_of, grown, grown_list}
 use Rattle.campaign_core.specs.Headline.{Campaign, census, grower, plans, plans_to}
@@ -51,9 +51,9 @@ entries_distinct p [] rs d = tt
 entries_distinct p (name ∷ names) rs d =
     entry_distinct name (chain_from p 0 rs) (entries_from (p + 1) names rs) (entries_new name (p + 1) names rs d.0) (entries_distinct (p + 1) names rs d.1)
 
-rigging_distinct : (names : List (List ℕ)) (rs : List Rig) → HasDistinct names → DistinctNames (rigging names rs)
-unfolding rigging
-rigging_distinct names rs d = entries_distinct 0 names rs d
+rigged_scenario_distinct : (names : List (List ℕ)) (rs : List Rig) → HasDistinct names → DistinctNames (rigged_scenario names rs)
+unfolding rigged_scenario
+rigged_scenario_distinct names rs d = entries_distinct 0 names rs d
 
 -- ---- the list of plans
 
@@ -61,7 +61,7 @@ pair_part_distinct : (names : List (List ℕ)) (wanted : Bool) (sites : List Sit
     → AllByRecursion (λ s. DistinctNames s) (pair_part names wanted sites)
 pair_part_distinct names true sites d =
     all_flat (λ s. DistinctNames s) (pair_plans names)
-    (λ p. all_map (λ s. DistinctNames s) _ (λ kind. rigging_distinct names (rig p.0 (OnceReturn None) ∷ rig p.1 kind ∷ []) d) second) (pairs_of sites)
+    (λ p. all_map (λ s. DistinctNames s) _ (λ kind. rigged_scenario_distinct names (rig p.0 (OnceReturn None) ∷ rig p.1 kind ∷ []) d) second) (pairs_of sites)
 pair_part_distinct names false sites d = tt
 
 listed_distinct : (names : List (List ℕ)) (counts : List ℕ) (asked : Asked) → HasDistinct names → AllByRecursion (λ s. DistinctNames s) asked.listed
@@ -74,9 +74,9 @@ listed_distinct names counts asked d listed =
     let pairs : List Entries = pair_part names asked.pairs sites in
     let storms : List Entries = storm_part names asked.seed asked.rate asked.storms sites in
     let empty : List Entries = [] ∷ [] in
-    let one = all_flat P (site_plans names) (λ s. all_map P _ (λ kind. rigging_distinct names (rig s kind ∷ []) d) alone) sites in
+    let one = all_flat P (site_plans names) (λ s. all_map P _ (λ kind. rigged_scenario_distinct names (rig s kind ∷ []) d) alone) sites in
     let two = pair_part_distinct names asked.pairs sites d in
-    let many = all_map P _ (λ j. rigging_distinct names (storm asked.seed asked.rate sites j) d) (range_with_len 0 asked.storms) in
+    let many = all_map P _ (λ j. rigged_scenario_distinct names (storm asked.seed asked.rate sites j) d) (range_with_len 0 asked.storms) in
     all_both P (empty ++ alone_part ++ pairs ++ storms) asked.listed
     (all_both P (empty ++ alone_part ++ pairs) storms (all_both P (empty ++ alone_part) pairs (all_both P empty alone_part (tt, tt) one) two) many) listed
 
@@ -85,8 +85,8 @@ grown_distinct : (t : Subject) (d : ℕ) (asked : Asked) (sites : List Site) →
     → AllByRecursion (λ s. DistinctNames s) (grown_list t d asked sites)
 grown_distinct t d asked sites distinct listed =
     let P : Entries → Type 0 = λ s. DistinctNames s in
-    let many = all_map P _ (λ j. rigging_distinct t.names (storm asked.seed asked.rate sites j) distinct) (range_with_len 0 asked.storms) in
-    let grew = all_map P _ (λ plan. rigging_distinct t.names (rigs_of plan) distinct) (grown t d) in
+    let many = all_map P _ (λ j. rigged_scenario_distinct t.names (storm asked.seed asked.rate sites j) distinct) (range_with_len 0 asked.storms) in
+    let grew = all_map P _ (λ plan. rigged_scenario_distinct t.names (rigs_of plan) distinct) (grown t d) in
     all_both P (map (scenario_of t) (grown t d) ++ storm_part t.names asked.seed asked.rate asked.storms sites) asked.listed
     (all_both P (map (scenario_of t) (grown t d)) (storm_part t.names asked.seed asked.rate asked.storms sites) grew many) listed
 

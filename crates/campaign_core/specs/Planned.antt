@@ -3,13 +3,13 @@ use Rattle.std.specs.Prelude.{◌≡◌, ◌≤◌, ◌<◌, ℕ, List, Option, 
 use Rattle.std.specs.List.{AllByRecursion}
 use Rattle.scenario_values.specs.Scenario.{Entries}
 use Rattle.target_trait.specs.declared.judgement.Verdict.{Verdict}
-use Rattle.action_eval.specs.Rigging.{CanBeRigged}
+use Rattle.action_eval.specs.RiggedScenario.{CanBeRigged}
 use Rattle.plan_gen.specs.PlanList.{most_plans, plan_list, further_list}
 use Rattle.grown_plans.specs.GrownPlans.{grown, rigs_of}
 use Rattle.grown_runs.specs.declared.levels.Grown.{Grown}
 use Rattle.action_eval.specs.declared.rig.Rig.{Rig}
 use Rattle.grown_runs.specs.Grown.{HasGrown, begun}
-use Rattle.result_book.specs.Rows.{AreSaid}
+use Rattle.result_book.specs.Ranges.{AreSaid}
 use Rattle.campaign_core.specs.Headline.{Campaign, census, grower, plans}
 use Rattle.campaign_core.specs.CommandTexts.{with_rest}
 use Rattle.campaign_core.specs.declared.planned.Planned.{Planned}

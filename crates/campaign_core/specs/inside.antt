@@ -1,4 +1,4 @@
 -- What the code keeps. No clause that a caller sees names any of it.
 pub mod Results
 pub mod Says
-pub mod Rows
+pub mod Ranges

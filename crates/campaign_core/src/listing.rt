@@ -3,7 +3,7 @@ ghost use Rattle.std.specs.Prelude.{◌≡◌, ◌++◌, ◌≤◌, ◌<◌, fal
 ghost use Rattle.std.specs.List.{AllByRecursion};
 ghost use Rattle.action_eval.specs.Answers.{texts};
 ghost use Rattle.action_eval.specs.Catalogue.{IsCatalogue};
-ghost use Rattle.action_eval.specs.Rigging.{CanBeRigged};
+ghost use Rattle.action_eval.specs.RiggedScenario.{CanBeRigged};
 ghost use Rattle.grown_plans.specs.GrownPlans.{rigs_of};
 ghost use Rattle.campaign_plans.specs.GrownScenarios.{grown_among, grown_scenarios};
 ghost use Rattle.plan_gen.specs.PlanList.{most_plans};

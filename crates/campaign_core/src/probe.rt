@@ -123,6 +123,11 @@ where
 {
     let _ = failure.scenario.entries();
     let Host { rt, alloc, gate } = host;
-    let hands: Vec<CaseProbe<'_, T>> = probes(*alloc, target, failure, failure.settings.workers())?;
-    reduce(*rt, *alloc, *gate, hands, failure.faults)
+    let worker_probes: Vec<CaseProbe<'_, T>> = probes(
+        *alloc,
+        target,
+        failure,
+        failure.settings.workers(),
+    )?;
+    reduce(*rt, *alloc, *gate, worker_probes, failure.faults)
 }

@@ -6,10 +6,10 @@ ghost use Rattle.campaign_core.specs.Planned.{IsPlanned};
 ghost use Rattle.campaign_core.specs.inside.Results.{AreResults, IsRan};
 
 use crate::planned::{Planned, known_of, plan_campaign, plans_of};
-use crate::results::{Results, run_course};
+use crate::results::{Results, run_input_plans};
 use crate::subject::{Host, Subject};
 use plan_gen::PlanFault;
-use result_book::Course;
+use result_book::RunInput;
 use std::alloc::AllocError;
 use std::sync::Wait;
 use std::thread::Threads;
@@ -35,12 +35,12 @@ where
     ensures { IfOk result (AreResults (say (campaign_in T.Target subject.now)) (plans (campaign_in T.Target subject.now))) }
 {
     let plans = plans_of(subject, planned);
-    let course = Course {
+    let input = RunInput {
         workload: subject.workload,
         settings: subject.settings,
         plans: &plans,
     };
-    run_course(host, subject.target, &course, known_of(subject, planned))
+    run_input_plans(host, subject.target, &input, known_of(subject, planned))
 }
 
 /// Runs a campaign's plans, with as many threads as the settings say. What they come to is that of one thread.

@@ -2,7 +2,7 @@
 ghost use Rattle.std.specs.Prelude.{◌≡◌, ◌<◌, length, map, All, IfOk, OnOk};
 ghost use Rattle.campaign_core.specs.Findings.{cause_of, finding, IsFailure, ReducesToMinimal};
 ghost use Rattle.campaign_core.specs.Headline.{campaign_in, plans, growth, report, EachIsMinimal};
-ghost use Rattle.result_book.specs.Says.{course_says};
+ghost use Rattle.result_book.specs.Says.{input_says};
 ghost use Rattle.campaign_core.specs.Planned.{IsPlanned};
 ghost use Rattle.campaign_core.specs.inside.Results.{IsRan};
 
@@ -13,33 +13,33 @@ use crate::reducing::reduced_scenario;
 use crate::subject::{Host, Subject};
 use campaign_plans::CampaignPlans;
 use report::{Cause, Finding, Growth, Report};
-use result_book::{Course, first_failures_are_the_least};
+use result_book::{RunInput, first_failures_are_the_least};
 use std::alloc::{AllocError, Global};
 use std::sync::Wait;
 use std::thread::Threads;
 use target_trait::Target;
 use work_gate::Gate;
 
-/// What is told of a first failure of a course, by its number and code, with its plan's scenario reduced. An error means that memory was
+/// What is told of a first failure of an input, by its number and code, with its plan's scenario reduced. An error means that memory was
 /// refused.
 fn finding_of<T: Target + Send, G: Gate, R: Threads + Wait + Sync>(
     host: &Host<'_, G, R>,
     target: &T,
-    course: &Course<'_, T>,
+    input: &RunInput<'_, T>,
     first: (u32, u32),
 ) -> Result<Finding, AllocError>
 where
     T::Workload: Sync,
-    requires fails { IsFailure (course_says T.Target target.now course.now) course.now.plans.now first }
-    ensures found { IfOk result (λ found. found ≡ finding (course_says T.Target target.now course.now) course.now.plans.now first) }
-    ensures minimal { IfOk result (λ found. ReducesToMinimal (course_says T.Target target.now course.now) found) }
+    requires fails { IsFailure (input_says T.Target target.now input.now) input.now.plans.now first }
+    ensures found { IfOk result (λ found. found ≡ finding (input_says T.Target target.now input.now) input.now.plans.now first) }
+    ensures minimal { IfOk result (λ found. ReducesToMinimal (input_says T.Target target.now input.now) found) }
 {
     let (number, code) = first;
-    let scenario = course.plans.plan(number as usize).scenario(host.alloc)?;
+    let scenario = input.plans.plan(number as usize).scenario(host.alloc)?;
     let faults = fault_count(host.alloc, &scenario)?;
     let failure = Failure {
-        workload: course.workload,
-        settings: course.settings,
+        workload: input.workload,
+        settings: input.settings,
         scenario: &scenario,
         faults,
         stream: u64::from(number),
@@ -55,22 +55,22 @@ where
     })
 }
 
-/// What is told of each first failure of a course, reduced one after the other. An error means that memory was refused.
+/// What is told of each first failure of an input, reduced one after the other. An error means that memory was refused.
 fn findings<T: Target + Send, G: Gate, R: Threads + Wait + Sync>(
     host: &Host<'_, G, R>,
     target: &T,
-    course: &Course<'_, T>,
+    input: &RunInput<'_, T>,
     firsts: &[(u32, u32)],
 ) -> Result<Vec<Finding>, AllocError>
 where
     T::Workload: Sync,
-    requires fail { All (λ first. IsFailure (course_says T.Target target.now course.now) course.now.plans.now first) firsts.now }
-    ensures found { IfOk result (λ all. all.items ≡ map (finding (course_says T.Target target.now course.now) course.now.plans.now) firsts.now) }
-    ensures minimal { IfOk result (λ all. All (λ found. ReducesToMinimal (course_says T.Target target.now course.now) found) all.items) }
+    requires fail { All (λ first. IsFailure (input_says T.Target target.now input.now) input.now.plans.now first) firsts.now }
+    ensures found { IfOk result (λ all. all.items ≡ map (finding (input_says T.Target target.now input.now) input.now.plans.now) firsts.now) }
+    ensures minimal { IfOk result (λ all. All (λ found. ReducesToMinimal (input_says T.Target target.now input.now) found) all.items) }
 {
     let mut all = Vec::with_capacity(host.alloc, firsts.len())?;
     for first in firsts {
-        let found = finding_of(host, target, course, *first)?;
+        let found = finding_of(host, target, input, *first)?;
         all.push(found)?;
     }
     Ok(all)
@@ -144,12 +144,12 @@ where
     let Ran { planned, results } = ran;
     let settings = subject.settings;
     let plans = plans_of(subject, planned);
-    let course = Course {
+    let input = RunInput {
         workload: subject.workload,
         settings,
         plans: &plans,
     };
-    let findings = findings(host, subject.target, &course, results.firsts.as_slice())?;
+    let findings = findings(host, subject.target, &input, results.firsts.as_slice())?;
     let growth = growth_of(host.alloc, subject, &plans, planned)?;
     Ok(Report {
         label: subject.target.label(),

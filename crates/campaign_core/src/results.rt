@@ -1,20 +1,20 @@
 //! What the plans of a campaign come to.
 ghost use Rattle.std.specs.Prelude.{◌≡◌, ◌<◌, ◌≤◌, length, option_map, slice_get, IfOk};
-ghost use Rattle.result_book.specs.Says.{course_says};
+ghost use Rattle.result_book.specs.Says.{input_says};
 ghost use Rattle.campaign_core.specs.Planned.{AreKnown};
 ghost use Rattle.campaign_core.specs.inside.Results.{AreResults};
 
 use crate::ending::Ending;
 use crate::subject::Host;
 use crate::workers::run_plans;
-use result_book::{Course, full_books_tell_their_verdicts};
+use result_book::{RunInput, full_books_tell_their_verdicts};
 use std::alloc::AllocError;
 use std::sync::Wait;
 use std::thread::Threads;
 use target_trait::{Target, Verdict};
 use work_gate::Gate;
 
-/// What the plans of a course come to.
+/// What the plans of an input come to.
 #[derive(Drop)]
 pub struct Results {
     /// The verdict of each plan.
@@ -36,21 +36,21 @@ impl Results {
     }
 }
 
-/// Runs each plan of a course whose verdict isn't known, with a thread for each worker and a twin of the target for each. The results are
+/// Runs each plan of an input whose verdict isn't known, with a thread for each worker and a twin of the target for each. The results are
 /// those of one thread. An error means that memory was refused.
-pub fn run_course<T: Target + Send, G: Gate, R: Threads + Wait + Sync>(
+pub fn run_input_plans<T: Target + Send, G: Gate, R: Threads + Wait + Sync>(
     host: &Host<'_, G, R>,
     target: &T,
-    course: &Course<'_, T>,
+    input: &RunInput<'_, T>,
     known: &[Verdict],
 ) -> Result<Results, AllocError>
 where
     T::Workload: Sync,
-    requires few { length course.now.plans.now ≤ 65536 }
-    requires known { AreKnown (course_says T.Target target.now course.now) course.now.plans.now known.now }
-    ensures { IfOk result (AreResults (course_says T.Target target.now course.now) course.now.plans.now) }
+    requires few { length input.now.plans.now ≤ 65536 }
+    requires known { AreKnown (input_says T.Target target.now input.now) input.now.plans.now known.now }
+    ensures { IfOk result (AreResults (input_says T.Target target.now input.now) input.now.plans.now) }
 {
-    let book = run_plans(host, target, course, known)?;
+    let book = run_plans(host, target, input, known)?;
     full_books_tell_their_verdicts();
     let firsts = book.first_failures(host.alloc)?;
     let verdicts = book.into_verdicts();

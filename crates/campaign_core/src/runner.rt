@@ -1,11 +1,11 @@
-//! Runs of a course's plans, row by row, as a job of workers.
+//! Runs of an input's plans, range by range, as a job of workers.
 ghost use Rattle.std.specs.Prelude.{◌≡◌, ◌≤◌, ℕ, List, length};
 ghost use Rattle.campaign_given.specs.Given.{verdict_on};
-ghost use Rattle.campaign_core.specs.inside.Rows.{row_limit, row_of};
+ghost use Rattle.campaign_core.specs.inside.Ranges.{range_limit, range_of};
 
 use campaign_given::CampaignSettings;
-use plan_rows::{ended_of, row_bounds};
-use result_book::{Course, Row, Workspace};
+use plan_ranges::{ended_of, range_bounds};
+use result_book::{PlanRange, RunInput, Workspace};
 use scenario_values::Scenario;
 use std::alloc::{AllocError, Global};
 use std::collections::LinkedList;
@@ -23,57 +23,57 @@ pub struct Setup<T: Target> {
     pub first: u32,
 }
 
-/// A target, with the course whose plans it runs, and with a workspace of its own that each run takes over from the one before. The gate is told
-/// what each row came to.
+/// A target, with the input whose plans it runs, and with a workspace of its own that each run takes over from the one before. The gate is told
+/// what each range came to.
 #[derive(Drop)]
 pub struct Runner<'a, 'g, T: Target, G: Gate> {
     pub gate: &'g G,
     pub target: T,
-    pub course: &'a Course<'a, T>,
+    pub input: &'a RunInput<'a, T>,
     /// The number of the first plan that is run.
     pub first: u32,
     pub workspace: Workspace,
     pub alloc: Global,
-    ghost within: { first ≤ length course.now.plans.now },
+    ghost within: { first ≤ length input.now.plans.now },
 }
 
 impl<'a, 'g, T: Target + Send, G: Gate> Job for Runner<'a, 'g, T, G>
 where
     T::Workload: Sync,
 {
-    type Answer = Row<'a, T>;
+    type Answer = PlanRange<'a, T>;
 
     type Setup = Setup<T>;
 
     ghost setup = { λ runner. record {
       target = runner.target;
-      workload = runner.course.now.workload.now;
-      settings = runner.course.now.settings.now;
-      plans = runner.course.now.plans.now;
+      workload = runner.input.now.workload.now;
+      settings = runner.input.now.settings.now;
+      plans = runner.input.now.plans.now;
       first = runner.first;
     } };
 
-    ghost limit = { λ setup. row_limit (length setup.plans) setup.first };
+    ghost limit = { λ setup. range_limit (length setup.plans) setup.first };
 
-    ghost answers = { λ setup n row. row ≡ row_of
+    ghost answers = { λ setup n range. range ≡ range_of
         (verdict_on (T.asks setup.target setup.workload) T.names setup.settings) setup.plans setup.first n };
 
     ghost becomes = { λ _ _ _. Unit {0} };
 
-    fn perform(&mut self, number: u32) -> Result<Row<'a, T>, AllocError> {
-        let count = self.course.plans.len() as u32 - self.first;
-        let (begin, end) = row_bounds(count, number);
-        let row = Row::run_over(
+    fn perform(&mut self, number: u32) -> Result<PlanRange<'a, T>, AllocError> {
+        let count = self.input.plans.len() as u32 - self.first;
+        let (begin, end) = range_bounds(count, number);
+        let range = PlanRange::run_over(
             self.alloc,
             &mut self.target,
             &mut self.workspace,
-            self.course,
+            self.input,
             self.first + begin,
             self.first + end,
         )?;
         if self.gate.is_watched() {
-            self.gate.ended(ended_of(row.verdicts(), 0));
+            self.gate.ended(ended_of(range.verdicts(), 0));
         }
-        Ok(row)
+        Ok(range)
     }
 }

@@ -24,7 +24,7 @@ use work_gate::Gate;
 /// its own plan, under the same seed and limit and its own plan's number as the stream number, and no single fault can be left out of it.
 ///
 /// A worker arrives at the gate with each plan's number before it runs the plan. Of more than 1024 plans it takes 16 at a time, of more than
-/// 16384 plans 64, and arrives with all of them, in their order, before it runs the first. The numbers of the cards start from 0 in each
+/// 16384 plans 64, and arrives with all of them, in their order, before it runs the first. The numbers of the requests start from 0 in each
 /// reduction.
 ///
 /// Where the settings have a depth, the plans grow from each other's runs, level by level: each behaviour of the target in which at most so

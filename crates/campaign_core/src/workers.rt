@@ -1,13 +1,13 @@
-//! A course's plans, run by workers.
+//! An input's plans, run by workers.
 ghost use Rattle.std.specs.Prelude.{◌≡◌, ◌≤◌, length, vec_len, map, Some, All, IfOk};
 ghost use Rattle.result_book.specs.Verdicts.{verdicts_from};
-ghost use Rattle.result_book.specs.Says.{course_says};
+ghost use Rattle.result_book.specs.Says.{input_says};
 ghost use Rattle.campaign_core.specs.Planned.{AreKnown};
 
 use crate::runner::Runner;
 use crate::subject::Host;
-use plan_rows::{RowGate, answers_of, row_count};
-use result_book::{Book, Course, Workspace, put_all};
+use plan_ranges::{RangeGate, answers_of, range_count};
+use result_book::{Book, RunInput, Workspace, put_all};
 use std::alloc::{AllocError, Global};
 use std::sync::Wait;
 use std::thread::Threads;
@@ -18,15 +18,15 @@ use work_gate::{Gate, Stage};
 fn runners<'a, 'g, T: Target + Send, G: Gate, R: Threads + Wait + Sync>(
     host: &Host<'g, G, R>,
     target: &T,
-    course: &'a Course<'a, T>,
+    input: &'a RunInput<'a, T>,
     first: u32,
     workers: usize,
 ) -> Result<Vec<Runner<'a, 'g, T, G>>, AllocError>
 where
     T::Workload: Sync,
-    requires { first ≤ length course.now.plans.now }
+    requires { first ≤ length input.now.plans.now }
     ensures many { IfOk result (λ runners. vec_len runners ≡ workers) }
-    ensures same { IfOk result (λ runners. All (λ r. (r.target ≡ target.now) × (r.course.now ≡ course.now) × (r.first ≡ first)) runners.items) }
+    ensures same { IfOk result (λ runners. All (λ r. (r.target ≡ target.now) × (r.input.now ≡ input.now) × (r.first ≡ first)) runners.items) }
 {
     let Host { rt: _, alloc, gate } = *host;
     let mut all = Vec::new(alloc);
@@ -35,7 +35,7 @@ where
         all.push(Runner {
             gate,
             target,
-            course,
+            input,
             first,
             workspace: Workspace::new(alloc),
             alloc,
@@ -44,36 +44,36 @@ where
     Ok(all)
 }
 
-/// Runs each plan of a course whose verdict isn't known, with a thread for each worker and a twin of the target for each, and puts all
-/// verdicts into a book. It is the book of one thread. A row at which a worker was refused memory is run again. The book is made once all
+/// Runs each plan of an input whose verdict isn't known, with a thread for each worker and a twin of the target for each, and puts all
+/// verdicts into a book. It is the book of one thread. A range at which a worker was refused memory is run again. The book is made once all
 /// have run, when the workers' tickets are gone. An error means that memory was refused.
 pub fn run_plans<T: Target + Send, G: Gate, R: Threads + Wait + Sync>(
     host: &Host<'_, G, R>,
     target: &T,
-    course: &Course<'_, T>,
+    input: &RunInput<'_, T>,
     known: &[Verdict],
 ) -> Result<Book, AllocError>
 where
     T::Workload: Sync,
-    requires few { length course.now.plans.now ≤ 65536 }
-    requires known { AreKnown (course_says T.Target target.now course.now) course.now.plans.now known.now }
-    ensures { IfOk result (λ book. book ≡ map Some (verdicts_from (course_says T.Target target.now course.now) 0 course.now.plans.now)) }
+    requires few { length input.now.plans.now ≤ 65536 }
+    requires known { AreKnown (input_says T.Target target.now input.now) input.now.plans.now known.now }
+    ensures { IfOk result (λ book. book ≡ map Some (verdicts_from (input_says T.Target target.now input.now) 0 input.now.plans.now)) }
 {
     let Host { rt, alloc, gate } = host;
     let first = known.len() as u32;
-    let plans = course.plans.len() as u32;
-    let workers = course.settings.workers();
-    let jobs = runners(host, target, course, first, workers)?;
+    let plans = input.plans.len() as u32;
+    let workers = input.settings.workers();
+    let jobs = runners(host, target, input, first, workers)?;
     let plans = plans - first;
     gate.expect(Stage::Listed, plans);
-    let gate = RowGate {
+    let gate = RangeGate {
         gate: *gate,
         first,
         plans,
     };
-    let rows = answers_of(*rt, *alloc, &gate, jobs, row_count(plans))?;
-    let mut book = Book::new(*alloc, course)?;
+    let ranges = answers_of(*rt, *alloc, &gate, jobs, range_count(plans))?;
+    let mut book = Book::new(*alloc, input)?;
     book.put_known(Vec::from_slice(*alloc, known)?);
-    put_all(&mut book, rows);
+    put_all(&mut book, ranges);
     Ok(book)
 }

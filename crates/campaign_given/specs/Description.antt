@@ -6,7 +6,7 @@ use Rattle.std.specs.List.{AllByRecursion, list_all, list_any}
 use Rattle.std.specs.Str.{bytes_eq}
 use Rattle.scenario_values.specs.Scenario.{is_argument, is_name}
 use Rattle.action_eval.specs.Catalogue.{HasDistinct, IsCatalogue}
-use Rattle.action_eval.specs.Rigging.{most_text}
+use Rattle.action_eval.specs.RiggedScenario.{most_text}
 use Rattle.campaign_given.specs.declared.outside.TriedFault.{TriedFault}
 use Rattle.campaign_given.specs.declared.outside.TriedFault.TheVariants.{Return, Panic}
 

@@ -212,29 +212,29 @@ module _ {S : Type 0} (read : Read S) (end : Exit) (w : Change) (refused : end �
   abbrev pub HasCause : Type 0
   HasCause = (cause : Cause) × (read ≡ Err cause) × RefusesWith (refusal_line (bad_settings cause)) end w
 
-  pub unset-cause : (f : SettingsFault) → RefusedBy read f → (f ≡ Memory → end ≡ exit.Memory) → RefusesWith (settings_line f) end w → HasCause
-  unset-cause TooLong h m told = (_, h, told)
-  unset-cause NotToml h m told = (_, h, told)
-  unset-cause (UnknownKey place name) h m told = (_, h, told)
-  unset-cause (Missing k) h m told = (_, h, told)
-  unset-cause (WrongType k) h m told = (_, h, told)
-  unset-cause (OutOfRange k) h m told = (_, h, told)
-  unset-cause (Scenario number kind entry term) h m told = (_, h, told)
-  unset-cause Memory h m told = memory-apart end (m refl) refused
+  pub settings-fault-cause : (f : SettingsFault) → RefusedBy read f → (f ≡ Memory → end ≡ exit.Memory) → RefusesWith (settings_line f) end w → HasCause
+  settings-fault-cause TooLong h m told = (_, h, told)
+  settings-fault-cause NotToml h m told = (_, h, told)
+  settings-fault-cause (UnknownKey place name) h m told = (_, h, told)
+  settings-fault-cause (Missing k) h m told = (_, h, told)
+  settings-fault-cause (WrongType k) h m told = (_, h, told)
+  settings-fault-cause (OutOfRange k) h m told = (_, h, told)
+  settings-fault-cause (Scenario number kind entry term) h m told = (_, h, told)
+  settings-fault-cause Memory h m told = memory-apart end (m refl) refused
 
 -- what is answered where it is made of settings, and refuses what they refuse
 module _ {S : Type 0} (answer : Read S → Answer) (refuses : (cause : Cause) → answer (Err cause) ≡ Err (bad_settings cause)) (read : Read S) where
   pub settings-tell : (end : Exit) (w : Change) → end ≡ exit.Refused → (f : SettingsFault) → RefusedBy read f → (f ≡ Memory → end ≡ exit.Memory)
       → RefusesWith (settings_line f) end w → TellsRefusal (answer read) w
   settings-tell end w refused f h m told =
-      let c = unset-cause read end w refused f h m told in
+      let c = settings-fault-cause read end w refused f h m told in
       tells-refusal (answer read) (bad_settings c.0) end w (ap answer c.1 ∙ refuses c.0) refused c.2
 
 module _ (order : Order) (text : List ℕ) where
-  pub cause-unset : (end : Exit) (w : Change) → end ≡ exit.Refused → (f : SettingsFault) → RefusedBy (settings_of text) f → (f ≡ Memory → end ≡ exit.Memory)
+  pub settings-fault-tells : (end : Exit) (w : Change) → end ≡ exit.Refused → (f : SettingsFault) → RefusedBy (settings_of text) f → (f ≡ Memory → end ≡ exit.Memory)
       → RefusesWith (settings_line f) end w → TellsRefusal (text_answer order text) w
   unfolding text_answer
-  cause-unset end w refused f h m told = settings-tell (given_answer order) (λ _. refl) (settings_of text) end w refused f h m told
+  settings-fault-tells end w refused f h m told = settings-tell (given_answer order) (λ _. refl) (settings_of text) end w refused f h m told
 
   module _ (s : Settings) (is : settings_of text ≡ Ok s) where
     pub answer-chosen : text_answer order text ≡ choice_answer order s.campaign s.choice
@@ -293,9 +293,9 @@ pub read-whole : (known : Option (List ℕ)) (text shown : List ℕ) (P : List �
 read-whole known text shown P same is h = if_some known (λ bytes. text ≡ bytes) P (λ bytes e. subst P e (subst P same h)) is
 
 -- a reader that gave no text tells why
-pub tells-unread : (o : Order) (fault : ReadFault) (end : Exit) (w : Change) → RefusesWith (read_fault_line fault) end w → (fault ≡ read.Memory → end ≡ exit.Memory)
+pub tells-read-fault : (o : Order) (fault : ReadFault) (end : Exit) (w : Change) → RefusesWith (read_fault_line fault) end w → (fault ≡ read.Memory → end ≡ exit.Memory)
     → Tells o end w
-tells-unread o fault end w told memory = tells-of (TellsANote o w) (TellsARefusal w) (read_fault_line fault) end w told (which fault end told memory)
+tells-read-fault o fault end w told memory = tells-of (TellsANote o w) (TellsARefusal w) (read_fault_line fault) end w told (which fault end told memory)
   where
     which : (fault : ReadFault) (end : Exit) → RefusesWith (read_fault_line fault) end w → (fault ≡ read.Memory → end ≡ exit.Memory) → end ≡ exit.Refused → TellsARefusal w
     which read.TooLong end told memory refused = let P : Exit → Type 0 = λ e. RefusesWith (read_fault_line read.TooLong) e w in inl (bad_settings too_long, subst P refused told)
@@ -305,21 +305,21 @@ tells-unread o fault end w told memory = tells-of (TellsANote o w) (TellsARefusa
 
 -- a reader that gave no text
 module _ (meaning : List ℕ → Answer) (known : Option (List ℕ)) (end : Exit) (w : Change) where
-  pub cause-unread : (fault : ReadFault) → (fault ≡ read.TooLong → IfSome known (λ bytes. 1048576 < length bytes))
+  pub read-fault-cause : (fault : ReadFault) → (fault ≡ read.TooLong → IfSome known (λ bytes. 1048576 < length bytes))
       → (fault ≡ read.NotUtf8 → IfSome known (λ bytes. (length bytes ≤ 1048576) × ¬ IsUtf8 bytes))
       → RefusesWith (read_fault_line fault) end w
       → (fault ≡ read.Memory → end ≡ exit.Memory) → end ≡ exit.Refused
       → IfSome known (λ bytes. IsRefused (of_text meaning bytes) w)
-  cause-unread read.TooLong long broken told memory refused =
+  read-fault-cause read.TooLong long broken told memory refused =
       if_some known _ (λ bytes. IsRefused (of_text meaning bytes) w)
       (λ bytes h. inl (tells-refusal _ _ end w (long-meaning meaning bytes h) refused told)) (long refl)
-  cause-unread read.NotUtf8 long broken told memory refused =
+  read-fault-cause read.NotUtf8 long broken told memory refused =
       if_some known _ (λ bytes. IsRefused (of_text meaning bytes) w)
       (λ bytes h. inl (tells-refusal _ _ end w (broken-meaning meaning bytes h.0 h.1) refused told)) (broken refl)
-  cause-unread read.NotReadable long broken told memory refused =
+  read-fault-cause read.NotReadable long broken told memory refused =
       let P : Exit → Type 0 = λ e. RefusesWith unreadable_line e w in
       elim known as (λ k. IfSome k (λ bytes. IsRefused (of_text meaning bytes) w)) [
         | None ↦ tt
         | Some bytes ↦ inr (subst P refused told)
       ]
-  cause-unread read.Memory long broken told memory refused = memory-apart end (memory refl) refused
+  read-fault-cause read.Memory long broken told memory refused = memory-apart end (memory refl) refused

@@ -101,8 +101,8 @@ module _ (calls : Run → List (List ℕ)) (points : List (List ℕ)) where
   may-cut c (order.Try which) = may-order c (order.Try which)
   may-cut c (order.Reduce which) = may-order c (order.Reduce which)
 
-  may-bundled : (given : Given) (c : Campaign) (o : Order) → NotesFor o (bundled_answer calls points given o c)
-  may-bundled given c o = elim given.crash_states as (λ b. NotesFor o (if b then cut_answer calls points o c else order_answer o c)) [
+  may-bundled-answer : (given : Given) (c : Campaign) (o : Order) → NotesFor o (bundled_answer calls points given o c)
+  may-bundled-answer given c o = elim given.crash_states as (λ b. NotesFor o (if b then cut_answer calls points o c else order_answer o c)) [
     | true ↦ may-cut c o
     | false ↦ may-order c o
   ]
@@ -118,9 +118,9 @@ may-outside (order.Reduce which) depth plans points listed = tt
 may-outside (order.Explain which) depth plans points listed = tt
 
 may-choice : (o : Order) (given : Given) (chosen : Choice) → NotesFor o (choice_answer o given chosen)
-may-choice o given (choice.Replace variant work) = may-bundled _ _ given _ o
-may-choice o given (choice.Maildir variant messages) = may-bundled _ _ given _ o
-may-choice o given (choice.Commit variant work) = may-bundled _ _ given _ o
+may-choice o given (choice.Replace variant work) = may-bundled-answer _ _ given _ o
+may-choice o given (choice.Maildir variant messages) = may-bundled-answer _ _ given _ o
+may-choice o given (choice.Commit variant work) = may-bundled-answer _ _ given _ o
 may-choice o given (choice.Outside outside) = may-outside o given.depth _ outside.points given.plans.listed
 
 may-given : (o : Order) (read : Read Settings) → NotesFor o (given_answer o read)

@@ -41,7 +41,7 @@ use Rattle.campaign_main.specs.Exit.{concluded, exit_of}
 use Rattle.campaign_main.specs.FaultLines.{answers_read_line, read_fault_line, refusal_line, settings_line, unreadable_answers_line, unreadable_line}
 use Rattle.campaign_main.specs.QuestionNotes.{is_question_doubted, question_notes}
 use Rattle.campaign_main.specs.Questions.{ComesToText, ConcludesText, EndsAnswered, EndsQuestion, FallsShortOf, IsAnswered, IsConcluded, IsEndOfQuestion, IsNotAnswered, IsPart, IsUnnoted, IsUnnotedTo, NotesText, RefusesAnswers, RefusesQuestion, Subject, TellsOfQuestion, TellsWhy, chosen_subject, given_subject, subject_of, text_subject, IsToldIn, IsToldInPart, WaitsIn, asked_part, report_form}
-use Rattle.campaign_main.proofs.EndLemmas.{broken-meaning, if_some, long-meaning, memory-apart, read-meaning, tells-of, text-meaning, unset-cause}
+use Rattle.campaign_main.proofs.EndLemmas.{broken-meaning, if_some, long-meaning, memory-apart, read-meaning, tells-of, text-meaning, settings-fault-cause}
 
 -- ---- by what the lower crate came to
 
@@ -359,21 +359,21 @@ module _ (question : Question) (s : Subject) (known : Option (List ℕ)) where
   pub of-bytes : (bytes : List ℕ) (P : List ℕ → Type 0) → IfSome known (λ xs. bytes ≡ xs) → P bytes → IfSome known P
   of-bytes bytes P is h = if_some known (λ xs. bytes ≡ xs) P (λ xs e. subst P e h) is
 
-  pub cause-unread-answers : (f : ReadFault) (end : Exit) (w : Change)
+  pub answers-read-fault-cause : (f : ReadFault) (end : Exit) (w : Change)
       → (f ≡ read.TooLong → IfSome known (λ bytes. 268435456 < length bytes))
       → RefusesWith (answers_read_line f) end w → (f ≡ read.Memory → end ≡ exit.Memory) → end ≡ exit.Refused
       → IfSome known (λ bytes. IsNotAnswered question (Ok s) bytes w)
-  cause-unread-answers read.TooLong end w long told memory refused =
+  answers-read-fault-cause read.TooLong end w long told memory refused =
       let P : Exit → Type 0 = λ e. RefusesWith (answers_read_line read.TooLong) e w in
       if_some known _ (λ bytes. IsNotAnswered question (Ok s) bytes w)
       (λ bytes h. inl (bad_answers _, too-long question s bytes h, subst P refused told)) (long refl)
-  cause-unread-answers read.NotUtf8 end w long told memory refused =
+  answers-read-fault-cause read.NotUtf8 end w long told memory refused =
       let P : Exit → Type 0 = λ e. RefusesWith unreadable_answers_line e w in
       elim known as (λ k. IfSome k (λ bytes. IsNotAnswered question (Ok s) bytes w)) [ None ↦ tt | Some bytes ↦ inr (inr (subst P refused told)) ]
-  cause-unread-answers read.NotReadable end w long told memory refused =
+  answers-read-fault-cause read.NotReadable end w long told memory refused =
       let P : Exit → Type 0 = λ e. RefusesWith unreadable_answers_line e w in
       elim known as (λ k. IfSome k (λ bytes. IsNotAnswered question (Ok s) bytes w)) [ None ↦ tt | Some bytes ↦ inr (inr (subst P refused told)) ]
-  cause-unread-answers read.Memory end w long told memory refused = memory-apart end (memory refl) refused
+  answers-read-fault-cause read.Memory end w long told memory refused = memory-apart end (memory refl) refused
 
 -- what holds of all bytes
 pub for-any : (known : Option (List ℕ)) (P : List ℕ → Type 0) → ((bytes : List ℕ) → P bytes) → IfSome known P
@@ -403,9 +403,9 @@ tells-question refusal end w told =
     tells-of _ _ _ end w told (λ refused. inl (refusal, subst P refused told))
 
 module _ (text : List ℕ) where
-  unset-subject : (cause : Cause) → settings_of text ≡ Err cause → text_subject text ≡ Err (bad_settings cause)
+  settings-fault-subject : (cause : Cause) → settings_of text ≡ Err cause → text_subject text ≡ Err (bad_settings cause)
   unfolding text_subject
-  unset-subject cause is = let f : Read Settings → Result Subject Refusal = given_subject in ap f is
+  settings-fault-subject cause is = let f : Read Settings → Result Subject Refusal = given_subject in ap f is
 
   pub chosen-is : (s : Settings) → settings_of text ≡ Ok s → text_subject text ≡ chosen_subject s.campaign s.choice
   unfolding text_subject
@@ -414,16 +414,16 @@ module _ (text : List ℕ) where
   -- settings with a fault, whose line is told
   module _ (question : Question) (end : Exit) (w : Change) (f : SettingsFault) (by : RefusedBy (settings_of text) f) (memory : f ≡ settings.Memory → end ≡ exit.Memory)
       (told : RefusesWith (settings_line f) end w) where
-    pub unset-why : (known : Option (List ℕ)) → end ≡ exit.Refused → IfSome known (λ bytes. IsNotAnswered question (text_subject text) bytes w)
-    unset-why known refused =
-        let c = unset-cause (settings_of text) end w refused f by memory told in
-        settings-why question (text_subject text) (bad_settings c.0) (unset-subject c.0 c.1) known end w c.2 refused
+    pub settings-fault-why : (known : Option (List ℕ)) → end ≡ exit.Refused → IfSome known (λ bytes. IsNotAnswered question (text_subject text) bytes w)
+    settings-fault-why known refused =
+        let c = settings-fault-cause (settings_of text) end w refused f by memory told in
+        settings-why question (text_subject text) (bad_settings c.0) (settings-fault-subject c.0 c.1) known end w c.2 refused
 
-    pub unset-tells : TellsOfQuestion end w
-    unset-tells =
+    pub settings-fault-tells-question : TellsOfQuestion end w
+    settings-fault-tells-question =
         tells-of _ _ _ end w told
         (λ refused.
-        let c = unset-cause (settings_of text) end w refused f by memory told in
+        let c = settings-fault-cause (settings_of text) end w refused f by memory told in
         let Q : Exit → Type 0 = λ e. RefusesWith (refusal_line (bad_settings c.0)) e w in
         inl (bad_settings c.0, subst Q refused c.2))
 
@@ -447,37 +447,37 @@ read-subject known text shown P same is few utf8 h = read-meaning subject_of tex
 
 -- a reader that gave no settings
 module _ (question : Question) (given known : Option (List ℕ)) (end : Exit) (w : Change) (refused : end ≡ exit.Refused) where
-  unread-settings : RefusesWith unreadable_line end w → IfSome given (λ s. IfSome known (λ bytes. IsNotAnswered question (subject_of s) bytes w))
-  unread-settings told =
+  settings-read-fault : RefusesWith unreadable_line end w → IfSome given (λ s. IfSome known (λ bytes. IsNotAnswered question (subject_of s) bytes w))
+  settings-read-fault told =
       let P : Exit → Type 0 = λ e. RefusesWith unreadable_line e w in
       for-any given _ (λ s. for-any known (λ bytes. IsNotAnswered question (subject_of s) bytes w) (λ bytes. inr (inl (subst P refused told))))
 
-  pub unread-why : (f : ReadFault) → (f ≡ read.TooLong → IfSome given (λ bytes. 1048576 < length bytes))
+  pub read-fault-why : (f : ReadFault) → (f ≡ read.TooLong → IfSome given (λ bytes. 1048576 < length bytes))
       → (f ≡ read.NotUtf8 → IfSome given (λ bytes. (length bytes ≤ 1048576) × ¬ IsUtf8 bytes))
       → RefusesWith (read_fault_line f) end w → (f ≡ read.Memory → end ≡ exit.Memory)
       → IfSome given (λ s. IfSome known (λ bytes. IsNotAnswered question (subject_of s) bytes w))
-  unread-why read.TooLong long broken told memory =
+  read-fault-why read.TooLong long broken told memory =
       if_some given _ (λ s. IfSome known (λ bytes. IsNotAnswered question (subject_of s) bytes w))
       (λ s h. settings-why question (subject_of s) (bad_settings too_long) (subject-long s h) known end w told refused) (long refl)
-  unread-why read.NotUtf8 long broken told memory =
+  read-fault-why read.NotUtf8 long broken told memory =
       if_some given _ (λ s. IfSome known (λ bytes. IsNotAnswered question (subject_of s) bytes w))
       (λ s h. settings-why question (subject_of s) not_text (subject-broken s h.0 h.1) known end w told refused) (broken refl)
-  unread-why read.NotReadable long broken told memory = unread-settings told
-  unread-why read.Memory long broken told memory = memory-apart end (memory refl) refused
+  read-fault-why read.NotReadable long broken told memory = settings-read-fault told
+  read-fault-why read.Memory long broken told memory = memory-apart end (memory refl) refused
 
 -- what is told of a reader that gave nothing
 module _ (end : Exit) (w : Change) where
-  pub unread-tells : (f : ReadFault) → RefusesWith (read_fault_line f) end w → (f ≡ read.Memory → end ≡ exit.Memory) → TellsOfQuestion end w
-  unread-tells read.TooLong told memory = tells-question (bad_settings too_long) end w told
-  unread-tells read.NotUtf8 told memory = tells-question not_text end w told
-  unread-tells read.NotReadable told memory =
+  pub read-fault-tells-question : (f : ReadFault) → RefusesWith (read_fault_line f) end w → (f ≡ read.Memory → end ≡ exit.Memory) → TellsOfQuestion end w
+  read-fault-tells-question read.TooLong told memory = tells-question (bad_settings too_long) end w told
+  read-fault-tells-question read.NotUtf8 told memory = tells-question not_text end w told
+  read-fault-tells-question read.NotReadable told memory =
       let P : Exit → Type 0 = λ e. RefusesWith unreadable_line e w in tells-of _ _ _ end w told (λ refused. inr (inl (subst P refused told)))
-  unread-tells read.Memory told memory = tells-of _ _ _ end w told (λ refused. memory-apart end (memory refl) refused)
+  read-fault-tells-question read.Memory told memory = tells-of _ _ _ end w told (λ refused. memory-apart end (memory refl) refused)
 
-  pub unread-answers-tells : (f : ReadFault) → RefusesWith (answers_read_line f) end w → (f ≡ read.Memory → end ≡ exit.Memory) → TellsOfQuestion end w
-  unread-answers-tells read.TooLong told memory = tells-question (bad_answers answers.TooLong) end w told
-  unread-answers-tells read.NotUtf8 told memory =
+  pub answers-read-fault-tells : (f : ReadFault) → RefusesWith (answers_read_line f) end w → (f ≡ read.Memory → end ≡ exit.Memory) → TellsOfQuestion end w
+  answers-read-fault-tells read.TooLong told memory = tells-question (bad_answers answers.TooLong) end w told
+  answers-read-fault-tells read.NotUtf8 told memory =
       let P : Exit → Type 0 = λ e. RefusesWith unreadable_answers_line e w in tells-of _ _ _ end w told (λ refused. inr (inr (subst P refused told)))
-  unread-answers-tells read.NotReadable told memory =
+  answers-read-fault-tells read.NotReadable told memory =
       let P : Exit → Type 0 = λ e. RefusesWith unreadable_answers_line e w in tells-of _ _ _ end w told (λ refused. inr (inr (subst P refused told)))
-  unread-answers-tells read.Memory told memory = tells-of _ _ _ end w told (λ refused. memory-apart end (memory refl) refused)
+  answers-read-fault-tells read.Memory told memory = tells-of _ _ _ end w told (λ refused. memory-apart end (memory refl) refused)

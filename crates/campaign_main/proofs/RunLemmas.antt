@@ -100,30 +100,30 @@ module _ (d : Description) (given : Given) (depth : ℕ) (text : List ℕ) where
       ∙ ap (λ (runs : KnownRuns). run_doubts d.points (listed_kinds d) runs depth given) told
 
   -- why nothing is noted
-  pub unread_runs : (f : AnswersFault) → TellsRuns f d.codes d.points text
+  pub runs_fault_is_unnoted : (f : AnswersFault) → TellsRuns f d.codes d.points text
       → IsUnnotedTo (Some depth) (given, d) text (fault.Outside (answers_fault f))
-  unread_runs answers.TooLong h = h
-  unread_runs (answers.Line number f) h = h
-  unread_runs answers.Memory h = tt
+  runs_fault_is_unnoted answers.TooLong h = h
+  runs_fault_is_unnoted (answers.Line number f) h = h
+  runs_fault_is_unnoted answers.Memory h = tt
 
   -- the same by names that are those of the description
-  pub runs_unread : (f : AnswersFault) (codes points : List (List ℕ)) → codes ≡ d.codes → points ≡ d.points → TellsRuns f codes points text
+  pub runs_fault_is_unnoted_by_names : (f : AnswersFault) (codes points : List (List ℕ)) → codes ≡ d.codes → points ≡ d.points → TellsRuns f codes points text
       → IsUnnotedTo (Some depth) (given, d) text (fault.Outside (answers_fault f))
-  runs_unread f codes points codes_are points_are h =
-      unread_runs f (subst (λ (names : List (List ℕ)). TellsRuns f d.codes names text) points_are (subst (λ (names : List (List ℕ)). TellsRuns f names points text) codes_are h))
+  runs_fault_is_unnoted_by_names f codes points codes_are points_are h =
+      runs_fault_is_unnoted f (subst (λ (names : List (List ℕ)). TellsRuns f d.codes names text) points_are (subst (λ (names : List (List ℕ)). TellsRuns f names points text) codes_are h))
 
   pub many_runs : (a : Answered) → Tells d text a → (cause : KnownFault) → (cause ≡ known.TooManyPlans → AreTooMany a given.plans (length (known_plans a depth)))
       → IsUnnotedTo (Some depth) (given, d) text (fault.Outside (outside.Campaign (known_fault cause)))
   many_runs a tells known.TooManyPlans many = (a, tells, many refl)
   many_runs a tells known.Memory many = tt
 
-  pub unread_answers : (f : AnswersFault) → TellsAnswers f d.codes d.points text
+  pub answers_fault_is_unnoted : (f : AnswersFault) → TellsAnswers f d.codes d.points text
       → IsUnnotedTo None (given, d) text (fault.Outside (answers_fault f))
-  unread_answers answers.TooLong h = h
-  unread_answers (answers.Line number f) h = h
-  unread_answers answers.Memory h = tt
+  answers_fault_is_unnoted answers.TooLong h = h
+  answers_fault_is_unnoted (answers.Line number f) h = h
+  answers_fault_is_unnoted answers.Memory h = tt
 
-  pub answers_unread : (f : AnswersFault) (codes points : List (List ℕ)) → codes ≡ d.codes → points ≡ d.points → TellsAnswers f codes points text
+  pub answers_fault_is_unnoted_by_names : (f : AnswersFault) (codes points : List (List ℕ)) → codes ≡ d.codes → points ≡ d.points → TellsAnswers f codes points text
       → IsUnnotedTo None (given, d) text (fault.Outside (answers_fault f))
-  answers_unread f codes points codes_are points_are h =
-      unread_answers f (subst (λ (names : List (List ℕ)). TellsAnswers f d.codes names text) points_are (subst (λ (names : List (List ℕ)). TellsAnswers f names points text) codes_are h))
+  answers_fault_is_unnoted_by_names f codes points codes_are points_are h =
+      answers_fault_is_unnoted f (subst (λ (names : List (List ℕ)). TellsAnswers f d.codes names text) points_are (subst (λ (names : List (List ℕ)). TellsAnswers f names points text) codes_are h))

@@ -3,13 +3,13 @@ ghost use Rattle.std.specs.Prelude.{◌≡◌, ◌<◌, true, [], length, slice_
 ghost use Rattle.std.specs.List.{AllByRecursion};
 ghost use Rattle.action_eval.specs.Answers.{texts};
 ghost use Rattle.action_eval.specs.Catalogue.{IsCatalogue};
-ghost use Rattle.action_eval.specs.Rigging.{CanBeRigged, rigged_as};
+ghost use Rattle.action_eval.specs.RiggedScenario.{CanBeRigged, rigged_as};
 ghost use Rattle.grown_plans.specs.GrownPlans.{rigs_of};
 ghost use Rattle.campaign_plans.specs.GrownScenarios.{grown_scenario};
 ghost use Rattle.campaign_plans.specs.inside.Parts.{over};
 
 use crate::lists::RigLists;
-use action_eval::Rigging;
+use action_eval::FaultTable;
 use grown_plans::GrownPlans;
 use plan_gen::{have_same_names, scenario_of};
 use scenario_values::Scenario;
@@ -27,7 +27,7 @@ impl<'a> Model for GrownPart<'a> {
     ghost use Rattle.std.specs.List.{AllByRecursion};
     ghost use Rattle.action_eval.specs.Answers.{texts};
     ghost use Rattle.action_eval.specs.Catalogue.{IsCatalogue};
-    ghost use Rattle.action_eval.specs.Rigging.{CanBeRigged};
+    ghost use Rattle.action_eval.specs.RiggedScenario.{CanBeRigged};
     ghost use Rattle.grown_plans.specs.GrownPlans.{rigs_of};
     ghost use Rattle.campaign_plans.specs.inside.Parts.{Over};
 
@@ -65,16 +65,16 @@ impl<'a> GrownPart<'a> {
     pub fn load<'c>(
         &self,
         number: usize,
-        rigging: &mut Rigging<'c>,
+        table: &mut FaultTable<'c>,
         lists: &mut RigLists,
         catalogue: &'c [&'c str],
     ) -> Result<(), AllocError>
         requires within { number < length self.now.plans }
         requires names { self.now.names ≡ texts catalogue.now }
-        ensures { OnOk result (rigging.new ≡ rigged_as self.now.names (grown_scenario self.now.names (slice_index_or self.now.plans number []))) }
+        ensures { OnOk result (table.new ≡ rigged_as self.now.names (grown_scenario self.now.names (slice_index_or self.now.plans number []))) }
     {
         lists.put(self.plans, number)?;
-        rigging.load(catalogue, lists.rigs.as_slice())
+        table.load(catalogue, lists.rigs.as_slice())
     }
 
     /// Makes the scenario of the plan of this number. An error means that memory was refused.

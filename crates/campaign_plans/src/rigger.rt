@@ -1,12 +1,12 @@
 //! Plans of a campaign, rigged over the points of a target.
 ghost use Rattle.std.specs.Prelude.{◌≡◌, ◌++◌, true, [], slice_index_or, IfOk, option_copied};
 ghost use Rattle.action_eval.specs.Answers.{texts};
-ghost use Rattle.action_eval.specs.Rigging.{rigged_as};
+ghost use Rattle.action_eval.specs.RiggedScenario.{rigged_as};
 ghost use Rattle.campaign_plans.specs.inside.Parts.{first_part};
 
 use crate::grown::GrownPart;
 use crate::lists::RigLists;
-use action_eval::Rigging;
+use action_eval::FaultTable;
 use plan_gen::{PlanList, Rigger};
 use std::alloc::AllocError;
 use std::marker::Model;
@@ -64,27 +64,27 @@ impl<'a, 'c> CampaignRigger<'a, 'c> {
     /// Rigs the hits of the plan of this number, and tells whether it has. It hasn't where the plan is a listed scenario, or plans are of the
     /// points of another catalogue: `CampaignPlan::scenario` serves each plan.
     ///
-    /// The plan's hits are put in place of what stood in the lists, which serve plan after plan as the rigging does. An error means that
+    /// The plan's hits are put in place of what stood in the lists, which serve plan after plan as the fault table does. An error means that
     /// memory was refused.
     pub fn load(
         &self,
         number: usize,
-        rigging: &mut Rigging<'c>,
+        table: &mut FaultTable<'c>,
         lists: &mut RigLists,
     ) -> Result<bool, AllocError>
-        ensures { IfOk result (λ is_loaded. is_loaded ≡ true → rigging.new ≡ rigged_as self.now.names (slice_index_or self.now.plans number [])) }
+        ensures { IfOk result (λ is_loaded. is_loaded ≡ true → table.new ≡ rigged_as self.now.names (slice_index_or self.now.plans number [])) }
     {
         let Some(grown) = self.grown_part else {
-            return self.listed.load(number, rigging, &mut lists.rigs);
+            return self.listed.load(number, table, &mut lists.rigs);
         };
         let many = grown.len();
         if number >= many {
-            return self.listed.load(number - many, rigging, &mut lists.rigs);
+            return self.listed.load(number - many, table, &mut lists.rigs);
         }
         if !self.is_same {
             return Ok(false);
         }
-        grown.load(number, rigging, lists, self.catalogue)?;
+        grown.load(number, table, lists, self.catalogue)?;
         Ok(true)
     }
 }

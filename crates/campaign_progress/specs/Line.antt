@@ -57,7 +57,7 @@ told_text (Tests begun) = codes "reducing: test " ++ decimal begun
 -- a plan by its number, or a test by that under which its reduction hands it out
 abbrev pub begun_text : Phase → ℕ → List ℕ
 begun_text phase.Plans number = codes "plan " ++ decimal number
-begun_text phase.Cards number = codes "test " ++ decimal number
+begun_text phase.Requests number = codes "test " ++ decimal number
 
 -- ---- the bytes on standard error
 

@@ -20,7 +20,7 @@ impl fmt::Display for Begun {
         let number = self.number;
         match self.phase {
             Phase::Plans => write!(f, "plan {number}"),
-            Phase::Cards => write!(f, "test {number}"),
+            Phase::Requests => write!(f, "test {number}"),
         }
     }
 }

@@ -138,7 +138,7 @@ impl<'a, H: Clock + Eprint> Progress<'a, H> {
         }
         let told = match phase {
             Phase::Plans => Told::Plans(self.standing(*course, now)),
-            Phase::Cards => Told::Tests {
+            Phase::Requests => Told::Tests {
                 begun: self.tests.load(Ordering::SeqCst),
             },
         };
@@ -186,7 +186,7 @@ impl<'a, H: Clock + Eprint + Sync> Gate for Progress<'a, H> {
             Phase::Plans => {
                 self.counts.begun.fetch_add(1, Ordering::SeqCst);
             }
-            Phase::Cards => {
+            Phase::Requests => {
                 if self.tests.fetch_add(1, Ordering::SeqCst) == 0 {
                     self.begin_plain();
                 }

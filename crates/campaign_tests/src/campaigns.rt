@@ -74,7 +74,7 @@ fn meets<R: Threads + Wait + Clock + Sync + Abort>(
     Ok(meeting.came.load(Ordering::SeqCst))
 }
 
-// Refuses, for the plans, the wrong bodies all_work_on_one_thread and every_hand_leaves_at_once: the first run that waits would wait in
+// Refuses, for the plans, the wrong bodies all_work_on_one_thread and every_worker_leaves_at_once: the first run that waits would wait in
 // vain.
 #[test]
 fn runs_meet_and_all_pass(rt: HostRuntime) -> Result<(), Fail> {
@@ -83,7 +83,7 @@ fn runs_meet_and_all_pass(rt: HostRuntime) -> Result<(), Fail> {
     Ok(())
 }
 
-// Refuses, in the reduction, the wrong bodies all_work_on_one_thread, every_hand_leaves_at_once and probe_asked_under_the_lock: two tests
+// Refuses, in the reduction, the wrong bodies all_work_on_one_thread, every_worker_leaves_at_once and probe_asked_under_the_lock: two tests
 // of one fault meet inside their runs.
 #[test]
 fn runs_meet_and_the_pair_fails(rt: HostRuntime) -> Result<(), Fail> {

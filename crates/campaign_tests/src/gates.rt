@@ -91,15 +91,15 @@ fn meet_at_the_gate<R: Clock + Threads + Wait + Sync + Abort>(
     Ok(())
 }
 
-// Refuses the wrong bodies all_work_on_one_thread and every_hand_leaves_at_once: the caller's thread arrives at no gate.
+// Refuses the wrong bodies all_work_on_one_thread and every_worker_leaves_at_once: the caller's thread arrives at no gate.
 #[test]
 fn two_plans_meet_at_the_gate(rt: HostRuntime) -> Result<(), Fail> {
     meet_at_the_gate(&rt, rt.alloc(), Phase::Plans, 1, 2)
 }
 
-/// The cards of a reduction of two faults: none of them, and the first one ahead of its answer.
-// Refuses the wrong bodies all_work_on_one_thread and every_hand_leaves_at_once.
+/// The requests of a reduction of two faults: none of them, and the first one ahead of its answer.
+// Refuses the wrong bodies all_work_on_one_thread and every_worker_leaves_at_once.
 #[test]
-fn two_cards_meet_at_the_gate(rt: HostRuntime) -> Result<(), Fail> {
-    meet_at_the_gate(&rt, rt.alloc(), Phase::Cards, 0, 1)
+fn two_requests_meet_at_the_gate(rt: HostRuntime) -> Result<(), Fail> {
+    meet_at_the_gate(&rt, rt.alloc(), Phase::Requests, 0, 1)
 }

@@ -10,7 +10,7 @@ use Rattle.commit_target.specs.declared.variant.Variant.TheVariants.{EndFirst}
 use Rattle.commit_target.specs.Words.{point_names, split, lost}
 use Rattle.commit_target.specs.Steps.{asks_of}
 use Rattle.commit_target.specs.Flaws.{both_wish_yes, first_outcome_is_lost}
-use Rattle.commit_target.specs.Crash.{cut_of, outcome_lost_end_kept, untold_end_kept, untold}
+use Rattle.commit_target.specs.Crash.{cut_of, outcome_lost_end_kept, outcome_never_sent_end_kept, outcome_never_sent}
 
 abbrev ComesTo : Entries → Verdict → Type 0
 ComesTo scenario verdict = (seed stream : ℕ)
@@ -20,7 +20,7 @@ pub end_kept_is_split : ComesTo outcome_lost_end_kept (Fail split)
 unfolding play
 end_kept_is_split seed stream = refl
 
-pub end_kept_is_lost : ComesTo untold_end_kept (Fail lost)
+pub end_kept_is_lost : ComesTo outcome_never_sent_end_kept (Fail lost)
 unfolding play
 end_kept_is_lost seed stream = refl
 
@@ -28,6 +28,6 @@ pub end_lost_passes : ComesTo first_outcome_is_lost Pass
 unfolding play
 end_lost_passes seed stream = refl
 
-pub untold_passes : ComesTo untold Pass
+pub outcome_never_sent_passes : ComesTo outcome_never_sent Pass
 unfolding play
-untold_passes seed stream = refl
+outcome_never_sent_passes seed stream = refl

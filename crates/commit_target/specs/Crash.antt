@@ -71,12 +71,12 @@ abbrev pub outcome_lost_end_kept : Entries
 outcome_lost_end_kept = fails_once (codes "commit::send_outcome") ∷ keeps_first ∷ []
 
 -- `commit::send_outcome=1*panic`: the run panics before any participant is told
-abbrev pub panics_untold : List ℕ × List Term
-panics_untold = (codes "commit::send_outcome", record { share = 1000000; count = Some 1; task = Panic None } ∷ [])
+abbrev pub panic_before_outcome : List ℕ × List Term
+panic_before_outcome = (codes "commit::send_outcome", record { share = 1000000; count = Some 1; task = Panic None } ∷ [])
 
-abbrev pub untold : Entries
-untold = panics_untold ∷ []
+abbrev pub outcome_never_sent : Entries
+outcome_never_sent = panic_before_outcome ∷ []
 
 -- the same, and the cut keeps the end record
-abbrev pub untold_end_kept : Entries
-untold_end_kept = panics_untold ∷ keeps_first ∷ []
+abbrev pub outcome_never_sent_end_kept : Entries
+outcome_never_sent_end_kept = panic_before_outcome ∷ keeps_first ∷ []

@@ -14,7 +14,7 @@ ghost use Rattle.sim_device.specs.FileEffects.{Lasting};
 ghost use Rattle.sim_device.specs.LogEffects.{records};
 ghost use Rattle.commit_target.specs.Judgement.{has, was_told};
 ghost use Rattle.commit_target.specs.Protocol.{BearsOut};
-ghost use Rattle.commit_target.specs.Crash.{cut_of, outcome_lost_end_kept, untold_end_kept, untold};
+ghost use Rattle.commit_target.specs.Crash.{cut_of, outcome_lost_end_kept, outcome_never_sent_end_kept, outcome_never_sent};
 ghost use Rattle.commit_target.specs.Flaws.{both_wish_yes, first_outcome_is_lost, each_outcome_is_lost, no_commit_record};
 
 use scenario_values::Scenario;
@@ -76,11 +76,11 @@ pub fn a_kept_end_shows_end_first()
     ensures split { (seed stream : ℕ) → (outcome (asks_with (asks_of EndFirst both_wish_yes) (cut_of EndFirst both_wish_yes) 7)
         (given_of outcome_lost_end_kept (with_keep point_names) seed stream 1000)).verdict ≡ Fail split }
     ensures lost { (seed stream : ℕ) → (outcome (asks_with (asks_of EndFirst both_wish_yes) (cut_of EndFirst both_wish_yes) 7)
-        (given_of untold_end_kept (with_keep point_names) seed stream 1000)).verdict ≡ Fail lost }
+        (given_of outcome_never_sent_end_kept (with_keep point_names) seed stream 1000)).verdict ≡ Fail lost }
     ensures outcome_lost { (seed stream : ℕ) → (outcome (asks_with (asks_of EndFirst both_wish_yes) (cut_of EndFirst both_wish_yes) 7)
         (given_of first_outcome_is_lost (with_keep point_names) seed stream 1000)).verdict ≡ Pass }
-    ensures untold { (seed stream : ℕ) → (outcome (asks_with (asks_of EndFirst both_wish_yes) (cut_of EndFirst both_wish_yes) 7)
-        (given_of untold (with_keep point_names) seed stream 1000)).verdict ≡ Pass }
+    ensures outcome_never_sent { (seed stream : ℕ) → (outcome (asks_with (asks_of EndFirst both_wish_yes) (cut_of EndFirst both_wish_yes) 7)
+        (given_of outcome_never_sent (with_keep point_names) seed stream 1000)).verdict ≡ Pass }
 {}
 
 /// Presumed abort as published never fails, whatever a power cut keeps of what is pending in the logs: for every scenario, of its points and of

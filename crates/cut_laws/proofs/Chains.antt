@@ -8,7 +8,7 @@ use Rattle.scenario_values.specs.declared.term.Term.{Term}
 use Rattle.scenario_values.specs.declared.term.Task.{Task}
 use Rattle.scenario_values.specs.declared.term.Task.TheVariants as task
 use Rattle.scenario_values.specs.Scenario.{Entries, chain_of}
-use Rattle.action_eval.specs.Rigging.{full, entry}
+use Rattle.action_eval.specs.RiggedScenario.{full, entry}
 use Rattle.action_eval.specs.Trial.{Trial, tried}
 use Rattle.action_eval.specs.Words.{word}
 use Rattle.action_eval.specs.Answers.{Given, Hit, Reply, next, and_then, history_of, hit_by, acted, is_term, is_used_up, name_of, place_in, task_at, trial, words_of}

@@ -5,7 +5,7 @@ use Rattle.std.proofs.lemmas.Bool.Decides.{nat_tests}
 use Rattle.scenario_values.specs.Scenario.{Entries, chain_of}
 use Rattle.action_eval.specs.Catalogue.{IsCatalogue}
 use Rattle.action_eval.specs.Answers.{Given, Run, Reply, acted, history_of, replies, is_cut_short}
-use Rattle.action_eval.specs.Rigging.{entry}
+use Rattle.action_eval.specs.RiggedScenario.{entry}
 use Rattle.action_eval.specs.SameMeaning.{Meaning, meaning_of}
 use Rattle.action_eval.specs.Words.{word}
 use Rattle.action_eval.proofs.Alike.{mean_same, once}

@@ -10,7 +10,7 @@ use Rattle.scenario_values.specs.declared.term.Term.{Term}
 use Rattle.scenario_values.specs.declared.term.Task.TheVariants as task
 use Rattle.scenario_values.specs.Printed.{chain_text, count_text, entry_text, printed, share_text, task_text, term_text}
 use Rattle.scenario_values.specs.Scenario.{Entries, DistinctNames, IsScenario, all_faults, faults_in, is_lawful_term, is_name, is_off}
-use Rattle.action_eval.specs.Rigging.{entry, full}
+use Rattle.action_eval.specs.RiggedScenario.{entry, full}
 use Rattle.action_eval.proofs.Rigged.{all_both, entry_all}
 use Rattle.action_eval.proofs.TidiedEntries.{flipped}
 use Rattle.cut_laws.specs.KeptSets.{CanTakeIn, LacksKeep, keep_chain, keeping}

@@ -5,7 +5,7 @@ use Rattle.std.proofs.lemmas.Bool.Decides.{nat_tests}
 use Rattle.std.proofs.lemmas.List.Sums.{sum_by-append}
 use Rattle.scenario_values.specs.declared.term.Term.{Term}
 use Rattle.scenario_values.specs.Scenario.{Entries, chain_of}
-use Rattle.action_eval.specs.Rigging.{entry, offs}
+use Rattle.action_eval.specs.RiggedScenario.{entry, offs}
 use Rattle.action_eval.proofs.Machine.{Same}
 use Rattle.action_eval.proofs.Chains.{idle, joined_offs, off, same_back, same_by, same_self, same_then, under}
 use Rattle.cut_laws.specs.KeptSets.{keep_chain}

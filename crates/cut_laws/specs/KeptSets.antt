@@ -6,7 +6,7 @@ use Rattle.scenario_values.specs.declared.term.Task.TheVariants as task
 use Rattle.scenario_values.specs.Printed.{printed}
 use Rattle.scenario_values.specs.Scenario.{Entries, New, all_faults}
 use Rattle.action_eval.specs.Answers.{Run, Reply, given_of, start, replies}
-use Rattle.action_eval.specs.Rigging.{full, offs, entry}
+use Rattle.action_eval.specs.RiggedScenario.{full, offs, entry}
 use Rattle.target_trait.specs.declared.judgement.Judgement.{Judgement}
 use Rattle.target_trait.specs.Cuts.{Cut, AsksAll, asks_with, with_keep, answer_to}
 use Rattle.target_trait.specs.Outcomes.{play, judged, verdict_with}

@@ -2,7 +2,7 @@
 ghost use Rattle.std.specs.Prelude.{◌≡◌, ℕ, ◌*◌, ◌^◌, ◌<◌, ◌≤◌, Bool, true, false, List, [], ◌∷◌, Some, None, length, replicate, count_by};
 ghost use Rattle.scenario_values.specs.Scenario.{Entries, IsScenario};
 ghost use Rattle.scenario_values.specs.declared.term.Task.TheVariants.{Off, Return};
-ghost use Rattle.action_eval.specs.Rigging.{full};
+ghost use Rattle.action_eval.specs.RiggedScenario.{full};
 ghost use Rattle.action_eval.specs.Answers.{Reply, replies, is_cut_short};
 ghost use Rattle.target_trait.specs.declared.judgement.Verdict.TheVariants.{Unresolved};
 ghost use Rattle.target_trait.specs.Cuts.{asks_with, with_keep, cut_by, no_cut};

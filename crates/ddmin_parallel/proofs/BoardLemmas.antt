@@ -156,7 +156,7 @@ backed_tells test log faults pairs own is =
     let t = own_tells test log.faults log.events (backed_own test pairs own log.events h.1) in
     record { count = t.count ∙ same_count log.faults faults h.0; agrees = t.agrees }
 
--- ---- what the hands told
+-- ---- what the workers told
 
 pub parted_own : {P : Type 0} (answers : P → List ℕ → Bool) (test : List ℕ → Bool) (all : List (P × Vec (List ℕ × Bool) Global))
     → AllByRecursion (λ r. (answers r.0 ≡ test) × AreAnswers test r.1.items) all
@@ -168,7 +168,7 @@ pub last_of : {P : Type 0} (Q : P → Type 0) (xs : List P) (x : P) → AllByRec
 last_of Q [] x h = h.0
 last_of Q (y ∷ xs) x h = last_of Q xs x h.1
 
--- ---- room for the events that end the cards
+-- ---- room for the events that end the requests
 
 pub length_without : (s : List ℕ) (out : List (List ℕ)) → list_any (same_set s) out ≡ true → length (core.without s out) + 1 ≡ length out
 length_without s [] is = cc

@@ -132,14 +132,14 @@ empty_stays (suc more) = furthest_stop (get nothing) (Empty (suc more)) (ap (opt
 pub good_start : (faults : ℕ) (p : Position) → faults ≤ 4096 → p ≡ start faults → IsGood faults nothing [] p
 good_start faults p few is = record { few = few; stands = is ∙ sym (empty_stays faults); open_sets = tt }
 
--- ---- the card rule
+-- ---- the request rule
 
 pub next_is : (state : State) (ahead : Bool) (p : Position) (o : Option (List ℕ)) → p ≡ position state
     → o ≡ next_at (get state.known) (is_among state.out) p ahead → o ≡ next state ahead
 unfolding next
 next_is state ahead p o at is = is ∙ ap (λ q. next_at (get state.known) (is_among state.out) q ahead) at
 
--- a card is neither known nor out
+-- a request is neither known nor out
 pub open_gives : (known : Answers) (out : List ℕ → Bool) (ss : List Candidate) (s : List ℕ) → first_open known out ss ≡ Some s
     → (known s ≡ None) × (out s ≡ false)
 open_gives known out [] s is = absurd (let never : ◌≡◌ {A = Option (List ℕ)} None (Some s) = is in cc)
@@ -198,7 +198,7 @@ open_push known s (t ∷ out) h unknown is = at (same_set s t) refl (open_push k
     at true e rest is = absurd (let never : true ≡ false = is in cc)
     at false e rest is = (h.0, any_push out h.1 (same_turned t s ∙ e), rest is)
 
--- where no card is open and none is out, the round is decided
+-- where no request is open and none is out, the round is decided
 open_none : (known : Answers) (out : List ℕ → Bool) → ((s : List ℕ) → out s ≡ false) → (ss : List Candidate) (tests : ℕ)
     → first_open known out ss ≡ None → decided known ss tests ≡ None → ⊥
 open_none known out clear [] tests open_is is = let never : ◌≡◌ {A = Option Decision} (Some (NoneFails tests)) None = is in cc
@@ -226,7 +226,7 @@ open_none known out clear (s ∷ ss) tests open_is is = at (open_none known out 
     at deeper (Some true) h e = let never : ◌≡◌ {A = Option Decision} (Some (Fails s (counted tests))) None = e in cc
     at deeper (Some false) h e = deeper h e
 
--- no card comes only at the end, or where one is out
+-- no request comes only at the end, or where one is out
 or_else_first : (o o' : Option (List ℕ)) → or_else o o' ≡ None → o ≡ None
 or_else_first None o' is = refl
 or_else_first (Some s) o' is = is
@@ -357,8 +357,8 @@ settled_position known stage (Some next) place h = h.0
 pub handed_open : {X E : Type 0} (f : X → Option (List ℕ)) (r : Result X E) (known : Known) (out out' : List (List ℕ)) (p : Position) (ahead : Bool)
     → AreOpen known out
     → IfOk r (λ x. f x ≡ next_at (get known) (is_among out) p ahead) → IfOk r (λ x. out' ≡ out_after out (f x)) → OnErr r (out' ≡ out) → AreOpen known out'
-handed_open f (Err e) known out out' p ahead h card list err = subst (AreOpen known) (sym err) h
-handed_open f (Ok x) known out out' p ahead h card list err = at (f x) card list
+handed_open f (Err e) known out out' p ahead h request list err = subst (AreOpen known) (sym err) h
+handed_open f (Ok x) known out out' p ahead h request list err = at (f x) request list
   where
     at : (o : Option (List ℕ)) → o ≡ next_at (get known) (is_among out) p ahead → out' ≡ out_after out o → AreOpen known out'
     at None is same = subst (AreOpen known) (sym same) h

@@ -24,7 +24,7 @@ decided_end known c n k tests le =
     let none : candidates n - k ≡ 0 = omega arith in
     ap (λ m. decided known (map (candidate c n) (range_with_len k m)) tests) none
 
--- the same of the card rule
+-- the same of the request rule
 
 pub open_pass : (known : Answers) (out : List ℕ → Bool) (c : List ℕ) (n k : ℕ) → k < candidates n → known (candidate c n k).set ≡ Some false
     → first_open known out (from c n k) ≡ first_open known out (from c n (k + 1))

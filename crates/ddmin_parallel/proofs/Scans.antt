@@ -214,7 +214,7 @@ followed known out (Round c n tests) o lawful small stuck leads =
     }
 followed known out (End r) o lawful small stuck leads = record { lawful = tt; small = tt; same_round = refl; there = λ k h. tt; back = λ out' k h. tt }
 
--- ---- cards
+-- ---- requests
 
 push_keeps : (out : List (List ℕ)) (s : List ℕ) (t : List ℕ) → is_among out t ≡ true → is_among (out ++ s ∷ []) t ≡ true
 push_keeps out s t is = among_push out s t ∙ or_left (is_among out t) (same_set t s) is
@@ -230,14 +230,14 @@ pushed_below known out s p k h = below_wider known (with_set (is_among out) s) (
 pub further_open : (known : Answers) (out : List (List ℕ)) (p q : Position) (s : List ℕ) (k : ℕ) → IsFollowed known (is_among out) p q
     → first_open known (is_among out) (round_at q) ≡ Some s → IsShutBelow known (with_set (is_among out) s) q k → IsFurther known out p (Some s) k
 further_open known out p q s k on is below = record {
-  card = sym is ∙ ap (first_open known (is_among out)) (sym on.same_round);
+  request = sym is ∙ ap (first_open known (is_among out)) (sym on.same_round);
   shut = on.back (is_among (out ++ s ∷ [])) k (pushed_below known out s q k below);
 }
 
 pub further_none : (known : Answers) (out : List (List ℕ)) (p q : Position) (k : ℕ) → IsFollowed known (is_among out) p q
     → first_open known (is_among out) (round_at q) ≡ None → IsShutBelow known (is_among out) q k → IsFurther known out p None k
 further_none known out p q k on is below = record {
-  card = sym is ∙ ap (first_open known (is_among out)) (sym on.same_round);
+  request = sym is ∙ ap (first_open known (is_among out)) (sym on.same_round);
   shut = on.back (is_among out) k below;
 }
 
@@ -247,7 +247,7 @@ pub opened_here : (known : Answers) (out : List (List ℕ)) (p : Position) (ahea
     → cursor' ≡ record { place = cursor.place; closed = k; ahead = cursor.ahead } → IsOpened known out p ahead (Some s) cursor'
 opened_here known out p ahead s cursor cursor' k reached is below same =
     subst (IsOpened known out p ahead (Some s)) (sym same) (record {
-      card = sym (ap (λ o. or_else o (elim ahead [ true ↦ first_open known (is_among out) (next_round known p) | false ↦ None ])) is);
+      request = sym (ap (λ o. or_else o (elim ahead [ true ↦ first_open known (is_among out) (next_round known p) | false ↦ None ])) is);
       reached = record {
         counted = reached.counted;
         shut = pushed_below known out s p k below;
@@ -259,7 +259,7 @@ pub opened_nowhere : (known : Answers) (out : List (List ℕ)) (p : Position) (a
     → IsReached known (is_among out) p cursor
     → first_open known (is_among out) (round_at p) ≡ None → IsOpened known out p ahead None cursor
 opened_nowhere known out p ahead cursor off reached is = record {
-  card = sym (rw (is, off, next_at, or_else) refl);
+  request = sym (rw (is, off, next_at, or_else) refl);
   reached = reached;
 }
 
@@ -269,7 +269,7 @@ pub opened_further : (known : Answers) (out : List (List ℕ)) (p : Position) (a
     → cursor' ≡ record { place = cursor.place; closed = cursor.closed; ahead = k } → IsOpened known out p ahead o cursor'
 opened_further known out p ahead o cursor cursor' k on reached is further same =
     subst (IsOpened known out p ahead o) (sym same) (record {
-      card = further.card ∙ sym (rw (is, on, next_at, or_else) refl);
+      request = further.request ∙ sym (rw (is, on, next_at, or_else) refl);
       reached = record {
         counted = reached.counted;
         shut = below_wider known (is_among out) (is_among (out_after out o)) (after_keeps out o) p cursor.closed reached.shut;

@@ -1,5 +1,5 @@
--- The reducer as a core of events: it hands out cards, each a set to be tested, and is told the answers in any
--- order. What it knows, which cards are out and where the recursion stands is a function of the events alone.
+-- The reducer as a core of events: it hands out requests, each a set to be tested, and is told the answers in any
+-- order. What it knows, which requests are out and where the recursion stands is a function of the events alone.
 
 use Rattle.std.specs.Prelude.{◌≡◌, ℕ, zero, suc, ◌*◌, Bool, true, false, List, [], ◌∷◌, ◌++◌, length, nat_lt, nat_le, min, Option, None, Some, unwrap_or}
 use Rattle.std.specs.List.{range_with_len, list_any}
@@ -125,7 +125,7 @@ abbrev pub replay : State → List Event → State
 replay state [] = state
 replay state (event ∷ events) = replay (apply state event) events
 
--- ---- which card comes next
+-- ---- which request comes next
 
 -- the first candidate that is neither known nor out, before any that is known to fail
 abbrev pub first_open : Answers → (List ℕ → Bool) → List Candidate → Option (List ℕ)
@@ -154,7 +154,7 @@ abbrev pub or_else : Option (List ℕ) → Option (List ℕ) → Option (List �
 or_else None o = o
 or_else (Some s) o = Some s
 
--- the card of the present round, and where there is none and `ahead` is on, of the round one further
+-- the request of the present round, and where there is none and `ahead` is on, of the round one further
 unfoldable pub next : State → Bool → Option (List ℕ)
 next state ahead =
     or_else (first_open (get state.known) (is_out state) (round_at (position state)))

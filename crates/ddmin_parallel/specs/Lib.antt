@@ -3,7 +3,7 @@ pub mod Ddmin
 pub mod OneMinimal
 pub mod Sublists
 pub mod CoreEvents
-pub mod Cards
+pub mod Requests
 pub mod Logs
 pub mod Runs
 pub mod InsideBoard

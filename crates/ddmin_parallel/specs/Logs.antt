@@ -74,7 +74,7 @@ is_backed log faults pairs = (log.faults == faults) && list_all (is_event_backed
 abbrev pub AreAnswers : (List ℕ → Bool) → List (List ℕ × Bool) → Type 0
 AreAnswers test told = AllByRecursion (λ t. t.1 ≡ test t.0) told
 
--- every pair of every hand is the test's own
+-- every pair of every worker is the test's own
 abbrev pub AllAnswers : (List ℕ → Bool) → List (Vec (List ℕ × Bool) Global) → Type 0
 AllAnswers test pairs = AllByRecursion (λ told. AreAnswers test told.items) pairs
 

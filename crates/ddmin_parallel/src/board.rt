@@ -1,7 +1,7 @@
 ghost use Rattle.std.specs.Prelude.{◌≡◌, ◌+◌, ◌<◌, ◌≤◌, [], ◌∷◌, ◌++◌, ◌&&◌, if◌then◌else◌, not, map, vec_len, vec_capacity, option_copied};
 ghost use Rattle.std.specs.Prelude.{IsTrue, IfOk, OnOk, OnErr, IfErr};
 ghost use Rattle.ddmin_parallel.specs.CoreEvents.{position, is_out, Put, GiveBack, Recall};
-ghost use Rattle.ddmin_parallel.specs.Cards.{IsFinished, IsPutFault};
+ghost use Rattle.ddmin_parallel.specs.Requests.{IsFinished, IsPutFault};
 ghost use Rattle.std.specs.List.{list_any, list_all};
 ghost use Rattle.ddmin_parallel.specs.Logs.{state_of, with_event, log_after_take, log_after_give_back, log_after_recall};
 ghost use Rattle.ddmin_parallel.specs.Logs.{is_backed, is_event_backed, is_told, says};
@@ -9,7 +9,7 @@ ghost use Rattle.ddmin_parallel.specs.CoreEvents.{next, same_set};
 ghost use Rattle.ddmin_parallel.specs.InsideBoard.{event_of};
 
 use crate::fault_set::FaultSet;
-use crate::reducer_core::{Card, CardFault, Core};
+use crate::reducer_core::{Core, RequestFault, TestRequest};
 use crate::reduction::Reduction;
 use std::alloc::{AllocError, Global};
 use std::marker::Model;
@@ -133,11 +133,11 @@ impl Board {
         self.events.as_slice()
     }
 
-    /// Hands out the next card, as `Core::take`. Places for this event and for the one that ends the card
+    /// Hands out the next request, as `Core::take`. Places for this event and for the one that ends the request
     /// are reserved first, so an `Err` changes nothing.
-    pub fn take(&mut self, alloc: Global, ahead: bool) -> Result<Option<Card>, AllocError>
-        ensures card { IfOk result (λ card. card ≡ next (state_of self.old) ahead) }
-        ensures event { IfOk result (λ card. self.new ≡ log_after_take self.old card) }
+    pub fn take(&mut self, alloc: Global, ahead: bool) -> Result<Option<TestRequest>, AllocError>
+        ensures request { IfOk result (λ request. request ≡ next (state_of self.old) ahead) }
+        ensures event { IfOk result (λ request. self.new ≡ log_after_take self.old request) }
         ensures err { OnErr result (self.new ≡ self.old) }
     {
         let Some(room) = self.core.out_len().checked_add(2) else {
@@ -146,28 +146,33 @@ impl Board {
         self.events.reserve(room)?;
         match self.core.take_two(alloc, ahead)? {
             None => Ok(None),
-            Some((card, copy)) => {
+            Some((request, copy)) => {
                 note(&mut self.events, Event::Take(copy));
-                Ok(Some(card))
+                Ok(Some(request))
             }
         }
     }
 
-    /// Takes the answer to a card, as `Core::put`. An `Err` hands the card back and changes nothing.
-    pub fn put(&mut self, alloc: Global, card: Card, fails: bool) -> Result<(), CardFault>
-        ensures ok { OnOk result (IsTrue (is_out (state_of self.old) card)) }
-        ensures event { OnOk result (self.new ≡ with_event self.old (Put card fails)) }
+    /// Takes the answer to a request, as `Core::put`. An `Err` hands the request back and changes nothing.
+    pub fn put(
+        &mut self,
+        alloc: Global,
+        request: TestRequest,
+        fails: bool,
+    ) -> Result<(), RequestFault>
+        ensures ok { OnOk result (IsTrue (is_out (state_of self.old) request)) }
+        ensures event { OnOk result (self.new ≡ with_event self.old (Put request fails)) }
         ensures err { OnErr result (self.new ≡ self.old) }
-        ensures fault { IfErr result (IsPutFault (state_of self.old) card) }
+        ensures fault { IfErr result (IsPutFault (state_of self.old) request) }
     {
-        if !self.core.has_out(card.packed()) {
-            return Err(CardFault::Stranger(card));
+        if !self.core.has_out(request.packed()) {
+            return Err(RequestFault::Stranger(request));
         }
-        let copy = match card.packed().copied(alloc) {
+        let copy = match request.packed().copied(alloc) {
             Ok(copy) => copy,
-            Err(_) => return Err(CardFault::Memory(card)),
+            Err(_) => return Err(RequestFault::Memory(request)),
         };
-        match self.core.put(alloc, card, fails) {
+        match self.core.put(alloc, request, fails) {
             Ok(()) => {
                 note(&mut self.events, Event::Put(copy, fails));
                 Ok(())
@@ -176,12 +181,12 @@ impl Board {
         }
     }
 
-    /// A card's set is out no more, unanswered. No event where it is not out. Takes no memory.
-    pub fn give_back(&mut self, card: Card)
-        ensures { self.new ≡ log_after_give_back self.old card }
+    /// A request's set is out no more, unanswered. No event where it is not out. Takes no memory.
+    pub fn give_back(&mut self, request: TestRequest)
+        ensures { self.new ≡ log_after_give_back self.old request }
     {
-        let set = card.into_packed();
-        if self.core.end_card(&set) {
+        let set = request.into_packed();
+        if self.core.end_request(&set) {
             note(&mut self.events, Event::GiveBack(set));
         }
     }

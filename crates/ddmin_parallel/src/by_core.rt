@@ -4,24 +4,24 @@ ghost use Rattle.ddmin_parallel.specs.Logs.{Tells};
 
 use crate::plain::reduce_plain;
 use crate::probe::Probe;
-use crate::reducer_core::{CardFault, Core};
+use crate::reducer_core::{Core, RequestFault};
 use crate::reduction::Reduction;
 use std::alloc::{AllocError, Global};
 
-/// Answers the next card by the probe. False where there is none.
+/// Answers the next request by the probe. False where there is none.
 fn answer_next<P: Probe>(alloc: Global, core: &mut Core, probe: &mut P) -> Result<bool, AllocError>
     ensures tells { (faults : ℕ) → Tells faults (P.answers probe.old) core.old
         → IfOk result (λ more. IsTrue more → Tells faults (P.answers probe.old) core.new) }
     ensures setup { P.answers probe.new ≡ P.answers probe.old }
 {
-    let Some(card) = core.take(alloc, false)? else {
+    let Some(request) = core.take(alloc, false)? else {
         return Ok(false);
     };
-    let fails = probe.test(card.set())?;
-    match core.put(alloc, card, fails) {
+    let fails = probe.test(request.set())?;
+    match core.put(alloc, request, fails) {
         Ok(()) => Ok(true),
-        Err(CardFault::Stranger(_)) => Ok(false),
-        Err(CardFault::Memory(_)) => Err(AllocError),
+        Err(RequestFault::Stranger(_)) => Ok(false),
+        Err(RequestFault::Memory(_)) => Err(AllocError),
     }
 }
 

@@ -69,13 +69,13 @@ pub fn events_decide()
         → position (replay (begin faults) events) ≡ End r → r ≡ ddmin test faults }
 {}
 
-/// No card comes only at the end, or where one is out.
-pub fn some_card_comes()
+/// No request comes only at the end, or where one is out.
+pub fn some_request_comes()
     ensures { (state : State) (ahead : Bool) → state.out ≡ [] → next state ahead ≡ None → (r : Reduced) × (position state ≡ End r) }
 {}
 
 /// No set is handed out that is known or out.
-pub fn cards_are_open()
+pub fn requests_are_open()
     ensures { (state : State) (ahead : Bool) (s : List ℕ) → next state ahead ≡ Some s → (get state.known s ≡ None) × (is_out state s ≡ false) }
 {}
 

@@ -6,26 +6,25 @@
 //!
 //! - `reduce_plain` is the recursion on one thread: it asks a probe, set after set, repeats included. The laws `one_minimal` and
 //!   `kept_is_sublist` say what is kept.
-//! - A `Core` hands out sets as cards, and is told their answers in any order, also those of cards ahead of the round that it is at. It is
+//! - A `Core` hands out sets as requests, and is told their answers in any order, also those of requests ahead of the round that it is at. It is
 //!   the replay of its events (`specs/CoreEvents`): what is known, which sets are out, and the furthest position of the recursion that
 //!   known answers alone lead to. `finished` answers where that is the end; by the law `known_answers_decide` it is then `ddmin` of every
 //!   test that agrees with the answers.
 //! - A `Board` is a core with the list of its events (`specs/Logs`); by the law `events_decide` the list decides what is found, in
 //!   whatever order its answers came.
-//! - `reduce_by_core` asks a probe for the card of a core, one after the other, on one thread. What is known isn't asked again.
-//! - `reduce` has a thread for each hand, which takes cards of one board under a lock and asks its probe outside of it. After the joins
-//!   the answers on the board are held against those that the hands had from their probes, and the caller's thread goes on from the
+//! - `reduce_by_core` asks a probe for the request of a core, one after the other, on one thread. What is known isn't asked again.
+//! - `reduce` has a thread for each worker, which takes requests of one board under a lock and asks its probe outside of it. After the joins
+//!   the answers on the board are held against those that the workers had from their probes, and the caller's thread goes on from the
 //!   board, or from the start if one of them were no probe's own. So what is found rests on the probes' answers, and not on the order
 //!   of the threads or on what was done under the lock.
 //!
-//! That several threads are at work at once, and that a waiting hand is woken, is shown by tests alone.
+//! That several threads are at work at once, and that a waiting worker is woken, is shown by tests alone.
 #![tactic(auto)]
 
 mod attempts;
 mod board;
 mod by_core;
 mod fault_set;
-mod hands;
 mod heard;
 mod known;
 mod laws;
@@ -37,17 +36,18 @@ mod reducer_core;
 mod reduction;
 mod sets;
 mod stage;
+mod workers;
 
 pub use board::{Board, Event};
 pub use by_core::reduce_by_core;
 pub use fault_set::{FaultSet, Run};
-pub use hands::reduce;
 pub use laws::{
-    ahead_rows, cards_are_open, ddmin2_is_its_rule, events_decide, failing_empty_set_keeps_nothing,
+    ahead_rows, ddmin2_is_its_rule, events_decide, failing_empty_set_keeps_nothing,
     kept_is_sublist, kept_set_fails, known_answers_decide, known_answers_pass_through, known_rows,
-    one_minimal, some_card_comes,
+    one_minimal, requests_are_open, some_request_comes,
 };
 pub use plain::reduce_plain;
 pub use probe::Probe;
-pub use reducer_core::{Card, CardFault, Core};
+pub use reducer_core::{Core, RequestFault, TestRequest};
 pub use reduction::Reduction;
+pub use workers::reduce;

@@ -17,7 +17,7 @@ fn is_said_at(set: &FaultSet, fails: bool, told: &[(FaultSet, bool)], place: usi
     }
 }
 
-/// Goes past the pair that says this of the set, where it is the next one of some hand. False where it is that of none.
+/// Goes past the pair that says this of the set, where it is the next one of some worker. False where it is that of none.
 fn goes_past(
     set: &FaultSet,
     fails: bool,
@@ -55,7 +55,7 @@ fn are_in_turn(events: &[Event], pairs: &[Vec<(FaultSet, bool)>], places: &mut [
     true
 }
 
-/// Whether the answers that were put are a merge of the pairs, each hand's in their order. Then each of them is one of the pairs.
+/// Whether the answers that were put are a merge of the pairs, each worker's in their order. Then each of them is one of the pairs.
 /// False also where memory ran out.
 fn is_merged(alloc: Global, board: &Board, faults: u32, pairs: &[Vec<(FaultSet, bool)>]) -> bool
     ensures { IsTrue result → IsTrue (is_backed board.now faults pairs.now) }
@@ -67,7 +67,7 @@ fn is_merged(alloc: Global, board: &Board, faults: u32, pairs: &[Vec<(FaultSet, 
 }
 
 /// What `Board::backed` says. It looks at each pair for each answer, so it is asked only where the pairs come in another order than
-/// the answers: as a rule, where a hand's answer found no memory.
+/// the answers: as a rule, where a worker's answer found no memory.
 pub fn is_backed_by(
     alloc: Global,
     board: &Board,

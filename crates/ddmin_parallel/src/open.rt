@@ -10,7 +10,7 @@ ghost use Rattle.ddmin_parallel.specs.inside.Searches.{HasReached, IsStuck, Open
 use crate::attempts::{Attempt, attempt_at, candidate_count};
 use crate::fault_set::FaultSet;
 use crate::known::Known;
-use crate::reducer_core::Card;
+use crate::reducer_core::TestRequest;
 use crate::sets::place_of;
 use crate::stage::{Cursor, Stage, following};
 use std::alloc::{AllocError, Global};
@@ -19,7 +19,7 @@ use std::alloc::{AllocError, Global};
 #[derive(Drop)]
 pub(crate) enum Scan {
     /// At an open candidate, and the place after it.
-    Open(Card, usize),
+    Open(TestRequest, usize),
     /// At a candidate that is known to fail.
     Fails(Attempt, usize),
     /// At the end.
@@ -51,7 +51,7 @@ fn scanned_round(
             }
             None => {
                 if place_of(&packed, out).is_none() {
-                    return Ok(Scan::Open(Card::of(attempt.set, packed), place + 1));
+                    return Ok(Scan::Open(TestRequest::of(attempt.set, packed), place + 1));
                 }
             }
         }
@@ -79,7 +79,7 @@ fn scanned(
                 Some(_) => Ok(Scan::Shut(0)),
                 None => {
                     if place_of(&set, out).is_none() {
-                        Ok(Scan::Open(Card::of(Vec::new(alloc), set), 1))
+                        Ok(Scan::Open(TestRequest::of(Vec::new(alloc), set), 1))
                     } else {
                         Ok(Scan::Shut(0))
                     }
@@ -93,7 +93,7 @@ fn scanned(
     }
 }
 
-/// The card of the round one further, if there is one, and where the search for the one after it begins.
+/// The request of the round one further, if there is one, and where the search for the one after it begins.
 fn further_set(
     alloc: Global,
     known: &Known,
@@ -101,7 +101,7 @@ fn further_set(
     stage: &Stage,
     failing: Option<Attempt>,
     from: usize,
-) -> Result<(Option<Card>, usize), AllocError>
+) -> Result<(Option<TestRequest>, usize), AllocError>
     requires lawful { IsLawful (position_of stage.now) }
     requires small { IsSmall (position_of stage.now) }
     requires stuck { IsStuck known.now stage.now }
@@ -112,13 +112,13 @@ fn further_set(
 {
     let next = following(alloc, stage, failing)?;
     match scanned(alloc, known, out, &next, from)? {
-        Scan::Open(card, place) => Ok((Some(card), place)),
+        Scan::Open(request, place) => Ok((Some(request), place)),
         Scan::Fails(_, place) => Ok((None, place)),
         Scan::Shut(place) => Ok((None, place)),
     }
 }
 
-/// The card that comes next where the round has none, if there is one, and the cursor for the one after it.
+/// The request that comes next where the round has none, if there is one, and the cursor for the one after it.
 fn open_beyond(
     alloc: Global,
     known: &Known,
@@ -127,7 +127,7 @@ fn open_beyond(
     failing: Option<Attempt>,
     cursor: Cursor,
     ahead: bool,
-) -> Result<(Option<Card>, Cursor), AllocError>
+) -> Result<(Option<TestRequest>, Cursor), AllocError>
     requires lawful { IsLawful (position_of stage.now) }
     requires small { IsSmall (position_of stage.now) }
     requires stuck { IsStuck known.now stage.now }
@@ -139,11 +139,11 @@ fn open_beyond(
     if !ahead {
         return Ok((None, cursor));
     }
-    let (card, ahead) = further_set(alloc, known, out, stage, failing, cursor.ahead)?;
-    Ok((card, Cursor { ahead, ..cursor }))
+    let (request, ahead) = further_set(alloc, known, out, stage, failing, cursor.ahead)?;
+    Ok((request, Cursor { ahead, ..cursor }))
 }
 
-/// The card that comes next, if there is one, and the cursor for the one after it.
+/// The request that comes next, if there is one, and the cursor for the one after it.
 pub(crate) fn open_set(
     alloc: Global,
     known: &Known,
@@ -151,7 +151,7 @@ pub(crate) fn open_set(
     stage: &Stage,
     cursor: Cursor,
     ahead: bool,
-) -> Result<(Option<Card>, Cursor), AllocError>
+) -> Result<(Option<TestRequest>, Cursor), AllocError>
     requires lawful { IsLawful (position_of stage.now) }
     requires small { IsSmall (position_of stage.now) }
     requires stuck { IsStuck known.now stage.now }
@@ -159,7 +159,7 @@ pub(crate) fn open_set(
     ensures { IfOk result (Opens known.now out.now stage.now ahead) }
 {
     match scanned(alloc, known, out, stage, cursor.closed)? {
-        Scan::Open(card, closed) => Ok((Some(card), Cursor { closed, ..cursor })),
+        Scan::Open(request, closed) => Ok((Some(request), Cursor { closed, ..cursor })),
         Scan::Fails(attempt, closed) => {
             open_beyond(
                 alloc,

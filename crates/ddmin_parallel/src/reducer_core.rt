@@ -2,7 +2,7 @@ ghost use Rattle.std.specs.Prelude.{◌≡◌, ◌≤◌, [], ◌∷◌, ◌++�
 ghost use Rattle.std.specs.FinMap as known_map;
 ghost use Rattle.ddmin_parallel.specs.CoreEvents.{begin, apply, position, next, after_take, option_then, is_out, Put, GiveBack, Recall};
 ghost use Rattle.ddmin_parallel.specs.inside.CoreStates.{IsLawful, IsSmall, IsSettled, AreOpen};
-ghost use Rattle.ddmin_parallel.specs.Cards.{IsPutFault, IsFault, IsFinished};
+ghost use Rattle.ddmin_parallel.specs.Requests.{IsPutFault, IsFault, IsFinished};
 ghost use Rattle.ddmin_parallel.specs.inside.Stages.{position_of};
 ghost use Rattle.ddmin_parallel.specs.inside.Cursors.{is_among, next_at, out_after, moved, stage_after};
 ghost use Rattle.ddmin_parallel.specs.inside.Searches.{HasReached, IsStuck};
@@ -19,31 +19,31 @@ use std::marker::Model;
 
 /// A set of faults that was handed out to be tested.
 #[derive(Drop)]
-pub struct Card {
+pub struct TestRequest {
     set: Vec<u32>,
     /// The same set, packed: it goes to a board's events.
     packed: FaultSet,
 }
 
-impl Model for Card {
+impl Model for TestRequest {
     ghost use Rattle.std.specs.Prelude.{ℕ, List};
 
     ghost Value = { List ℕ };
 
     ghost view = { λ c. c.set.items };
 
-    ghost use Rattle.ddmin_parallel.specs.inside.Packed.{IsPackedCard};
+    ghost use Rattle.ddmin_parallel.specs.inside.Packed.{IsPackedRequest};
 
-    ghost invariant = { IsPackedCard };
+    ghost invariant = { IsPackedRequest };
 }
 
-impl Card {
-    /// The card of a set and the same packed.
-    pub(crate) fn of(set: Vec<u32>, packed: FaultSet) -> Card
+impl TestRequest {
+    /// The request of a set and the same packed.
+    pub(crate) fn of(set: Vec<u32>, packed: FaultSet) -> TestRequest
         requires { packed ≡ set.items }
         ensures { result ≡ set.items }
     {
-        Card { set, packed }
+        TestRequest { set, packed }
     }
 
     /// The set, ascending.
@@ -67,17 +67,17 @@ impl Card {
     }
 }
 
-/// Why an answer was not put. The card comes back, and nothing is changed.
+/// Why an answer was not put. The request comes back, and nothing is changed.
 #[derive(Drop)]
-pub enum CardFault {
-    /// The card's set is not out.
-    Stranger(Card),
+pub enum RequestFault {
+    /// The request's set is not out.
+    Stranger(TestRequest),
     /// There was no memory for the answer.
-    Memory(Card),
+    Memory(TestRequest),
 }
 
-/// A reduction that hands out cards and is told their answers in any order. It is the replay of what
-/// happened to it: where it stands and which card comes next depend on the events alone.
+/// A reduction that hands out requests and is told their answers in any order. It is the replay of what
+/// happened to it: where it stands and which request comes next depend on the events alone.
 #[derive(Drop)]
 pub struct Core {
     faults: u32,
@@ -139,33 +139,33 @@ fn settle(
     out: &mut Vec<FaultSet>,
     stage: &mut Stage,
     cursor: &mut Cursor,
-    card: Card,
+    request: TestRequest,
     fails: bool,
-) -> Result<(), CardFault>
+) -> Result<(), RequestFault>
     requires lawful { IsLawful (position_of stage.old) }
     requires small { IsSmall (position_of stage.old) }
     requires open_sets { AreOpen known.old out.old.items }
     requires reached { HasReached known.old out.old.items stage.old cursor.old }
-    ensures ok { OnOk result (IsSettled known.old out.old.items (position_of stage.old) card fails
+    ensures ok { OnOk result (IsSettled known.old out.old.items (position_of stage.old) request fails
         known.new out.new.items (position_of stage.new)) }
     ensures err { OnErr result ((known.new ≡ known.old) × (out.new.items ≡ out.old.items)
         × (position_of stage.new ≡ position_of stage.old)) }
-    ensures fault { IfErr result (IsFault out.old.items card) }
+    ensures fault { IfErr result (IsFault out.old.items request) }
     ensures reached { HasReached known.new out.new.items stage.new cursor.new }
 {
-    if place_of(&card.packed, out.as_slice()).is_none() {
-        return Err(CardFault::Stranger(card));
+    if place_of(&request.packed, out.as_slice()).is_none() {
+        return Err(RequestFault::Stranger(request));
     }
-    let heard = Heard::of(known, &card.packed, fails);
+    let heard = Heard::of(known, &request.packed, fails);
     let (next, place) = match advanced(alloc, &heard, stage, cursor.place) {
         Ok(advance) => advance,
-        Err(_) => return Err(CardFault::Memory(card)),
+        Err(_) => return Err(RequestFault::Memory(request)),
     };
-    match learn(alloc, known, &card.packed, fails) {
+    match learn(alloc, known, &request.packed, fails) {
         Ok(()) => {}
-        Err(_) => return Err(CardFault::Memory(card)),
+        Err(_) => return Err(RequestFault::Memory(request)),
     }
-    take_from(&card.packed, out);
+    take_from(&request.packed, out);
     let is_anew = fails | next.is_some();
     *cursor = moved_cursor(*cursor, place, is_anew);
     go_on(stage, next);
@@ -185,7 +185,7 @@ fn add_out(alloc: Global, out: &mut Vec<FaultSet>, set: &FaultSet) -> Result<Fau
     Ok(other)
 }
 
-/// Hands out the next card, with a copy of its set. An `Err` hands out none.
+/// Hands out the next request, with a copy of its set. An `Err` hands out none.
 fn hand_out(
     alloc: Global,
     known: &Known,
@@ -193,12 +193,12 @@ fn hand_out(
     stage: &Stage,
     cursor: &mut Cursor,
     ahead: bool,
-) -> Result<Option<(Card, FaultSet)>, AllocError>
+) -> Result<Option<(TestRequest, FaultSet)>, AllocError>
     requires lawful { IsLawful (position_of stage.now) }
     requires small { IsSmall (position_of stage.now) }
     requires stuck { IsStuck known.now stage.now }
     requires reached { HasReached known.now out.old.items stage.now cursor.old }
-    ensures card { IfOk result (λ o. option_then (λ r. r.0) o
+    ensures request { IfOk result (λ o. option_then (λ r. r.0) o
         ≡ next_at (known_map.get known.now) (is_among out.old.items) (position_of stage.now) ahead) }
     ensures copy { IfOk result (λ o. IfSome o (λ r. r.1 ≡ r.0)) }
     ensures out { IfOk result (λ o. out.new.items ≡ out_after out.old.items (option_then (λ r. r.0) o)) }
@@ -206,16 +206,16 @@ fn hand_out(
     ensures reached { HasReached known.now out.new.items stage.now cursor.new }
 {
     let (found, next) = open_set(alloc, known, out.as_slice(), stage, *cursor, ahead)?;
-    let card = match found {
+    let request = match found {
         None => {
             *cursor = next;
             return Ok(None);
         }
-        Some(card) => card,
+        Some(request) => request,
     };
-    let other = add_out(alloc, out, &card.packed)?;
+    let other = add_out(alloc, out, &request.packed)?;
     *cursor = next;
-    Ok(Some((card, other)))
+    Ok(Some((request, other)))
 }
 
 impl Core {
@@ -241,27 +241,27 @@ impl Core {
         }
     }
 
-    /// Hands out the next card: the first candidate of the present round that is neither known nor out and
+    /// Hands out the next request: the first candidate of the present round that is neither known nor out and
     /// does not follow one known to fail. Where there is none and `ahead` is on, the same is done one round
-    /// further. `None` comes only where the core is finished or a card is out. An `Err` changes nothing.
-    pub fn take(&mut self, alloc: Global, ahead: bool) -> Result<Option<Card>, AllocError>
-        ensures card { IfOk result (λ card. card ≡ next self.old ahead) }
-        ensures event { IfOk result (λ card. self.new ≡ after_take self.old card) }
+    /// further. `None` comes only where the core is finished or a request is out. An `Err` changes nothing.
+    pub fn take(&mut self, alloc: Global, ahead: bool) -> Result<Option<TestRequest>, AllocError>
+        ensures request { IfOk result (λ request. request ≡ next self.old ahead) }
+        ensures event { IfOk result (λ request. self.new ≡ after_take self.old request) }
         ensures err { OnErr result (self.new ≡ self.old) }
     {
         match self.take_two(alloc, ahead)? {
             None => Ok(None),
-            Some((card, _)) => Ok(Some(card)),
+            Some((request, _)) => Ok(Some(request)),
         }
     }
 
-    /// The same, with a copy of the card's set.
+    /// The same, with a copy of the request's set.
     pub(crate) fn take_two(
         &mut self,
         alloc: Global,
         ahead: bool,
-    ) -> Result<Option<(Card, FaultSet)>, AllocError>
-        ensures card { IfOk result (λ o. option_then (λ r. r.0) o ≡ next self.old ahead) }
+    ) -> Result<Option<(TestRequest, FaultSet)>, AllocError>
+        ensures request { IfOk result (λ o. option_then (λ r. r.0) o ≡ next self.old ahead) }
         ensures copy { IfOk result (λ o. IfSome o (λ r. r.1 ≡ r.0)) }
         ensures event { IfOk result (λ o. self.new ≡ after_take self.old (option_then (λ r. r.0) o)) }
         ensures err { OnErr result (self.new ≡ self.old) }
@@ -276,13 +276,18 @@ impl Core {
         )
     }
 
-    /// Takes the answer to a card that is out, whichever. The core moves only as far as the known answers
-    /// decide every earlier candidate. An `Err` hands the card back and changes nothing.
-    pub fn put(&mut self, alloc: Global, card: Card, fails: bool) -> Result<(), CardFault>
-        ensures ok { OnOk result (IsTrue (is_out self.old card)) }
-        ensures event { OnOk result (self.new ≡ apply self.old (Put card fails)) }
+    /// Takes the answer to a request that is out, whichever. The core moves only as far as the known answers
+    /// decide every earlier candidate. An `Err` hands the request back and changes nothing.
+    pub fn put(
+        &mut self,
+        alloc: Global,
+        request: TestRequest,
+        fails: bool,
+    ) -> Result<(), RequestFault>
+        ensures ok { OnOk result (IsTrue (is_out self.old request)) }
+        ensures event { OnOk result (self.new ≡ apply self.old (Put request fails)) }
         ensures err { OnErr result (self.new ≡ self.old) }
-        ensures fault { IfErr result (IsPutFault self.old card) }
+        ensures fault { IfErr result (IsPutFault self.old request) }
     {
         settle(
             alloc,
@@ -290,7 +295,7 @@ impl Core {
             &mut self.out,
             &mut self.stage,
             &mut self.cursor,
-            card,
+            request,
             fails,
         )
     }
@@ -324,16 +329,16 @@ impl Core {
         self.cursor = Cursor::at(self.cursor.place);
     }
 
-    /// A card's set is out no more, unanswered; it will be handed out again. Changes nothing where the set is
+    /// A request's set is out no more, unanswered; it will be handed out again. Changes nothing where the set is
     /// not out. Takes no memory.
-    pub fn give_back(&mut self, card: Card)
-        ensures { self.new ≡ apply self.old (GiveBack card) }
+    pub fn give_back(&mut self, request: TestRequest)
+        ensures { self.new ≡ apply self.old (GiveBack request) }
     {
-        self.end_card(&card.packed);
+        self.end_request(&request.packed);
     }
 
     /// A set is out no more. Whether it was.
-    pub(crate) fn end_card(&mut self, set: &FaultSet) -> bool
+    pub(crate) fn end_request(&mut self, set: &FaultSet) -> bool
         ensures was { result ≡ is_out self.old set.now }
         ensures event { self.new ≡ apply self.old (GiveBack set.now) }
     {

@@ -9,7 +9,7 @@ use Rattle.action_eval.specs.declared.rig.Site.{Site}
 use Rattle.action_eval.specs.declared.rig.Rig.{Rig}
 use Rattle.action_eval.specs.declared.rig.Kind.{Kind}
 use Rattle.action_eval.specs.Answers.{Reply}
-use Rattle.action_eval.specs.Rigging.{rig}
+use Rattle.action_eval.specs.RiggedScenario.{rig}
 use Rattle.target_trait.specs.Play.{Move}
 use Rattle.grown_plans.specs.Runs.{Met}
 use Rattle.grown_plans.specs.GrownPlans.{Subject, run_of_plan, hits_past, grown_at, children, level, levels}

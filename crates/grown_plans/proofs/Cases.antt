@@ -9,7 +9,7 @@ use Rattle.action_eval.specs.declared.rig.Site.{Site}
 use Rattle.action_eval.specs.declared.rig.Rig.{Rig}
 use Rattle.action_eval.specs.declared.rig.Kind.{Kind}
 use Rattle.action_eval.specs.Answers.{Reply, Go, given_of}
-use Rattle.action_eval.specs.Rigging.{rig, rigging}
+use Rattle.action_eval.specs.RiggedScenario.{rig, rigged_scenario}
 use Rattle.target_trait.specs.Outcomes.{judged}
 use Rattle.target_trait.specs.declared.judgement.Verdict.TheVariants.{Fail}
 use Rattle.plan_gen.specs.RiggedAnswers.{AreInOrder, is_onward, acts_at, reply_by, rigged_reply}
@@ -19,7 +19,7 @@ use Rattle.grown_plans.specs.Promises.{EachTwo, IsLawful, IsOfKinds, FaultCase, 
 use Rattle.grown_plans.proofs.Members.{all_weaker, all_contains, contains_head, contains_tail, two_weaker, one_of, no_more}
 use Rattle.grown_plans.proofs.Paths.{replies_of, IsPath, AnsweredBy, same_path}
 use Rattle.grown_plans.proofs.PlayedRuns.{run_path, run_judged}
-use Rattle.grown_plans.proofs.Riggings.{CanAct, reply_here, reply_there, same_site}
+use Rattle.grown_plans.proofs.RiggedScenarios.{CanAct, reply_here, reply_there, same_site}
 use Rattle.grown_plans.proofs.PlanRuns.{answers_of, plan_path, plan_answered, plan_judged, rigs_answered, rigs_path, rigs_unpaused}
 use Rattle.grown_plans.proofs.Faults.{noted, faults, faults_length, acts_once, can_act, faults_answer, faults_among, noted_kind}
 use Rattle.grown_plans.proofs.Levels.{IsGrown, level_grown, in_level}
@@ -137,11 +137,11 @@ kinds_once t l rigs k = all_weaker (λ r. Contains (t.kinds r.site.point) r.kind
 
 abbrev pub rigs_case : (t : Subject) → IsLawful t → (rigs : List Rig) → AreInOrder (map (λ (r : Rig). r.site) rigs) → AllByRecursion (λ r. Contains (t.kinds r.site.point) r.kind) rigs → (seed stream : ℕ) → FaultCase t
 rigs_case t l rigs o k seed stream = record {
-  scenario = rigging t.names rigs;
+  scenario = rigged_scenario t.names rigs;
   seed = seed;
   stream = stream;
   unpaused = rigs_unpaused t rigs seed stream;
-  of_kinds = rigs_kinds t.kinds rigs (kinds_once t l rigs k) k (run t.asks (given_of (rigging t.names rigs) t.names seed stream t.limit)) (rigs_answered t l rigs o seed stream);
+  of_kinds = rigs_kinds t.kinds rigs (kinds_once t l rigs k) k (run t.asks (given_of (rigged_scenario t.names rigs) t.names seed stream t.limit)) (rigs_answered t l rigs o seed stream);
 }
 
 apart_rigs : (rigs : List Rig) → EachTwo (λ r t. r.site ≡ t.site → ⊥) rigs → EachTwo (λ (a b : Rig). a ≡ b → ⊥) rigs
@@ -149,14 +149,14 @@ apart_rigs rigs e = two_weaker (λ (r t : Rig). r.site ≡ t.site → ⊥) (λ (
 
 -- the faults that act are rigged ones, so there are no more of them
 pub rigs_faults : (t : Subject) → IsLawful t → (rigs : List Rig) → AreInOrder (map (λ (r : Rig). r.site) rigs) → AllByRecursion (λ r. Contains (t.kinds r.site.point) r.kind) rigs → (seed stream : ℕ)
-    → AllByRecursion (Contains rigs) (faults [] (run t.asks (given_of (rigging t.names rigs) t.names seed stream t.limit)))
+    → AllByRecursion (Contains rigs) (faults [] (run t.asks (given_of (rigged_scenario t.names rigs) t.names seed stream t.limit)))
 rigs_faults t l rigs o k seed stream =
-    faults_in rigs [] (run t.asks (given_of (rigging t.names rigs) t.names seed stream t.limit)) (kinds_once t l rigs k) (rigs_answered t l rigs o seed stream) tt
+    faults_in rigs [] (run t.asks (given_of (rigged_scenario t.names rigs) t.names seed stream t.limit)) (kinds_once t l rigs k) (rigs_answered t l rigs o seed stream) tt
 
 pub rigs_few : (t : Subject) → IsLawful t → (rigs : List Rig) → AreInOrder (map (λ (r : Rig). r.site) rigs) → AllByRecursion (λ r. Contains (t.kinds r.site.point) r.kind) rigs → (seed stream : ℕ)
-    → acting (run t.asks (given_of (rigging t.names rigs) t.names seed stream t.limit)) ≤ length rigs
+    → acting (run t.asks (given_of (rigged_scenario t.names rigs) t.names seed stream t.limit)) ≤ length rigs
 rigs_few t l rigs o k seed stream =
-    let ms : List Met = run t.asks (given_of (rigging t.names rigs) t.names seed stream t.limit) in
+    let ms : List Met = run t.asks (given_of (rigged_scenario t.names rigs) t.names seed stream t.limit) in
     let can : CanAct (faults [] ms) = whole_can t ms (rigs_path t rigs seed stream) in
     let few : length (faults [] ms) ≤ length rigs = no_more (faults [] ms) rigs (apart_rigs (faults [] ms) can.sites_apart) (rigs_faults t l rigs o k seed stream) in
     let is = faults_length ms in

@@ -6,7 +6,7 @@ use Rattle.std.proofs.lemmas.Bool.{cases_eq}
 use Rattle.action_eval.specs.declared.rig.Site.{Site}
 use Rattle.action_eval.specs.declared.rig.Rig.{Rig}
 use Rattle.action_eval.specs.Answers.{given_of}
-use Rattle.action_eval.specs.Rigging.{rigging}
+use Rattle.action_eval.specs.RiggedScenario.{rigged_scenario}
 use Rattle.target_trait.specs.Outcomes.{judged}
 use Rattle.target_trait.specs.declared.judgement.Verdict.{Verdict}
 use Rattle.target_trait.specs.declared.judgement.Verdict.TheVariants.{Pass, Fail, Unresolved}
@@ -16,7 +16,7 @@ use Rattle.grown_plans.specs.GrownPlans.{Subject, in_order, rigs_of, level, leve
 use Rattle.grown_plans.specs.Promises.{IsLawful, FaultCase, run_in, verdict_of_rigs, verdict_of_plan, lesser, IsCause, HasCauses}
 use Rattle.grown_plans.proofs.Members.{all_weaker, all_map, all_both, all_contains, all_contained, all_or}
 use Rattle.grown_plans.proofs.Paths.{replies_of, same_path}
-use Rattle.grown_plans.proofs.Riggings.{rigs_order, all_in_order, length_in_order, merged_once}
+use Rattle.grown_plans.proofs.RiggedScenarios.{rigs_order, all_in_order, length_in_order, merged_once}
 use Rattle.grown_plans.proofs.PlanRuns.{rigs_answered, rigs_judged, rigs_path}
 use Rattle.grown_plans.proofs.Faults.{faults}
 use Rattle.grown_plans.proofs.Levels.{IsGrown, level_grown}
@@ -79,8 +79,8 @@ are_less t n plan g rigs c =
 -- which seed and stream number rigged hits run under makes no difference
 rigs_same : (t : Subject) → IsLawful t → (rigs : List Rig) → AreInOrder (sites rigs) → (seed stream seed' stream' : ℕ) → verdict_of_rigs t seed stream rigs ≡ verdict_of_rigs t seed' stream' rigs
 rigs_same t l rigs o seed stream seed' stream' =
-    let g = given_of (rigging t.names rigs) t.names seed stream t.limit in
-    let g' = given_of (rigging t.names rigs) t.names seed' stream' t.limit in
+    let g = given_of (rigged_scenario t.names rigs) t.names seed stream t.limit in
+    let g' = given_of (rigged_scenario t.names rigs) t.names seed' stream' t.limit in
     rigs_judged t rigs seed stream
     ∙ ap (λ ms. judged (t.asks (replies_of ms))) (same_path t.asks (λ s. rigged_reply rigs s.point s.hit) t.limit [] (run t.asks g) (run t.asks g') (rigs_path t rigs seed stream) (rigs_path t rigs seed' stream') (rigs_answered t l rigs o seed stream) (rigs_answered t l rigs o seed' stream'))
     ∙ sym (rigs_judged t rigs seed' stream')

@@ -8,14 +8,14 @@ use Rattle.action_eval.specs.declared.rig.Rig.{Rig}
 use Rattle.action_eval.specs.declared.rig.Kind.{Kind}
 use Rattle.action_eval.specs.declared.rig.Kind.TheVariants.{OnceReturn, OnwardReturn, OncePanic}
 use Rattle.action_eval.specs.Answers.{Reply, Go, Return, Halt}
-use Rattle.action_eval.specs.Rigging.{rig}
+use Rattle.action_eval.specs.RiggedScenario.{rig}
 use Rattle.target_trait.specs.Play.{Move}
 use Rattle.plan_gen.specs.RiggedAnswers.{is_onward, acts_at, reply_by}
 use Rattle.grown_plans.specs.Runs.{Met, is_fault, acting}
 use Rattle.grown_plans.specs.Promises.{EachTwo}
 use Rattle.grown_plans.proofs.Members.{all_weaker, all_left, all_right, all_both}
 use Rattle.grown_plans.proofs.Paths.{times_met, next_of, next_is, next_fresh, IsPath, Numbered, Fresh, numbered_more, path_fresh, AnsweredBy}
-use Rattle.grown_plans.proofs.Riggings.{ActApart, CanAct, reply_here, reply_there, same_site}
+use Rattle.grown_plans.proofs.RiggedScenarios.{ActApart, CanAct, reply_here, reply_there, same_site}
 use Rattle.grown_plans.proofs.PlanRuns.{answers_of}
 
 abbrev pub noted : Site → Reply → List Rig → List Rig

@@ -10,7 +10,7 @@ use Rattle.std.proofs.lemmas.List.Sums.{sum_by-append, sum_by-cons, count_by-le-
 use Rattle.action_eval.specs.declared.rig.Site.{Site}
 use Rattle.action_eval.specs.declared.rig.Rig.{Rig}
 use Rattle.action_eval.specs.declared.rig.Kind.{Kind}
-use Rattle.action_eval.specs.Rigging.{rig}
+use Rattle.action_eval.specs.RiggedScenario.{rig}
 use Rattle.plan_gen.specs.LoopRuns.{times}
 use Rattle.grown_plans.specs.AskedPoints.{AreCounts, AskAlike, sites_from, sites_after, is_point_of, is_asked_again}
 use Rattle.grown_plans.specs.Kept.{grew, kept_at, kept_children}

@@ -9,13 +9,13 @@ use Rattle.action_eval.specs.declared.rig.Site.{Site}
 use Rattle.action_eval.specs.declared.rig.Rig.{Rig}
 use Rattle.action_eval.specs.declared.rig.Kind.TheVariants.{OnceReturn}
 use Rattle.action_eval.specs.Answers.{Reply, Go, Return}
-use Rattle.action_eval.specs.Rigging.{rig}
+use Rattle.action_eval.specs.RiggedScenario.{rig}
 use Rattle.grown_plans.specs.Runs.{Met, met, is_fault, acting}
 use Rattle.grown_plans.specs.GrownPlans.{Subject, run_of_plan, hits_after, is_hit_again, onward_of, level, levels, onward, grown}
 use Rattle.grown_plans.specs.Promises.{IsLawful, IsOfKinds, run_in, IsTried, ReturnsOnward, TriesOnward}
 use Rattle.grown_plans.proofs.Members.{all_weaker, all_append, all_left, all_right, contains_head, contains_flat, one_of}
 use Rattle.grown_plans.proofs.Paths.{IsPath, Numbered, Fresh, AnsweredBy, times_met, same_path, path_numbered, hit_fresh, rest_fresh, rest_later, hit_is}
-use Rattle.grown_plans.proofs.Riggings.{CanAct, reply_here, reply_there}
+use Rattle.grown_plans.proofs.RiggedScenarios.{CanAct, reply_here, reply_there}
 use Rattle.grown_plans.proofs.PlanRuns.{answers_of, plan_path, plan_answered}
 use Rattle.grown_plans.proofs.Faults.{noted, noted_length, faults, faults_both, faults_none, faults_length, AllGo, faults_answer, AreAmong, faults_among, among_quiet}
 use Rattle.grown_plans.proofs.Levels.{hits_after_split, begins, in_level}

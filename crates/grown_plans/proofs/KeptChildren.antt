@@ -6,7 +6,7 @@ use Rattle.action_eval.specs.declared.rig.Site.{Site}
 use Rattle.action_eval.specs.declared.rig.Rig.{Rig}
 use Rattle.action_eval.specs.declared.rig.Kind.{Kind}
 use Rattle.action_eval.specs.declared.rig.Kind.TheVariants.{OnceReturn, OncePanic}
-use Rattle.action_eval.specs.Rigging.{rig, HasLawfulText}
+use Rattle.action_eval.specs.RiggedScenario.{rig, HasLawfulText}
 use Rattle.plan_gen.specs.RiggedAnswers.{is_onward}
 use Rattle.grown_plans.specs.GrownPlans.{is_cut, usual_at}
 use Rattle.grown_plans.specs.Promises.{EachTwo}

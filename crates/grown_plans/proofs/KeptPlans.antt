@@ -4,7 +4,7 @@ use Rattle.std.specs.Prelude.{Result, Ok, Err, OnOk, is_ok, Bool, true, false, c
 use Rattle.std.proofs.lemmas.List.{append-nil, length-append, get_or_append_left, get_or-append-add}
 use Rattle.action_eval.specs.declared.rig.Rig.{Rig}
 use Rattle.action_eval.specs.declared.rig.Kind.TheVariants.{OnwardReturn}
-use Rattle.action_eval.specs.Rigging.{rig, text_of}
+use Rattle.action_eval.specs.RiggedScenario.{rig, text_of}
 use Rattle.grown_plans.specs.GrownPlans.{is_once_return}
 use Rattle.grown_plans.specs.AskedPoints.{is_last_return, from_then_on}
 use Rattle.grown_plans.specs.Kept.{Grew, GrewFrom, grew, plan_of, plans_from}

@@ -9,7 +9,7 @@ use Rattle.action_eval.specs.declared.rig.Site.{Site}
 use Rattle.action_eval.specs.declared.rig.Rig.{Rig}
 use Rattle.action_eval.specs.declared.rig.Kind.{Kind}
 use Rattle.action_eval.specs.Answers.{Reply, Go}
-use Rattle.action_eval.specs.Rigging.{rig}
+use Rattle.action_eval.specs.RiggedScenario.{rig}
 use Rattle.target_trait.specs.Play.{Move}
 use Rattle.plan_gen.specs.RiggedAnswers.{is_onward, reply_by}
 use Rattle.grown_plans.specs.Runs.{Met, met}
@@ -17,7 +17,7 @@ use Rattle.grown_plans.specs.GrownPlans.{Subject, run_of_plan, is_at, hits_after
 use Rattle.grown_plans.specs.Promises.{IsLawful, IsOfKinds, KeepsPrefix}
 use Rattle.grown_plans.proofs.Members.{all_weaker, all_append, all_left, all_right, all_both, all_map, all_flat, all_by_contains, all_contains, contains_head, contains_map, contains_flat, contains_split}
 use Rattle.grown_plans.proofs.Paths.{IsPath, Fresh, AnsweredBy, parted, met_is, path_part, path_head, hit_fresh, rest_fresh}
-use Rattle.grown_plans.proofs.Riggings.{CanAct, reply_here, reply_there, same_site}
+use Rattle.grown_plans.proofs.RiggedScenarios.{CanAct, reply_here, reply_there, same_site}
 use Rattle.grown_plans.proofs.PlanRuns.{answers_of, plan_path, plan_answered}
 use Rattle.grown_plans.proofs.Faults.{noted, faults, faults_both, faults_none, AllGo, acts_self, acts_not, faults_answer, AreAmong, can_act, among_more, among_new, some_hit, faults_among, among_quiet, EndsIn, last_fault, all_go, noted_kind}
 

@@ -1,7 +1,7 @@
 pub mod Members
 pub mod Paths
 pub mod PlayedRuns
-pub mod Riggings
+pub mod RiggedScenarios
 pub mod PlanRuns
 pub mod Faults
 pub mod Levels

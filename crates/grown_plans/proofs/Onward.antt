@@ -8,14 +8,14 @@ use Rattle.action_eval.specs.declared.rig.Rig.{Rig}
 use Rattle.action_eval.specs.declared.rig.Kind.{Kind}
 use Rattle.action_eval.specs.declared.rig.Kind.TheVariants.{OnceReturn, OnwardReturn}
 use Rattle.action_eval.specs.Answers.{Reply, Go, Return}
-use Rattle.action_eval.specs.Rigging.{rig, text_of}
+use Rattle.action_eval.specs.RiggedScenario.{rig, text_of}
 use Rattle.plan_gen.specs.RiggedAnswers.{is_onward, acts_at, reply_by}
 use Rattle.grown_plans.specs.Runs.{Met, met}
 use Rattle.grown_plans.specs.GrownPlans.{Subject, run_of_plan, hits_after, is_once_return, is_hit_again, onward_of, level, levels, onward, grown}
 use Rattle.grown_plans.specs.Promises.{EachTwo, IsLawful, RunsNothingTwice, NeedsNoSeed}
 use Rattle.grown_plans.proofs.Members.{all_weaker, all_append, all_left, all_right, all_both, all_flat, two_append, two_flat, two_weaker, two_with}
 use Rattle.grown_plans.proofs.Paths.{IsPath, Numbered, Fresh, AnsweredBy, times_met, times_both, parted, path_numbered, hit_fresh, rest_fresh, hit_is}
-use Rattle.grown_plans.proofs.Riggings.{CanAct, ActApart, reply_here, reply_there, kind_once}
+use Rattle.grown_plans.proofs.RiggedScenarios.{CanAct, ActApart, reply_here, reply_there, kind_once}
 use Rattle.grown_plans.proofs.PlanRuns.{answers_of, plan_path, plan_answered, needs_no_seed}
 use Rattle.grown_plans.proofs.Faults.{noted, faults, faults_both, faults_none, faults_onto, AllGo, acts_self, acts_not, acts_once, AreAmong, can_act, faults_among, among_quiet, EndsIn, last_fault}
 use Rattle.grown_plans.proofs.Levels.{IsGrown, hits_after_split, level_grown}

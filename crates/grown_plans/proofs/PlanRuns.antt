@@ -15,7 +15,7 @@ use Rattle.action_eval.specs.declared.rig.Rig.{Rig}
 use Rattle.action_eval.specs.declared.rig.Kind.{Kind}
 use Rattle.action_eval.specs.declared.rig.Kind.TheVariants.{OnceReturn, OnwardReturn, OncePanic}
 use Rattle.action_eval.specs.Answers.{Given, Run, Hit, Reply, given_of, start, history_of, and_then, next, stopped, stopped_by, stop_of, task_at, name_of, is_over, asked, hit}
-use Rattle.action_eval.specs.Rigging.{rigging, entries_from, entry, chain_from, terms_at, done_after, rigged, term_of, full}
+use Rattle.action_eval.specs.RiggedScenario.{rigged_scenario, entries_from, entry, chain_from, terms_at, done_after, rigged, term_of, full}
 use Rattle.target_trait.specs.Play.{Move, Ask, Done, IsWithin, move_in}
 use Rattle.target_trait.specs.Outcomes.{play, moved, judged}
 use Rattle.plan_gen.specs.LoopRuns.{times}
@@ -27,7 +27,7 @@ use Rattle.grown_plans.specs.Promises.{IsLawful, verdict_of_rigs, verdict_of_pla
 use Rattle.grown_plans.proofs.Members.{all_weaker, all_append}
 use Rattle.grown_plans.proofs.Paths.{replies_of, next_is, IsPath, AnsweredBy, same_path}
 use Rattle.grown_plans.proofs.PlayedRuns.{points_of, Answered, run_path, run_answered, run_judged}
-use Rattle.grown_plans.proofs.Riggings.{CanAct, rigs_reply, rigs_order}
+use Rattle.grown_plans.proofs.RiggedScenarios.{CanAct, rigs_reply, rigs_order}
 
 -- ---- each hit is answered as rigged
 
@@ -39,7 +39,7 @@ pub is_within : (points p : ℕ) (move : Move) → move ≡ Ask p → IsWithin p
 is_within points p move e w = subst (IsWithin points) e w
 
 as_rigged : (asks : List Reply → Move) (names : List (List ℕ)) → ((answers : List Reply) → IsWithin (length names) (asks answers)) → (rigs : List Rig) → AnswersAsRigged names rigs
-    → (seed stream limit room : ℕ) (before ms : List Met) → length before + room ≡ limit → IsPath asks room before ms → Answered (given_of (rigging names rigs) names seed stream limit) before ms
+    → (seed stream limit room : ℕ) (before ms : List Met) → length before + room ≡ limit → IsPath asks room before ms → Answered (given_of (rigged_scenario names rigs) names seed stream limit) before ms
     → AnsweredBy (λ s. rigged_reply rigs s.point s.hit) ms
 as_rigged asks names within rigs law seed stream limit room before [] e p a = tt
 as_rigged asks names within rigs law seed stream limit zero before (m ∷ ms) e p a = absurd p
@@ -140,30 +140,30 @@ unfolding play
 same_given zero asks r = refl
 same_given (suc n) asks r = given_moved (move_in asks r) r (λ p. play n asks (hit r p)) (λ p. same_given n asks (hit r p))
 
-pub rigs_unpaused : (t : Subject) (rigs : List Rig) (seed stream : ℕ) → IsUnpaused t.asks (given_of (rigging t.names rigs) t.names seed stream t.limit)
-unfolding rigging
+pub rigs_unpaused : (t : Subject) (rigs : List Rig) (seed stream : ℕ) → IsUnpaused t.asks (given_of (rigged_scenario t.names rigs) t.names seed stream t.limit)
+unfolding rigged_scenario
 rigs_unpaused t rigs seed stream =
-    let g = given_of (rigging t.names rigs) t.names seed stream t.limit in
+    let g = given_of (rigged_scenario t.names rigs) t.names seed stream t.limit in
     let r = play (suc t.limit) t.asks (start g) in
     calm_run r (subst (λ (x : Given). CalmEntries x.scenario) (sym (same_given (suc t.limit) t.asks (start g))) (calm_entries 0 t.names rigs))
 
 -- the run of rigged hits is a path
-pub rigs_path : (t : Subject) (rigs : List Rig) (seed stream : ℕ) → IsPath t.asks t.limit [] (run t.asks (given_of (rigging t.names rigs) t.names seed stream t.limit))
-rigs_path t rigs seed stream = run_path t.asks (given_of (rigging t.names rigs) t.names seed stream t.limit) (rigs_unpaused t rigs seed stream)
+pub rigs_path : (t : Subject) (rigs : List Rig) (seed stream : ℕ) → IsPath t.asks t.limit [] (run t.asks (given_of (rigged_scenario t.names rigs) t.names seed stream t.limit))
+rigs_path t rigs seed stream = run_path t.asks (given_of (rigged_scenario t.names rigs) t.names seed stream t.limit) (rigs_unpaused t rigs seed stream)
 
 -- ---- what it comes to
 
 -- the run of these rigged hits
 pub rigs_answered : (t : Subject) → IsLawful t → (rigs : List Rig) → AreInOrder (map (λ (r : Rig). r.site) rigs) → (seed stream : ℕ)
-    → AnsweredBy (λ s. rigged_reply rigs s.point s.hit) (run t.asks (given_of (rigging t.names rigs) t.names seed stream t.limit))
+    → AnsweredBy (λ s. rigged_reply rigs s.point s.hit) (run t.asks (given_of (rigged_scenario t.names rigs) t.names seed stream t.limit))
 rigs_answered t l rigs o seed stream =
-    let g = given_of (rigging t.names rigs) t.names seed stream t.limit in
+    let g = given_of (rigged_scenario t.names rigs) t.names seed stream t.limit in
     as_rigged t.asks t.names l.within rigs (answers_as_rigged t.names rigs l.catalogue o) seed stream t.limit t.limit [] (run t.asks g) (omega arith) (rigs_path t rigs seed stream) (run_answered t.asks g)
 
 -- the verdict of rigged hits, by their run
 pub rigs_judged : (t : Subject) (rigs : List Rig) (seed stream : ℕ)
-    → verdict_of_rigs t seed stream rigs ≡ judged (t.asks (replies_of (run t.asks (given_of (rigging t.names rigs) t.names seed stream t.limit))))
-rigs_judged t rigs seed stream = run_judged t.asks (rigging t.names rigs) t.names seed stream t.limit (rigs_unpaused t rigs seed stream)
+    → verdict_of_rigs t seed stream rigs ≡ judged (t.asks (replies_of (run t.asks (given_of (rigged_scenario t.names rigs) t.names seed stream t.limit))))
+rigs_judged t rigs seed stream = run_judged t.asks (rigged_scenario t.names rigs) t.names seed stream t.limit (rigs_unpaused t rigs seed stream)
 
 -- ---- plans
 

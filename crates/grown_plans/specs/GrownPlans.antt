@@ -8,7 +8,7 @@ use Rattle.action_eval.specs.declared.rig.Site.{Site}
 use Rattle.action_eval.specs.declared.rig.Rig.{Rig}
 use Rattle.action_eval.specs.declared.rig.Kind.{Kind}
 use Rattle.action_eval.specs.declared.rig.Kind.TheVariants.{OnceReturn, OnwardReturn, OncePanic}
-use Rattle.action_eval.specs.Rigging.{rig, rigging, text_of, is_same_text}
+use Rattle.action_eval.specs.RiggedScenario.{rig, rigged_scenario, text_of, is_same_text}
 use Rattle.target_trait.specs.Play.{Move}
 use Rattle.plan_gen.specs.PlanList.{Asked, storm_part}
 use Rattle.plan_gen.specs.RiggedAnswers.{is_onward}
@@ -100,7 +100,7 @@ abbrev pub rigs_of : List Rig → List Rig
 rigs_of plan = merged (in_order plan)
 
 abbrev pub scenario_of : Subject → List Rig → Entries
-scenario_of t plan = rigging t.names (rigs_of plan)
+scenario_of t plan = rigged_scenario t.names (rigs_of plan)
 
 -- the run of a plan. Its seed and stream number make no difference, by a law.
 abbrev pub given_for : Subject → List Rig → ℕ → ℕ → Given

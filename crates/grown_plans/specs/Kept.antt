@@ -4,7 +4,7 @@ use Rattle.std.specs.List.{flat_map, AllByRecursion}
 use Rattle.action_eval.specs.declared.rig.Site.{Site}
 use Rattle.action_eval.specs.declared.rig.Rig.{Rig}
 use Rattle.action_eval.specs.declared.rig.Kind.{Kind}
-use Rattle.action_eval.specs.Rigging.{rig}
+use Rattle.action_eval.specs.RiggedScenario.{rig}
 use Rattle.grown_plans.specs.AskedPoints.{sites_from, sites_past}
 
 -- a plan that grew: its parent's number, and the fault that was added

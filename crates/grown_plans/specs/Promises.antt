@@ -4,7 +4,7 @@ use Rattle.std.specs.List.{AllByRecursion}
 use Rattle.scenario_values.specs.Scenario.{Entries}
 use Rattle.action_eval.specs.Answers.{Reply, Go, Return, given_of}
 use Rattle.action_eval.specs.Catalogue.{IsCatalogue}
-use Rattle.action_eval.specs.Rigging.{rigging, HasLawfulText}
+use Rattle.action_eval.specs.RiggedScenario.{rigged_scenario, HasLawfulText}
 use Rattle.action_eval.specs.declared.rig.Rig.{Rig}
 use Rattle.action_eval.specs.declared.rig.Kind.{Kind}
 use Rattle.target_trait.specs.Play.{IsWithin}
@@ -68,7 +68,7 @@ verdict_in t c = verdict_with t.asks t.names c.seed t.limit c.stream c.scenario
 
 -- the verdict of rigged hits, and of a plan, under a seed and a stream number
 abbrev pub verdict_of_rigs : Subject → ℕ → ℕ → List Rig → Verdict
-verdict_of_rigs t seed stream rigs = verdict_with t.asks t.names seed t.limit stream (rigging t.names rigs)
+verdict_of_rigs t seed stream rigs = verdict_with t.asks t.names seed t.limit stream (rigged_scenario t.names rigs)
 
 abbrev pub verdict_of_plan : Subject → ℕ → ℕ → List Rig → Verdict
 verdict_of_plan t seed stream plan = verdict_with t.asks t.names seed t.limit stream (scenario_of t plan)

@@ -1,6 +1,6 @@
 //! Plans that grew, in few bytes each.
 ghost use Rattle.std.specs.Prelude.{◌≡◌, ◌<◌, ◌^◌};
-ghost use Rattle.action_eval.specs.Rigging.{rig, text_of};
+ghost use Rattle.action_eval.specs.RiggedScenario.{rig, text_of};
 ghost use Rattle.action_eval.specs.declared.rig.Kind.TheVariants.{OnwardReturn};
 ghost use Rattle.grown_plans.specs.Kept.{grew};
 

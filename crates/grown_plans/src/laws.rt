@@ -2,7 +2,7 @@
 //! for every limit of hits.
 ghost use Rattle.std.specs.Prelude.{ℕ, ◌<◌, ◌≤◌, ◌^◌, List};
 ghost use Rattle.std.specs.List.{AllByRecursion};
-ghost use Rattle.action_eval.specs.Rigging.{CanBeRigged};
+ghost use Rattle.action_eval.specs.RiggedScenario.{CanBeRigged};
 ghost use Rattle.action_eval.specs.declared.rig.Kind.{Kind};
 ghost use Rattle.grown_plans.specs.AskedPoints.{AsksLikeParent, GrowsByAsked, GoesOnwardByAsked, ReachesByAsked, AsksWithin};
 ghost use Rattle.grown_plans.specs.GrownPlans.{Subject, kinds_at, tried_over, usual_subject, rigs_of, level, grown};

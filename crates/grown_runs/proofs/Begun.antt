@@ -4,7 +4,7 @@ use Rattle.std.proofs.lemmas.List.{append-nil, length-append}
 use Rattle.std.proofs.lemmas.Bool.{leb-true, leb-false}
 use Rattle.action_eval.specs.declared.rig.Rig.{Rig}
 use Rattle.grown_plans.specs.GrownPlans.{Subject, level, levels, onward, grown}
-use Rattle.grown_runs.specs.declared.course.Purpose.{Purpose}
+use Rattle.grown_runs.specs.declared.input.Purpose.{Purpose}
 use Rattle.grown_runs.specs.declared.levels.Grown.{Grown}
 use Rattle.grown_runs.specs.Grown.{begun, begun_from}
 use Rattle.grown_runs.specs.inside.Levels.{AreLevels}

@@ -10,11 +10,11 @@ use Rattle.grown_plans.specs.GrownPlans.{Tried, cut_point, kinds_at, tried_over,
 use Rattle.grown_plans.specs.Kept.{Grew, GrewFrom, plan_of, kept_children}
 use Rattle.grown_plans.proofs.KeptChildren.{at_most_two}
 use Rattle.grown_plans.proofs.Members.{all_append}
-use Rattle.grown_runs.specs.declared.course.Part.{Part}
-use Rattle.grown_runs.specs.declared.course.Place.{Place}
-use Rattle.grown_runs.specs.declared.course.Place.TheVariants.{Inner, Last, Onward}
-use Rattle.grown_runs.specs.declared.course.Purpose.{Purpose}
-use Rattle.grown_runs.specs.declared.course.Purpose.TheVariants.{Plans, Report}
+use Rattle.grown_runs.specs.declared.input.Part.{Part}
+use Rattle.grown_runs.specs.declared.input.Place.{Place}
+use Rattle.grown_runs.specs.declared.input.Place.TheVariants.{Inner, Last, Onward}
+use Rattle.grown_runs.specs.declared.input.Purpose.{Purpose}
+use Rattle.grown_runs.specs.declared.input.Purpose.TheVariants.{Plans, Report}
 use Rattle.grown_runs.specs.declared.kept.Growth.{Growth}
 use Rattle.grown_runs.specs.declared.levels.Outcomes.{Outcomes}
 use Rattle.grown_runs.specs.GrownRuns.{over, told, verdict_at, children_at, onward_at, hits_at, cause_at}

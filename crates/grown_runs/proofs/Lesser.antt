@@ -5,7 +5,7 @@ use Rattle.std.specs.List.{AllByRecursion, list_all}
 use Rattle.std.proofs.lemmas.List.{get_or-map, length-map}
 use Rattle.std.proofs.lemmas.List.Folds.{list_all_at, list_all_more}
 use Rattle.action_eval.specs.declared.rig.Rig.{Rig}
-use Rattle.action_eval.specs.Rigging.{HasLawfulText, CanBeRigged}
+use Rattle.action_eval.specs.RiggedScenario.{HasLawfulText, CanBeRigged}
 use Rattle.grown_plans.specs.Promises.{lesser}
 
 abbrev pub without : ℕ → List Rig → List Rig

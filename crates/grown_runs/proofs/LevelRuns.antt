@@ -5,7 +5,7 @@ use Rattle.std.proofs.lemmas.List.{map-append, length-append, length_push, lengt
 use Rattle.std.proofs.Math.Seq.{get_or-append_seam}
 use Rattle.action_eval.specs.Answers.{Reply}
 use Rattle.action_eval.specs.declared.rig.Rig.{Rig}
-use Rattle.action_eval.specs.Rigging.{CanBeRigged}
+use Rattle.action_eval.specs.RiggedScenario.{CanBeRigged}
 use Rattle.target_trait.specs.Play.{Move}
 use Rattle.grown_plans.specs.Runs.{Met}
 use Rattle.grown_plans.specs.GrownPlans.{Subject, usual_subject, rigs_of, children, onward_of, run_of_plan, level, levels, onward, grown, most, reached}
@@ -23,7 +23,7 @@ use Rattle.grown_plans.proofs.AskedSites.{asks_like_parents}
 use Rattle.grown_runs.specs.inside.Beginnings.{AskLikeParents}
 use Rattle.grown_runs.specs.inside.Levels.{AreTold, LastLevel}
 use Rattle.grown_runs.specs.inside.Growths.{if_report}
-use Rattle.grown_runs.specs.declared.course.Purpose.{Purpose}
+use Rattle.grown_runs.specs.declared.input.Purpose.{Purpose}
 use Rattle.grown_runs.specs.declared.levels.Outcomes.{Outcomes}
 use Rattle.grown_runs.proofs.Overs.{over_same}
 

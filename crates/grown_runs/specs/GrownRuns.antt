@@ -3,7 +3,7 @@ use Rattle.std.specs.Prelude.{◌≡◌, ℕ, ◌==◌, ◌<◌, not, if◌then�
 use Rattle.std.specs.List.{flat_map, list_all, range_with_len}
 use Rattle.action_eval.specs.declared.rig.Rig.{Rig}
 use Rattle.action_eval.specs.Answers.{given_of}
-use Rattle.action_eval.specs.Rigging.{rigging}
+use Rattle.action_eval.specs.RiggedScenario.{rigged_scenario}
 use Rattle.target_trait.specs.Outcomes.{Told, outcome, verdict_in, whole_play}
 use Rattle.target_trait.specs.declared.judgement.Verdict.{Verdict}
 use Rattle.target_trait.specs.declared.judgement.Verdict.TheVariants as verdict
@@ -24,14 +24,14 @@ over gives plans first count = flat_map (λ n. gives n (slice_index_or plans n [
 
 -- the run of rigged hits, and of a plan, under a seed and a stream number
 abbrev pub told_of_rigs : Subject → ℕ → ℕ → List Rig → Told
-told_of_rigs t seed stream rigs = outcome t.asks (given_of (rigging t.names rigs) t.names seed stream t.limit)
+told_of_rigs t seed stream rigs = outcome t.asks (given_of (rigged_scenario t.names rigs) t.names seed stream t.limit)
 
 abbrev pub told : Subject → ℕ → ℕ → List Rig → Told
 told t seed n plan = told_of_rigs t seed n (rigs_of plan)
 
 -- its verdict
 abbrev pub verdict_by : Subject → ℕ → ℕ → List Rig → Verdict
-verdict_by t seed stream rigs = verdict_in t.asks (whole_play t.asks (given_of (rigging t.names rigs) t.names seed stream t.limit))
+verdict_by t seed stream rigs = verdict_in t.asks (whole_play t.asks (given_of (rigged_scenario t.names rigs) t.names seed stream t.limit))
 
 -- a plan's verdict, with its number as the stream number
 abbrev pub verdict_at : Subject → ℕ → ℕ → List Rig → List Verdict

@@ -1,12 +1,12 @@
 //! One run of rigged hits, with the points that it asked.
 ghost use Rattle.std.specs.Prelude.{◌≡◌, ◌<◌, ◌^◌, length, IfOk, OnOk};
-ghost use Rattle.action_eval.specs.Rigging.{CanBeRigged};
+ghost use Rattle.action_eval.specs.RiggedScenario.{CanBeRigged};
 ghost use Rattle.grown_runs.specs.GrownRuns.{told_of_rigs};
 ghost use Rattle.grown_runs.specs.inside.Growths.{subject_on};
 
-use crate::course::GrownCourse;
+use crate::input::GrownRunInput;
 use crate::run::run_asked;
-use action_eval::{Rig, Rigging, Room, Session};
+use action_eval::{FaultTable, Rig, Session, SessionBuffers};
 use std::alloc::{AllocError, Global};
 use std::mem;
 use target_trait::{Target, Verdict};
@@ -14,8 +14,8 @@ use target_trait::{Target, Verdict};
 /// Where runs are made, one after another, without memory of their own. Whatever it holds before a run makes no difference to the run.
 #[derive(Drop)]
 pub struct RunBuffers {
-    rigging: Rigging<'static>,
-    room: Room,
+    table: FaultTable<'static>,
+    buffers: SessionBuffers,
     /// The points that the last run asked.
     pub asked: Vec<u32>,
     alloc: Global,
@@ -25,8 +25,8 @@ impl RunBuffers {
     /// Buffers that have taken no memory yet.
     pub fn new(alloc: Global) -> Self {
         RunBuffers {
-            rigging: Rigging::new(alloc),
-            room: Room::new(alloc),
+            table: FaultTable::new(alloc),
+            buffers: SessionBuffers::new(alloc),
             asked: Vec::new(alloc),
             alloc,
         }
@@ -37,32 +37,32 @@ impl RunBuffers {
     pub fn run<T: Target>(
         &mut self,
         target: &mut T,
-        course: &GrownCourse<'_, T>,
+        input: &GrownRunInput<'_, T>,
         rigs: &[Rig],
         stream: u64,
     ) -> Result<Verdict, AllocError>
         requires { CanBeRigged rigs.now }
         ensures verdict { IfOk result (λ verdict. verdict
-            ≡ (told_of_rigs (subject_on T.Target target.old course.now) course.now.limits.seed stream rigs.now).verdict) }
+            ≡ (told_of_rigs (subject_on T.Target target.old input.now) input.now.limits.seed stream rigs.now).verdict) }
         ensures asked { OnOk result (self.new.asked.items
-            ≡ (told_of_rigs (subject_on T.Target target.old course.now) course.now.limits.seed stream rigs.now).asked) }
+            ≡ (told_of_rigs (subject_on T.Target target.old input.now) input.now.limits.seed stream rigs.now).asked) }
         ensures few { OnOk result (length self.new.asked.items < 2 ^ 32) }
         ensures setup { target.new ≡ target.old }
     {
-        self.rigging.load(T::catalogue(), rigs)?;
-        let room = mem::replace(&mut self.room, Room::new(self.alloc));
-        let limits = course.limits;
+        self.table.load(T::catalogue(), rigs)?;
+        let buffers = mem::replace(&mut self.buffers, SessionBuffers::new(self.alloc));
+        let limits = input.limits;
         let mut session = Session::over_in(
-            room,
-            &self.rigging,
+            buffers,
+            &self.table,
             limits.seed,
             stream,
             limits.max_hits,
         )?;
-        let verdict = run_asked(target, course.workload, &mut session)?;
+        let verdict = run_asked(target, input.workload, &mut session)?;
         self.asked.clear();
         self.asked.extend_from_slice(session.trace())?;
-        self.room = session.into_room();
+        self.buffers = session.into_buffers();
         Ok(verdict)
     }
 }

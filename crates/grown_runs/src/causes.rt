@@ -1,11 +1,11 @@
 //! Whether a failing plan is a cause.
 ghost use Rattle.std.specs.Prelude.{◌≡◌, ◌<◌, ◌++◌, ◌+◌, length, slice_range, IfOk, OnOk};
-ghost use Rattle.action_eval.specs.Rigging.{CanBeRigged};
+ghost use Rattle.action_eval.specs.RiggedScenario.{CanBeRigged};
 ghost use Rattle.grown_runs.specs.GrownRuns.{fails_with, is_least, cause_by, causes_by};
 ghost use Rattle.grown_runs.specs.inside.Growths.{if_report, subject_on};
 
 use crate::buffers::RunBuffers;
-use crate::course::{GrownCourse, Purpose};
+use crate::input::{GrownRunInput, Purpose};
 use action_eval::Rig;
 use std::alloc::AllocError;
 use target_trait::{Target, Verdict};
@@ -43,18 +43,18 @@ fn is_cause<T: Target>(
     buffers: &mut RunBuffers,
     less: &mut Vec<Rig>,
     target: &mut T,
-    course: &GrownCourse<'_, T>,
+    input: &GrownRunInput<'_, T>,
     ran: &Ran<'_>,
     code: u32,
 ) -> Result<bool, AllocError>
     requires { CanBeRigged ran.now.rigs.now }
     ensures least { IfOk result (λ is_cause. is_cause
-        ≡ is_least (subject_on T.Target target.old course.now) course.now.limits.seed ran.now.number code ran.now.rigs.now) }
+        ≡ is_least (subject_on T.Target target.old input.now) input.now.limits.seed ran.now.number code ran.now.rigs.now) }
     ensures setup { target.new ≡ target.old }
 {
     for left_out in 0..ran.rigs.len() {
         leave_out(less, ran.rigs, left_out)?;
-        let verdict = buffers.run(target, course, less.as_slice(), u64::from(ran.number))?;
+        let verdict = buffers.run(target, input, less.as_slice(), u64::from(ran.number))?;
         if is_failure(verdict, code) {
             return Ok(false);
         }
@@ -69,18 +69,18 @@ pub fn cause_of<T: Target>(
     buffers: &mut RunBuffers,
     less: &mut Vec<Rig>,
     target: &mut T,
-    course: &GrownCourse<'_, T>,
+    input: &GrownRunInput<'_, T>,
     ran: &Ran<'_>,
 ) -> Result<Option<u32>, AllocError>
     requires { CanBeRigged ran.now.rigs.now }
-    ensures cause { IfOk result (λ cause. causes_by ran.now.number cause ≡ if_report course.now.part.purpose
-        (cause_by (subject_on T.Target target.old course.now) course.now.limits.seed ran.now.number ran.now.rigs.now ran.now.verdict)) }
+    ensures cause { IfOk result (λ cause. causes_by ran.now.number cause ≡ if_report input.now.part.purpose
+        (cause_by (subject_on T.Target target.old input.now) input.now.limits.seed ran.now.number ran.now.rigs.now ran.now.verdict)) }
     ensures setup { target.new ≡ target.old }
 {
-    let (Purpose::Report, Verdict::Fail(code)) = (course.part.purpose, ran.verdict) else {
+    let (Purpose::Report, Verdict::Fail(code)) = (input.part.purpose, ran.verdict) else {
         return Ok(None);
     };
-    if is_cause(buffers, less, target, course, ran, code)? {
+    if is_cause(buffers, less, target, input, ran, code)? {
         Ok(Some(code))
     } else {
         Ok(None)

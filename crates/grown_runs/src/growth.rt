@@ -6,14 +6,14 @@ ghost use Rattle.grown_plans.specs.AskedPoints.{AreCounts, is_asked_again, is_la
 ghost use Rattle.grown_plans.specs.Begun.{AreOrdinals, Serves};
 ghost use Rattle.grown_plans.specs.GrownPlans.{Subject, kinds_at};
 ghost use Rattle.grown_plans.specs.Kept.{GrewFrom, kept_children, plan_of};
-ghost use Rattle.grown_runs.specs.declared.course.Part.{Part};
+ghost use Rattle.grown_runs.specs.declared.input.Part.{Part};
 ghost use Rattle.grown_runs.specs.GrownRuns.{causes_by};
 ghost use Rattle.grown_runs.specs.inside.Growths.{if_inner, if_last, subject_on, IsGrowth, IsGrowthOn};
 ghost use Rattle.grown_runs.specs.inside.Beginnings.{AskLikeParents, MovesOn, TellsParent};
 
 use crate::buffers::RunBuffers;
 use crate::causes::{Ran, cause_of};
-use crate::course::{GrownCourse, Place};
+use crate::input::{GrownRunInput, Place};
 use crate::kept::Growth;
 use action_eval::Rig;
 use grown_plans::{
@@ -140,19 +140,19 @@ fn keep_cause(
 /// Runs the plan of this number, and adds what it comes to. The target keeps its setup, after an error too.
 fn run_one<T: Target>(
     target: &mut T,
-    course: &GrownCourse<'_, T>,
+    input: &GrownRunInput<'_, T>,
     workspace: &mut Workspace,
     growth: &mut Growth,
     number: usize,
 ) -> Result<(), AllocError>
-    requires within { number < length course.now.plans.now }
+    requires within { number < length input.now.plans.now }
     requires room { length growth.old.verdicts.items < 2 ^ 16 }
     requires hits { length growth.old.hits.items ≡ length T.names }
-    requires alike { AskLikeParents (subject_on T.Target target.old course.now) course.now.plans.now }
-    requires begun { TellsParent (subject_on T.Target target.old course.now) course.now.limits.seed course.now.plans.now workspace.old.begun }
-    ensures begun { OnOk result (TellsParent (subject_on T.Target target.old course.now) course.now.limits.seed course.now.plans.now workspace.new.begun) }
-    ensures grown { OnOk result ((first count : ℕ) → first + count ≡ number → IsGrowthOn T.Target target.old course.now first count growth.old
-        → IsGrowthOn T.Target target.old course.now first (count + 1) growth.new) }
+    requires alike { AskLikeParents (subject_on T.Target target.old input.now) input.now.plans.now }
+    requires begun { TellsParent (subject_on T.Target target.old input.now) input.now.limits.seed input.now.plans.now workspace.old.begun }
+    ensures begun { OnOk result (TellsParent (subject_on T.Target target.old input.now) input.now.limits.seed input.now.plans.now workspace.new.begun) }
+    ensures grown { OnOk result ((first count : ℕ) → first + count ≡ number → IsGrowthOn T.Target target.old input.now first count growth.old
+        → IsGrowthOn T.Target target.old input.now first (count + 1) growth.new) }
     ensures many { OnOk result (length growth.new.verdicts.items ≡ length growth.old.verdicts.items + 1) }
     ensures hits { length growth.new.hits.items ≡ length growth.old.hits.items }
     ensures setup { target.new ≡ target.old }
@@ -165,12 +165,12 @@ fn run_one<T: Target>(
         less,
         begun,
     } = workspace;
-    course.plans.faults_of(number, faults)?;
+    input.plans.faults_of(number, faults)?;
     rigs_of(rigs, ordered, faults.as_slice())?;
     let rigs = rigs.as_slice();
-    let verdict = buffers.run(target, course, rigs, number as u64)?;
-    let place = course.part.place;
-    let parent = course.plans.parent_of(number);
+    let verdict = buffers.run(target, input, rigs, number as u64)?;
+    let place = input.part.place;
+    let parent = input.plans.parent_of(number);
     let descent = Descent {
         number,
         parent,
@@ -178,20 +178,20 @@ fn run_one<T: Target>(
     };
     let asked = buffers.asked.as_slice();
     let children = &mut growth.children;
-    let kinds = &course.kinds;
+    let kinds = &input.kinds;
     let growing = grow_one(kinds, children, begun, descent, faults.as_slice(), asked)?;
     growth.verdicts.push(verdict)?;
     growth.child_count += growing.children as u64;
     raise(&mut growth.hits, begun.whole.as_slice());
     let is_again = growing.is_again;
-    keep_onward(place, &mut growth.onward, course.plans, number, is_again)?;
+    keep_onward(place, &mut growth.onward, input.plans, number, is_again)?;
     let number = number as u32;
     let ran = Ran {
         rigs,
         number,
         verdict,
     };
-    let cause = cause_of(buffers, less, target, course, &ran)?;
+    let cause = cause_of(buffers, less, target, input, &ran)?;
     keep_cause(&mut growth.causes, number, cause)?;
     Ok(())
 }
@@ -218,25 +218,25 @@ impl Growth {
         })
     }
 
-    /// Runs the plans of a course from this number on, before `end`, in their order. An error means that memory was refused. The target keeps
+    /// Runs the plans of an input from this number on, before `end`, in their order. An error means that memory was refused. The target keeps
     /// its setup, after an error too.
     pub fn run_over<T: Target>(
         alloc: Global,
         target: &mut T,
         workspace: &mut Workspace,
-        course: &GrownCourse<'_, T>,
+        input: &GrownRunInput<'_, T>,
         first: usize,
         end: usize,
     ) -> Result<Self, AllocError>
-        requires within { (first ≤ end) × (end ≤ length course.now.plans.now) }
-        requires alike { AskLikeParents (subject_on T.Target target.old course.now) course.now.plans.now }
-        ensures grown { IfOk result (λ growth. IsGrowthOn T.Target target.old course.now first (end - first) growth) }
+        requires within { (first ≤ end) × (end ≤ length input.now.plans.now) }
+        requires alike { AskLikeParents (subject_on T.Target target.old input.now) input.now.plans.now }
+        ensures grown { IfOk result (λ growth. IsGrowthOn T.Target target.old input.now first (end - first) growth) }
         ensures setup { target.new ≡ target.old }
     {
         let mut growth = Growth::none(alloc, T::catalogue().len())?;
         workspace.begun.forget();
         for number in first..end {
-            run_one(target, course, workspace, &mut growth, number)?;
+            run_one(target, input, workspace, &mut growth, number)?;
         }
         Ok(growth)
     }

@@ -1,11 +1,11 @@
 //! Levels of plans, each grown from the runs of the one before.
 ghost use Rattle.std.specs.Prelude.{◌≡◌, ℕ, ◌+◌, ◌-◌, ◌≤◌, ◌<◌, ◌^◌, ◌++◌, ◌∷◌, List, length, replicate, slice_index_or, [], OnOk, IfOk, IsErrOf};
 ghost use Rattle.std.specs.List.{AllByRecursion};
-ghost use Rattle.action_eval.specs.Rigging.{CanBeRigged};
+ghost use Rattle.action_eval.specs.RiggedScenario.{CanBeRigged};
 ghost use Rattle.action_eval.specs.declared.rig.Rig.{Rig};
 ghost use Rattle.grown_plans.specs.GrownPlans.{Subject, rigs_of, grown};
-ghost use Rattle.grown_runs.specs.declared.course.Part.{Part};
-ghost use Rattle.grown_runs.specs.declared.course.Place.TheVariants.{Last};
+ghost use Rattle.grown_runs.specs.declared.input.Part.{Part};
+ghost use Rattle.grown_runs.specs.declared.input.Place.TheVariants.{Last};
 ghost use Rattle.grown_runs.specs.declared.levels.GrowFault.TheVariants.{Memory};
 ghost use Rattle.grown_plans.specs.AskedPoints.{AsksLikeParent};
 ghost use Rattle.grown_runs.specs.inside.Beginnings.{AskLikeParents};
@@ -13,8 +13,8 @@ ghost use Rattle.grown_runs.specs.inside.Growths.{IsGrowth};
 ghost use Rattle.grown_runs.specs.Grown.{subject_in, begun, HasGrown};
 ghost use Rattle.grown_runs.specs.inside.Levels.{AreTold, AreLevels, IsNextLevel, HasOnward, new_children, going_onward};
 
-use crate::course::{Limits, Part, Place, Purpose};
 use crate::growth::raise;
+use crate::input::{Limits, Part, Place, Purpose};
 use crate::kept::Growth;
 use crate::parts::{Conditions, run_part};
 use grown_plans::{GrownPlans, each_target_is_a_lawful_subject};

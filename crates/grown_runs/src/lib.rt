@@ -3,14 +3,14 @@
 
 mod buffers;
 mod causes;
-mod course;
 mod grower;
 mod growth;
+mod input;
 mod kept;
 mod levels;
 mod parts;
 mod run;
 
-pub use course::Limits;
+pub use input::Limits;
 pub use levels::{GrowFault, Grown, grow, grow_list};
 pub use parts::Conditions;

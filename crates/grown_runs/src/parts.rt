@@ -1,17 +1,17 @@
 //! Runs of a part of a list on workers.
 ghost use Rattle.std.specs.Prelude.{◌≡◌, ℕ, ◌-◌, ◌≤◌, ◌<◌, length, slice_index_or, [], All, IfOk};
-ghost use Rattle.action_eval.specs.Rigging.{CanBeRigged};
+ghost use Rattle.action_eval.specs.RiggedScenario.{CanBeRigged};
 ghost use Rattle.grown_plans.specs.GrownPlans.{rigs_of};
 ghost use Rattle.grown_runs.specs.Grown.{subject_in};
 ghost use Rattle.grown_runs.specs.inside.Beginnings.{AskLikeParents};
 ghost use Rattle.grown_runs.specs.inside.Growths.{subject_on, IsGrowth};
 
-use crate::course::{GrownCourse, Limits, Part};
 use crate::grower::Grower;
 use crate::growth::Workspace;
+use crate::input::{GrownRunInput, Limits, Part};
 use crate::kept::Growth;
 use grown_plans::{GrownPlans, Kinds};
-use plan_rows::rows_in_order;
+use plan_ranges::ranges_in_order;
 use std::alloc::{AllocError, Global};
 use std::sync::Wait;
 use std::thread::Threads;
@@ -35,21 +35,21 @@ fn growers<'a, T: Target + Send, G: Gate>(
     alloc: Global,
     gate: &'a G,
     target: &T,
-    course: &'a GrownCourse<'a, T>,
+    input: &'a GrownRunInput<'a, T>,
 ) -> Result<Vec<Grower<'a, T, G>>, AllocError>
 where
     T::Workload: Sync,
-    requires { AskLikeParents (subject_on T.Target target.now course.now) course.now.plans.now }
-    ensures many { IfOk result (λ growers. length growers.items ≡ course.now.limits.workers) }
-    ensures same { IfOk result (λ growers. All (λ g. (g.target ≡ target.now) × (g.course.now ≡ course.now)) growers.items) }
+    requires { AskLikeParents (subject_on T.Target target.now input.now) input.now.plans.now }
+    ensures many { IfOk result (λ growers. length growers.items ≡ input.now.limits.workers) }
+    ensures same { IfOk result (λ growers. All (λ g. (g.target ≡ target.now) × (g.input.now ≡ input.now)) growers.items) }
 {
     let mut all = Vec::new(alloc);
-    for _ in 0..course.limits.workers {
+    for _ in 0..input.limits.workers {
         let target = target.twin()?;
         all.push(Grower {
             gate,
             target,
-            course,
+            input,
             workspace: Workspace::new(alloc),
             alloc,
         })?;
@@ -75,7 +75,7 @@ where
     ensures { IfOk result (λ growth. IsGrowth (subject_in T.Target on.now) on.now.limits.seed part plans.now first (length plans.now - first) growth) }
 {
     let end = plans.len();
-    let course = GrownCourse {
+    let input = GrownRunInput {
         workload: on.workload,
         plans,
         kinds: Kinds::of(T::catalogue()),
@@ -85,12 +85,12 @@ where
         end,
     };
     let alloc = on.alloc;
-    let jobs = growers(alloc, on.gate, on.target, &course)?;
+    let jobs = growers(alloc, on.gate, on.target, &input)?;
     let count = (end - first) as u32;
     on.gate.expect(stage, count);
-    let rows = rows_in_order(on.rt, alloc, on.gate, jobs, first as u32, count)?;
+    let ranges = ranges_in_order(on.rt, alloc, on.gate, jobs, first as u32, count)?;
     let mut whole = Growth::none(alloc, T::catalogue().len())?;
-    for growth in rows {
+    for growth in ranges {
         whole.absorb(growth)?;
     }
     Ok(whole)

@@ -15,7 +15,7 @@ use Rattle.grown_plans.specs.AskedPoints.{sites_from}
 use Rattle.grown_plans.specs.Promises.{IsLawful, KeepsPrefix}
 use Rattle.grown_plans.proofs.Members.{all_weaker}
 use Rattle.grown_plans.proofs.Paths.{IsPath, Fresh, hit_fresh}
-use Rattle.grown_plans.proofs.Riggings.{same_site}
+use Rattle.grown_plans.proofs.RiggedScenarios.{same_site}
 use Rattle.grown_plans.proofs.PlanRuns.{plan_path}
 use Rattle.grown_plans.proofs.Cases.{keeps_prefix}
 use Rattle.grown_plans.proofs.AskedSites.{sites_of}

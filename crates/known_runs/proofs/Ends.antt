@@ -5,7 +5,7 @@ use Rattle.std.specs.List.{AllByRecursion, filter}
 use Rattle.action_eval.specs.declared.rig.Rig.{Rig}
 use Rattle.action_eval.specs.declared.rig.Kind.{Kind}
 use Rattle.action_eval.specs.declared.rig.Kind.TheVariants.{OnceReturn, OnwardReturn, OncePanic}
-use Rattle.action_eval.specs.Rigging.{rig, text_of}
+use Rattle.action_eval.specs.RiggedScenario.{rig, text_of}
 use Rattle.grown_plans.specs.GrownPlans.{Subject, run_of_plan, hits_past, children, is_once_return, is_hit_again, onward_of, level, levels, onward, grown}
 use Rattle.grown_plans.specs.Promises.{EachTwo, IsLawful}
 use Rattle.grown_plans.proofs.Members.{all_weaker, all_append, all_both, all_left, all_right, all_flat, all_by_contains, all_contains, two_weaker}

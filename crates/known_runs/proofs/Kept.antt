@@ -8,7 +8,7 @@ use Rattle.std.proofs.Math.Seq.{get_or-append_seam}
 use Rattle.action_eval.specs.declared.rig.Site.{Site}
 use Rattle.action_eval.specs.declared.rig.Rig.{Rig}
 use Rattle.action_eval.specs.declared.rig.Kind.{Kind}
-use Rattle.action_eval.specs.Rigging.{rig}
+use Rattle.action_eval.specs.RiggedScenario.{rig}
 use Rattle.grown_plans.specs.GrownPlans.{Subject, onward}
 use Rattle.grown_plans.specs.AskedPoints.{sites_from, sites_past, from_then_on, goes_onward}
 use Rattle.grown_plans.specs.Kept.{Grew, GrewFrom, plan_of}

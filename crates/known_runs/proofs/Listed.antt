@@ -6,7 +6,7 @@ use Rattle.std.proofs.lemmas.List.Elements.{filter-append, Contains-append_left}
 use Rattle.action_eval.specs.declared.rig.Rig.{Rig}
 use Rattle.action_eval.specs.declared.rig.Kind.{Kind}
 use Rattle.action_eval.specs.declared.rig.Kind.TheVariants.{OnceReturn, OnwardReturn, OncePanic}
-use Rattle.action_eval.specs.Rigging.{rig, text_of}
+use Rattle.action_eval.specs.RiggedScenario.{rig, text_of}
 use Rattle.grown_plans.specs.Runs.{Met}
 use Rattle.grown_plans.specs.GrownPlans.{Subject, run_of_plan, hits_past, grown_at, children, is_once_return, is_hit_again, onward_of, level, levels, onward, grown}
 use Rattle.grown_plans.specs.AskedPoints.{GrowsByAsked, GoesOnwardByAsked, children_by, onward_by}

@@ -9,7 +9,7 @@ use Rattle.action_eval.specs.declared.rig.Rig.{Rig}
 use Rattle.action_eval.specs.declared.rig.Kind.{Kind}
 use Rattle.action_eval.specs.declared.rig.Kind.TheVariants.{OnceReturn, OnwardReturn, OncePanic}
 use Rattle.action_eval.specs.Answers.{Reply, Go, Return}
-use Rattle.action_eval.specs.Rigging.{rig, text_of}
+use Rattle.action_eval.specs.RiggedScenario.{rig, text_of}
 use Rattle.plan_gen.specs.RiggedAnswers.{reply_by}
 use Rattle.target_trait.specs.declared.judgement.Verdict.TheVariants.{Fail}
 use Rattle.grown_plans.specs.Runs.{Met, met, acting, is_fault}
@@ -31,7 +31,7 @@ use Rattle.known_runs.specs.Promises.{EndsAsSeen}
 use Rattle.known_runs.proofs.Ends.{filtered, none_left, two_filtered, two_parts}
 use Rattle.grown_plans.proofs.Onward.{RunsAlike, acts_from, from_then, grown_can, grown_runs_alike, runs_nothing_twice}
 use Rattle.grown_plans.proofs.FromThenOn.{tries_onward}
-use Rattle.grown_plans.proofs.Riggings.{CanAct, reply_here}
+use Rattle.grown_plans.proofs.RiggedScenarios.{CanAct, reply_here}
 
 -- ---- members
 

@@ -10,7 +10,7 @@ use Rattle.action_eval.specs.declared.rig.Rig.{Rig}
 use Rattle.action_eval.specs.declared.rig.Kind.{Kind}
 use Rattle.action_eval.specs.declared.rig.Kind.TheVariants.{OnceReturn, OnwardReturn, OncePanic}
 use Rattle.action_eval.specs.Answers.{Reply, Go, Return, given_of}
-use Rattle.action_eval.specs.Rigging.{rig, rigging, is_same_text}
+use Rattle.action_eval.specs.RiggedScenario.{rig, rigged_scenario, is_same_text}
 use Rattle.target_trait.specs.Outcomes.{judged}
 use Rattle.plan_gen.specs.RiggedAnswers.{AreInOrder, acts_at, reply_by, rigged_reply}
 use Rattle.grown_plans.specs.Runs.{Met, met, run}
@@ -20,7 +20,7 @@ use Rattle.grown_plans.specs.Promises.{IsLawful, KeepsPrefix}
 use Rattle.grown_plans.proofs.Members.{all_weaker, all_append, all_both, all_contains, contains_head, contains_tail, contains_map, contains_flat}
 use Rattle.grown_plans.proofs.Paths.{IsPath, Fresh, AnsweredBy, replies_of, hit_fresh, same_path}
 use Rattle.grown_plans.proofs.PlanRuns.{plan_answered, plan_path, plan_judged, rigs_answered, rigs_judged, rigs_path}
-use Rattle.grown_plans.proofs.Riggings.{CanAct, same_text}
+use Rattle.grown_plans.proofs.RiggedScenarios.{CanAct, same_text}
 use Rattle.grown_plans.proofs.Onward.{grown_can}
 use Rattle.grown_plans.proofs.Levels.{IsGrown, hits_after_split, level_grown}
 use Rattle.grown_plans.proofs.Apart.{level_in_levels}
@@ -204,8 +204,8 @@ in_next t n plan child c k = contains_flat (children t) (level t n) plan child c
 -- a run that rigged hits answer is theirs
 run_from : (t : Subject) → IsLawful t → (rigs plan : List Rig) → AreInOrder (map (λ (r : Rig). r.site) rigs) → CanAct plan → AnsweredBy (answers rigs) (run_of_plan t plan) → IsRunOf t rigs plan
 run_from t l rigs plan o can all =
-    let runs : (seed stream : ℕ) → run t.asks (given_of (rigging t.names rigs) t.names seed stream t.limit) ≡ run_of_plan t plan =
-    λ seed stream. same_path t.asks (answers rigs) t.limit [] (run t.asks (given_of (rigging t.names rigs) t.names seed stream t.limit)) (run_of_plan t plan)
+    let runs : (seed stream : ℕ) → run t.asks (given_of (rigged_scenario t.names rigs) t.names seed stream t.limit) ≡ run_of_plan t plan =
+    λ seed stream. same_path t.asks (answers rigs) t.limit [] (run t.asks (given_of (rigged_scenario t.names rigs) t.names seed stream t.limit)) (run_of_plan t plan)
     (rigs_path t rigs seed stream) (plan_path t plan) (rigs_answered t l rigs o seed stream) all in
     record {
       runs = runs;

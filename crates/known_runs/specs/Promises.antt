@@ -3,7 +3,7 @@ use Rattle.std.specs.Prelude.{◌≡◌, ◌≢◌, ℕ, ◌+◌, ◌≤◌, len
 use Rattle.std.specs.List.{AllByRecursion, filter}
 use Rattle.action_eval.specs.declared.rig.Rig.{Rig}
 use Rattle.action_eval.specs.Answers.{given_of}
-use Rattle.action_eval.specs.Rigging.{rigging}
+use Rattle.action_eval.specs.RiggedScenario.{rigged_scenario}
 use Rattle.plan_gen.specs.RiggedAnswers.{AreInOrder}
 use Rattle.grown_plans.specs.Runs.{run}
 use Rattle.grown_plans.specs.GrownPlans.{Subject, run_of_plan, grown, level, onward}
@@ -17,7 +17,7 @@ use Rattle.known_runs.specs.Walks.{once, walk}
 
 -- rigged hits have the run and the verdict of a plan, under every seed and stream number
 pub record IsRunOf (t : Subject) (rigs plan : List Rig) : Type 0 where
-  pub runs : (seed stream : ℕ) → run t.asks (given_of (rigging t.names rigs) t.names seed stream t.limit) ≡ run_of_plan t plan
+  pub runs : (seed stream : ℕ) → run t.asks (given_of (rigged_scenario t.names rigs) t.names seed stream t.limit) ≡ run_of_plan t plan
   pub verdicts : (seed stream : ℕ) → verdict_of_rigs t seed stream rigs ≡ verdict_of_plan t seed stream plan
 
 -- of rigged hits in order, each of a kind that is tried at its point, once or from then on, the plan that a walk comes to is one of the list

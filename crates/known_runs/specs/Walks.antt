@@ -6,7 +6,7 @@ use Rattle.action_eval.specs.declared.rig.Site.{Site}
 use Rattle.action_eval.specs.declared.rig.Rig.{Rig}
 use Rattle.action_eval.specs.declared.rig.Kind.{Kind}
 use Rattle.action_eval.specs.declared.rig.Kind.TheVariants.{OnceReturn, OnwardReturn, OncePanic}
-use Rattle.action_eval.specs.Rigging.{rig, text_of, is_same_text}
+use Rattle.action_eval.specs.RiggedScenario.{rig, text_of, is_same_text}
 use Rattle.plan_gen.specs.RiggedAnswers.{acts_at}
 use Rattle.grown_plans.specs.AskedPoints.{sites_from, sites_past}
 use Rattle.target_trait.specs.declared.judgement.Verdict.{Verdict}

@@ -18,7 +18,7 @@ use Rattle.campaign_core.specs.FaultTest.{fault_test}
 use Rattle.campaign_core.specs.Findings.{reduction, plan_at, finding}
 use Rattle.outside_campaign.specs.Outside.{Component, Components, say_each, EachAgrees}
 use Rattle.outside_campaign.specs.Reached.{known_tests, place_of, open_sets, open_candidates}
-use Rattle.outside_campaign.specs.Asked.{open_cards}
+use Rattle.outside_campaign.specs.Asked.{open_requests}
 use Rattle.outside_campaign.specs.inside.Told.{told_of, IsLook, IsGathered}
 use Rattle.outside_campaign.specs.declared.findings.Look.{Look}
 use Rattle.outside_campaign.specs.declared.findings.Look.TheVariants as look
@@ -60,9 +60,9 @@ kept_faults known code s r ok is =
 
 -- ---- the loop
 
-pub record Gathering (known : KnownVerdicts) (plans : List Entries) (failures : List (ℕ × ℕ)) (i : ℕ) (findings : List FindingFacts) (cards : List Entries) : Type 0 where
-  pub cards_are : cards ≡ open_cards known plans (take i failures)
-  pub told : cards ≡ [] → (components : Components) → EachAgrees components known → findings ≡ map (finding (say_each components) plans) (take i failures)
+pub record Gathering (known : KnownVerdicts) (plans : List Entries) (failures : List (ℕ × ℕ)) (i : ℕ) (findings : List FindingFacts) (requests : List Entries) : Type 0 where
+  pub requests_are : requests ≡ open_requests known plans (take i failures)
+  pub told : requests ≡ [] → (components : Components) → EachAgrees components known → findings ≡ map (finding (say_each components) plans) (take i failures)
 
 map_push : (f : ℕ × ℕ → FindingFacts) (xs : List (ℕ × ℕ)) (x : ℕ × ℕ) → map f (xs ++ x ∷ []) ≡ map f xs ++ f x ∷ []
 map_push f [] x = refl
@@ -77,19 +77,19 @@ not_empty [] [] some e = absurd (omega arith)
 not_empty [] (y ∷ ys) some e = cc
 not_empty (x ∷ xs) ys some e = cc
 
-cards_more : (known : KnownVerdicts) (plans : List Entries) (failures : List (ℕ × ℕ)) (i : ℕ) (d : ℕ × ℕ) (s : Entries) → i < length failures → s ≡ plan_at plans (get_or failures i d).0
-    → open_cards known plans (take (i + 1) failures) ≡ open_cards known plans (take i failures) ++ open_candidates known (get_or failures i d).1 s
-cards_more known plans failures i d s less plan =
+requests_more : (known : KnownVerdicts) (plans : List Entries) (failures : List (ℕ × ℕ)) (i : ℕ) (d : ℕ × ℕ) (s : Entries) → i < length failures → s ≡ plan_at plans (get_or failures i d).0
+    → open_requests known plans (take (i + 1) failures) ≡ open_requests known plans (take i failures) ++ open_candidates known (get_or failures i d).1 s
+requests_more known plans failures i d s less plan =
     let f : ℕ × ℕ = get_or failures i d in
-    ap (open_cards known plans) (take_more failures i d less) ∙ flat_push (λ failure. open_candidates known failure.1 (plan_at plans failure.0)) (take i failures) f
-    ∙ ap (λ (t : Entries). open_cards known plans (take i failures) ++ open_candidates known f.1 t) (sym plan)
+    ap (open_requests known plans) (take_more failures i d less) ∙ flat_push (λ failure. open_candidates known failure.1 (plan_at plans failure.0)) (take i failures) f
+    ∙ ap (λ (t : Entries). open_requests known plans (take i failures) ++ open_candidates known f.1 t) (sym plan)
 
-pub gathers : (known : KnownVerdicts) (plans : List Entries) (failures : List (ℕ × ℕ)) (i : ℕ) (d : ℕ × ℕ) (s : Entries) (findings after : List FindingFacts) (cards cards' : List Entries) (l : Look) → i < length failures → s ≡ plan_at plans (get_or failures i d).0
-    → Gathering known plans failures i findings cards → IsLook known (get_or failures i d).0 (get_or failures i d).1 s l → IsGathered findings after cards cards' l → Gathering known plans failures (i + 1) after cards'
-gathers known plans failures i d s findings after cards cards' (look.Told x) less plan g told h = record {
-  cards_are =
-      h.1 ∙ g.cards_are ∙ sym (append-nil (open_cards known plans (take i failures))) ∙ ap (λ (r : List Entries). open_cards known plans (take i failures) ++ r) (sym told.0)
-      ∙ sym (cards_more known plans failures i d s less plan);
+pub gathers : (known : KnownVerdicts) (plans : List Entries) (failures : List (ℕ × ℕ)) (i : ℕ) (d : ℕ × ℕ) (s : Entries) (findings after : List FindingFacts) (requests requests' : List Entries) (l : Look) → i < length failures → s ≡ plan_at plans (get_or failures i d).0
+    → Gathering known plans failures i findings requests → IsLook known (get_or failures i d).0 (get_or failures i d).1 s l → IsGathered findings after requests requests' l → Gathering known plans failures (i + 1) after requests'
+gathers known plans failures i d s findings after requests requests' (look.Told x) less plan g told h = record {
+  requests_are =
+      h.1 ∙ g.requests_are ∙ sym (append-nil (open_requests known plans (take i failures))) ∙ ap (λ (r : List Entries). open_requests known plans (take i failures) ++ r) (sym told.0)
+      ∙ sym (requests_more known plans failures i d s less plan);
   told = λ none components agrees.
       let f : ℕ × ℕ = get_or failures i d in
       let before = g.told (sym h.1 ∙ none) components agrees in
@@ -98,29 +98,29 @@ gathers known plans failures i d s findings after cards cards' (look.Told x) les
       h.0 ∙ ap (λ (xs : List FindingFacts). xs ++ x ∷ []) before ∙ ap (λ (y : FindingFacts). map (finding (say_each components) plans) (take i failures) ++ y ∷ []) this
       ∙ sym (map_push (finding (say_each components) plans) (take i failures) f) ∙ ap (map (finding (say_each components) plans)) (sym more);
 }
-gathers known plans failures i d s findings after cards cards' (look.Open more) less plan g opens h = record {
-  cards_are =
-      h.1 ∙ ap (λ (r : List Entries). r ++ more.items) g.cards_are ∙ ap (λ (r : List Entries). open_cards known plans (take i failures) ++ r) opens.1
-      ∙ sym (cards_more known plans failures i d s less plan);
-  told = λ none. absurd (not_empty cards more.items opens.0 (sym h.1 ∙ none));
+gathers known plans failures i d s findings after requests requests' (look.Open more) less plan g opens h = record {
+  requests_are =
+      h.1 ∙ ap (λ (r : List Entries). r ++ more.items) g.requests_are ∙ ap (λ (r : List Entries). open_requests known plans (take i failures) ++ r) opens.1
+      ∙ sym (requests_more known plans failures i d s less plan);
+  told = λ none. absurd (not_empty requests more.items opens.0 (sym h.1 ∙ none));
 }
 
 pub starts : (known : KnownVerdicts) (plans : List Entries) (failures : List (ℕ × ℕ)) → Gathering known plans failures 0 [] []
-starts known plans failures = record { cards_are = refl; told = λ none components agrees. refl }
+starts known plans failures = record { requests_are = refl; told = λ none components agrees. refl }
 
-pub none_left : (cards : List Entries) → length cards ≡ 0 → cards ≡ []
+pub none_left : (requests : List Entries) → length requests ≡ 0 → requests ≡ []
 none_left [] h = refl
-none_left (c ∷ cards) h = absurd (omega arith)
+none_left (c ∷ requests) h = absurd (omega arith)
 
-pub cards_all : (known : KnownVerdicts) (plans : List Entries) (failures : List (ℕ × ℕ)) (i : ℕ) (findings : List FindingFacts) (cards : List Entries) → Gathering known plans failures i findings cards → length failures ≤ i
-    → cards ≡ open_cards known plans failures
-cards_all known plans failures i findings cards g end = g.cards_are ∙ ap (open_cards known plans) (take_all i failures end)
+pub requests_all : (known : KnownVerdicts) (plans : List Entries) (failures : List (ℕ × ℕ)) (i : ℕ) (findings : List FindingFacts) (requests : List Entries) → Gathering known plans failures i findings requests → length failures ≤ i
+    → requests ≡ open_requests known plans failures
+requests_all known plans failures i findings requests g end = g.requests_are ∙ ap (open_requests known plans) (take_all i failures end)
 
-pub all_told : (known : KnownVerdicts) (plans : List Entries) (failures : List (ℕ × ℕ)) (i : ℕ) (findings : List FindingFacts) (cards : List Entries) → Gathering known plans failures i findings cards → length failures ≤ i → length cards ≡ 0
-    → (open_cards known plans failures ≡ []) × ((components : Components) → EachAgrees components known → findings ≡ map (finding (say_each components) plans) failures)
-all_told known plans failures i findings cards g end none =
-    let clear = none_left cards none in
-    (sym (cards_all known plans failures i findings cards g end) ∙ clear, λ components agrees. g.told clear components agrees ∙ ap (map (finding (say_each components) plans)) (take_all i failures end))
+pub all_told : (known : KnownVerdicts) (plans : List Entries) (failures : List (ℕ × ℕ)) (i : ℕ) (findings : List FindingFacts) (requests : List Entries) → Gathering known plans failures i findings requests → length failures ≤ i → length requests ≡ 0
+    → (open_requests known plans failures ≡ []) × ((components : Components) → EachAgrees components known → findings ≡ map (finding (say_each components) plans) failures)
+all_told known plans failures i findings requests g end none =
+    let clear = none_left requests none in
+    (sym (requests_all known plans failures i findings requests g end) ∙ clear, λ components agrees. g.told clear components agrees ∙ ap (map (finding (say_each components) plans)) (take_all i failures end))
 
 -- ---- one failure
 

@@ -20,11 +20,11 @@ put_more : (lines : List (List ℕ)) (ts us : List Entries) → lines_behind lin
 put_more lines [] us = refl
 put_more lines (t ∷ ts) us = put_more (insert_key bytes_eq lines (scenario_text t)) ts us
 
-pub both_added : (cards opened : List Entries) (first second : List (List ℕ)) → first ≡ lines_behind [] cards → second ≡ lines_behind first opened → second ≡ lines_for (cards ++ opened)
-both_added cards opened first second e f = f ∙ ap (λ (l : List (List ℕ)). lines_behind l opened) e ∙ sym (put_more [] cards opened)
+pub both_added : (requests opened : List Entries) (first second : List (List ℕ)) → first ≡ lines_behind [] requests → second ≡ lines_behind first opened → second ≡ lines_for (requests ++ opened)
+both_added requests opened first second e f = f ∙ ap (λ (l : List (List ℕ)). lines_behind l opened) e ∙ sym (put_more [] requests opened)
 
-pub from_nothing : (cards : List Entries) (none after : List (List ℕ)) → none ≡ [] → after ≡ lines_behind none cards → after ≡ lines_behind [] cards
-from_nothing cards none after e f = f ∙ ap (λ (l : List (List ℕ)). lines_behind l cards) e
+pub from_nothing : (requests : List Entries) (none after : List (List ℕ)) → none ≡ [] → after ≡ lines_behind none requests → after ≡ lines_behind [] requests
+from_nothing requests none after e f = f ∙ ap (λ (l : List (List ℕ)). lines_behind l requests) e
 
 open_more : (known : KnownVerdicts) (ps qs : List Entries) → open_plans known (ps ++ qs) ≡ open_plans known ps ++ open_plans known qs
 open_more known [] qs = refl

@@ -14,7 +14,7 @@ use Rattle.answer_text.proofs.TidyAgain.{tidied_again}
 use Rattle.campaign_core.specs.FaultTest.{fails_with}
 use Rattle.campaign_core.specs.Findings.{plan_at}
 use Rattle.outside_campaign.specs.Reached.{known_tests, place_of, unknown_sets, open_sets, open_candidates}
-use Rattle.outside_campaign.specs.Asked.{open_plans, open_cards, known_failures, IsUntried}
+use Rattle.outside_campaign.specs.Asked.{open_plans, open_requests, known_failures, IsUntried}
 use Rattle.outside_campaign.specs.Campaigns.{untried}
 
 abbrev AreUnknown : Answers → List (List ℕ) → Type 0
@@ -67,9 +67,9 @@ candidates_untried known code s =
     let cs = round_at (place_of known code s) in
     sets_untried known code s (open_sets all cs) (put_are all [] (unknown_sets all cs) tt (unknown_are all cs))
 
-cards_untried : (known : KnownVerdicts) (plans : List Entries) (failures : List (ℕ × ℕ)) → AllByRecursion (IsUntried known) (open_cards known plans failures)
-cards_untried known plans [] = tt
-cards_untried known plans (f ∷ failures) = both known (open_candidates known f.1 (plan_at plans f.0)) (open_cards known plans failures) (candidates_untried known f.1 (plan_at plans f.0)) (cards_untried known plans failures)
+requests_untried : (known : KnownVerdicts) (plans : List Entries) (failures : List (ℕ × ℕ)) → AllByRecursion (IsUntried known) (open_requests known plans failures)
+requests_untried known plans [] = tt
+requests_untried known plans (f ∷ failures) = both known (open_candidates known f.1 (plan_at plans f.0)) (open_requests known plans failures) (candidates_untried known f.1 (plan_at plans f.0)) (requests_untried known plans failures)
 
 plans_untried : (known : KnownVerdicts) (plans : List Entries) → AllByRecursion (IsUntried known) (open_plans known plans)
 plans_untried known [] = tt
@@ -81,4 +81,4 @@ plans_untried known (p ∷ plans) = at (known (tidied p)) refl (plans_untried kn
     at (Some v) e h = h
 
 pub all_untried : (known : KnownVerdicts) (plans : List Entries) → AllByRecursion (IsUntried known) (untried known plans)
-all_untried known plans = both known (open_cards known plans (known_failures known plans)) (open_plans known plans) (cards_untried known plans (known_failures known plans)) (plans_untried known plans)
+all_untried known plans = both known (open_requests known plans (known_failures known plans)) (open_plans known plans) (requests_untried known plans (known_failures known plans)) (plans_untried known plans)

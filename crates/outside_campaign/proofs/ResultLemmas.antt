@@ -25,7 +25,7 @@ use Rattle.campaign_given.specs.Description.{Description}
 use Rattle.campaign_given.specs.Given.{Given}
 use Rattle.campaign_core.specs.Findings.{finding}
 use Rattle.outside_campaign.specs.Outside.{Component, Components, say, say_each, EachAgrees}
-use Rattle.outside_campaign.specs.Asked.{open_plans, open_cards, plan_verdicts, known_failures}
+use Rattle.outside_campaign.specs.Asked.{open_plans, open_requests, plan_verdicts, known_failures}
 use Rattle.outside_campaign.specs.Campaigns.{plans as plans_of, code_name, report as report_by, report_in, shown, asks_text, first_failure, unmet_by, untried, untried_by, KnownTextFault}
 use Rattle.outside_campaign.specs.Forms.{text_in}
 use Rattle.outside_campaign.specs.Readable.{IsReadable, told_by}
@@ -69,16 +69,16 @@ failures_are_first known plans components lawful agrees none =
 
 -- ---- results
 
-pub open_first : (known : KnownVerdicts) (plans : List Entries) (failures : List (ℕ × ℕ)) (cards : List Entries) (r : Results) → failures ≡ known_failures known plans → cards ≡ open_cards known plans failures → IsFirst cards r → AreResults known plans r
-open_first known plans failures cards (Told verdicts findings) fe ce h = absurd h
-open_first known plans failures cards (NotAnswered t) fe ce h =
-    (h.0 ++ open_plans known plans, ap (λ (fs : List (ℕ × ℕ)). open_cards known plans fs ++ open_plans known plans) (sym fe) ∙ ap (λ (cs : List Entries). cs ++ open_plans known plans) (sym ce ∙ h.1))
+pub open_first : (known : KnownVerdicts) (plans : List Entries) (failures : List (ℕ × ℕ)) (requests : List Entries) (r : Results) → failures ≡ known_failures known plans → requests ≡ open_requests known plans failures → IsFirst requests r → AreResults known plans r
+open_first known plans failures requests (Told verdicts findings) fe ce h = absurd h
+open_first known plans failures requests (NotAnswered t) fe ce h =
+    (h.0 ++ open_plans known plans, ap (λ (fs : List (ℕ × ℕ)). open_requests known plans fs ++ open_plans known plans) (sym fe) ∙ ap (λ (cs : List Entries). cs ++ open_plans known plans) (sym ce ∙ h.1))
 
-none_open : (known : KnownVerdicts) (plans : List Entries) (failures : List (ℕ × ℕ)) → failures ≡ known_failures known plans → open_cards known plans failures ≡ [] → untried known plans ≡ open_plans known plans
-none_open known plans failures fe none = ap (λ (fs : List (ℕ × ℕ)). open_cards known plans fs ++ open_plans known plans) (sym fe) ∙ ap (λ (cs : List Entries). cs ++ open_plans known plans) none
+none_open : (known : KnownVerdicts) (plans : List Entries) (failures : List (ℕ × ℕ)) → failures ≡ known_failures known plans → open_requests known plans failures ≡ [] → untried known plans ≡ open_plans known plans
+none_open known plans failures fe none = ap (λ (fs : List (ℕ × ℕ)). open_requests known plans fs ++ open_plans known plans) (sym fe) ∙ ap (λ (cs : List Entries). cs ++ open_plans known plans) none
 
 pub told_all : (known : KnownVerdicts) (plans : List Entries) (failures : List (ℕ × ℕ)) (findings : List FindingFacts) (r : Results) → failures ≡ known_failures known plans
-    → (open_cards known plans failures ≡ []) × ((components : Components) → EachAgrees components known → findings ≡ map (finding (say_each components) plans) failures)
+    → (open_requests known plans failures ≡ []) × ((components : Components) → EachAgrees components known → findings ≡ map (finding (say_each components) plans) failures)
     → AreWithVerdicts known plans findings r → AreResults known plans r
 told_all known plans failures findings (Told verdicts told) fe h w = (
   none_open known plans failures fe h.0 ∙ w.1.1,
@@ -142,11 +142,11 @@ known_cut text outside settings answers old new failed bytes n (Err f) is whole 
     subst P (sym is) (subst Q whole (wrote, less), bad, few)
 
 -- what is told is the report of each component that agrees
-pub report_told : (form : Form) (outside : Description) (settings : Given) (answers : List ℕ) (known : KnownVerdicts) (plans : List Entries) (verdicts : List Verdict) (findings : List FindingFacts) (report : ReportFacts) (bytes : List ℕ)
+pub reported_is : (form : Form) (outside : Description) (settings : Given) (answers : List ℕ) (known : KnownVerdicts) (plans : List Entries) (verdicts : List Verdict) (findings : List FindingFacts) (report : ReportFacts) (bytes : List ℕ)
     → known ≡ known_by outside.codes outside.points answers → plans ≡ plans_of outside settings → ((components : Components) → EachAgrees components known → AreOf components plans verdicts findings)
     → report ≡ facts_of outside settings.plans.seed verdicts (unmet_by outside settings answers) findings → bytes ≡ text_in form outside.points (code_name outside.codes) report (shown outside settings)
     → (component : Component) → AgreesWithText outside.codes outside.points answers component → bytes ≡ report_in form outside settings answers component
-report_told form outside settings answers known plans verdicts findings report bytes k p own r b component agrees =
+reported_is form outside settings answers known plans verdicts findings report bytes k p own r b component agrees =
     b ∙ ap (λ (facts : ReportFacts). text_in form outside.points (code_name outside.codes) facts (shown outside settings))
     (r ∙ report_is outside settings answers component plans verdicts findings p (own (each component) (λ stream. agrees_with_known outside answers known component k agrees)))
 

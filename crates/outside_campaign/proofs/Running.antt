@@ -134,13 +134,13 @@ put_new s out xs e = ap (λ (b : Bool). put (cond b out (out ++ s ∷ [])) xs) e
 abbrev opened : Answers → List (List ℕ) → List Candidate → Option (List ℕ)
 opened known out cs = first_open known (λ s. list_any (same_set s) out) cs
 
-abbrev card_is : List ℕ → Option (List ℕ)
-card_is s = Some s
+abbrev request_is : List ℕ → Option (List ℕ)
+request_is s = Some s
 
-set_is : (s t : List ℕ) → card_is s ≡ card_is t → s ≡ t
+set_is : (s t : List ℕ) → request_is s ≡ request_is t → s ≡ t
 set_is s t e = cc
 
--- what the search for a card finds, where what is known is among what all know, and of what is out nothing is known
+-- what the search for a request finds, where what is known is among what all know, and of what is out nothing is known
 record Scan (all : Answers) (out : List (List ℕ)) (cs : List Candidate) (o : Option (List ℕ)) : Type 0 where
   same : (s : List ℕ) → o ≡ Some s → all s ≡ None → put (out ++ s ∷ []) (unknown_sets all cs) ≡ put out (unknown_sets all cs)
   stuck : (s : List ℕ) → o ≡ Some s → all s ≡ None → (tests : ℕ) → decided all cs tests ≡ None
@@ -216,11 +216,11 @@ begins known code s faults core e is =
     let P : State → Type 0 = λ c. Running known code s c [] in
     subst P (sym is) (record { count = e; grows = nothing_known (tests_of known code s) faults; unknown = tt; same = refl; still = inl refl; untried_are = refl })
 
--- where nothing is known of a card, its round waits for it
+-- where nothing is known of a request, its round waits for it
 waits_at : (all : Answers) (out : List (List ℕ)) (known : Answers) (p : Position) (set : List ℕ) → Grows known all → Unknown all out → opened known out (round_at p) ≡ Some set → all set ≡ None → step all p ≡ None
 waits_at all out known (Empty faults) set grows unknown h n = by_first (list_any (same_set []) out) (known []) refl h
   where
-    by_first : (b : Bool) (k : Option Bool) → known [] ≡ k → elim k [ None ↦ elim b [ true ↦ None | false ↦ card_is [] ] | Some fails ↦ elim fails [ true ↦ None | false ↦ None ] ] ≡ Some set → step all (Empty faults) ≡ None
+    by_first : (b : Bool) (k : Option Bool) → known [] ≡ k → elim k [ None ↦ elim b [ true ↦ None | false ↦ request_is [] ] | Some fails ↦ elim fails [ true ↦ None | false ↦ None ] ] ≡ Some set → step all (Empty faults) ≡ None
     by_first true None e k = absurd cc
     by_first false None e k = let mine : [] ≡ set = set_is [] set k in rw (ap all mine ∙ n, step) refl
     by_first b (Some true) e k = absurd cc
@@ -240,16 +240,16 @@ or_first : (o : Option (List ℕ)) (r : Option (List ℕ)) → r ≡ or_else o N
 or_first None r h = sym h
 or_first (Some t) r h = sym h
 
-card_of : (core : State) (o : Option (List ℕ)) → o ≡ next core false → opened (get core.known) core.out (round_at (position core)) ≡ o
+request_of : (core : State) (o : Option (List ℕ)) → o ≡ next core false → opened (get core.known) core.out (round_at (position core)) ≡ o
 unfolding next
-card_of core o h = or_first (first_open (get core.known) (is_out core) (round_at (position core))) o h
+request_of core o h = or_first (first_open (get core.known) (is_out core) (round_at (position core))) o h
 
-card_opens : (known : KnownVerdicts) (code : ℕ) (s t : Entries) (core : State) (untried : List Entries) (set : List ℕ) → Running known code s core untried → Some set ≡ next core false
+request_opens : (known : KnownVerdicts) (code : ℕ) (s t : Entries) (core : State) (untried : List Entries) (set : List ℕ) → Running known code s core untried → Some set ≡ next core false
     → (tests_of known code s set ≡ None) × (t ≡ scenario_of s set) → Running known code s (after_take core (Some set)) (untried ++ t ∷ [])
 unfolding position
-card_opens known code s t core untried set r card h =
+request_opens known code s t core untried set r request h =
     let all = tests_of known code s in
-    let found = card_of core (Some set) card in
+    let found = request_of core (Some set) request in
     record {
       count = r.count;
       grows = r.grows;
@@ -309,17 +309,17 @@ answer_told known code s core untried set fails r own = by_still r.still
 
 pub settle_keeps : (known : KnownVerdicts) (code : ℕ) (s : Entries) (core taken new : State) (untried after : List Entries) (set : List ℕ) (test : Test) → Running known code s core untried → Some set ≡ next core false → taken ≡ after_take core (Some set)
     → IsTested known code s set test → IsSettled taken new untried after set test → Running known code s new after
-settle_keeps known code s core taken new untried after set (Told fails) r card event tested settled =
+settle_keeps known code s core taken new untried after set (Told fails) r request event tested settled =
     let P : State → List Entries → Type 0 = λ c u. Running known code s c u in
-    let none : list_any (same_set set) core.out ≡ false = (next_gives core false set (sym card)).1 in
+    let none : list_any (same_set set) core.out ≡ false = (next_gives core false set (sym request)).1 in
     let out_is : without set (core.out ++ set ∷ []) ≡ core.out = without_last set core.out none in
     let whole : new ≡ told core set fails = settled.1 ∙ ap (λ (c : State). apply c (Put set fails)) event ∙ ap (λ (out : List (List ℕ)). record (told core set fails) { out = out }) out_is in
     subst (λ c. P c after) (sym whole) (subst (λ u. P (told core set fails) u) (sym settled.2) (answer_told known code s core untried set fails r tested))
-settle_keeps known code s core taken new untried after set (Untold t) r card event tested settled =
+settle_keeps known code s core taken new untried after set (Untold t) r request event tested settled =
     let P : State → List Entries → Type 0 = λ c u. Running known code s c u in
-    subst (λ c. P c after) (sym (settled.0 ∙ event)) (subst (λ u. P (after_take core (Some set)) u) (sym settled.1) (card_opens known code s t core untried set r card tested))
+    subst (λ c. P c after) (sym (settled.0 ∙ event)) (subst (λ u. P (after_take core (Some set)) u) (sym settled.1) (request_opens known code s t core untried set r request tested))
 
--- ---- no card came
+-- ---- no request came
 
 place_is : (known : KnownVerdicts) (code : ℕ) (s : Entries) (core : State) (untried : List Entries) → Running known code s core untried → step (tests_of known code s) (position core) ≡ None → place_of known code s ≡ position core
 unfolding position
@@ -336,17 +336,17 @@ some_out s (t ∷ out) h = omega arith
 
 open_reached : (known : KnownVerdicts) (code : ℕ) (s : Entries) (core : State) (untried : List Entries) → Running known code s core untried → None ≡ next core false → ((r : Reduced) → position core ≡ End r → ⊥)
     → (0 < length untried) × (untried ≡ open_candidates known code s)
-open_reached known code s core untried r card goes_on = by_still r.still
+open_reached known code s core untried r request goes_on = by_still r.still
   where
     ended : core.out ≡ [] → ⊥
-    ended clear = let e = none_open core false clear (sym card) in goes_on e.0 e.1
+    ended clear = let e = none_open core false clear (sym request) in goes_on e.0 e.1
 
     by_still : (core.out ≡ []) ⊎ (step (tests_of known code s) (position core) ≡ None) → (0 < length untried) × (untried ≡ open_candidates known code s)
     by_still (inl clear) = absurd (ended clear)
     by_still (inr stuck) =
         let all = tests_of known code s in
         let p = position core in
-        let all_out : added all core.out (round_at p) ≡ core.out = (scan (get core.known) all core.out r.grows r.unknown (round_at p)).ended (card_of core None card) in
+        let all_out : added all core.out (round_at p) ≡ core.out = (scan (get core.known) all core.out r.grows r.unknown (round_at p)).ended (request_of core None request) in
         let P : List Entries → Type 0 = λ u. 0 < length u in (
           subst P (sym r.untried_are) (some_out s core.out ended),
           r.untried_are ∙ ap (map (scenario_of s)) (sym all_out ∙ r.same) ∙ ap (λ (q : Position). map (scenario_of s) (open_sets all (round_at q))) (sym (place_is known code s core untried r stuck)),
@@ -354,12 +354,12 @@ open_reached known code s core untried r card goes_on = by_still r.still
 
 pub end_reached : (known : KnownVerdicts) (code : ℕ) (s : Entries) (core taken : State) (untried : List Entries) → Running known code s core untried → None ≡ next core false → taken ≡ after_take core None
     → (reached : Reached) → IsEnded taken untried reached → IsReached known code s reached
-end_reached known code s core taken untried r card event (Ended e) h =
+end_reached known code s core taken untried r request event (Ended e) h =
     let is : position core ≡ End e = ap position (sym event) ∙ h in
     place_is known code s core untried r (end_stuck (tests_of known code s) (position core) e is) ∙ is
-end_reached known code s core taken untried r card event (Open given) h =
+end_reached known code s core taken untried r request event (Open given) h =
     let P : List Entries → Type 0 = λ u. (0 < length u) × (u ≡ open_candidates known code s) in
-    subst P (sym h.0) (open_reached known code s core untried r card (λ e is. h.1 e (ap position event ∙ is)))
+    subst P (sym h.0) (open_reached known code s core untried r request (λ e is. h.1 e (ap position event ∙ is)))
 
 -- ---- a component that agrees
 

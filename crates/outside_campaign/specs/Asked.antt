@@ -24,12 +24,12 @@ open_plans known [] = []
 open_plans known (p ∷ ps) = if is_none (known (tidied p)) then tidied p ∷ open_plans known ps else open_plans known ps
 
 -- the open candidates of the reductions of these failures, each the number of a plan and its code
-abbrev pub open_cards : KnownVerdicts → List Entries → List (ℕ × ℕ) → List Entries
-open_cards known plans failures = flat_map (λ failure. open_candidates known failure.1 (plan_at plans failure.0)) failures
+abbrev pub open_requests : KnownVerdicts → List Entries → List (ℕ × ℕ) → List Entries
+open_requests known plans failures = flat_map (λ failure. open_candidates known failure.1 (plan_at plans failure.0)) failures
 
 -- what is still to be tried: those, and then the open plans
 abbrev pub to_try : KnownVerdicts → List Entries → List (ℕ × ℕ) → List Entries
-to_try known plans failures = open_cards known plans failures ++ open_plans known plans
+to_try known plans failures = open_requests known plans failures ++ open_plans known plans
 
 -- the lines that ask for it
 abbrev pub asked : KnownVerdicts → List Entries → List (ℕ × ℕ) → List (List ℕ)

@@ -13,7 +13,7 @@ use Rattle.outside_campaign.specs.declared.reduction.Reached.{Reached}
 use Rattle.outside_campaign.specs.declared.reduction.Reached.TheVariants.{Reduced as Ended, Open}
 
 -- what is known of the test of each set of faults: whether the scenario with these faults alone, tidied, fails with this code. A list that
--- isn't faults of the scenario in ascending order fails not.
+-- isn't faults of the scenario in ascending order doesn't fail.
 abbrev pub known_tests : KnownVerdicts → ℕ → Entries → Answers
 known_tests known code s set =
     if are_faults (all_faults s) set then option_map (fails_with code) (known (tidied (kept set s))) else Some false

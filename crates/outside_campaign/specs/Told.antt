@@ -5,7 +5,7 @@ use Rattle.result_book.specs.Verdicts.{verdicts_from}
 use Rattle.answer_text.specs.Known.{KnownVerdicts}
 use Rattle.campaign_core.specs.Findings.{finding}
 use Rattle.outside_campaign.specs.Outside.{Components, say_each, EachAgrees}
-use Rattle.outside_campaign.specs.Asked.{open_cards, open_plans, plan_verdicts}
+use Rattle.outside_campaign.specs.Asked.{open_requests, open_plans, plan_verdicts}
 use Rattle.outside_campaign.specs.declared.verdicts.Verdicts.{Verdicts}
 use Rattle.outside_campaign.specs.declared.verdicts.Verdicts.TheVariants as verdicts
 use Rattle.outside_campaign.specs.declared.findings.Findings.{Findings}
@@ -23,6 +23,6 @@ AreVerdicts known plans (verdicts.NotAnswered t) = (rest : List Entries) × (ope
 -- candidates of their reductions
 abbrev pub AreFindings : KnownVerdicts → List Entries → List (ℕ × ℕ) → Findings → Type 0
 AreFindings known plans failures (findings.Told all) =
-    (open_cards known plans failures ≡ [])
+    (open_requests known plans failures ≡ [])
     × ((components : Components) → EachAgrees components known → all.items ≡ map (finding (say_each components) plans) failures)
-AreFindings known plans failures (findings.Open cards) = (0 < length cards.items) × (cards.items ≡ open_cards known plans failures)
+AreFindings known plans failures (findings.Open requests) = (0 < length requests.items) × (requests.items ≡ open_requests known plans failures)

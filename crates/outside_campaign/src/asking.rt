@@ -14,11 +14,15 @@ use result_book::first_failures_of;
 use scenario_values::{Scenario, tidy};
 use std::alloc::{AllocError, Global};
 
-fn add_cards(alloc: Global, lines: &mut AskedLines, cards: &[Scenario]) -> Result<(), AllocError>
-    ensures { OnOk result (lines.new ≡ lines_behind lines.old cards.now) }
+fn add_requests(
+    alloc: Global,
+    lines: &mut AskedLines,
+    requests: &[Scenario],
+) -> Result<(), AllocError>
+    ensures { OnOk result (lines.new ≡ lines_behind lines.old requests.now) }
 {
-    for card in cards {
-        lines.add(alloc, card)?;
+    for request in requests {
+        lines.add(alloc, request)?;
     }
     Ok(())
 }
@@ -56,17 +60,17 @@ fn add_plans<K: VerdictTable>(
     Ok(())
 }
 
-/// The texts of these cards, and of each plan that isn't answered.
+/// The texts of these requests, and of each plan that isn't answered.
 fn asked<K: VerdictTable>(
     alloc: Global,
     known: &K,
-    cards: &[Scenario],
+    requests: &[Scenario],
     plans: &CampaignPlans<'_>,
 ) -> Result<AskedLines, AllocError>
-    ensures { IfOk result (λ lines. lines ≡ lines_for (cards.now ++ open_plans (K.verdicts known.now) plans.now)) }
+    ensures { IfOk result (λ lines. lines ≡ lines_for (requests.now ++ open_plans (K.verdicts known.now) plans.now)) }
 {
     let mut lines = AskedLines::new(alloc);
-    add_cards(alloc, &mut lines, cards)?;
+    add_requests(alloc, &mut lines, requests)?;
     add_plans(alloc, &mut lines, known, plans)?;
     Ok(lines)
 }
@@ -86,7 +90,7 @@ pub fn asks<K: VerdictTable>(
 {
     match findings_known(alloc, known, plans, failures)? {
         Findings::Told(_) => asked(alloc, known, &[], plans),
-        Findings::Open(cards) => asked(alloc, known, cards.as_slice(), plans),
+        Findings::Open(requests) => asked(alloc, known, requests.as_slice(), plans),
     }
 }
 

@@ -39,7 +39,7 @@ fn look_at<K: VerdictTable>(
 {
     let _ = scenario.entries();
     match reduce_known(alloc, known, &scenario, code)? {
-        Reached::Open(cards) => Ok(Look::Open(cards)),
+        Reached::Open(requests) => Ok(Look::Open(requests)),
         Reached::Reduced(reduction) => {
             let kept = keep(alloc, &scenario, reduction.kept.as_slice())?;
             let reduced = tidy(alloc, &kept)?;
@@ -58,10 +58,10 @@ fn look_at<K: VerdictTable>(
 /// Adds what a look came to.
 fn gather(
     findings: &mut Vec<Finding>,
-    cards: &mut Vec<Scenario>,
+    requests: &mut Vec<Scenario>,
     look: Look,
 ) -> Result<(), AllocError>
-    ensures { OnOk result (IsGathered findings.old.items findings.new.items cards.old.items cards.new.items look) }
+    ensures { OnOk result (IsGathered findings.old.items findings.new.items requests.old.items requests.new.items look) }
 {
     match look {
         Look::Told(finding) => {
@@ -70,7 +70,7 @@ fn gather(
         }
         Look::Open(more) => {
             let mut more = more;
-            cards.append(&mut more)
+            requests.append(&mut more)
         }
     }
 }
@@ -90,16 +90,16 @@ pub fn findings_known<K: VerdictTable>(
     ensures { IfOk result (AreFindings (K.verdicts known.now) plans.now failures.now) }
 {
     let mut findings = Vec::new(alloc);
-    let mut cards = Vec::new(alloc);
+    let mut requests = Vec::new(alloc);
     for i in 0..failures.len() {
         let (number, code) = failures[i];
         let scenario = plans.plan(number as usize).scenario(alloc)?;
         let look = look_at(alloc, known, scenario, number, code)?;
-        gather(&mut findings, &mut cards, look)?;
+        gather(&mut findings, &mut requests, look)?;
     }
-    if cards.is_empty() {
+    if requests.is_empty() {
         Ok(Findings::Told(findings))
     } else {
-        Ok(Findings::Open(cards))
+        Ok(Findings::Open(requests))
     }
 }

@@ -206,7 +206,7 @@ pub fn partial_text<K: VerdictTable>(
 }
 
 /// The text of what a campaign has come to by the answers, and whether a plan is known to fail.
-fn told_so_far(
+fn reported_so_far(
     alloc: Global,
     outside: &Outside,
     settings: &CampaignSettings,
@@ -252,7 +252,7 @@ pub fn write_partial<W: Sink>(
     ensures readable { OnOk result (IsReadable outside.now answers.now) }
     ensures fault { IfErr result (PartialFault outside.now settings.now answers.now (W.told sink.old) (W.told sink.new) (W.has_failed sink.new)) }
 {
-    let (text, fails) = told_so_far(alloc, outside, settings, answers)?;
+    let (text, fails) = reported_so_far(alloc, outside, settings, answers)?;
     write_report(text.as_bytes(), sink)?;
     Ok(fails)
 }

@@ -6,7 +6,7 @@ ghost use Rattle.outside_campaign.specs.inside.Tests.{IsTested, IsSettled, IsEnd
 
 use crate::table::VerdictTable;
 use campaign_core::{fails_with, fault_count};
-use ddmin_parallel::{Card, Core, Reduction};
+use ddmin_parallel::{Core, Reduction, TestRequest};
 use scenario_values::{Scenario, are_faults, keep, tidy};
 use std::alloc::{AllocError, Global};
 
@@ -29,7 +29,7 @@ enum Test {
     Untold(Scenario),
 }
 
-/// What is known of the scenario with the faults of the set alone. A list that isn't faults of the scenario in ascending order fails not.
+/// What is known of the scenario with the faults of the set alone. A list that isn't faults of the scenario in ascending order doesn't fail.
 fn look_up<K: VerdictTable>(
     alloc: Global,
     known: &K,
@@ -52,18 +52,18 @@ fn look_up<K: VerdictTable>(
     }
 }
 
-/// Takes what is known of a card that is out: puts its answer, or adds its scenario to those that are to be tried.
+/// Takes what is known of a request that is out: puts its answer, or adds its scenario to those that are to be tried.
 fn settle(
     alloc: Global,
     core: &mut Core,
     untried: &mut Vec<Scenario>,
-    card: Card,
+    request: TestRequest,
     test: Test,
 ) -> Result<(), AllocError>
-    ensures { OnOk result (IsSettled core.old core.new untried.old.items untried.new.items card test) }
+    ensures { OnOk result (IsSettled core.old core.new untried.old.items untried.new.items request test) }
 {
     match test {
-        Test::Told(fails) => match core.put(alloc, card, fails) {
+        Test::Told(fails) => match core.put(alloc, request, fails) {
             Ok(()) => Ok(()),
             Err(_) => Err(AllocError),
         },
@@ -74,7 +74,7 @@ fn settle(
     }
 }
 
-/// What a core that hands out no card has come to.
+/// What a core that hands out no request has come to.
 fn ended(alloc: Global, core: &Core, untried: Vec<Scenario>) -> Result<Reached, AllocError>
     ensures { IfOk result (IsEnded core.now untried.items) }
 {
@@ -101,12 +101,12 @@ pub fn reduce_known<K: VerdictTable>(
     let mut core = Core::start(alloc, faults);
     let mut untried = Vec::new(alloc);
     for _ in 0..u64::MAX {
-        let Some(card) = core.take(alloc, false)? else {
+        let Some(request) = core.take(alloc, false)? else {
             return ended(alloc, &core, untried);
         };
-        let test = look_up(alloc, known, scenario, faults, code, card.set())?;
-        settle(alloc, &mut core, &mut untried, card, test)?;
+        let test = look_up(alloc, known, scenario, faults, code, request.set())?;
+        settle(alloc, &mut core, &mut untried, request, test)?;
     }
-    // so many cards don't fit in any memory
+    // so many requests don't fit in any memory
     Err(AllocError)
 }

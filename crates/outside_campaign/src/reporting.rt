@@ -13,7 +13,7 @@ use crate::forms::Form;
 use crate::planned::{borrowed, planned};
 use crate::refusal::OutsideFault;
 use crate::results::{Results, results_known};
-use crate::telling::{first_number, report_of, told_text};
+use crate::telling::{first_number, report_of, reported_text};
 use crate::unmet::count_unmet;
 use campaign_core::Ending;
 use campaign_given::{CampaignSettings, Outside};
@@ -23,7 +23,7 @@ use std::alloc::Global;
 use target_trait::Sink;
 
 /// The text of the report in this form, and the number of the first plan that fails, by the answers.
-fn told(
+fn reported(
     alloc: Global,
     form: &Form<'_>,
     outside: &Outside,
@@ -50,7 +50,7 @@ fn told(
             let first = first_number(&findings);
             let unmet = count_unmet(alloc, &known, points.as_slice(), &plans)?;
             let report = report_of(outside, settings.seed, verdicts.as_slice(), unmet, findings);
-            let text = told_text(alloc, form, outside, settings, &report, &plans)?;
+            let text = reported_text(alloc, form, outside, settings, &report, &plans)?;
             Ok((text, first))
         }
     }
@@ -87,7 +87,7 @@ pub fn write_report_in<W: Sink>(
     ensures fault { IfErr result (ReportFault form.now outside.now settings.now answers.now
         (W.told sink.old) (W.told sink.new) (W.has_failed sink.new)) }
 {
-    let (text, first) = told(alloc, form, outside, settings, answers)?;
+    let (text, first) = reported(alloc, form, outside, settings, answers)?;
     write_report(text.as_slice(), sink)?;
     Ok(Ending { first })
 }

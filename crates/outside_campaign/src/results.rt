@@ -27,12 +27,12 @@ pub enum Results {
 }
 
 /// The first of the open candidates.
-fn first_card(cards: Vec<Scenario>) -> Result<Results, AllocError>
-    requires { 0 < length cards.items }
-    ensures { IfOk result (IsFirst cards.items) }
+fn first_request(requests: Vec<Scenario>) -> Result<Results, AllocError>
+    requires { 0 < length requests.items }
+    ensures { IfOk result (IsFirst requests.items) }
 {
-    match cards.into_iter().next() {
-        Some(card) => Ok(Results::NotAnswered(card)),
+    match requests.into_iter().next() {
+        Some(request) => Ok(Results::NotAnswered(request)),
         None => Err(AllocError),
     }
 }
@@ -66,7 +66,7 @@ pub fn results_known<K: VerdictTable>(
     let verdicts = plan_verdicts(alloc, known, plans)?;
     let failures = first_failures_of(alloc, verdicts.as_slice())?;
     match findings_known(alloc, known, plans, failures.as_slice())? {
-        Findings::Open(cards) => first_card(cards),
+        Findings::Open(requests) => first_request(requests),
         Findings::Told(findings) => with_verdicts(alloc, plans, verdicts.as_slice(), findings),
     }
 }

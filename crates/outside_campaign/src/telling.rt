@@ -84,7 +84,7 @@ fn shown_of<'a>(plans: &'a CampaignPlans<'a>, pairs: bool, settings: &'a str) ->
 }
 
 /// The text of a report on the plans of these settings. An error means that memory was refused.
-pub fn told_text(
+pub fn reported_text(
     alloc: Global,
     form: &Form<'_>,
     outside: &Outside,

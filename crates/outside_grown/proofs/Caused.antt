@@ -9,10 +9,10 @@ use Rattle.scenario_values.specs.Tidied.{tidied}
 use Rattle.scenario_values.proofs.Limits.{tidied_scenario}
 use Rattle.action_eval.specs.Answers.{given_of}
 use Rattle.action_eval.specs.Catalogue.{IsCatalogue}
-use Rattle.action_eval.specs.Rigging.{CanBeRigged, HasLawfulText, rigging}
+use Rattle.action_eval.specs.RiggedScenario.{CanBeRigged, HasLawfulText, rigged_scenario}
 use Rattle.action_eval.specs.SameMeaning.{MeansTheSame}
 use Rattle.action_eval.specs.declared.rig.Rig.{Rig}
-use Rattle.action_eval.proofs.Rigged.{rigging_keeps}
+use Rattle.action_eval.proofs.Rigged.{rigged_scenario_keeps}
 use Rattle.action_eval.proofs.RunLaws.{tidied_means}
 use Rattle.target_trait.specs.Outcomes.{Told as Outcome, outcome}
 use Rattle.target_trait.specs.declared.judgement.Verdict.{Verdict}
@@ -38,15 +38,15 @@ Tells known verdict rigs = (v : Verdict) → known rigs ≡ Some v → verdict r
 verdict_true : (t : Subject) (a : Answered) (depth : ℕ) → IsComponent a.points a.listed t → depth ≤ 64 → AgreesWithRuns t (told_in a.book) → (seed stream : ℕ) (rigs : List Rig) → CanBeRigged rigs
     → Tells (verdicts_in a depth) (λ rs. (told_of_rigs t seed stream rs).verdict) rigs
 verdict_true t a depth is low agrees seed stream rigs can v e =
-    ap (λ (names : List (List ℕ)). (outcome t.asks (given_of (rigging names rigs) t.names seed stream t.limit)).verdict) is.names
+    ap (λ (names : List (List ℕ)). (outcome t.asks (given_of (rigged_scenario names rigs) t.names seed stream t.limit)).verdict) is.names
     ∙ ap (λ (x : Outcome). x.verdict) (sym (outcome_same t.asks t.names seed stream t.limit (tidied s) s (means.at t.names seed stream t.limit)))
     ∙ true_of t a.points a.listed (told_in a.book) depth is low agrees (tidied s) v (tidied_scenario s lawful) e seed stream
   where
     s : Entries
-    s = rigging a.points rigs
+    s = rigged_scenario a.points rigs
 
     lawful : IsScenario s
-    lawful = rigging_keeps a.points rigs (subst IsCatalogue is.names is.lawful.catalogue) can.0 can.1 can.2
+    lawful = rigged_scenario_keeps a.points rigs (subst IsCatalogue is.names is.lawful.catalogue) can.0 can.1 can.2
 
     means : MeansTheSame (tidied s) s
     means = tidied_means s lawful.distinct_names

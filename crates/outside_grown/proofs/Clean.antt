@@ -10,8 +10,8 @@ use Rattle.scenario_values.proofs.Limits.{tidied_scenario}
 use Rattle.action_eval.specs.Answers.{given_of, texts}
 use Rattle.action_eval.specs.Catalogue.{IsCatalogue}
 use Rattle.action_eval.specs.SameMeaning.{MeansTheSame}
-use Rattle.action_eval.specs.Rigging.{rigging, entries_from}
-use Rattle.action_eval.proofs.Rigged.{rigging_keeps}
+use Rattle.action_eval.specs.RiggedScenario.{rigged_scenario, entries_from}
+use Rattle.action_eval.proofs.Rigged.{rigged_scenario_keeps}
 use Rattle.action_eval.proofs.RunLaws.{tidied_means}
 use Rattle.target_trait.specs.Outcomes.{Told as Outcome, outcome}
 use Rattle.target_trait.proofs.Verdicts.{outcome_same}
@@ -34,8 +34,8 @@ no_entries : (p : ℕ) (names : List (List ℕ)) → entries_from p names [] ≡
 no_entries p [] = refl
 no_entries p (name ∷ names) = no_entries (p + 1) names
 
-no_rigs : (names : List (List ℕ)) → rigging names [] ≡ []
-unfolding rigging
+no_rigs : (names : List (List ℕ)) → rigged_scenario names [] ≡ []
+unfolding rigged_scenario
 no_rigs names = no_entries 0 names
 
 some_is : (a b : List ℕ) → Some a ≡ Some b → a ≡ b
@@ -48,10 +48,10 @@ clean_asked : (t : Subject) (points : List (List ℕ)) (listed : List (List Kind
 clean_asked t points listed told seed hits is agrees e = by_told (told (tidied s)) (agrees (tidied s) (tidied_scenario s lawful)) e
   where
     s : Entries
-    s = rigging points []
+    s = rigged_scenario points []
 
     lawful : IsScenario s
-    lawful = rigging_keeps points [] (subst IsCatalogue is.names is.lawful.catalogue) (omega arith) tt tt
+    lawful = rigged_scenario_keeps points [] (subst IsCatalogue is.names is.lawful.catalogue) (omega arith) tt tt
 
     means : MeansTheSame (tidied s) s
     means = tidied_means s lawful.distinct_names

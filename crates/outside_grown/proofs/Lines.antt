@@ -17,8 +17,8 @@ use Rattle.std.specs.Prelude.{Err, Ok}
 use Rattle.action_eval.specs.Answers.{given_of}
 use Rattle.action_eval.specs.declared.rig.Kind.{Kind}
 use Rattle.action_eval.specs.declared.rig.Rig.{Rig}
-use Rattle.action_eval.specs.Rigging.{CanBeRigged}
-use Rattle.action_eval.proofs.Rigged.{rigging_keeps}
+use Rattle.action_eval.specs.RiggedScenario.{CanBeRigged}
+use Rattle.action_eval.proofs.Rigged.{rigged_scenario_keeps}
 use Rattle.action_eval.proofs.RunLaws.{tidied_means}
 use Rattle.plan_gen.specs.PlanList.{Asked}
 use Rattle.campaign_plans.specs.GrownScenarios.{grown_scenario}
@@ -63,8 +63,8 @@ plan_means t plan lawful = sym (run_same t.asks t.names 0 0 t.limit (tidied (sce
 
 line_of_run : (points : List (List ℕ)) (listed : List (List Kind)) (t : Subject) → IsComponent points listed t → (a b : List Rig) → CanBeRigged (rigs_of a) → CanBeRigged (rigs_of b) → plan_line t.names a ≡ plan_line t.names b → run_of_plan t a ≡ run_of_plan t b
 line_of_run points listed t is a b can_a can_b e =
-    let of_a : IsScenario (scenario_of t a) = rigging_keeps t.names (rigs_of a) is.lawful.catalogue can_a.0 can_a.1 can_a.2 in
-    let of_b : IsScenario (scenario_of t b) = rigging_keeps t.names (rigs_of b) is.lawful.catalogue can_b.0 can_b.1 can_b.2 in
+    let of_a : IsScenario (scenario_of t a) = rigged_scenario_keeps t.names (rigs_of a) is.lawful.catalogue can_a.0 can_a.1 can_a.2 in
+    let of_b : IsScenario (scenario_of t b) = rigged_scenario_keeps t.names (rigs_of b) is.lawful.catalogue can_b.0 can_b.1 can_b.2 in
     let same : tidied (scenario_of t a) ≡ tidied (scenario_of t b) = text_same (tidied (scenario_of t a)) (tidied (scenario_of t b)) (tidied_scenario (scenario_of t a) of_a) (tidied_scenario (scenario_of t b) of_b) e in
     plan_means t a of_a ∙ ap (λ (s : Entries). run t.asks (given_of s t.names 0 0 t.limit)) same ∙ sym (plan_means t b of_b)
 

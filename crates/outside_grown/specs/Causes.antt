@@ -4,7 +4,7 @@ use Rattle.std.specs.List.{filter, flat_map, list_any}
 use Rattle.scenario_values.specs.Scenario.{Entries}
 use Rattle.scenario_values.specs.Tidied.{tidied}
 use Rattle.action_eval.specs.declared.rig.Rig.{Rig}
-use Rattle.action_eval.specs.Rigging.{rigging}
+use Rattle.action_eval.specs.RiggedScenario.{rigged_scenario}
 use Rattle.target_trait.specs.declared.judgement.Verdict.{Verdict}
 use Rattle.target_trait.specs.declared.judgement.Verdict.TheVariants as verdict
 use Rattle.grown_plans.specs.GrownPlans.{Subject, rigs_of}
@@ -22,7 +22,7 @@ Verdicts = List Rig → Option Verdict
 
 -- as answers tell them of the scenarios, tidied
 abbrev pub rigged_in : Answered → List Rig → Entries
-rigged_in a rigs = tidied (rigging a.points rigs)
+rigged_in a rigs = tidied (rigged_scenario a.points rigs)
 
 abbrev pub verdicts_in : Answered → ℕ → Verdicts
 verdicts_in a depth rigs = verdict_by a.points (told_in a.book) depth (rigged_in a rigs)

@@ -1,7 +1,7 @@
 //! The list of a campaign with a depth.
 ghost use Rattle.std.specs.Prelude.{◌≡◌, ◌≤◌, ◌+◌, None, length, IfOk, IsErrOf, OnOk};
 ghost use Rattle.std.specs.List.{AllByRecursion};
-ghost use Rattle.action_eval.specs.Rigging.{CanBeRigged};
+ghost use Rattle.action_eval.specs.RiggedScenario.{CanBeRigged};
 ghost use Rattle.plan_gen.specs.PlanList.{most_plans};
 ghost use Rattle.grown_plans.specs.GrownPlans.{Subject, rigs_of};
 ghost use Rattle.answer_text.specs.Runs.{told_in};

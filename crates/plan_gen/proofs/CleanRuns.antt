@@ -18,7 +18,7 @@ use Rattle.action_eval.specs.Catalogue.{IsCatalogue, HasDistinct}
 use Rattle.action_eval.specs.declared.rig.Rig.{Rig}
 use Rattle.action_eval.specs.declared.rig.Kind.{Kind}
 use Rattle.action_eval.specs.declared.rig.Kind.TheVariants.{OnceReturn, OnwardReturn, OncePanic}
-use Rattle.action_eval.specs.Rigging.{offs, term_of, full, rigged, entry, entries_from, rig, rigging}
+use Rattle.action_eval.specs.RiggedScenario.{offs, term_of, full, rigged, entry, entries_from, rig, rigged_scenario}
 use Rattle.plan_gen.specs.LoopRuns.{times}
 use Rattle.plan_gen.proofs.Lists.{fold_append}
 use Rattle.plan_gen.proofs.Meeting.{IsCleanBefore}
@@ -72,8 +72,8 @@ one_entry r i (suc j) (n ∷ ns) h e =
     let past : (r.site.point == i) ≡ false = grind (arith, nat_tests, e) in
     ap (λ b. entry n (cond b (rigged 0 r) [] ++ []) ++ entries_from (i + 1) ns (r ∷ [])) past ∙ one_entry r (i + 1) j ns (omega (arith, h)) (omega (arith, e))
 
-one_rig : (names : List (List ℕ)) (r : Rig) → r.site.point < length names → rigging names (r ∷ []) ≡ (slice_index_or names r.site.point [], rigged 0 r) ∷ []
-unfolding rigging
+one_rig : (names : List (List ℕ)) (r : Rig) → r.site.point < length names → rigged_scenario names (r ∷ []) ≡ (slice_index_or names r.site.point [], rigged 0 r) ∷ []
+unfolding rigged_scenario
 one_rig names r h = one_entry r 0 r.site.point names h (omega arith)
 
 full_both : (a b : List Term) → IsFull a → IsFull b → IsFull (a ++ b)

@@ -6,7 +6,7 @@ use Rattle.action_eval.specs.declared.rig.Site.{Site}
 use Rattle.plan_gen.specs.PlanList.{Asked, pairs_of, site_plans, pair_plans, pair_part, storm_part, plans_over, plan_list, further_list, storm}
 use Rattle.plan_gen.specs.Census.{sites_at, sites_from, sites_of}
 use Rattle.plan_gen.specs.Counts.{total_of, pairs_count, plan_count}
-use Rattle.action_eval.specs.Rigging.{rigging}
+use Rattle.action_eval.specs.RiggedScenario.{rigged_scenario}
 use Rattle.plan_gen.proofs.Lists.{goes_on, range_length, map_length, flat_length, flat_map_of_map}
 
 pub pairs_small : (n : ℕ) → n ≤ 65536 → pairs_count n ≤ 65536 * n
@@ -55,7 +55,7 @@ pair_part_length names true sites = flat_length (pair_plans names) 2 (λ p. refl
 pair_part_length names false sites = refl
 
 storm_part_length : (names : List (List ℕ)) (seed rate storms : ℕ) (sites : List Site) → length (storm_part names seed rate storms sites) ≡ storms
-storm_part_length names seed rate storms sites = map_length (λ j. rigging names (storm seed rate sites j)) (range_with_len 0 storms) ∙ range_length 0 storms
+storm_part_length names seed rate storms sites = map_length (λ j. rigged_scenario names (storm seed rate sites j)) (range_with_len 0 storms) ∙ range_length 0 storms
 
 parts : (a b c d e n p s l t : ℕ) → a ≡ 1 → b ≡ 3 * n → c ≡ p → d ≡ s → e ≡ l → t ≡ a + b + c + d + e → t ≡ 1 + 3 * n + p + s + l
 parts a b c d e n p s l t h1 h2 h3 h4 h5 h6 = omega arith

@@ -9,7 +9,7 @@ use Rattle.target_trait.specs.Play.{Move, Ask, Done, move_in}
 use Rattle.target_trait.specs.Outcomes.{play, moved}
 use Rattle.action_eval.specs.declared.rig.Kind.{Kind}
 use Rattle.plan_gen.specs.LoopRuns.{times_of, times, IsMetAlike}
-use Rattle.action_eval.specs.Rigging.{rigging, rig}
+use Rattle.action_eval.specs.RiggedScenario.{rigged_scenario, rig}
 use Rattle.plan_gen.proofs.Lists.{fold_append}
 
 -- two runs of the same hits mean the same, as long as point p is asked fewer than k times
@@ -19,7 +19,7 @@ RunsAlike rigged clean p k = (hits : List ℕ) → times p (take clean.limit hit
 -- until the rigged hit, a run is the clean run
 abbrev pub IsCleanBefore : List (List ℕ) → ℕ → ℕ → Kind → Type 0
 IsCleanBefore names seed limit kind =
-    (p k : ℕ) → p < length names → 0 < k → RunsAlike (given_of (rigging names (rig (record { point = p; hit = k }) kind ∷ [])) names seed 0 limit) (given_of [] names seed 0 limit) p k
+    (p k : ℕ) → p < length names → 0 < k → RunsAlike (given_of (rigged_scenario names (rig (record { point = p; hit = k }) kind ∷ [])) names seed 0 limit) (given_of [] names seed 0 limit) p k
 
 at_least : (b : Bool) (n : ℕ) → n ≤ n + cond b 1 0
 at_least true n = omega arith
@@ -85,4 +85,4 @@ alike (suc n) asks s names seed limit p k law hits few =
 pub met_alike : (asks : List Reply → Move) (names : List (List ℕ)) (seed limit : ℕ) (kind : Kind) → IsCleanBefore names seed limit kind → IsMetAlike asks names seed limit kind
 unfolding times_of
 met_alike asks names seed limit kind law p k within some =
-    alike (suc limit) asks (rigging names (rig (record { point = p; hit = k }) kind ∷ [])) names seed limit p k (law p k within some) [] (subst (λ (l : List ℕ). times p l < k) (sym (take_none limit)) some)
+    alike (suc limit) asks (rigged_scenario names (rig (record { point = p; hit = k }) kind ∷ [])) names seed limit p k (law p k within some) [] (subst (λ (l : List ℕ). times p l < k) (sym (take_none limit)) some)

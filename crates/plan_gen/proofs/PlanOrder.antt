@@ -8,10 +8,10 @@ use Rattle.action_eval.specs.declared.rig.Site.{Site}
 use Rattle.action_eval.specs.declared.rig.Rig.{Rig}
 use Rattle.action_eval.specs.declared.rig.Kind.TheVariants.{OnceReturn, OnwardReturn, OncePanic}
 use Rattle.plan_gen.specs.Census.{sites_at, sites_from, sites_of}
-use Rattle.action_eval.specs.Rigging.{rig, rigging, most_rigs}
+use Rattle.action_eval.specs.RiggedScenario.{rig, rigged_scenario, most_rigs}
 use Rattle.plan_gen.specs.PlanList.{Asked, first_stream, with_words, is_taken, storm_kind, storm, pairs_of, site_plans, pair_plans, pair_part, storm_part, plans_over, plan_list}
 use Rattle.plan_gen.specs.RiggedAnswers.{IsBefore, AreInOrder, IsOfHits}
-use Rattle.plan_gen.proofs.Rigged.{rigging_nothing}
+use Rattle.plan_gen.proofs.Rigged.{rigged_scenario_nothing}
 
 -- ---- all members of a list
 
@@ -168,12 +168,12 @@ over_of_hits names asked sites o =
     let alone = flat_map (site_plans names) sites in
     let pairs = pair_part names asked.pairs sites in
     let storms = storm_part names asked.seed asked.rate asked.storms sites in
-    let first : AllByRecursion P empty = (([], (sym (rigging_nothing names [] refl), tt)), tt) in
+    let first : AllByRecursion P empty = (([], (sym (rigged_scenario_nothing names [] refl), tt)), tt) in
     all_both P (empty ++ alone ++ pairs ++ storms) []
     (all_both P (empty ++ alone ++ pairs) storms
     (all_both P (empty ++ alone) pairs (all_both P empty alone first (all_flat (λ (s : Site). 0 < s.hit) P (site_plans names) (one_site names) sites (counted sites o))) (pair_part_of_hits names asked.pairs sites o))
-    (all_map P (λ j. rigging names (storm asked.seed asked.rate sites j)) (range_with_len 0 asked.storms)
-    (all_any (λ j. P (rigging names (storm asked.seed asked.rate sites j))) (λ j. (storm asked.seed asked.rate sites j, (refl, storm_in_order asked.seed asked.rate sites j o))) (range_with_len 0 asked.storms))))
+    (all_map P (λ j. rigged_scenario names (storm asked.seed asked.rate sites j)) (range_with_len 0 asked.storms)
+    (all_any (λ j. P (rigged_scenario names (storm asked.seed asked.rate sites j))) (λ j. (storm asked.seed asked.rate sites j, (refl, storm_in_order asked.seed asked.rate sites j o))) (range_with_len 0 asked.storms))))
     tt
 
 pub list_of_hits : (names : List (List ℕ)) (counts : List ℕ) (asked : Asked) → AllByRecursion (IsOfHits names) (plan_list names counts (record asked { listed = [] }))

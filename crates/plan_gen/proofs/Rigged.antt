@@ -7,10 +7,10 @@ use Rattle.indexmap.specs.IndexMap.{insert_all}
 use Rattle.scenario_values.specs.declared.term.Term.{Term}
 use Rattle.scenario_values.specs.Scenario.{Entries, entries_of}
 use Rattle.action_eval.specs.declared.rig.Rig.{Rig}
-use Rattle.action_eval.specs.Rigging.{chain_from, entry, entries_from, rigging}
+use Rattle.action_eval.specs.RiggedScenario.{chain_from, entry, entries_from, rigged_scenario}
 use Rattle.action_eval.specs.Answers.{texts}
 use Rattle.plan_gen.proofs.Lists.{fold_append, next_of}
-pub use Rattle.action_eval.proofs.Rigged.{rigging_keeps, nothing_keeps}
+pub use Rattle.action_eval.proofs.Rigged.{rigged_scenario_keeps, nothing_keeps}
 
 -- entries put in one after another
 pub put_both : (es a b : Entries) → insert_all bytes_eq es (a ++ b) ≡ insert_all bytes_eq (insert_all bytes_eq es a) b
@@ -27,8 +27,8 @@ entry_next p q old new name chain names rest rs whole split is more added h =
 pub entries_done : (p : ℕ) (old : Entries) (names : List (List ℕ)) (rs : List Rig) (whole : Entries) → names ≡ [] → insert_all bytes_eq old (entries_from p names rs) ≡ whole → old ≡ whole
 entries_done p old names rs whole none h = ap (λ l. insert_all bytes_eq old (entries_from p l rs)) (sym none) ∙ h
 
-pub entries_begin : (names : List (List ℕ)) (rs : List Rig) (old : Entries) → old ≡ [] → insert_all bytes_eq old (entries_from 0 names rs) ≡ entries_of (rigging names rs)
-unfolding rigging
+pub entries_begin : (names : List (List ℕ)) (rs : List Rig) (old : Entries) → old ≡ [] → insert_all bytes_eq old (entries_from 0 names rs) ≡ entries_of (rigged_scenario names rs)
+unfolding rigged_scenario
 entries_begin names rs old none = ap (λ (s : Entries). insert_all bytes_eq s (entries_from 0 names rs)) none
 
 no_entries : (p : ℕ) (names : List (List ℕ)) → entries_from p names [] ≡ []
@@ -36,9 +36,9 @@ no_entries p [] = refl
 no_entries p (name ∷ names) = no_entries (p + 1) names
 
 -- without rigged hits there is no entry
-pub rigging_nothing : (names : List (List ℕ)) (rs : List Rig) → rs ≡ [] → rigging names rs ≡ []
-unfolding rigging
-rigging_nothing names rs none = ap (rigging names) none ∙ no_entries 0 names
+pub rigged_scenario_nothing : (names : List (List ℕ)) (rs : List Rig) → rs ≡ [] → rigged_scenario names rs ≡ []
+unfolding rigged_scenario
+rigged_scenario_nothing names rs none = ap (rigged_scenario names) none ∙ no_entries 0 names
 
 isnt_not : (b : Bool) → false ≡ not b → b ≡ true
 isnt_not true e = refl

@@ -14,7 +14,7 @@ use Rattle.action_eval.specs.declared.rig.Site.{Site}
 use Rattle.action_eval.specs.declared.rig.Rig.{Rig}
 use Rattle.action_eval.specs.declared.rig.Kind.{Kind}
 use Rattle.action_eval.specs.declared.rig.Kind.TheVariants.{OnceReturn, OnwardReturn, OncePanic}
-use Rattle.action_eval.specs.Rigging.{full, term_of, rigged, chain_from, rig}
+use Rattle.action_eval.specs.RiggedScenario.{full, term_of, rigged, chain_from, rig}
 use Rattle.plan_gen.specs.RiggedAnswers.{IsBefore, AreInOrder, is_onward, acts_at}
 
 -- what is done at hit k of point p

@@ -21,7 +21,7 @@ use Rattle.action_eval.specs.declared.rig.Rig.{Rig}
 use Rattle.action_eval.specs.declared.rig.Kind.{Kind}
 use Rattle.action_eval.specs.declared.rig.Kind.TheVariants.{OnceReturn, OnwardReturn, OncePanic}
 use Rattle.plan_gen.specs.LoopRuns.{times}
-use Rattle.action_eval.specs.Rigging.{term_of, chain_from, entry, entries_from, rigging}
+use Rattle.action_eval.specs.RiggedScenario.{term_of, chain_from, entry, entries_from, rigged_scenario}
 use Rattle.plan_gen.specs.RiggedAnswers.{AreInOrder, acts_at, reply_by, AnswersAsRigged}
 use Rattle.plan_gen.proofs.CleanRuns.{differ, other, apart}
 use Rattle.plan_gen.proofs.RiggedChains.{rigged_task, tasks, Does, ComeAfter, chain_does}
@@ -51,8 +51,8 @@ chain_at i (suc j) (n ∷ ns) rigs d l h =
     entry_other name n (chain_from i 0 rigs) (entries_from (i + 1) ns rigs) (other n ns j d.0 l.0)
     ∙ chain_at (i + 1) j ns rigs d.1 l.1 (omega (arith, h)) ∙ ap (λ k. chain_from k 0 rigs) (let e : i + 1 + j ≡ i + suc j = omega arith in e)
 
-chain_is : (names : List (List ℕ)) (rigs : List Rig) (p : ℕ) → IsCatalogue names → p < length names → chain_of (rigging names rigs) (slice_index_or names p []) ≡ chain_from p 0 rigs
-unfolding rigging
+chain_is : (names : List (List ℕ)) (rigs : List Rig) (p : ℕ) → IsCatalogue names → p < length names → chain_of (rigged_scenario names rigs) (slice_index_or names p []) ≡ chain_from p 0 rigs
+unfolding rigged_scenario
 chain_is names rigs p c h = chain_at 0 p names rigs c.distinct c.lawful h ∙ ap (λ k. chain_from k 0 rigs) (let e : 0 + p ≡ p = omega arith in e)
 
 -- ---- one hit
@@ -133,12 +133,12 @@ all_come_after p (r ∷ rs) o = ((λ e. o.0), all_come_after p rs o.2)
 
 pub answers_as_rigged : (names : List (List ℕ)) (rigs : List Rig) → IsCatalogue names → AreInOrder (map (λ (r : Rig). r.site) rigs) → AnswersAsRigged names rigs
 answers_as_rigged names rigs c o seed stream limit hits p within room =
-    let g : Given = given_of (rigging names rigs) names seed stream limit in
-    let r : Run = run_of (rigging names rigs) names seed stream limit hits in
+    let g : Given = given_of (rigged_scenario names rigs) names seed stream limit in
+    let r : Run = run_of (rigged_scenario names rigs) names seed stream limit hits in
     let w = word seed stream in
     let name = name_of g p in
     let h = history_of r in
-    let whole : left g [] name ≡ chain_from p 0 rigs = whole_chain 0 (chain_of (rigging names rigs) name) ∙ chain_is names rigs p c within in
+    let whole : left g [] name ≡ chain_from p 0 rigs = whole_chain 0 (chain_of (rigged_scenario names rigs) name) ∙ chain_is names rigs p c within in
     let first : GoesOnAsRigged g rigs p [] 0 = λ xs. ap (λ l. done w l xs) whole ∙ chain_does w p 0 rigs o (all_come_after p rigs o) xs in
     let all : take limit hits ≡ hits = take_all limit hits (omega (arith, room)) in
     let goes : GoesOnAsRigged g rigs p h (0 + times p (take limit hits)) = all_more g c rigs p within [] (take limit hits) 0 first in

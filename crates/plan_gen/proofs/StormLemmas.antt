@@ -8,7 +8,7 @@ use Rattle.rand_chacha.specs.ChaCha.{ChaCha, word_at}
 use Rattle.action_eval.specs.Words.{at_word, word}
 use Rattle.action_eval.specs.declared.rig.Site.{Site}
 use Rattle.action_eval.specs.declared.rig.Rig.{Rig}
-use Rattle.action_eval.specs.Rigging.{rig, most_rigs}
+use Rattle.action_eval.specs.RiggedScenario.{rig, most_rigs}
 use Rattle.plan_gen.specs.PlanList.{with_words, is_taken, storm_kind, storm_by, storm}
 use Rattle.plan_gen.proofs.Lists.{map_length}
 

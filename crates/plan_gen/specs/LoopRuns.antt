@@ -6,7 +6,7 @@ use Rattle.target_trait.specs.Play.{Move}
 use Rattle.target_trait.specs.Outcomes.{outcome}
 use Rattle.action_eval.specs.declared.rig.Kind.{Kind}
 use Rattle.action_eval.specs.declared.rig.Kind.TheVariants.{OnceReturn, OnwardReturn}
-use Rattle.action_eval.specs.Rigging.{rig, rigging}
+use Rattle.action_eval.specs.RiggedScenario.{rig, rigged_scenario}
 
 -- how often a point is among those asked
 abbrev pub times : ℕ → List ℕ → ℕ
@@ -23,4 +23,5 @@ loop_kind onward = if onward then OnwardReturn None else OnceReturn None
 abbrev pub IsMetAlike : (List Reply → Move) → List (List ℕ) → ℕ → ℕ → Kind → Type 0
 IsMetAlike asks names seed limit kind =
     (p k : ℕ) → p < length names → 0 < k →
-    nat_le k (times_of asks names seed limit (rigging names (rig (record { point = p; hit = k }) kind ∷ [])) p) ≡ nat_le k (times_of asks names seed limit [] p)
+    nat_le k (times_of asks names seed limit (rigged_scenario names (rig (record { point = p; hit = k }) kind ∷ [])) p)
+    ≡ nat_le k (times_of asks names seed limit [] p)

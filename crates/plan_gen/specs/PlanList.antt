@@ -9,7 +9,7 @@ use Rattle.action_eval.specs.declared.rig.Rig.{Rig}
 use Rattle.action_eval.specs.declared.rig.Kind.{Kind}
 use Rattle.action_eval.specs.declared.rig.Kind.TheVariants.{OnceReturn, OnwardReturn, OncePanic}
 use Rattle.plan_gen.specs.Census.{sites_of}
-use Rattle.action_eval.specs.Rigging.{rig, rigging, most_rigs}
+use Rattle.action_eval.specs.RiggedScenario.{rig, rigged_scenario, most_rigs}
 
 -- a list has at most so many plans
 abbrev pub most_plans : ℕ
@@ -24,14 +24,14 @@ abbrev pub alone : List Kind
 alone = OnceReturn None ∷ OnwardReturn None ∷ OncePanic ∷ []
 
 abbrev pub site_plans : List (List ℕ) → Site → List Entries
-site_plans names s = map (λ kind. rigging names (rig s kind ∷ [])) alone
+site_plans names s = map (λ kind. rigged_scenario names (rig s kind ∷ [])) alone
 
 -- two sites, the first failing once, the second in each of these ways
 abbrev pub second : List Kind
 second = OnceReturn None ∷ OncePanic ∷ []
 
 abbrev pub pair_plans : List (List ℕ) → Site × Site → List Entries
-pair_plans names p = map (λ kind. rigging names (rig p.0 (OnceReturn None) ∷ rig p.1 kind ∷ [])) second
+pair_plans names p = map (λ kind. rigged_scenario names (rig p.0 (OnceReturn None) ∷ rig p.1 kind ∷ [])) second
 
 -- each two, in order of the first and then of the second
 abbrev pub pairs_of : List Site → List (Site × Site)
@@ -70,7 +70,7 @@ abbrev pub pair_part : List (List ℕ) → Bool → List Site → List Entries
 pair_part names wanted sites = if wanted then flat_map (pair_plans names) (pairs_of sites) else []
 
 abbrev pub storm_part : List (List ℕ) → ℕ → ℕ → ℕ → List Site → List Entries
-storm_part names seed rate storms sites = map (λ j. rigging names (storm seed rate sites j)) (range_with_len 0 storms)
+storm_part names seed rate storms sites = map (λ j. rigged_scenario names (storm seed rate sites j)) (range_with_len 0 storms)
 
 -- the list of plans, by the sites
 abbrev pub plans_over : List (List ℕ) → Asked → List Site → List Entries

@@ -1,4 +1,4 @@
--- What a rigging means: how each hit is answered under the scenario of rigged hits.
+-- What rigged hits mean: how each hit is answered under the scenario of rigged hits.
 use Rattle.std.specs.Prelude.{◌≡◌, ℕ, ◌+◌, ◌<◌, ◌==◌, ◌&&◌, ◌⊎◌, nat_le, if◌then◌else◌, Bool, true, false, List, [], ◌∷◌, find, map, length}
 use Rattle.std.specs.Option.{option_map_or}
 use Rattle.std.specs.List.{AllByRecursion}
@@ -9,7 +9,7 @@ use Rattle.action_eval.specs.declared.rig.Rig.{Rig}
 use Rattle.action_eval.specs.declared.rig.Kind.{Kind}
 use Rattle.action_eval.specs.declared.rig.Kind.TheVariants.{OnceReturn, OnwardReturn, OncePanic}
 use Rattle.plan_gen.specs.LoopRuns.{times}
-use Rattle.action_eval.specs.Rigging.{rigging}
+use Rattle.action_eval.specs.RiggedScenario.{rigged_scenario}
 
 -- a site stands before another: at an earlier point, or at the same one as an earlier hit
 abbrev pub IsBefore : Site → Site → Type 0
@@ -44,8 +44,8 @@ rigged_reply rigs p k = option_map_or (λ r. reply_by r.kind) (find (acts_at p k
 abbrev pub AnswersAsRigged : List (List ℕ) → List Rig → Type 0
 AnswersAsRigged names rigs =
     (seed stream limit : ℕ) (hits : List ℕ) (p : ℕ) → p < length names → length hits < limit
-    → reply_to (run_of (rigging names rigs) names seed stream limit hits) p ≡ rigged_reply rigs p (times p hits + 1)
+    → reply_to (run_of (rigged_scenario names rigs) names seed stream limit hits) p ≡ rigged_reply rigs p (times p hits + 1)
 
 -- a plan is the scenario of rigged hits, in order and none twice
 abbrev pub IsOfHits : List (List ℕ) → Entries → Type 0
-IsOfHits names plan = (rigs : List Rig) × ((plan ≡ rigging names rigs) × AreInOrder (map (λ r. r.site) rigs))
+IsOfHits names plan = (rigs : List Rig) × ((plan ≡ rigged_scenario names rigs) × AreInOrder (map (λ r. r.site) rigs))

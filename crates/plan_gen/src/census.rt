@@ -3,7 +3,7 @@ ghost use Rattle.std.specs.Prelude.{◌≡◌, ◌≤◌, ◌<◌, ◌==◌, ◌
 ghost use Rattle.action_eval.specs.Answers.{texts};
 ghost use Rattle.plan_gen.specs.Census.{counts_of, census_of};
 
-use crate::rigging::empty_scenario;
+use crate::rigged_scenario::empty_scenario;
 use std::alloc::{AllocError, Global};
 use target_trait::{Case, Target, run_case};
 

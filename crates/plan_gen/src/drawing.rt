@@ -3,15 +3,15 @@ ghost use Rattle.std.specs.Prelude.{◌≡◌, ◌≤◌, ◌∷◌, [], true, N
 ghost use Rattle.action_eval.specs.Answers.{texts};
 ghost use Rattle.action_eval.specs.Catalogue.{IsCatalogue};
 ghost use Rattle.action_eval.specs.declared.rig.Kind.TheVariants.{OnceReturn};
-ghost use Rattle.action_eval.specs.Rigging.{rig, rigged_as, HasLawfulText, HaveLawfulTexts};
+ghost use Rattle.action_eval.specs.RiggedScenario.{rig, rigged_as, HasLawfulText, HaveLawfulTexts};
 ghost use Rattle.plan_gen.specs.PlanList.{most_plans};
 ghost use Rattle.plan_gen.specs.inside.Drawn.{drawn, kind_of};
 
 use crate::names::have_same_names;
 use crate::packed::PackedSite;
-use crate::rigging::{empty_scenario, scenario_of};
+use crate::rigged_scenario::{empty_scenario, scenario_of};
 use crate::storms::storm;
-use action_eval::{Argument, Kind, Rig, Rigging};
+use action_eval::{Argument, FaultTable, Kind, Rig};
 use scenario_values::Scenario;
 use std::alloc::{AllocError, Global};
 use std::marker::Model;
@@ -118,23 +118,23 @@ impl<'a> Drawing<'a> {
     pub fn load<'c>(
         &self,
         source: Source,
-        rigging: &mut Rigging<'c>,
+        table: &mut FaultTable<'c>,
         rigs: &mut Vec<Rig>,
         catalogue: &'c [&'c str],
     ) -> Result<(), AllocError>
         requires { self.now.names ≡ texts catalogue.now }
-        ensures { OnOk result (rigging.new ≡ rigged_as (texts catalogue.now) (drawn self.now source)) }
+        ensures { OnOk result (table.new ≡ rigged_as (texts catalogue.now) (drawn self.now source)) }
     {
         match source {
-            Source::Empty => rigging.load(catalogue, &[]),
-            Source::One(site, plain) => rigging.load(catalogue, &[site.rig(plain.kind())]),
+            Source::Empty => table.load(catalogue, &[]),
+            Source::One(site, plain) => table.load(catalogue, &[site.rig(plain.kind())]),
             Source::Two(first, second, plain) => {
-                rigging.load(catalogue, &two_rigs(first, second, plain))
+                table.load(catalogue, &two_rigs(first, second, plain))
             }
             Source::Storm(number) => {
                 let sites = self.sites.as_slice();
                 storm(rigs, self.seed, self.rate, sites, number)?;
-                rigging.load(catalogue, rigs.as_slice())
+                table.load(catalogue, rigs.as_slice())
             }
         }
     }

@@ -13,8 +13,8 @@ mod names;
 mod packed;
 mod parts;
 mod plan;
+mod rigged_scenario;
 mod rigger;
-mod rigging;
 mod sites;
 mod storms;
 
@@ -25,5 +25,5 @@ pub use list::{PlanFault, PlanList, plans};
 pub use looped::by_loop;
 pub use names::have_same_names;
 pub use plan::{Plan, PlanSettings};
+pub use rigged_scenario::scenario_of;
 pub use rigger::Rigger;
-pub use rigging::scenario_of;

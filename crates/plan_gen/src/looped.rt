@@ -2,10 +2,10 @@
 ghost use Rattle.std.specs.Prelude.{◌≡◌, ◌≤◌, ◌<◌, ◌∷◌, [], nat_le, length, IfOk};
 ghost use Rattle.plan_gen.specs.LoopRuns.{IsMetAlike, loop_kind, times_of};
 ghost use Rattle.plan_gen.specs.Census.{census_of};
-ghost use Rattle.action_eval.specs.Rigging.{rig, rigging, HasLawfulText};
+ghost use Rattle.action_eval.specs.RiggedScenario.{rig, rigged_scenario, HasLawfulText};
 
 use crate::census::{Census, count_of};
-use crate::rigging::scenario_of;
+use crate::rigged_scenario::scenario_of;
 use action_eval::{Argument, Kind, Rig, Site};
 use std::alloc::{AllocError, Global};
 use target_trait::{Case, Target, run_case};
@@ -22,7 +22,7 @@ fn meets<T: Target>(
 ) -> Result<bool, AllocError>
     requires { HasLawfulText rig.kind }
     ensures met { IfOk result (λ met. met ≡ nat_le rig.site.hit
-        (times_of (T.asks target.old workload.now) T.names seed max_hits (rigging T.names (rig ∷ [])) rig.site.point)) }
+        (times_of (T.asks target.old workload.now) T.names seed max_hits (rigged_scenario T.names (rig ∷ [])) rig.site.point)) }
     ensures setup { target.new ≡ target.old }
 {
     let site = rig.site;

@@ -1,6 +1,6 @@
 //! Sites, packed.
 ghost use Rattle.std.specs.Prelude.{◌≡◌, ◌<◌, ◌^◌};
-ghost use Rattle.action_eval.specs.Rigging.{rig};
+ghost use Rattle.action_eval.specs.RiggedScenario.{rig};
 
 use action_eval::{Kind, Rig, Site};
 use std::marker::Model;

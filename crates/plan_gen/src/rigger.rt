@@ -1,11 +1,11 @@
 //! Plans of a list, rigged over the points of a target.
 ghost use Rattle.std.specs.Prelude.{◌≡◌, true, [], slice_index_or, IfOk};
 ghost use Rattle.action_eval.specs.Answers.{texts};
-ghost use Rattle.action_eval.specs.Rigging.{rigged_as};
+ghost use Rattle.action_eval.specs.RiggedScenario.{rigged_as};
 ghost use Rattle.plan_gen.specs.inside.Drawn.{plans_of};
 
 use crate::drawing::{Drawing, Source};
-use action_eval::{Rig, Rigging};
+use action_eval::{FaultTable, Rig};
 use scenario_values::Scenario;
 use std::alloc::AllocError;
 use std::marker::Model;
@@ -60,19 +60,19 @@ impl<'a, 'c> Rigger<'a, 'c> {
     /// Rigs the hits of the plan of this number, and tells whether it has. It hasn't where the plan is a listed scenario, or the list is of
     /// the points of another catalogue: `Plan::scenario` serves each plan.
     ///
-    /// A storm's hits are drawn in place of what stood in the list, which serves plan after plan as the rigging does. An error means that
+    /// A storm's hits are drawn in place of what stood in the list, which serves plan after plan as the fault table does. An error means that
     /// memory was refused.
     pub fn load(
         &self,
         number: usize,
-        rigging: &mut Rigging<'c>,
+        table: &mut FaultTable<'c>,
         rigs: &mut Vec<Rig>,
     ) -> Result<bool, AllocError>
-        ensures { IfOk result (λ is_loaded. is_loaded ≡ true → rigging.new ≡ rigged_as self.now.names (slice_index_or self.now.plans number [])) }
+        ensures { IfOk result (λ is_loaded. is_loaded ≡ true → table.new ≡ rigged_as self.now.names (slice_index_or self.now.plans number [])) }
     {
         match self.sources.get(number) {
             Some(source) if self.is_same => {
-                self.drawing.load(*source, rigging, rigs, self.catalogue)?;
+                self.drawing.load(*source, table, rigs, self.catalogue)?;
                 Ok(true)
             }
             _ => Ok(false),

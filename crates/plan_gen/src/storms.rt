@@ -3,7 +3,7 @@ ghost use Rattle.std.specs.Prelude.{◌≡◌, ◌++◌, ◌∷◌, [], ◌%◌,
 ghost use Rattle.std.specs.List.{AllByRecursion};
 ghost use Rattle.action_eval.specs.Words.{seed_bytes, at_word};
 ghost use Rattle.plan_gen.specs.PlanList.{most_plans, storm_kind, storm};
-ghost use Rattle.action_eval.specs.Rigging.{rig, most_rigs, HasLawfulText, HaveLawfulTexts};
+ghost use Rattle.action_eval.specs.RiggedScenario.{rig, most_rigs, HasLawfulText, HaveLawfulTexts};
 
 use crate::packed::PackedSite;
 use action_eval::{Argument, Kind, Rig};

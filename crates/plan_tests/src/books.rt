@@ -1,10 +1,10 @@
 //! Tests of numbered results and of the book.
 
-use crate::courses::{book, course, has, row, settings, tells};
+use crate::inputs::{book, has, input, range, settings, tells};
 use crate::one_step::OneStep;
 use crate::scenarios::{plans, scenarios};
 use campaign_plans::CampaignPlans;
-use result_book::{Book, Course, Numbered, PutFault, Row, put_all};
+use result_book::{Book, Numbered, PlanRange, PutFault, RunInput, put_all};
 use std::alloc::Global;
 use std::process::Abort;
 use std::test::Fail;
@@ -15,15 +15,15 @@ const REFUSED: u32 = 4;
 
 const FAILS: Verdict = Verdict::Fail(REFUSED);
 
-/// The result of the plan of this number, which the course has to have.
+/// The result of the plan of this number, which the input has to have.
 fn result<'a>(
     rt: &impl Abort,
     alloc: Global,
-    course: &'a Course<'a, OneStep>,
+    input: &'a RunInput<'a, OneStep>,
     number: u32,
 ) -> Result<Numbered<'a, OneStep>, Fail> {
-    assert!(rt; (number as usize) < course.plans.len());
-    Ok(Numbered::run(alloc, &mut OneStep, course, number)?)
+    assert!(rt; (number as usize) < input.plans.len());
+    Ok(Numbered::run(alloc, &mut OneStep, input, number)?)
 }
 
 /// What came of a result that was put in a book, where it was of this number; a result that isn't put comes back.
@@ -41,11 +41,11 @@ fn put(
     rt: &impl Abort,
     alloc: Global,
     book: &mut Book,
-    course: &Course<'_, OneStep>,
+    input: &RunInput<'_, OneStep>,
     number: u32,
     want: &str,
 ) -> Result<(), Fail> {
-    let result = result(rt, alloc, course, number)?;
+    let result = result(rt, alloc, input, number)?;
     assert_eq!(rt; outcome(number, book.put(result)), want);
     Ok(())
 }
@@ -54,7 +54,7 @@ fn put(
 fn is_put_once(
     rt: &impl Abort,
     alloc: Global,
-    longer: &Course<'_, OneStep>,
+    longer: &RunInput<'_, OneStep>,
     mut book: Book,
 ) -> Result<(), Fail> {
     assert_eq!(rt; longer.plans.len(), 19);
@@ -72,47 +72,47 @@ fn book_of_ten(rt: &impl Abort, alloc: Global) -> Result<Book, Fail> {
     let nine = plans(alloc, &nine)?;
     let shorter = CampaignPlans::by_census(&nine);
     let settings = settings(alloc);
-    book(rt, alloc, &course(&settings, &shorter))
+    book(rt, alloc, &input(&settings, &shorter))
 }
 
 /// All results are put from the last one on.
 fn fails_first_at_10(
     rt: &impl Abort,
     alloc: Global,
-    course: &Course<'_, OneStep>,
+    input: &RunInput<'_, OneStep>,
 ) -> Result<(), Fail> {
-    let mut book = book(rt, alloc, course)?;
+    let mut book = book(rt, alloc, input)?;
     for number in (0..19).rev() {
-        put(rt, alloc, &mut book, course, number, "put")?;
+        put(rt, alloc, &mut book, input, number, "put")?;
     }
     assert!(rt; book.whole());
     tells(rt, alloc, &book, &[(10, REFUSED)])
 }
 
-/// The rows of these plans, each from its first number on, before its end, as one worker hands them back.
-fn rows<'a>(
+/// The ranges of these plans, each from its first number on, before its end, as one worker hands them back.
+fn ranges<'a>(
     rt: &impl Abort,
     alloc: Global,
-    course: &'a Course<'a, OneStep>,
+    input: &'a RunInput<'a, OneStep>,
     stretches: &[(u32, u32)],
-) -> Result<Vec<(u32, Row<'a, OneStep>)>, Fail> {
+) -> Result<Vec<(u32, PlanRange<'a, OneStep>)>, Fail> {
     let mut list = Vec::new(alloc);
     for (first, end) in stretches {
-        list.push((*first, row(rt, alloc, &mut OneStep, course, *first, *end)?))?;
+        list.push((*first, range(rt, alloc, &mut OneStep, input, *first, *end)?))?;
     }
     Ok(list)
 }
 
-/// Puts the results of 0 to 2, from two workers. One of them has an empty row too, and one that overlaps what is put.
+/// Puts the results of 0 to 2, from two workers. One of them has an empty range too, and one that overlaps what is put.
 fn put_others<'a>(
     rt: &impl Abort,
     alloc: Global,
-    course: &'a Course<'a, OneStep>,
+    input: &'a RunInput<'a, OneStep>,
     book: &mut Book,
 ) -> Result<(), Fail> {
-    let mut lists: Vec<Vec<(u32, Row<'a, OneStep>)>> = Vec::new(alloc);
-    lists.push(rows(rt, alloc, course, &[(1, 3), (2, 4), (4, 4)])?)?;
-    lists.push(rows(rt, alloc, course, &[(0, 1)])?)?;
+    let mut lists: Vec<Vec<(u32, PlanRange<'a, OneStep>)>> = Vec::new(alloc);
+    lists.push(ranges(rt, alloc, input, &[(1, 3), (2, 4), (4, 4)])?)?;
+    lists.push(ranges(rt, alloc, input, &[(0, 1)])?)?;
     put_all(book, lists);
     Ok(())
 }
@@ -134,12 +134,12 @@ fn is_full_of(
 fn are_put_by_number(
     rt: &impl Abort,
     alloc: Global,
-    course: &Course<'_, OneStep>,
+    input: &RunInput<'_, OneStep>,
 ) -> Result<(), Fail> {
-    let mut book = book(rt, alloc, course)?;
-    put(rt, alloc, &mut book, course, 3, "put")?;
+    let mut book = book(rt, alloc, input)?;
+    put(rt, alloc, &mut book, input, 3, "put")?;
     tells(rt, alloc, &book, &[(3, REFUSED)])?;
-    put_others(rt, alloc, course, &mut book)?;
+    put_others(rt, alloc, input, &mut book)?;
     tells(rt, alloc, &book, &[(1, REFUSED)])?;
     is_full_of(
         rt,
@@ -149,15 +149,15 @@ fn are_put_by_number(
     )
 }
 
-/// What is taken out of the row of plans 1 and 2 comes from its end.
+/// What is taken out of the range of plans 1 and 2 comes from its end.
 fn is_taken_from_its_end(
     rt: &impl Abort,
     alloc: Global,
-    course: &Course<'_, OneStep>,
+    input: &RunInput<'_, OneStep>,
 ) -> Result<(), Fail> {
-    let mut row = row(rt, alloc, &mut OneStep, course, 1, 3)?;
+    let mut range = range(rt, alloc, &mut OneStep, input, 1, 3)?;
     for want in [Some((2, Verdict::Pass)), Some((1, FAILS)), None] {
-        let last = row.pop().map(|pair| (pair.number(), pair.verdict()));
+        let last = range.pop().map(|pair| (pair.number(), pair.verdict()));
         assert_eq!(rt; last, want);
     }
     Ok(())
@@ -167,20 +167,20 @@ fn is_taken_from_its_end(
 fn are_put_in_the_first_places(
     rt: &impl Abort,
     alloc: Global,
-    course: &Course<'_, OneStep>,
+    input: &RunInput<'_, OneStep>,
 ) -> Result<(), Fail> {
-    let mut book = book(rt, alloc, course)?;
+    let mut book = book(rt, alloc, input)?;
     book.put_known(vec![in alloc; Verdict::Pass, FAILS]?);
     assert!(rt; !book.whole());
     has(rt, alloc, &book, &[Verdict::Pass, FAILS])?;
-    put(rt, alloc, &mut book, course, 1, "twice")?;
+    put(rt, alloc, &mut book, input, 1, "twice")?;
     book.put_known(vec![in alloc; FAILS, Verdict::Unresolved, FAILS, Verdict::Pass]?);
     assert!(rt; book.whole());
     has(rt, alloc, &book, &[Verdict::Pass, FAILS, FAILS])?;
     tells(rt, alloc, &book, &[(1, REFUSED)])
 }
 
-/// What is to be seen of a course.
+/// What is to be seen of an input.
 #[derive(Clone, Copy)]
 enum Check {
     IsPutOnce,
@@ -190,7 +190,7 @@ enum Check {
     ArePutInTheFirstPlaces,
 }
 
-/// Looks at the course of the plan without faults and of so many listed ones, of which those of the numbers given refuse the step.
+/// Looks at the input of the plan without faults and of so many listed ones, of which those of the numbers given refuse the step.
 fn look(
     rt: &impl Abort,
     alloc: Global,
@@ -202,18 +202,18 @@ fn look(
     let listed = plans(alloc, &scenarios)?;
     let plans = CampaignPlans::by_census(&listed);
     let settings = settings(alloc);
-    let course = course(&settings, &plans);
+    let input = input(&settings, &plans);
     match check {
-        Check::IsPutOnce => is_put_once(rt, alloc, &course, book_of_ten(rt, alloc)?),
-        Check::FailsFirstAt10 => fails_first_at_10(rt, alloc, &course),
-        Check::ArePutByNumber => are_put_by_number(rt, alloc, &course),
-        Check::IsTakenFromItsEnd => is_taken_from_its_end(rt, alloc, &course),
-        Check::ArePutInTheFirstPlaces => are_put_in_the_first_places(rt, alloc, &course),
+        Check::IsPutOnce => is_put_once(rt, alloc, &input, book_of_ten(rt, alloc)?),
+        Check::FailsFirstAt10 => fails_first_at_10(rt, alloc, &input),
+        Check::ArePutByNumber => are_put_by_number(rt, alloc, &input),
+        Check::IsTakenFromItsEnd => is_taken_from_its_end(rt, alloc, &input),
+        Check::ArePutInTheFirstPlaces => are_put_in_the_first_places(rt, alloc, &input),
     }
 }
 
 #[test]
-fn a_book_takes_each_result_of_its_course_once(rt: HostRuntime) -> Result<(), Fail> {
+fn a_book_takes_each_result_of_its_input_once(rt: HostRuntime) -> Result<(), Fail> {
     look(&rt, rt.alloc(), 18, &[], Check::IsPutOnce)
 }
 
@@ -228,9 +228,9 @@ fn results_of_workers_are_put_by_their_numbers(rt: HostRuntime) -> Result<(), Fa
     look(&rt, rt.alloc(), 3, &[0, 2], Check::ArePutByNumber)
 }
 
-/// A row has what its plans come to.
+/// A range has what its plans come to.
 #[test]
-fn a_row_gives_its_last_result_first(rt: HostRuntime) -> Result<(), Fail> {
+fn a_range_gives_its_last_result_first(rt: HostRuntime) -> Result<(), Fail> {
     look(&rt, rt.alloc(), 3, &[0, 2], Check::IsTakenFromItsEnd)
 }
 

@@ -1,19 +1,19 @@
-//! Books of a course of the small workload whose plans grew, with a storm behind them. A failed sync that is taken for one that went well
+//! Books of an input of the small workload whose plans grew, with a storm behind them. A failed sync that is taken for one that went well
 //! tears the file.
 ghost use Rattle.std.specs.Prelude.{◌≡◌, ◌+◌, ◌≤◌, length, IfOk};
 ghost use Rattle.std.specs.List.{AllByRecursion};
-ghost use Rattle.action_eval.specs.Rigging.{CanBeRigged};
+ghost use Rattle.action_eval.specs.RiggedScenario.{CanBeRigged};
 ghost use Rattle.plan_gen.specs.PlanList.{most_plans};
 ghost use Rattle.grown_plans.specs.GrownPlans.{rigs_of};
 
-use crate::courses::{book, has, row, settings};
+use crate::inputs::{book, has, range, settings};
 use crate::one_step::OneStep;
-use action_eval::{Argument, Kind, Rigging, Site};
+use action_eval::{Argument, FaultTable, Kind, Site};
 use campaign_plans::{CampaignPlans, RigLists};
 use file_replace::{Replace, TORN, Variant};
 use grown_plans::{Child, GrownPlans};
 use plan_gen::{Census, PlanList, PlanSettings, further_plans};
-use result_book::{Book, Course, put_all};
+use result_book::{Book, RunInput, put_all};
 use std::alloc::{AllocError, Global};
 use std::process::Abort;
 use std::test::Fail;
@@ -56,46 +56,46 @@ fn storm(alloc: Global) -> Result<PlanList<'static>, Fail>
     }
 }
 
-/// The verdicts of a course's plans, each run alone under the scenario that is made of it.
-fn alone(alloc: Global, course: &Course<'_, Replace>) -> Result<Vec<Verdict>, AllocError> {
+/// The verdicts of an input's plans, each run alone under the scenario that is made of it.
+fn alone(alloc: Global, input: &RunInput<'_, Replace>) -> Result<Vec<Verdict>, AllocError> {
     let mut verdicts = Vec::new(alloc);
-    for number in 0..course.plans.len() {
-        let scenario = course.plans.plan(number).scenario(alloc)?;
-        let case = course.settings.case(&scenario, number as u64);
+    for number in 0..input.plans.len() {
+        let scenario = input.plans.plan(number).scenario(alloc)?;
+        let case = input.settings.case(&scenario, number as u64);
         let mut target = Replace::new(alloc, Variant::IgnoreSync);
-        verdicts.push(run_verdict(alloc, &mut target, course.workload, &case)?)?;
+        verdicts.push(run_verdict(alloc, &mut target, input.workload, &case)?)?;
     }
     Ok(verdicts)
 }
 
-/// The book in which the verdicts of the first plans are known, and the row of all others is put.
+/// The book in which the verdicts of the first plans are known, and the range of all others is put.
 fn book_with(
     rt: &impl Abort,
     alloc: Global,
-    course: &Course<'_, Replace>,
+    input: &RunInput<'_, Replace>,
     known: &[Verdict],
 ) -> Result<Book, Fail> {
-    let mut book = book(rt, alloc, course)?;
+    let mut book = book(rt, alloc, input)?;
     book.put_known(Vec::from_slice(alloc, known)?);
-    assert!(rt; known.len() <= 5 && course.plans.len() == 5);
+    assert!(rt; known.len() <= 5 && input.plans.len() == 5);
     let mut target = Replace::new(alloc, Variant::IgnoreSync);
-    let row = row(rt, alloc, &mut target, course, known.len() as u32, 5)?;
-    put_all(&mut book, vec![in alloc; vec![in alloc; (0, row)]?]?);
+    let range = range(rt, alloc, &mut target, input, known.len() as u32, 5)?;
+    put_all(&mut book, vec![in alloc; vec![in alloc; (0, range)]?]?);
     Ok(book)
 }
 
-/// Each book of a course has the verdicts of its plans run alone, however many of them are known before.
+/// Each book of an input has the verdicts of its plans run alone, however many of them are known before.
 fn books_have_each_alone(
     rt: &impl Abort,
     alloc: Global,
-    course: &Course<'_, Replace>,
+    input: &RunInput<'_, Replace>,
 ) -> Result<(), Fail> {
-    let alone = alone(alloc, course)?;
+    let alone = alone(alloc, input)?;
     assert_eq!(rt; alone.len(), 5);
     assert_eq!(rt; alone[0], Verdict::Pass);
     assert_eq!(rt; alone[1], Verdict::Fail(TORN));
     for known in 0..6 {
-        let book = book_with(rt, alloc, course, &alone[..known])?;
+        let book = book_with(rt, alloc, input, &alone[..known])?;
         assert!(rt; book.whole());
         has(rt, alloc, &book, alone.as_slice())?;
     }
@@ -109,10 +109,10 @@ fn is_rigged(
     points: &[&str],
     number: usize,
 ) -> Result<bool, Fail> {
-    let mut rigging = Rigging::new(alloc);
+    let mut table = FaultTable::new(alloc);
     let is_rigged = plans
         .rigger(points)
-        .load(number, &mut rigging, &mut RigLists::new(alloc))?;
+        .load(number, &mut table, &mut RigLists::new(alloc))?;
     Ok(is_rigged)
 }
 
@@ -136,10 +136,10 @@ fn plans_that_grew_and_a_storm_behind_them_are_rigged_and_run(rt: HostRuntime) -
     let plans = CampaignPlans::grown(Some(&grown), Replace::catalogue(), &storm);
     are_rigged(&rt, alloc, &plans)?;
     let settings = settings(alloc);
-    let course = Course {
+    let input = RunInput {
         workload: &workload,
         settings: &settings,
         plans: &plans,
     };
-    books_have_each_alone(&rt, alloc, &course)
+    books_have_each_alone(&rt, alloc, &input)
 }

@@ -7,9 +7,9 @@ mod books;
 #[cfg(test)]
 mod counting;
 #[cfg(test)]
-mod courses;
-#[cfg(test)]
 mod grown_books;
+#[cfg(test)]
+mod inputs;
 #[cfg(test)]
 mod listed_kinds;
 #[cfg(test)]

@@ -3,7 +3,7 @@
 
 use crate::one_step::OneStep;
 use crate::scenarios::{plans as with_scenarios, scenarios};
-use action_eval::Rigging;
+use action_eval::FaultTable;
 use plan_gen::{Census, PlanList, PlanSettings, plans};
 use std::alloc::Global;
 use std::process::Abort;
@@ -12,9 +12,9 @@ use target_trait::Target;
 
 /// Whether the plan of this number is rigged over the points of the target with one step.
 fn is_rigged(alloc: Global, plans: &PlanList<'_>, number: usize) -> Result<bool, Fail> {
-    let mut rigging = Rigging::new(alloc);
+    let mut table = FaultTable::new(alloc);
     let rigger = plans.rigger(OneStep::catalogue());
-    let is_rigged = rigger.load(number, &mut rigging, &mut Vec::new(alloc))?;
+    let is_rigged = rigger.load(number, &mut table, &mut Vec::new(alloc))?;
     Ok(is_rigged)
 }
 

@@ -4,14 +4,14 @@
 //! Every allocation is refused in turn by `tools/refuse.py`.
 #![tactic(auto)]
 
-mod cards;
 mod check;
 mod hits;
+mod requests;
 mod tickets;
 
-use crate::cards::{boards_cards, cores_cards};
 use crate::check::told;
 use crate::hits::hits;
+use crate::requests::{boards_requests, cores_requests};
 use crate::tickets::tickets;
 use std::alloc::{AllocError, Global};
 use std::fmt::Write as _;
@@ -25,9 +25,9 @@ fn lines<R: Threads + Wait + Sync>(rt: &R, alloc: Global) -> Result<String, Allo
     let mut text = String::new(alloc);
     for (what, came_to) in [
         ("hits of a session", hits(alloc)),
-        ("cards of a core", cores_cards(alloc)),
-        ("cards of a board", boards_cards(alloc)),
-        ("tickets of three hands", tickets(rt, alloc)),
+        ("requests of a core", cores_requests(alloc)),
+        ("requests of a board", boards_requests(alloc)),
+        ("tickets of three workers", tickets(rt, alloc)),
     ] {
         let ending = told(&came_to)?;
         writeln!(text, "{what}: {ending}")?;

@@ -1,4 +1,4 @@
-//! Tickets of three hands.
+//! Tickets of three workers.
 ghost use Rattle.std.specs.Prelude.{◌≡◌, ◌+◌, ◌^◌, [], ◌∷◌};
 
 use crate::check::{Fault, demand};
@@ -7,7 +7,7 @@ use std::sync::Wait;
 use std::sync::atomic::{AtomicU64, Ordering};
 use std::thread::Threads;
 use work_gate::FreeGate;
-use worker_pool::{Gathered, Hand, Job, PoolFault, run_all};
+use worker_pool::{Gathered, Job, PoolFault, Worker, run_all};
 
 const TICKETS: u32 = 19;
 
@@ -49,23 +49,21 @@ impl<'a> Job for Adder<'a> {
 
 type Done<'a> = Gathered<Adder<'a>>;
 
-/// One run of the hands.
+/// One run of the workers.
 fn run<'a, R: Threads + Wait + Sync>(
     rt: &R,
     alloc: Global,
-    hands: Vec<Hand<Adder<'a>>>,
+    workers: Vec<Worker<Adder<'a>>>,
 ) -> Result<Done<'a>, PoolFault<Adder<'a>>> {
-    if hands.is_empty() {
-        return Err(PoolFault { hands });
+    if workers.is_empty() {
+        return Err(PoolFault { workers });
     }
-    run_all(rt, alloc, &FreeGate, hands, TICKETS)
+    run_all(rt, alloc, &FreeGate, workers, TICKETS)
 }
 
-/// How many tickets the hands performed over all their runs.
-fn performed_by(hands: &[Hand<Adder<'_>>]) -> u64 {
-    hands
-        .iter()
-        .fold(0, |all: u64, hand| all.saturating_add(hand.performed()))
+/// How many tickets the workers performed over all their runs.
+fn performed_by(workers: &[Worker<Adder<'_>>]) -> u64 {
+    workers.iter().fold(0, |all: u64, worker| all.saturating_add(worker.performed()))
 }
 
 /// Whether each number below the count of tickets stands once, with its answer.
@@ -84,53 +82,53 @@ fn is_each_once(lists: &[Vec<(u32, Vec<u64>)>]) -> bool {
     count == TICKETS && seen == (1 << TICKETS) - 1
 }
 
-/// Runs the hands, and again where that is refused: they have come back then, and have counted what they performed.
+/// Runs the workers, and again where that is refused: they have come back then, and have counted what they performed.
 fn run_again<'a, R: Threads + Wait + Sync>(
     rt: &R,
     alloc: Global,
-    hands: Vec<Hand<Adder<'a>>>,
+    workers: Vec<Worker<Adder<'a>>>,
     performed: &AtomicU64,
-) -> Result<Vec<Hand<Adder<'a>>>, Fault> {
-    let before = performed_by(&hands);
-    let (done, before) = match run(rt, alloc, hands) {
+) -> Result<Vec<Worker<Adder<'a>>>, Fault> {
+    let before = performed_by(&workers);
+    let (done, before) = match run(rt, alloc, workers) {
         Ok(done) => (done, before),
-        Err(PoolFault { hands }) => {
-            let after = performed_by(&hands);
-            demand(hands.len() == 3 && after == performed.load(Ordering::SeqCst))?;
+        Err(PoolFault { workers }) => {
+            let after = performed_by(&workers);
+            demand(workers.len() == 3 && after == performed.load(Ordering::SeqCst))?;
             demand(after >= before && after - before <= u64::from(TICKETS))?;
-            match run(rt, alloc, hands) {
+            match run(rt, alloc, workers) {
                 Ok(done) => (done, after),
                 Err(_) => return Err(Fault::Broken),
             }
         }
     };
-    let after = performed_by(&done.hands);
+    let after = performed_by(&done.workers);
     demand(after == performed.load(Ordering::SeqCst) && after == before.saturating_add(19))?;
     demand(is_each_once(&done.answers))?;
-    Ok(done.hands)
+    Ok(done.workers)
 }
 
-/// Three hands, each of whose jobs refuses once.
-fn three_hands<'a>(
+/// Three workers, each of whose jobs refuses once.
+fn three_workers<'a>(
     alloc: Global,
     performed: &'a AtomicU64,
-) -> Result<Vec<Hand<Adder<'a>>>, AllocError> {
-    let mut hands = Vec::new(alloc);
+) -> Result<Vec<Worker<Adder<'a>>>, AllocError> {
+    let mut workers = Vec::new(alloc);
     for _ in 0..3 {
-        hands.push(Hand::new(Adder {
+        workers.push(Worker::new(Adder {
             alloc,
             performed,
             refusals: 1,
         }))?;
     }
-    Ok(hands)
+    Ok(workers)
 }
 
 /// Two runs. In the first one each worker leaves at its first ticket, and the caller's thread performs what is left.
 pub fn tickets<R: Threads + Wait + Sync>(rt: &R, alloc: Global) -> Result<(), Fault> {
     let performed = AtomicU64::new(0);
-    let hands = three_hands(alloc, &performed)?;
-    let hands = run_again(rt, alloc, hands, &performed)?;
-    let hands = run_again(rt, alloc, hands, &performed)?;
-    demand(performed_by(&hands) >= 38)
+    let workers = three_workers(alloc, &performed)?;
+    let workers = run_again(rt, alloc, workers, &performed)?;
+    let workers = run_again(rt, alloc, workers, &performed)?;
+    demand(performed_by(&workers) >= 38)
 }

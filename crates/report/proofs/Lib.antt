@@ -1,4 +1,4 @@
 mod WritingLemmas
 pub mod Written
-pub mod ToldLines
+pub mod ReportedLines
 mod Tens

@@ -28,21 +28,21 @@ counts_line code_name verdicts findings =
     ++ flat_map (code_count code_name verdicts) findings
 
 -- the plan's number, verdict and scenario
-abbrev pub told_line : (ℕ → List ℕ) → ℕ → Verdict → Entries → List ℕ
-told_line code_name number verdict plan =
+abbrev pub reported_line : (ℕ → List ℕ) → ℕ → Verdict → Entries → List ℕ
+reported_line code_name number verdict plan =
     codes "verdict " ++ decimal number ++ codes " " ++ verdict_text code_name verdict ++ codes " " ++ scenario_text plan
 
 -- no line for a verdict that passes
-abbrev pub told_line_of : (ℕ → List ℕ) → ℕ → Verdict → Entries → List (List ℕ)
-told_line_of code_name n verdict.Pass plan = []
-told_line_of code_name n (verdict.Fail code) plan = told_line code_name n (verdict.Fail code) plan ∷ []
-told_line_of code_name n verdict.Unresolved plan = told_line code_name n verdict.Unresolved plan ∷ []
+abbrev pub reported_line_of : (ℕ → List ℕ) → ℕ → Verdict → Entries → List (List ℕ)
+reported_line_of code_name n verdict.Pass plan = []
+reported_line_of code_name n (verdict.Fail code) plan = reported_line code_name n (verdict.Fail code) plan ∷ []
+reported_line_of code_name n verdict.Unresolved plan = reported_line code_name n verdict.Unresolved plan ∷ []
 
 -- the lines of plans numbered from n on, with their verdicts
-abbrev pub told_lines : (ℕ → List ℕ) → ℕ → List Verdict → List Entries → List (List ℕ)
-told_lines code_name n [] plans = []
-told_lines code_name n (v ∷ vs) [] = []
-told_lines code_name n (v ∷ vs) (plan ∷ plans) = told_line_of code_name n v plan ++ told_lines code_name (n + 1) vs plans
+abbrev pub reported_lines : (ℕ → List ℕ) → ℕ → List Verdict → List Entries → List (List ℕ)
+reported_lines code_name n [] plans = []
+reported_lines code_name n (v ∷ vs) [] = []
+reported_lines code_name n (v ∷ vs) (plan ∷ plans) = reported_line_of code_name n v plan ++ reported_lines code_name (n + 1) vs plans
 
 -- all lines, by the names of the points and codes, of a report over these plans
 abbrev pub brief_lines : List (List ℕ) → (ℕ → List ℕ) → ReportFacts → List Entries → List (List ℕ)
@@ -51,7 +51,7 @@ brief_lines names code_name report plans =
     ++ point_lines (codes "census") names report.census
     ++ growth_lines names report.growth
     ++ count_line report.verdicts ∷ counts_line code_name report.verdicts report.findings ∷ []
-    ++ told_lines code_name 0 report.verdicts plans
+    ++ reported_lines code_name 0 report.verdicts plans
     ++ nonzero_lines (codes "unmet") report.unmet
     ++ findings_lines code_name report.findings
     ++ causes_lines code_name report.growth

@@ -1,7 +1,7 @@
 //! The lines of a brief report.
 ghost use Rattle.std.specs.Prelude.{◌≡◌, ◌++◌, ◌∷◌, [], length, string_bytes, codes, count_by, flat_map, IfOk, IfSome, OnOk};
 ghost use Rattle.report.specs.ReportText.{ended, text_of};
-ghost use Rattle.report.specs.BriefText.{is_fail_with, code_count, counts_line, told_line, told_line_of, told_lines, brief_lines};
+ghost use Rattle.report.specs.BriefText.{is_fail_with, code_count, counts_line, reported_line, reported_line_of, reported_lines, brief_lines};
 
 use crate::counts::{passing, unresolved};
 use crate::facts::{Finding, Report};
@@ -73,7 +73,7 @@ fn write_counts<N: Names>(
     out.push_str("\n")
 }
 
-fn write_told<N: Names>(
+fn write_reported<N: Names>(
     alloc: Global,
     out: &mut String,
     names: &N,
@@ -81,7 +81,7 @@ fn write_told<N: Names>(
     verdict: Verdict,
     plan: &CampaignPlan<'_>,
 ) -> Result<(), AllocError>
-    ensures { OnOk result (string_bytes out.new ≡ string_bytes out.old ++ ended (told_line (N.code_text names.now) number verdict plan.now)) }
+    ensures { OnOk result (string_bytes out.new ≡ string_bytes out.old ++ ended (reported_line (N.code_text names.now) number verdict plan.now)) }
 {
     write!(out, "verdict {number} ")?;
     write_verdict(out, names, verdict)?;
@@ -90,7 +90,7 @@ fn write_told<N: Names>(
     out.push_str("\n")
 }
 
-fn write_told_of<N: Names>(
+fn write_reported_of<N: Names>(
     alloc: Global,
     out: &mut String,
     names: &N,
@@ -98,17 +98,17 @@ fn write_told_of<N: Names>(
     verdict: Verdict,
     plan: &CampaignPlan<'_>,
 ) -> Result<(), AllocError>
-    ensures { OnOk result (string_bytes out.new ≡ string_bytes out.old ++ text_of (told_line_of (N.code_text names.now) number verdict plan.now)) }
+    ensures { OnOk result (string_bytes out.new ≡ string_bytes out.old ++ text_of (reported_line_of (N.code_text names.now) number verdict plan.now)) }
 {
     match verdict {
         Verdict::Pass => Ok(()),
         Verdict::Fail(_) | Verdict::Unresolved => {
-            write_told(alloc, out, names, number, verdict, plan)
+            write_reported(alloc, out, names, number, verdict, plan)
         }
     }
 }
 
-fn write_all_told<N: Names>(
+fn write_all_reported<N: Names>(
     alloc: Global,
     out: &mut String,
     names: &N,
@@ -116,10 +116,10 @@ fn write_all_told<N: Names>(
     plans: &CampaignPlans<'_>,
 ) -> Result<(), AllocError>
     requires { length verdicts.now ≡ length plans.now }
-    ensures { OnOk result (string_bytes out.new ≡ string_bytes out.old ++ text_of (told_lines (N.code_text names.now) 0 verdicts.now plans.now)) }
+    ensures { OnOk result (string_bytes out.new ≡ string_bytes out.old ++ text_of (reported_lines (N.code_text names.now) 0 verdicts.now plans.now)) }
 {
     for (number, verdict) in verdicts.iter().enumerate() {
-        write_told_of(alloc, out, names, number, *verdict, &plans.plan(number))?;
+        write_reported_of(alloc, out, names, number, *verdict, &plans.plan(number))?;
     }
     Ok(())
 }
@@ -143,7 +143,7 @@ pub fn brief_text<N: Names>(
     let mut out = String::new(alloc);
     write_front(&mut out, names, report)?;
     write_counts(&mut out, names, report.verdicts, &report.findings)?;
-    write_all_told(alloc, &mut out, names, report.verdicts, plans)?;
+    write_all_reported(alloc, &mut out, names, report.verdicts, plans)?;
     write_end(alloc, &mut out, names, report)?;
     Ok(out.into_bytes())
 }

@@ -12,7 +12,7 @@ use Rattle.scenario_values.specs.Scenario.{Entries}
 use Rattle.target_trait.specs.declared.judgement.Verdict.{Verdict}
 use Rattle.target_trait.specs.declared.judgement.Verdict.TheVariants as verdict
 use Rattle.report.specs.Reports.{GrowthFacts, ReportFacts}
-use Rattle.report_json.specs.Document.{whole, nonzero, list_of, clean_value, point_values, told_values, finding_value, cause_value, growth_value}
+use Rattle.report_json.specs.Document.{whole, nonzero, list_of, clean_value, point_values, reported_values, finding_value, cause_value, growth_value}
 use Rattle.report_json.specs.Document.{document_of, IsReadAs}
 
 both_shallow : (a b bound : ℕ) → a ≤ bound → b ≤ bound → max a b ≤ bound
@@ -28,15 +28,15 @@ points_shallow [] counts = omega arith
 points_shallow (name ∷ names) [] = omega arith
 points_shallow (name ∷ names) (n ∷ counts) = both_shallow 1 (items_depth (items_of (point_values names counts))) 1 (omega arith) (points_shallow names counts)
 
-told_shallow : (code_name : ℕ → List ℕ) (n : ℕ) (verdicts : List Verdict) (plans : List Entries)
-    → items_depth (items_of (told_values code_name n verdicts plans)) ≤ 1
-told_shallow code_name n [] plans = omega arith
-told_shallow code_name n (v ∷ vs) [] = omega arith
-told_shallow code_name n (verdict.Pass ∷ vs) (plan ∷ plans) = told_shallow code_name (n + 1) vs plans
-told_shallow code_name n (verdict.Fail code ∷ vs) (plan ∷ plans) =
-    both_shallow 1 (items_depth (items_of (told_values code_name (n + 1) vs plans))) 1 (omega arith) (told_shallow code_name (n + 1) vs plans)
-told_shallow code_name n (verdict.Unresolved ∷ vs) (plan ∷ plans) =
-    both_shallow 1 (items_depth (items_of (told_values code_name (n + 1) vs plans))) 1 (omega arith) (told_shallow code_name (n + 1) vs plans)
+reported_shallow : (code_name : ℕ → List ℕ) (n : ℕ) (verdicts : List Verdict) (plans : List Entries)
+    → items_depth (items_of (reported_values code_name n verdicts plans)) ≤ 1
+reported_shallow code_name n [] plans = omega arith
+reported_shallow code_name n (v ∷ vs) [] = omega arith
+reported_shallow code_name n (verdict.Pass ∷ vs) (plan ∷ plans) = reported_shallow code_name (n + 1) vs plans
+reported_shallow code_name n (verdict.Fail code ∷ vs) (plan ∷ plans) =
+    both_shallow 1 (items_depth (items_of (reported_values code_name (n + 1) vs plans))) 1 (omega arith) (reported_shallow code_name (n + 1) vs plans)
+reported_shallow code_name n (verdict.Unresolved ∷ vs) (plan ∷ plans) =
+    both_shallow 1 (items_depth (items_of (reported_values code_name (n + 1) vs plans))) 1 (omega arith) (reported_shallow code_name (n + 1) vs plans)
 
 clean_shallow : (code_name : ℕ → List ℕ) (v : Verdict) → depth (clean_value code_name v) ≤ 1
 clean_shallow code_name verdict.Pass = omega arith
@@ -65,7 +65,7 @@ shallow : (names : List (List ℕ)) (code_name : ℕ → List ℕ) (report : Rep
 shallow names code_name report plans =
     let clean = clean_shallow code_name report.clean in
     let census = points_shallow names report.census in
-    let told = told_shallow code_name 0 report.verdicts plans in
+    let told = reported_shallow code_name 0 report.verdicts plans in
     let findings = mapped 1 (finding_value code_name) report.findings (λ finding. omega arith) in
     let growth = growth_shallow names code_name report.growth in
     let unmet =

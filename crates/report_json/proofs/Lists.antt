@@ -8,7 +8,7 @@ use Rattle.json.specs.Value.{items_of}
 use Rattle.scenario_values.specs.Scenario.{Entries}
 use Rattle.target_trait.specs.declared.judgement.Verdict.{Verdict}
 use Rattle.report.proofs.Written.{goes_on, next_of}
-use Rattle.report_json.specs.Document.{nonzero, list_of, point_value, point_values, told_value, told_values}
+use Rattle.report_json.specs.Document.{nonzero, list_of, point_value, point_values, reported_value, reported_values}
 use Rattle.report_json.specs.inside.Tokens.{member_tokens, nonzero_tokens, all_tokens}
 
 -- tokens are written, and then the rest
@@ -115,10 +115,10 @@ point_next old new name n names rest counts left whole a b added h =
 
 -- the next plan is written, or nothing of it
 pub told_next : (code_name : ℕ → List ℕ) (old new whole : List Token) (n : ℕ) (v : Verdict) (plan : Entries) (verdicts vs : List Verdict) (plans ps : List Entries)
-    → verdicts ≡ v ∷ vs → plans ≡ plan ∷ ps → new ≡ old ++ all_tokens (told_value code_name n v plan)
-    → old ++ all_tokens (told_values code_name n verdicts plans) ≡ whole → new ++ all_tokens (told_values code_name (n + 1) vs ps) ≡ whole
+    → verdicts ≡ v ∷ vs → plans ≡ plan ∷ ps → new ≡ old ++ all_tokens (reported_value code_name n v plan)
+    → old ++ all_tokens (reported_values code_name n verdicts plans) ≡ whole → new ++ all_tokens (reported_values code_name (n + 1) vs ps) ≡ whole
 told_next code_name old new whole n v plan verdicts vs plans ps vs_are ps_are added h =
-    goes_on old new (all_tokens (told_value code_name n v plan)) (all_tokens (told_values code_name (n + 1) vs ps)) whole
-    (ap (λ (ts : List Token). old ++ ts) (sym (flat_map-append json_tokens (told_value code_name n v plan) (told_values code_name (n + 1) vs ps)))
-    ∙ ap (λ (l : List Entries). old ++ all_tokens (told_values code_name n (v ∷ vs) l)) (sym ps_are)
-    ∙ ap (λ (l : List Verdict). old ++ all_tokens (told_values code_name n l plans)) (sym vs_are) ∙ h) added
+    goes_on old new (all_tokens (reported_value code_name n v plan)) (all_tokens (reported_values code_name (n + 1) vs ps)) whole
+    (ap (λ (ts : List Token). old ++ ts) (sym (flat_map-append json_tokens (reported_value code_name n v plan) (reported_values code_name (n + 1) vs ps)))
+    ∙ ap (λ (l : List Entries). old ++ all_tokens (reported_values code_name n (v ∷ vs) l)) (sym ps_are)
+    ∙ ap (λ (l : List Verdict). old ++ all_tokens (reported_values code_name n l plans)) (sym vs_are) ∙ h) added

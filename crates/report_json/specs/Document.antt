@@ -66,16 +66,16 @@ plan_value code_name n v plan =
     (member (codes "scenario") (scenario_value plan) no_members))))
 
 -- nothing of a plan that passes
-abbrev pub told_value : (ℕ → List ℕ) → ℕ → Verdict → Entries → List Json
-told_value code_name n verdict.Pass plan = []
-told_value code_name n (verdict.Fail code) plan = plan_value code_name n (verdict.Fail code) plan ∷ []
-told_value code_name n verdict.Unresolved plan = plan_value code_name n verdict.Unresolved plan ∷ []
+abbrev pub reported_value : (ℕ → List ℕ) → ℕ → Verdict → Entries → List Json
+reported_value code_name n verdict.Pass plan = []
+reported_value code_name n (verdict.Fail code) plan = plan_value code_name n (verdict.Fail code) plan ∷ []
+reported_value code_name n verdict.Unresolved plan = plan_value code_name n verdict.Unresolved plan ∷ []
 
 -- of plans numbered from n on, with their verdicts
-abbrev pub told_values : (ℕ → List ℕ) → ℕ → List Verdict → List Entries → List Json
-told_values code_name n [] plans = []
-told_values code_name n (v ∷ vs) [] = []
-told_values code_name n (v ∷ vs) (plan ∷ plans) = told_value code_name n v plan ++ told_values code_name (n + 1) vs plans
+abbrev pub reported_values : (ℕ → List ℕ) → ℕ → List Verdict → List Entries → List Json
+reported_values code_name n [] plans = []
+reported_values code_name n (v ∷ vs) [] = []
+reported_values code_name n (v ∷ vs) (plan ∷ plans) = reported_value code_name n v plan ++ reported_values code_name (n + 1) vs plans
 
 -- ---- points
 
@@ -129,7 +129,7 @@ document_of names code_name report plans =
     (member (codes "clean") (clean_value code_name report.clean)
     (member (codes "census") (list_of (point_values names report.census))
     (member (codes "counts") (counts_value report.verdicts)
-    (member (codes "not_passed") (list_of (told_values code_name 0 report.verdicts plans))
+    (member (codes "not_passed") (list_of (reported_values code_name 0 report.verdicts plans))
     (nonzero (codes "unmet") report.unmet
     (member (codes "findings") (list_of (map (finding_value code_name) report.findings))
     (member (codes "growth") (growth_value names code_name report.growth) no_members))))))))))

@@ -3,7 +3,7 @@ ghost use Rattle.std.specs.Prelude.{◌≡◌, ◌++◌, length, map, codes, IfO
 ghost use Rattle.std.specs.Fmt.{decimal};
 ghost use Rattle.json.specs.Json.{string};
 ghost use Rattle.json.specs.Tree.{json_tokens};
-ghost use Rattle.report_json.specs.Document.{form, whole, list_of, clean_value, point_values, counts_value, told_values, finding_value, growth_value};
+ghost use Rattle.report_json.specs.Document.{form, whole, list_of, clean_value, point_values, counts_value, reported_values, finding_value, growth_value};
 ghost use Rattle.report_json.specs.Document.{document_of, text_of, IsReadAs};
 ghost use Rattle.report_json.specs.inside.Tokens.{member_tokens, nonzero_tokens};
 
@@ -48,7 +48,7 @@ fn write_results<N: Names>(
     ensures { OnOk result (out.new ≡ out.old
         ++ member_tokens (codes "census") (list_of (point_values (N.points names.now) report.now.census))
         ++ member_tokens (codes "counts") (counts_value report.now.verdicts)
-        ++ member_tokens (codes "not_passed") (list_of (told_values (N.code_text names.now) 0 report.now.verdicts plans.now))
+        ++ member_tokens (codes "not_passed") (list_of (reported_values (N.code_text names.now) 0 report.now.verdicts plans.now))
         ++ nonzero_tokens (codes "unmet") report.now.unmet
         ++ member_tokens (codes "findings") (list_of (map (finding_value (N.code_text names.now)) report.now.findings))
         ++ member_tokens (codes "growth") (growth_value (N.points names.now) (N.code_text names.now) report.now.growth)) }

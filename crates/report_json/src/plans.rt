@@ -1,7 +1,7 @@
 //! Verdicts, plans and what was found.
 ghost use Rattle.std.specs.Prelude.{◌≡◌, ◌++◌, length, map, codes, OnOk};
 ghost use Rattle.json.specs.Tree.{json_tokens};
-ghost use Rattle.report_json.specs.Document.{list_of, code_of, clean_value, counts_value, plan_value, told_value, told_values, finding_value, verdict_word};
+ghost use Rattle.report_json.specs.Document.{list_of, code_of, clean_value, counts_value, plan_value, reported_value, reported_values, finding_value, verdict_word};
 ghost use Rattle.report_json.specs.inside.Tokens.{member_tokens, all_tokens};
 
 use crate::members::{begin_list, write_number, write_scenario, write_text};
@@ -77,7 +77,7 @@ fn write_plan<N: Names>(
     out.token(Token::EndObject)
 }
 
-fn write_told<N: Names>(
+fn write_reported<N: Names>(
     alloc: Global,
     out: &mut Pretty,
     names: &N,
@@ -85,7 +85,7 @@ fn write_told<N: Names>(
     verdict: Verdict,
     plan: &CampaignPlan<'_>,
 ) -> Result<(), AllocError>
-    ensures { OnOk result (out.new ≡ out.old ++ all_tokens (told_value (N.code_text names.now) number verdict plan.now)) }
+    ensures { OnOk result (out.new ≡ out.old ++ all_tokens (reported_value (N.code_text names.now) number verdict plan.now)) }
 {
     match verdict {
         Verdict::Pass => Ok(()),
@@ -95,7 +95,7 @@ fn write_told<N: Names>(
     }
 }
 
-fn write_each_told<N: Names>(
+fn write_each_reported<N: Names>(
     alloc: Global,
     out: &mut Pretty,
     names: &N,
@@ -103,10 +103,10 @@ fn write_each_told<N: Names>(
     plans: &CampaignPlans<'_>,
 ) -> Result<(), AllocError>
     requires { length verdicts.now ≡ length plans.now }
-    ensures { OnOk result (out.new ≡ out.old ++ all_tokens (told_values (N.code_text names.now) 0 verdicts.now plans.now)) }
+    ensures { OnOk result (out.new ≡ out.old ++ all_tokens (reported_values (N.code_text names.now) 0 verdicts.now plans.now)) }
 {
     for (number, verdict) in verdicts.iter().enumerate() {
-        write_told(alloc, out, names, number, *verdict, &plans.plan(number))?;
+        write_reported(alloc, out, names, number, *verdict, &plans.plan(number))?;
     }
     Ok(())
 }
@@ -121,10 +121,10 @@ pub fn write_not_passed<N: Names>(
 ) -> Result<(), AllocError>
     requires { length verdicts.now ≡ length plans.now }
     ensures { OnOk result (out.new ≡ out.old
-        ++ member_tokens (codes "not_passed") (list_of (told_values (N.code_text names.now) 0 verdicts.now plans.now))) }
+        ++ member_tokens (codes "not_passed") (list_of (reported_values (N.code_text names.now) 0 verdicts.now plans.now))) }
 {
     begin_list(out, "not_passed")?;
-    write_each_told(alloc, out, names, verdicts, plans)?;
+    write_each_reported(alloc, out, names, verdicts, plans)?;
     out.token(Token::EndArray)
 }
 

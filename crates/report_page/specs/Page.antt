@@ -177,8 +177,8 @@ rows_text code_name report plans count =
     if count == 0 then none_told
     else told_begin ++ flat_map (plan_row code_name) (take most_told (not_passed 0 report.verdicts plans)) ++ left_out_plans (count - most_told)
 
-abbrev pub told_text : (ℕ → List ℕ) → ReportFacts → List Entries → List ℕ
-told_text code_name report plans = rows_text code_name report plans (count_by is_fail report.verdicts + count_by is_unresolved report.verdicts)
+abbrev pub reported_text : (ℕ → List ℕ) → ReportFacts → List Entries → List ℕ
+reported_text code_name report plans = rows_text code_name report plans (count_by is_fail report.verdicts + count_by is_unresolved report.verdicts)
 
 -- ---- causes
 
@@ -210,5 +210,5 @@ page_text points code_name report plans about =
     ++ points_text points report.census report.growth
     ++ failures_text code_name about.runs report.findings
     ++ causes_text code_name about.cause_runs report.growth
-    ++ told_text code_name report plans
+    ++ reported_text code_name report plans
     ++ page_end about.command about.version report.seed about.settings

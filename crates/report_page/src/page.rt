@@ -1,6 +1,6 @@
 //! The page.
 ghost use Rattle.std.specs.Prelude.{◌≡◌, ◌++◌, length, string_bytes, IfOk, IfSome, OnOk};
-ghost use Rattle.report_page.specs.Page.{head_text, verdicts_text, levels_text, points_text, failures_text, causes_text, told_text};
+ghost use Rattle.report_page.specs.Page.{head_text, verdicts_text, levels_text, points_text, failures_text, causes_text, reported_text};
 ghost use Rattle.report_page.specs.Page.{page_text};
 ghost use Rattle.report_page.specs.Pieces.{map_part, page_end};
 
@@ -101,7 +101,7 @@ fn write_found<N: Names>(
     ensures { OnOk result (string_bytes out.new ≡ string_bytes out.old
         ++ failures_text (N.code_text names.now) about.now.runs report.now.findings
         ++ causes_text (N.code_text names.now) about.now.cause_runs report.now.growth
-        ++ told_text (N.code_text names.now) report.now plans.now) }
+        ++ reported_text (N.code_text names.now) report.now plans.now) }
 {
     write_failures(alloc, out, names, about.runs, &report.findings)?;
     write_causes(alloc, out, names, about.cause_runs, &report.growth)?;

@@ -2,7 +2,7 @@
 ghost use Rattle.std.specs.Prelude.{◌≡◌, ◌+◌, ◌-◌, ◌++◌, length, take, string_bytes, count_by, flat_map, IfOk, OnOk};
 ghost use Rattle.report.specs.ReportText.{scenario_text, verdict_text};
 ghost use Rattle.target_trait.specs.Verdicts.{is_fail, is_unresolved};
-ghost use Rattle.report_page.specs.Page.{most_told, not_passed, not_passed_of, rows_to, plan_row, rows_text, told_text};
+ghost use Rattle.report_page.specs.Page.{most_told, not_passed, not_passed_of, rows_to, plan_row, rows_text, reported_text};
 ghost use Rattle.report_page.specs.Pieces.{none_told, told_begin, told_row, left_out_plans};
 
 use crate::causes::write_left_out;
@@ -136,7 +136,7 @@ fn write_none(out: &mut String) -> Result<(), AllocError>
 }
 
 /// As many rows as are told, where so many plans don't pass.
-fn write_told<N: Names>(
+fn write_reported<N: Names>(
     alloc: Global,
     out: &mut String,
     names: &N,
@@ -164,8 +164,8 @@ pub fn write_plans<N: Names>(
     plans: &CampaignPlans<'_>,
 ) -> Result<(), AllocError>
     requires { length report.now.verdicts ≡ length plans.now }
-    ensures { OnOk result (string_bytes out.new ≡ string_bytes out.old ++ told_text (N.code_text names.now) report.now plans.now) }
+    ensures { OnOk result (string_bytes out.new ≡ string_bytes out.old ++ reported_text (N.code_text names.now) report.now plans.now) }
 {
     let count = failures(report.verdicts).saturating_add(unresolved(report.verdicts));
-    write_told(alloc, out, names, report, plans, count)
+    write_reported(alloc, out, names, report, plans, count)
 }

@@ -1,5 +1,5 @@
 pub mod SlotLemmas
-pub mod RowLemmas
+pub mod RangeLemmas
 pub mod FailureLemmas
 pub mod EachCodeLemmas
 pub mod PlaceLemmas

@@ -3,6 +3,6 @@ pub mod Says
 pub mod FirstFailure
 pub mod FirstFailures
 pub mod Slots
-pub mod Rows
+pub mod Ranges
 pub mod Refused
 pub mod inside

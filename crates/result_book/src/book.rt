@@ -1,20 +1,20 @@
-//! Which plans of a course have their verdict.
+//! Which plans of an input have their verdict.
 ghost use Rattle.std.specs.Prelude.{◌≡◌, ℕ, ◌+◌, ◌<◌, ◌≤◌, List, [], length, Option, None, Some, true, false, IfOk, IfErr, OnOk, OnErr, replicate, slice_set, slice_index_or};
 ghost use Rattle.std.specs.List.{list_all};
 ghost use Rattle.result_book.specs.Refused.{IsRefused};
 ghost use Rattle.result_book.specs.FirstFailures.{first_failures};
 ghost use Rattle.result_book.specs.Slots.{first_in, in_book, is_full, has, enter, present};
-ghost use Rattle.result_book.specs.Rows.{enter_row, enter_rows, enter_lists};
+ghost use Rattle.result_book.specs.Ranges.{enter_range, enter_ranges, enter_lists};
 
-use crate::course::Course;
 use crate::failures::add_first;
+use crate::input::RunInput;
 use crate::numbered::Numbered;
-use crate::row::Row;
+use crate::range::PlanRange;
 use std::alloc::{AllocError, Global};
 use std::marker::Model;
 use target_trait::{Target, Verdict};
 
-/// A place for the verdict of each plan of a course, in the order of the plans' numbers, whatever order they are put in. Contracts see
+/// A place for the verdict of each plan of an input, in the order of the plans' numbers, whatever order they are put in. Contracts see
 /// it as the list of the places. It has at most 65536 places, this project's limit of plans.
 ///
 /// The verdicts stand one after another, apart from which of them were put, so that a whole book is the list of its verdicts.
@@ -47,12 +47,12 @@ pub enum PutFault<'a, T: Target> {
 }
 
 impl Book {
-    /// An empty book, with a place for each plan of the course. An error means that memory was refused.
-    pub fn new<T: Target>(alloc: Global, course: &Course<'_, T>) -> Result<Self, AllocError>
-        requires { length course.now.plans.now ≤ 65536 }
-        ensures { IfOk result (λ book. book ≡ replicate (length course.now.plans.now) None) }
+    /// An empty book, with a place for each plan of the input. An error means that memory was refused.
+    pub fn new<T: Target>(alloc: Global, input: &RunInput<'_, T>) -> Result<Self, AllocError>
+        requires { length input.now.plans.now ≤ 65536 }
+        ensures { IfOk result (λ book. book ≡ replicate (length input.now.plans.now) None) }
     {
-        let places = course.plans.len();
+        let places = input.plans.len();
         let mut verdicts = Vec::new(alloc);
         verdicts.resize(places, Verdict::Unresolved)?;
         let mut is_put = Vec::new(alloc);
@@ -82,7 +82,7 @@ impl Book {
     /// Puts the verdicts of the first plans, whose runs are known already, each in the place of its number, from 0 on. One whose number has
     /// its verdict already, or has no place, changes nothing. No memory is taken.
     pub fn put_known(&mut self, verdicts: Vec<Verdict>)
-        ensures { self.new ≡ enter_row self.old 0 verdicts.items }
+        ensures { self.new ≡ enter_range self.old 0 verdicts.items }
     {
         let mut verdicts = verdicts;
         while let Some(verdict) = verdicts.pop() {
@@ -182,29 +182,29 @@ impl Book {
     }
 }
 
-/// Puts each result of a row, from its end. One whose number has its verdict already, or has no place, changes nothing.
-fn put_row<'a, T: Target>(book: &mut Book, row: Row<'a, T>)
-    ensures { book.new ≡ enter_row book.old row.entry.first row.entry.verdicts }
+/// Puts each result of a range, from its end. One whose number has its verdict already, or has no place, changes nothing.
+fn put_range<'a, T: Target>(book: &mut Book, range: PlanRange<'a, T>)
+    ensures { book.new ≡ enter_range book.old range.entry.first range.entry.verdicts }
 {
-    let mut row = row;
-    while let Some(result) = row.pop() {
+    let mut range = range;
+    while let Some(result) = range.pop() {
         let _ = book.put(result);
     }
 }
 
-/// Puts each row of a list, from its end.
-fn put_list<'a, T: Target>(book: &mut Book, list: Vec<(u32, Row<'a, T>)>)
-    ensures { book.new ≡ enter_rows book.old list.entry.items }
+/// Puts each range of a list, from its end.
+fn put_list<'a, T: Target>(book: &mut Book, list: Vec<(u32, PlanRange<'a, T>)>)
+    ensures { book.new ≡ enter_ranges book.old list.entry.items }
 {
     let mut list = list;
-    while let Some((_, row)) = list.pop() {
-        put_row(book, row);
+    while let Some((_, range)) = list.pop() {
+        put_range(book, range);
     }
 }
 
-/// Puts each row of these lists, as workers hand them back, one list a worker. An empty row changes nothing, and neither does a result
+/// Puts each range of these lists, as workers hand them back, one list a worker. An empty range changes nothing, and neither does a result
 /// whose number has its verdict already, or has no place.
-pub fn put_all<'a, T: Target>(book: &mut Book, lists: Vec<Vec<(u32, Row<'a, T>)>>)
+pub fn put_all<'a, T: Target>(book: &mut Book, lists: Vec<Vec<(u32, PlanRange<'a, T>)>>)
     ensures { book.new ≡ enter_lists book.old lists.entry.items }
 {
     let mut lists = lists;

@@ -1,20 +1,20 @@
-//! Plans run as numbered results, rows of them, the book in which each number has its result once, and the first failure.
+//! Plans run as numbered results, ranges of them, the book in which each number has its result once, and the first failure.
 #![tactic(auto)]
 
 mod book;
-mod course;
 mod failures;
+mod input;
 mod laws;
 mod numbered;
-mod row;
+mod range;
 mod workspace;
 
 pub use book::{Book, PutFault, put_all};
-pub use course::Course;
 pub use failures::first_failures_of;
+pub use input::RunInput;
 pub use laws::{
     books_tell_the_least_failures, first_failures_are_the_least, full_books_tell_their_verdicts,
 };
 pub use numbered::Numbered;
-pub use row::Row;
+pub use range::PlanRange;
 pub use workspace::Workspace;

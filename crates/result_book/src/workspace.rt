@@ -1,8 +1,8 @@
 //! What serves plan after plan.
 ghost use Rattle.std.specs.Prelude.{◌≡◌, []};
-ghost use Rattle.action_eval.specs.Rigging.{rigged_as};
+ghost use Rattle.action_eval.specs.RiggedScenario.{rigged_as};
 
-use action_eval::{Rigging, Room};
+use action_eval::{FaultTable, SessionBuffers};
 use campaign_plans::RigLists;
 use std::alloc::Global;
 
@@ -11,26 +11,26 @@ use std::alloc::Global;
 #[derive(Drop)]
 pub struct Workspace {
     /// What a plan's rigged hits are laid out in.
-    pub rigging: Rigging<'static>,
+    pub table: FaultTable<'static>,
     /// What a plan's rigged hits are put into, and the faults of one that grew.
     pub lists: RigLists,
     /// What a session writes into.
-    pub room: Room,
+    pub buffers: SessionBuffers,
 }
 
 impl Workspace {
     /// A workspace that has taken no memory yet.
     pub fn new(alloc: Global) -> Self
-        ensures rigging { result.rigging ≡ rigged_as [] [] }
+        ensures table { result.table ≡ rigged_as [] [] }
         ensures rigs { result.lists.rigs.items ≡ [] }
         ensures faults { result.lists.faults.items ≡ [] }
         ensures ordered { result.lists.ordered.items ≡ [] }
-        ensures room { result.room ≡ 0 }
+        ensures buffers { result.buffers ≡ 0 }
     {
         Workspace {
-            rigging: Rigging::new(alloc),
+            table: FaultTable::new(alloc),
             lists: RigLists::new(alloc),
-            room: Room::new(alloc),
+            buffers: SessionBuffers::new(alloc),
         }
     }
 }

@@ -6,7 +6,7 @@ use Rattle.scenario_values.specs.Scenario.{Entries, is_off}
 use Rattle.action_eval.specs.Answers.{Hit}
 use Rattle.report.specs.ReportText.{ended, text_of}
 use Rattle.report.proofs.Written.{goes_on, next_of}
-use Rattle.report.proofs.ToldLines.{lines_on}
+use Rattle.report.proofs.ReportedLines.{lines_on}
 use Rattle.run_explained.specs.Explained.{hit_line, hit_lines, idle_of, idle_in, idle_lines}
 use Rattle.run_explained.specs.Told.{HitFacts, hit_facts}
 

@@ -2,7 +2,7 @@
 ghost use Rattle.std.specs.Prelude.{◌<◌, length};
 
 use crate::hits::answers;
-use action_eval::{Argument, Kind, Rig, Rigging, Session, Site, have_lawful_texts};
+use action_eval::{Argument, FaultTable, Kind, Rig, Session, Site, have_lawful_texts};
 use scenario_grammar::{is_argument, parse};
 use std::alloc::Global;
 use std::process::Abort;
@@ -31,11 +31,11 @@ fn argument(text: &str) -> Argument {
     }
 }
 
-/// What four hits of a point are answered over a rigging, a letter each.
-fn over(alloc: Global, rigging: &Rigging<'_>, point: u32) -> Result<String, Fail>
-    requires { point < length rigging.now.names }
+/// What four hits of a point are answered over a fault table, a letter each.
+fn over(alloc: Global, table: &FaultTable<'_>, point: u32) -> Result<String, Fail>
+    requires { point < length table.now.names }
 {
-    let mut session = Session::over(alloc, rigging, 7, 0, 1000)?;
+    let mut session = Session::over(alloc, table, 7, 0, 1000)?;
     Ok(answers(alloc, &mut session, point, 4)?)
 }
 
@@ -53,7 +53,7 @@ fn under(alloc: Global, scenario: &str, point: u32) -> Result<String, Fail> {
 fn both(
     rt: &impl Abort,
     alloc: Global,
-    rigging: &mut Rigging<'_>,
+    table: &mut FaultTable<'_>,
     first: Rig,
     second: Rig,
     scenario: &str,
@@ -61,9 +61,9 @@ fn both(
 ) -> Result<(), Fail> {
     let rigs = [first, second];
     have_lawful_texts(&rigs);
-    rigging.load(&POINTS, &rigs)?;
-    assert_eq!(rt; over(alloc, rigging, OPEN)?.as_str(), letters[0]);
-    assert_eq!(rt; over(alloc, rigging, WRITE)?.as_str(), letters[1]);
+    table.load(&POINTS, &rigs)?;
+    assert_eq!(rt; over(alloc, table, OPEN)?.as_str(), letters[0]);
+    assert_eq!(rt; over(alloc, table, WRITE)?.as_str(), letters[1]);
     assert_eq!(rt; under(alloc, scenario, OPEN)?.as_str(), letters[0]);
     assert_eq!(rt; under(alloc, scenario, WRITE)?.as_str(), letters[1]);
     Ok(())
@@ -71,11 +71,11 @@ fn both(
 
 #[test]
 fn rigged_hits_are_answered_as_their_scenario_says(rt: HostRuntime) -> Result<(), Fail> {
-    let mut rigging = Rigging::new(rt.alloc());
+    let mut table = FaultTable::new(rt.alloc());
     both(
         &rt,
         rt.alloc(),
-        &mut rigging,
+        &mut table,
         rig(OPEN, 2, Kind::OnceReturn(Argument::none())),
         rig(WRITE, 3, Kind::OncePanic),
         "open=1*off->1*return;write=2*off->1*panic",
@@ -84,7 +84,7 @@ fn rigged_hits_are_answered_as_their_scenario_says(rt: HostRuntime) -> Result<()
     both(
         &rt,
         rt.alloc(),
-        &mut rigging,
+        &mut table,
         rig(WRITE, 1, Kind::OnceReturn(Argument::none())),
         rig(WRITE, 3, Kind::OnwardReturn(Argument::none())),
         "write=1*return->1*off->return",
@@ -93,7 +93,7 @@ fn rigged_hits_are_answered_as_their_scenario_says(rt: HostRuntime) -> Result<()
     both(
         &rt,
         rt.alloc(),
-        &mut rigging,
+        &mut table,
         rig(OPEN, 1, Kind::OnceReturn(argument("EIO"))),
         rig(OPEN, 2, Kind::OnwardReturn(argument("DROP"))),
         "open=1*return(EIO)->return(DROP)",

@@ -38,5 +38,5 @@ fn fails_where_bytes_are_not_taken(rt: HostRuntime) {
 #[test]
 fn the_free_gate_holds_nobody() {
     FreeGate.arrive(Phase::Plans, 0);
-    FreeGate.arrive(Phase::Cards, u32::MAX);
+    FreeGate.arrive(Phase::Requests, u32::MAX);
 }

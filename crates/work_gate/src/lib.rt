@@ -6,8 +6,8 @@
 pub enum Phase {
     /// To run a plan.
     Plans,
-    /// To test a card of the reducer.
-    Cards,
+    /// To answer a test request of the reducer.
+    Requests,
 }
 
 /// What part of a campaign is about to be run.
@@ -37,10 +37,10 @@ pub struct Ended {
 /// It may wait, as a test does that wants its workers in one order, or show how far the work is. It changes nothing else: it is lent, and
 /// no contract names it, so what a campaign comes to is the same at every gate.
 pub trait Gate: Sync {
-    /// A worker is about to begin the plan of this number, or the card that was handed out as this one, both from 0.
+    /// A worker is about to begin the plan of this number, or the request that was handed out as this one, both from 0.
     fn arrive(&self, phase: Phase, number: u32);
 
-    /// So many plans of this stage are to be run, none of which has begun. How many cards a reduction tests is known when it ends.
+    /// So many plans of this stage are to be run, none of which has begun. How many requests a reduction tests is known when it ends.
     fn expect(&self, _stage: Stage, _count: u32) {}
 
     /// Whether somebody wants to be told what has ended. Where nobody does, a worker need not find it out.

@@ -1,4 +1,4 @@
--- What each hand took, and what it answered and kept.
+-- What each worker took, and what it answered and kept.
 use Rattle.std.proofs.Common.{◌≡◌, ℕ, ◌+◌, ◌<◌, Bool, List, [], count_by, Option, Some, None, option_to_list, length, get_or, sym, ap, ◌∙◌, refl, arith}
 use Rattle.crossbeam_deque.specs.Handles.{worker_view}
 use Rattle.worker_pool.specs.declared.desk.Next.{Next}
@@ -6,7 +6,7 @@ use Rattle.worker_pool.specs.declared.desk.Desk.{Desk}
 use Rattle.worker_pool.specs.declared.station.Station.{Station}
 use Rattle.worker_pool.specs.inside.Desks.{took, taken_next, kept_by, SameDesk}
 use Rattle.worker_pool.specs.inside.Ring.{Fresh, TakenIn, SameOwn, stolen_by, stolen_from}
-use Rattle.worker_pool.specs.Hands.{answered_at}
+use Rattle.worker_pool.specs.Workers.{answered_at}
 use Rattle.worker_pool.specs.inside.Stations.{answered_by, answers_of, IsBalanced}
 use Rattle.worker_pool.proofs.Places.{map_get}
 use Rattle.worker_pool.proofs.Same.{none_kept}
@@ -23,15 +23,15 @@ popped_by test d = count_by test (worker_view d.own).popped
 took_own : (test : ℕ → Bool) (d : Desk) → TakenIn d → took test d ≡ popped_by test d
 took_own test d h = let e = ap (taken_next test) h.next in omega arith
 
--- A hand from before the run to its end: dealt, back, absorbed and last are its desk, before and behind the next.
-pub hand_took : {J A S : Type 0} (test : ℕ → Bool) (count : ℕ) (seated worked finished : Station J A S)
+-- A worker from before the run to its end: dealt, back, absorbed and last are its desk, before and behind the next.
+pub worker_took : {J A S : Type 0} (test : ℕ → Bool) (count : ℕ) (seated worked finished : Station J A S)
     (dealt back absorbed last before behind absorbed' last' : Desk)
     → Fresh count dealt → (worker_view before.own).stolen ≡ [] → seated.answers.items ≡ []
     → IsBalanced seated worked dealt back → SameDesk before behind
     → SameOwn back absorbed → TakenIn absorbed → stolen_by test absorbed' ≡ stolen_from test back.next behind
     → IsBalanced worked finished absorbed last → TakenIn last → (worker_view last'.own).stolen ≡ (worker_view absorbed'.own).stolen
     → popped_by test last + stolen_by test last' ≡ answered_by test finished + kept_by test last
-hand_took {A = A} test count seated worked finished dealt back absorbed last before behind absorbed' last' fresh none empty on same own taken_in stolen on'
+worker_took {A = A} test count seated worked finished dealt back absorbed last before behind absorbed' last' fresh none empty on same own taken_in stolen on'
     taken_in' same' =
     let a = on test in
     let b = on' test in

@@ -1,11 +1,11 @@
--- After the joins all deques and hands together are in a state that steps of the hands lead to.
+-- After the joins all deques and workers together are in a state that steps of the workers lead to.
 use Rattle.std.proofs.Common.{◌≡◌, ◌∙◌, ℕ, ◌+◌, ◌<◌, ◌%◌, All, Bool, List, [], count_by, length, get_or, ap, arith}
 use Rattle.std.proofs.lemmas.List.Elements.{All-same}
 use Rattle.crossbeam_deque.specs.Handles.{worker_view}
 use Rattle.worker_pool.specs.declared.desk.Desk.{Desk}
 use Rattle.worker_pool.specs.declared.station.Station.{Station}
 use Rattle.worker_pool.specs.inside.Desks.{kept_by}
-use Rattle.worker_pool.specs.Hands.{answered_at, SharesAll, SharesPart}
+use Rattle.worker_pool.specs.Workers.{answered_at, SharesAll, SharesPart}
 use Rattle.worker_pool.specs.inside.Parts.{IsWhole}
 use Rattle.worker_pool.specs.inside.Ring.{next_of, pushed_by, stolen_by, AreDealtRound, Fresh, IsDone, IsSettled, KnowStolen, PushedOnce, SameOwns, TakenIn}
 use Rattle.worker_pool.specs.inside.Stations.{answered_by, answers_of, EachDesk, EachFinishes, EachWorked}
@@ -14,9 +14,9 @@ use Rattle.worker_pool.proofs.Rings.{next_of-within}
 use Rattle.worker_pool.proofs.Rounds.{pick}
 use Rattle.worker_pool.proofs.Same.{none_kept}
 use Rattle.worker_pool.proofs.Sharing.{shares_all, shares_part}
-use Rattle.worker_pool.proofs.Balance.{popped_by, hand_took, answered_is}
+use Rattle.worker_pool.proofs.Balance.{popped_by, worker_took, answered_is}
 
-module _ {J A S T : Type 0} (setup : J → T) (limit : T → ℕ) (answers : T → ℕ → A → Type 0) (n : ℕ) (some_hand : 0 < n)
+module _ {J A S T : Type 0} (setup : J → T) (limit : T → ℕ) (answers : T → ℕ → A → Type 0) (n : ℕ) (some_worker : 0 < n)
     (seated worked finished : List (Station J A S)) (dealt back absorbed ends : List Desk)
     (len_seated : length seated ≡ n) (len_finished : length finished ≡ n)
     (len_dealt : length dealt ≡ n) (len_absorbed : length absorbed ≡ n) (len_ends : length ends ≡ n)
@@ -60,7 +60,7 @@ module _ {J A S T : Type 0} (setup : J → T) (limit : T → ℕ) (answers : T �
   settled_at : (k : ℕ) → k < n → (held : List ℕ) × IsWhole (worker_view (at ends k).own) held
   settled_at k in_k = let h = settled k any_desk (omega arith) in (h.held, h.whole)
 
-  -- what hand k took, it answered or keeps
+  -- what worker k took, it answered or keeps
   took_at : (test : ℕ → Bool) (k : ℕ) → k < n
       → popped_by test (at ends k) + stolen_by test (at ends (next_of n k)) ≡ answered_by test (get_or finished k any_station) + kept_by test (at ends k)
   took_at test k in_k =
@@ -68,7 +68,7 @@ module _ {J A S T : Type 0} (setup : J → T) (limit : T → ℕ) (answers : T �
       let in_next : next_of n k < n = next_of-within n k in_k in
       let w = works k any_station any_desk in_k in
       let f = finishes k any_station any_desk in_k in
-      hand_took test (limit (setup (get_or seated k any_station).hand.job)) (get_or seated k any_station) (get_or worked k any_station)
+      worker_took test (limit (setup (get_or seated k any_station).worker.job)) (get_or seated k any_station) (get_or worked k any_station)
       (get_or finished k any_station)
       (at dealt k) (at back k) (at absorbed k) (at ends k) (at dealt next) (at back next) (at absorbed next) (at ends next) (fresh k any_station any_desk in_k)
       (fresh next any_station any_desk in_next).stolen (rest k any_station (omega arith))

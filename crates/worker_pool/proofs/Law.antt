@@ -7,17 +7,17 @@ use Rattle.std.proofs.lemmas.List.{length-replicate}
 use Rattle.std.proofs.lemmas.List.Folds.{sum_by-replicate}
 use Rattle.std.proofs.lemmas.List.Elements.{All-head, All-tail}
 use Rattle.std.proofs.lemmas.List.Sums.{sum_by-cons, sum_by-append, sum_by-set}
-use Rattle.worker_pool.specs.Tickets.{Step, push, pop, steal, State, of_hand, added, front_taken, stepped, after, IsStepOf, number_of, pushed}
+use Rattle.worker_pool.specs.Tickets.{Step, push, pop, steal, State, of_worker, added, front_taken, stepped, after, IsStepOf, number_of, pushed}
 
 front_lengths : (h d : ℕ) (held : List ℕ) (s : State) → (length (front_taken h d held s).deques ≡ length s.deques)
     × (length (front_taken h d held s).taken ≡ length s.taken)
 front_lengths h d [] s = (refl, refl)
-front_lengths h d (x ∷ rest) s = (length-set s.deques d rest, length-set s.taken h (of_hand h s.taken ++ x ∷ []))
+front_lengths h d (x ∷ rest) s = (length-set s.deques d rest, length-set s.taken h (of_worker h s.taken ++ x ∷ []))
 
 step_lengths : (n : ℕ) (step : Step) (s : State) → (length (stepped n step s).deques ≡ length s.deques) × (length (stepped n step s).taken ≡ length s.taken)
-step_lengths n (push h x) s = (length-set s.deques h (of_hand h s.deques ++ x ∷ []), refl)
-step_lengths n (pop h) s = front_lengths h h (of_hand h s.deques) s
-step_lengths n (steal h) s = front_lengths h ((h + 1) % n) (of_hand ((h + 1) % n) s.deques) s
+step_lengths n (push h x) s = (length-set s.deques h (of_worker h s.deques ++ x ∷ []), refl)
+step_lengths n (pop h) s = front_lengths h h (of_worker h s.deques) s
+step_lengths n (steal h) s = front_lengths h ((h + 1) % n) (of_worker ((h + 1) % n) s.deques) s
 
 pub lengths : (n : ℕ) (steps : List Step) → (length (after n steps).deques ≡ n) × (length (after n steps).taken ≡ n)
 lengths n [] = (length-replicate n [], length-replicate n [])
@@ -33,15 +33,15 @@ module _ (test : ℕ → Bool) where
   added_more : (lists : List (List ℕ)) (h x : ℕ) → h < length lists → sum_by counts (added h x lists) ≡ sum_by counts lists + counts (x ∷ [])
   added_more lists h x within = omega (
     arith,
-    sum_by-set counts lists h (of_hand h lists ++ x ∷ []) [] within,
-    sum_by-append (λ y. cond (test y) 1 0) (of_hand h lists) (x ∷ []),
+    sum_by-set counts lists h (of_worker h lists ++ x ∷ []) [] within,
+    sum_by-append (λ y. cond (test y) 1 0) (of_worker h lists) (x ∷ []),
   )
 
   -- all that stands in deques or was taken
   abbrev all : State → ℕ
   all s = sum_by counts s.deques + sum_by counts s.taken
 
-  front_kept : (h d : ℕ) (held : List ℕ) (s : State) → of_hand d s.deques ≡ held → d < length s.deques → h < length s.taken
+  front_kept : (h d : ℕ) (held : List ℕ) (s : State) → of_worker d s.deques ≡ held → d < length s.deques → h < length s.taken
       → all (front_taken h d held s) ≡ all s
   front_kept h d [] s is in_d in_h = refl
   front_kept h d (x ∷ rest) s is in_d in_h =
@@ -57,11 +57,11 @@ module _ (test : ℕ → Bool) where
   step_law : (n : ℕ) (step : Step) (s : State) → length s.deques ≡ n → length s.taken ≡ n → IsStepOf n step
       → all (stepped n step s) ≡ counts (number_of step) + all s
   step_law n (push h x) s len len' of = omega (arith, added_more s.deques h x (omega arith))
-  step_law n (pop h) s len len' of = omega (arith, front_kept h h (of_hand h s.deques) s refl (omega arith) (omega arith))
+  step_law n (pop h) s len len' of = omega (arith, front_kept h h (of_worker h s.deques) s refl (omega arith) (omega arith))
   step_law n (steal h) s len len' of =
       let in_h : h < n = of.0 in
       let in_d : (h + 1) % n < n = mod-lt (h + 1) (omega arith) in
-      omega (arith, front_kept h ((h + 1) % n) (of_hand ((h + 1) % n) s.deques) s refl (omega arith) (omega arith))
+      omega (arith, front_kept h ((h + 1) % n) (of_worker ((h + 1) % n) s.deques) s refl (omega arith) (omega arith))
 
   pub law : (n : ℕ) (steps : List Step) → All (IsStepOf n) steps → counts (pushed steps) ≡ all (after n steps)
   law n [] of = let e = none n in omega arith

@@ -1,12 +1,12 @@
--- From stations back to hands and lists of answers.
+-- From stations back to workers and lists of answers.
 use Rattle.std.proofs.Common.{◌≡◌, ◌∙◌, ℕ, ◌+◌, ◌<◌, ◌≤◌, ◌^◌, Bool, true, List, [], ◌∷◌, All, Vec, Global, vec_len, count_by, map, length, get_or, sym, subst}
 use Rattle.std.proofs.Common.{ap, refl, arith}
 use Rattle.std.specs.List.{sum_by}
 use Rattle.std.proofs.lemmas.List.{length-map}
 use Rattle.std.proofs.lemmas.List.Sums.{sum_by-cons}
-use Rattle.worker_pool.specs.declared.hand.Hand.{Hand}
+use Rattle.worker_pool.specs.declared.worker.Worker.{Worker}
 use Rattle.worker_pool.specs.declared.station.Station.{Station}
-use Rattle.worker_pool.specs.Hands.{hand_job, hand_performed, PerformsPart, SharesAll, SharesPart}
+use Rattle.worker_pool.specs.Workers.{worker_job, worker_performed, PerformsPart, SharesAll, SharesPart}
 use Rattle.worker_pool.specs.inside.Stations.{GoesOn, answers_of}
 use Rattle.worker_pool.specs.Tickets.{IsStepOf, IsDealtRound, count_below}
 use Rattle.worker_pool.proofs.Sharing.{once_of_all, once_of_part}
@@ -18,80 +18,80 @@ use Rattle.worker_pool.proofs.Rounds.{pick}
 module _ {J A S T : Type 0} (setup : J → T) (answers : T → ℕ → A → Type 0) (seated ended : List (Station J A S))
     (rest : All (λ (s : Station J A S). s.answers.items ≡ []) seated)
     (on : (k : ℕ) (s : Station J A S) → k < length seated → GoesOn setup answers (get_or seated k s) (get_or ended k s)) where
-  pub stayed : (k : ℕ) (s : Station J A S) → k < length seated → setup (get_or ended k s).hand.job ≡ setup (get_or seated k s).hand.job
+  pub stayed : (k : ℕ) (s : Station J A S) → k < length seated → setup (get_or ended k s).worker.job ≡ setup (get_or seated k s).worker.job
   stayed k s lt = (on k s lt).stays
 
-  pub all_right : (k : ℕ) (s : Station J A S) → k < length seated → All (λ p. answers (setup (get_or seated k s).hand.job) p.0 p.1)
+  pub all_right : (k : ℕ) (s : Station J A S) → k < length seated → All (λ p. answers (setup (get_or seated k s).worker.job) p.0 p.1)
       (get_or ended k s).answers.items
-  all_right k s lt = (on k s lt).right (subst (λ (xs : List (ℕ × A)). All (λ p. answers (setup (get_or seated k s).hand.job) p.0 p.1) xs) (sym (rest k s lt))
+  all_right k s lt = (on k s lt).right (subst (λ (xs : List (ℕ × A)). All (λ p. answers (setup (get_or seated k s).worker.job) p.0 p.1) xs) (sym (rest k s lt))
       (λ i d low. absurd (omega arith)))
 
-  pub all_counted : (k : ℕ) (s : Station J A S) → k < length seated → (get_or seated k s).hand.performed + vec_len (get_or ended k s).answers < 2 ^ 64
-      → (get_or ended k s).hand.performed ≡ (get_or seated k s).hand.performed + vec_len (get_or ended k s).answers
+  pub all_counted : (k : ℕ) (s : Station J A S) → k < length seated → (get_or seated k s).worker.performed + vec_len (get_or ended k s).answers < 2 ^ 64
+      → (get_or ended k s).worker.performed ≡ (get_or seated k s).worker.performed + vec_len (get_or ended k s).answers
   all_counted k s lt fits =
       let none : length (get_or seated k s).answers.items ≡ 0 = ap (λ (xs : List (ℕ × A)). length xs) (rest k s lt) in
       let many = (get_or ended k s).answers.ok.0 in
-      let e : (get_or ended k s).hand.performed + length (get_or seated k s).answers.items ≡ (get_or seated k s).hand.performed + length
+      let e : (get_or ended k s).worker.performed + length (get_or seated k s).answers.items ≡ (get_or seated k s).worker.performed + length
       (get_or ended k s).answers.items = (on k s lt).counted (omega arith) in
       omega arith
 
-module _ {J A S T : Type 0} (setup : J → T) (hands : List (Hand J A S)) (seated ended : List (Station J A S)) where
-  abbrev hand_of : Station J A S → Hand J A S
-  hand_of s = s.hand
+module _ {J A S T : Type 0} (setup : J → T) (workers : List (Worker J A S)) (seated ended : List (Station J A S)) where
+  abbrev worker_of : Station J A S → Worker J A S
+  worker_of s = s.worker
 
-  pub setups_back : (back : List (Hand J A S)) → map hand_of seated ≡ hands → back ≡ map hand_of ended → length ended ≡ length seated
-      → ((k : ℕ) (s : Station J A S) → k < length seated → setup (get_or ended k s).hand.job ≡ setup (get_or seated k s).hand.job)
-      → map (λ h. setup (hand_job h)) back ≡ map (λ h. setup (hand_job h)) hands
+  pub setups_back : (back : List (Worker J A S)) → map worker_of seated ≡ workers → back ≡ map worker_of ended → length ended ≡ length seated
+      → ((k : ℕ) (s : Station J A S) → k < length seated → setup (get_or ended k s).worker.job ≡ setup (get_or seated k s).worker.job)
+      → map (λ h. setup (worker_job h)) back ≡ map (λ h. setup (worker_job h)) workers
   setups_back back sat left len same =
-      let len_s : length seated ≡ length hands = sym (length-map seated hand_of) ∙ ap length sat in
-      let len_b : length back ≡ length ended = ap length left ∙ length-map ended hand_of in
-      maps_same (λ h. setup (hand_job h)) (λ h. setup (hand_job h)) back hands (omega arith) (λ k x y within.
+      let len_s : length seated ≡ length workers = sym (length-map seated worker_of) ∙ ap length sat in
+      let len_b : length back ≡ length ended = ap length left ∙ length-map ended worker_of in
+      maps_same (λ h. setup (worker_job h)) (λ h. setup (worker_job h)) back workers (omega arith) (λ k x y within.
       let in_s : k < length seated = omega arith in
       let in_b : k < length back = omega arith in
       let d : Station J A S = pick seated k in_s in
-      let now : (get_or ended k d).hand ≡ get_or back k x = map_at hand_of ended back (sym left) k d x in_b in
-      let was : (get_or seated k d).hand ≡ get_or hands k y = map_at hand_of seated hands sat k d y within in
-      ap (λ (h : Hand J A S). setup (hand_job h)) (sym now) ∙ same k d in_s ∙ ap (λ (h : Hand J A S). setup (hand_job h)) was)
+      let now : (get_or ended k d).worker ≡ get_or back k x = map_at worker_of ended back (sym left) k d x in_b in
+      let was : (get_or seated k d).worker ≡ get_or workers k y = map_at worker_of seated workers sat k d y within in
+      ap (λ (h : Worker J A S). setup (worker_job h)) (sym now) ∙ same k d in_s ∙ ap (λ (h : Worker J A S). setup (worker_job h)) was)
 
   module _ {L : Type 0} (items : L → List (ℕ × A)) (size : L → ℕ) (list_of : Station J A S → L) (lists : List L) where
-    pub right_back : (answers : T → ℕ → A → Type 0) → map hand_of seated ≡ hands → lists ≡ map list_of ended → length ended ≡ length seated
+    pub right_back : (answers : T → ℕ → A → Type 0) → map worker_of seated ≡ workers → lists ≡ map list_of ended → length ended ≡ length seated
         → ((s : Station J A S) → items (list_of s) ≡ s.answers.items)
-        → ((k : ℕ) (s : Station J A S) → k < length seated → All (λ p. answers (setup (get_or seated k s).hand.job) p.0 p.1) (get_or ended k s).answers.items)
-        → (k : ℕ) (h : Hand J A S) (l : L) → k < length hands → All (λ p. answers (setup (hand_job (get_or hands k h))) p.0 p.1) (items (get_or lists k l))
+        → ((k : ℕ) (s : Station J A S) → k < length seated → All (λ p. answers (setup (get_or seated k s).worker.job) p.0 p.1) (get_or ended k s).answers.items)
+        → (k : ℕ) (h : Worker J A S) (l : L) → k < length workers → All (λ p. answers (setup (worker_job (get_or workers k h))) p.0 p.1) (items (get_or lists k l))
     right_back answers sat left len items_is right k h l within =
-        let len_s : length seated ≡ length hands = sym (length-map seated hand_of) ∙ ap length sat in
+        let len_s : length seated ≡ length workers = sym (length-map seated worker_of) ∙ ap length sat in
         let len_l : length lists ≡ length ended = ap length left ∙ length-map ended list_of in
         let in_s : k < length seated = omega arith in
         let in_l : k < length lists = omega arith in
         let d : Station J A S = pick seated k in_s in
         let now : list_of (get_or ended k d) ≡ get_or lists k l = map_at list_of ended lists (sym left) k d l in_l in
-        let was : (get_or seated k d).hand ≡ get_or hands k h = map_at hand_of seated hands sat k d h within in
+        let was : (get_or seated k d).worker ≡ get_or workers k h = map_at worker_of seated workers sat k d h within in
         let is : (get_or ended k d).answers.items ≡ items (get_or lists k l) = sym (items_is (get_or ended k d)) ∙ ap items now in
-        subst (λ (x : Hand J A S). All (λ p. answers (setup (hand_job x)) p.0 p.1) (items (get_or lists k l))) was
-        (subst (λ (xs : List (ℕ × A)). All (λ p. answers (setup (get_or seated k d).hand.job) p.0 p.1) xs) is (right k d in_s))
+        subst (λ (x : Worker J A S). All (λ p. answers (setup (worker_job x)) p.0 p.1) (items (get_or lists k l))) was
+        (subst (λ (xs : List (ℕ × A)). All (λ p. answers (setup (get_or seated k d).worker.job) p.0 p.1) xs) is (right k d in_s))
 
-    pub counted_back : (back : List (Hand J A S)) → map hand_of seated ≡ hands → back ≡ map hand_of ended → lists ≡ map list_of ended
+    pub counted_back : (back : List (Worker J A S)) → map worker_of seated ≡ workers → back ≡ map worker_of ended → lists ≡ map list_of ended
         → length ended ≡ length seated
         → ((s : Station J A S) → size (list_of s) ≡ vec_len s.answers)
-        → ((k : ℕ) (s : Station J A S) → k < length seated → (get_or seated k s).hand.performed + vec_len (get_or ended k s).answers < 2 ^ 64
-        → (get_or ended k s).hand.performed ≡ (get_or seated k s).hand.performed + vec_len (get_or ended k s).answers)
-        → (k : ℕ) (h : Hand J A S) (l : L) → k < length hands → hand_performed (get_or hands k h) + size (get_or lists k l) < 2 ^ 64
-        → hand_performed (get_or back k h) ≡ hand_performed (get_or hands k h) + size (get_or lists k l)
+        → ((k : ℕ) (s : Station J A S) → k < length seated → (get_or seated k s).worker.performed + vec_len (get_or ended k s).answers < 2 ^ 64
+        → (get_or ended k s).worker.performed ≡ (get_or seated k s).worker.performed + vec_len (get_or ended k s).answers)
+        → (k : ℕ) (h : Worker J A S) (l : L) → k < length workers → worker_performed (get_or workers k h) + size (get_or lists k l) < 2 ^ 64
+        → worker_performed (get_or back k h) ≡ worker_performed (get_or workers k h) + size (get_or lists k l)
     counted_back back sat left left' len size_is counted k h l within fits =
-        let len_s : length seated ≡ length hands = sym (length-map seated hand_of) ∙ ap length sat in
-        let len_b : length back ≡ length ended = ap length left ∙ length-map ended hand_of in
+        let len_s : length seated ≡ length workers = sym (length-map seated worker_of) ∙ ap length sat in
+        let len_b : length back ≡ length ended = ap length left ∙ length-map ended worker_of in
         let len_l : length lists ≡ length ended = ap length left' ∙ length-map ended list_of in
         let in_s : k < length seated = omega arith in
         let in_b : k < length back = omega arith in
         let in_l : k < length lists = omega arith in
         let d : Station J A S = pick seated k in_s in
-        let now : (get_or ended k d).hand.performed ≡ hand_performed (get_or back k h) =
-        ap (λ (x : Hand J A S). x.performed) (map_at hand_of ended back (sym left) k d h in_b) in
-        let was : (get_or seated k d).hand.performed ≡ hand_performed (get_or hands k h) =
-        ap (λ (x : Hand J A S). x.performed) (map_at hand_of seated hands sat k d h within) in
+        let now : (get_or ended k d).worker.performed ≡ worker_performed (get_or back k h) =
+        ap (λ (x : Worker J A S). x.performed) (map_at worker_of ended back (sym left) k d h in_b) in
+        let was : (get_or seated k d).worker.performed ≡ worker_performed (get_or workers k h) =
+        ap (λ (x : Worker J A S). x.performed) (map_at worker_of seated workers sat k d h within) in
         let is : vec_len (get_or ended k d).answers ≡ size (get_or lists k l) = sym (size_is (get_or ended k d))
         ∙ ap size (map_at list_of ended lists (sym left') k d l in_l) in
-        let e : (get_or ended k d).hand.performed ≡ (get_or seated k d).hand.performed + vec_len (get_or ended k d).answers = counted k d in_s (omega arith) in
+        let e : (get_or ended k d).worker.performed ≡ (get_or seated k d).worker.performed + vec_len (get_or ended k d).answers = counted k d in_s (omega arith) in
         omega arith
 
 -- sums over the lists are sums over the stations
@@ -147,41 +147,41 @@ pub lists_most : {A : Type 0} (lists : List (List (ℕ × A))) (count : ℕ) →
     → sum_by (λ (l : List (ℕ × A)). count_by (λ p. test p.0) l) lists ≤ count_below test count) → sum_by (λ (l : List (ℕ × A)). length l) lists ≤ count
 lists_most lists count once = (let e = once (λ n. true) in omega (arith, lengths_counted lists, count_below_all count))
 
-module _ {J A S T : Type 0} (setup : J → T) (hands : List (Hand J A S)) (seated ended : List (Station J A S)) where
+module _ {J A S T : Type 0} (setup : J → T) (workers : List (Worker J A S)) (seated ended : List (Station J A S)) where
   abbrev given : Station J A S → List (ℕ × A)
   given s = s.answers.items
 
-  abbrev hand_at : Station J A S → Hand J A S
-  hand_at s = s.hand
+  abbrev worker_at : Station J A S → Worker J A S
+  worker_at s = s.worker
 
   -- a refused run
-  pub performs_part : (answers : T → ℕ → A → Type 0) (back : List (Hand J A S)) (count : ℕ) → map hand_at seated ≡ hands → back ≡ map hand_at ended
+  pub performs_part : (answers : T → ℕ → A → Type 0) (back : List (Worker J A S)) (count : ℕ) → map worker_at seated ≡ workers → back ≡ map worker_at ended
       → length ended ≡ length seated
-      → ((k : ℕ) (s : Station J A S) → k < length seated → All (λ p. answers (setup (get_or seated k s).hand.job) p.0 p.1) (get_or ended k s).answers.items)
-      → ((k : ℕ) (s : Station J A S) → k < length seated → (get_or seated k s).hand.performed + vec_len (get_or ended k s).answers < 2 ^ 64
-      → (get_or ended k s).hand.performed ≡ (get_or seated k s).hand.performed + vec_len (get_or ended k s).answers)
-      → SharesPart (length hands) count (answers_of ended)
-      → PerformsPart setup answers hands back count
+      → ((k : ℕ) (s : Station J A S) → k < length seated → All (λ p. answers (setup (get_or seated k s).worker.job) p.0 p.1) (get_or ended k s).answers.items)
+      → ((k : ℕ) (s : Station J A S) → k < length seated → (get_or seated k s).worker.performed + vec_len (get_or ended k s).answers < 2 ^ 64
+      → (get_or ended k s).worker.performed ≡ (get_or seated k s).worker.performed + vec_len (get_or ended k s).answers)
+      → SharesPart (length workers) count (answers_of ended)
+      → PerformsPart setup answers workers back count
   performs_part answers back count sat left len right counted shared =
       let lists : List (List (ℕ × A)) = answers_of ended in
-      let len_s : length seated ≡ length hands = sym (length-map seated hand_at) ∙ ap length sat in
-      let len_b : length back ≡ length ended = ap length left ∙ length-map ended hand_at in
+      let len_s : length seated ≡ length workers = sym (length-map seated worker_at) ∙ ap length sat in
+      let len_b : length back ≡ length ended = ap length left ∙ length-map ended worker_at in
       let len_l : length lists ≡ length ended = length-map ended given in
       let once : (test : ℕ → Bool) → sum_by (λ (l : List (ℕ × A)). count_by (λ p. test p.0) l) lists ≤ count_below test count =
-      once_of_part (length hands) count lists (omega arith) shared in
+      once_of_part (length workers) count lists (omega arith) shared in
       let few : sum_by (λ (l : List (ℕ × A)). length l) lists ≤ count = lists_most lists count once in
       record {
         lists = lists;
         many = len_l ∙ len ∙ len_s;
-        right = right_back setup hands seated ended (λ (l : List (ℕ × A)). l) (λ (l : List (ℕ × A)). length l) given lists answers sat refl len
+        right = right_back setup workers seated ended (λ (l : List (ℕ × A)). l) (λ (l : List (ℕ × A)). length l) given lists answers sat refl len
             (λ s. refl) right;
         shared = shared;
         once = once;
         most = few;
-        counted = counted_back setup hands seated ended (λ (l : List (ℕ × A)). l) (λ (l : List (ℕ × A)). length l) given lists back sat left refl len
+        counted = counted_back setup workers seated ended (λ (l : List (ℕ × A)). l) (λ (l : List (ℕ × A)). length l) given lists back sat left refl len
             (λ s. sym s.answers.ok.0) counted;
-        performed = λ fits. performed_sum hand_performed (λ (l : List (ℕ × A)). length l) (2 ^ 64) hands back lists (omega arith) (omega arith)
-            (counted_back setup hands seated ended (λ (l : List (ℕ × A)). l) (λ (l : List (ℕ × A)). length l) given lists back sat left refl len
+        performed = λ fits. performed_sum worker_performed (λ (l : List (ℕ × A)). length l) (2 ^ 64) workers back lists (omega arith) (omega arith)
+            (counted_back setup workers seated ended (λ (l : List (ℕ × A)). l) (λ (l : List (ℕ × A)). length l) given lists back sat left refl len
             (λ s. sym s.answers.ok.0) counted) (omega arith);
       }
 
@@ -189,33 +189,33 @@ zeros : {X : Type 0} (xs : List X) → sum_by (λ (x : X). 0) xs ≡ 0
 zeros [] = refl
 zeros {X = X} (x ∷ xs) = omega (arith, sum_by-cons (λ (y : X). 0) x xs, zeros xs)
 
-module _ {J A S T : Type 0} (setup : J → T) (answers : T → ℕ → A → Type 0) (hands : List (Hand J A S)) (count : ℕ) where
-  abbrev none_of : Hand J A S → List (ℕ × A)
+module _ {J A S T : Type 0} (setup : J → T) (answers : T → ℕ → A → Type 0) (workers : List (Worker J A S)) (count : ℕ) where
+  abbrev none_of : Worker J A S → List (ℕ × A)
   none_of h = []
 
   -- a run that never began
-  pub performs_none : PerformsPart setup answers hands hands count
+  pub performs_none : PerformsPart setup answers workers workers count
   performs_none =
-      let lists : List (List (ℕ × A)) = map none_of hands in
+      let lists : List (List (ℕ × A)) = map none_of workers in
       let none : (f : List (ℕ × A) → ℕ) → f [] ≡ 0 → sum_by f lists ≡ 0 = λ f empty.
-      sum_left f (λ (h : Hand J A S). 0) none_of hands lists refl (λ h. empty) ∙ zeros hands in
-      let len : length lists ≡ length hands = length-map hands none_of in
+      sum_left f (λ (h : Worker J A S). 0) none_of workers lists refl (λ h. empty) ∙ zeros workers in
+      let len : length lists ≡ length workers = length-map workers none_of in
       record {
         lists = lists;
         many = len;
         right = λ k h l lt. (let in_l : k < length lists = omega arith in subst
-            (λ (xs : List (ℕ × A)). All (λ p. answers (setup (hand_job (get_or hands k h))) p.0 p.1) xs) (map_at none_of hands lists refl k h l in_l)
+            (λ (xs : List (ℕ × A)). All (λ p. answers (setup (worker_job (get_or workers k h))) p.0 p.1) xs) (map_at none_of workers lists refl k h l in_l)
             (λ i d low. absurd (omega arith)));
         shared = record {
           steps = [];
-          of_hands = All-nil (IsStepOf (length hands));
-          round = All-nil (IsDealtRound (length hands));
+          of_workers = All-nil (IsStepOf (length workers));
+          round = All-nil (IsDealtRound (length workers));
           dealt = λ test. omega arith;
           taken = λ test k lt. (let e = ap (λ (xs : List (ℕ × A)). count_by (λ p. test p.0) xs)
-              (map_at none_of hands lists refl k (pick hands k lt) [] (omega arith)) in omega arith);
+              (map_at none_of workers lists refl k (pick workers k lt) [] (omega arith)) in omega arith);
         };
         once = λ test. (let e = none (λ (l : List (ℕ × A)). count_by (λ p. test p.0) l) refl in omega arith);
-        counted = λ k h l lt fits. (let e = ap (λ (xs : List (ℕ × A)). length xs) (map_at none_of hands lists refl k h l (omega arith)) in omega arith);
+        counted = λ k h l lt fits. (let e = ap (λ (xs : List (ℕ × A)). length xs) (map_at none_of workers lists refl k h l (omega arith)) in omega arith);
         most = (let e = none (λ (l : List (ℕ × A)). length l) refl in omega arith);
         performed = λ fits. (let e = none (λ (l : List (ℕ × A)). length l) refl in omega arith);
       }

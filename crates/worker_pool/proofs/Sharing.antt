@@ -1,4 +1,4 @@
--- The moves at each deque make one list of steps of all hands.
+-- The moves at each deque make one list of steps of all workers.
 use Rattle.std.proofs.Common.{◌≡◌, ◌≢◌, ℕ, zero, suc, ◌+◌, ◌<◌, ◌≤◌, ◌%◌, ◌==◌, Bool, cond, ltb, List, [], ◌∷◌, ◌++◌, take, count_by, All, true, length}
 use Rattle.std.proofs.Common.{replicate, get_or, Some, refl, add-one, sym, ap, ◌∙◌, subst, arith}
 use mathlib.Core.Logic.{dite}
@@ -12,13 +12,13 @@ use Rattle.std.proofs.lemmas.List.Elements.{All-nil, All-cons, All-head, All-tai
 use Rattle.std.proofs.lemmas.List.Sums.{sum_by-cons, sum_by-append, sum_by_more}
 use Rattle.crossbeam_deque.specs.Handles.{worker_view}
 use Rattle.worker_pool.specs.declared.desk.Desk.{Desk}
-use Rattle.worker_pool.specs.Tickets.{Step, push, pop, steal, State, of_hand, added, taken_from, stepped, after, IsStepOf, IsDealtRound, number_of, pushed}
+use Rattle.worker_pool.specs.Tickets.{Step, push, pop, steal, State, of_worker, added, taken_from, stepped, after, IsStepOf, IsDealtRound, number_of, pushed}
 use Rattle.worker_pool.specs.Tickets.{count_below}
 use Rattle.worker_pool.specs.Tickets.{front_taken as front_to}
 use Rattle.worker_pool.specs.inside.Parts.{Taker, owner, thief, Move, add, Part, front_taken, moved, part_after, IsWhole}
 use Rattle.worker_pool.specs.inside.Parts.{take as take_by}
 use Rattle.worker_pool.specs.inside.Ring.{next_of, pushed_by, gone_by}
-use Rattle.worker_pool.specs.Hands.{answered_at, SharesAll, SharesPart}
+use Rattle.worker_pool.specs.Workers.{answered_at, SharesAll, SharesPart}
 use Rattle.worker_pool.proofs.Keeps.{balanced}
 use Rattle.worker_pool.proofs.Law.{lengths, law}
 use Rattle.worker_pool.proofs.Rings.{next_of-within, next_of-apart, next_zero, next_suc, prev_of}
@@ -45,24 +45,24 @@ module _ (test : ℕ → Bool) where
   here_push : (k j : ℕ) (xs : List ℕ) (x : ℕ) → here k j (count_by test (xs ++ x ∷ [])) ≡ here k j (count_by test xs) + here k j (count_by test (x ∷ []))
   here_push k j xs x = ap (here k j) (sum_by-append (λ y. cond (test y) 1 0) xs (x ∷ [])) ∙ here_plus k j (count_by test xs) (count_by test (x ∷ []))
 
-  -- one hand took a number more
-  took_more : (lists : List (List ℕ)) (h x j : ℕ) → h < length lists → count_by test (of_hand j (added h x lists)) ≡ count_by test (of_hand j lists) + here h j
+  -- one worker took a number more
+  took_more : (lists : List (List ℕ)) (h x j : ℕ) → h < length lists → count_by test (of_worker j (added h x lists)) ≡ count_by test (of_worker j lists) + here h j
       (count_by test (x ∷ []))
   took_more lists h x j within = dite (ℕ_discrete h j)
       (λ (e : h ≡ j).
-      let now : of_hand j (added h x lists) ≡ of_hand j lists ++ x ∷ [] = subst (λ (i : ℕ). of_hand i (added h x lists) ≡ of_hand i lists ++ x ∷ []) e
-      (get_or-set_same lists h (of_hand h lists ++ x ∷ []) [] within) in
-      omega (arith, ap (count_by test) now, sum_by-append (λ y. cond (test y) 1 0) (of_hand j lists) (x ∷ []), here_same h j (count_by test (x ∷ [])) e))
+      let now : of_worker j (added h x lists) ≡ of_worker j lists ++ x ∷ [] = subst (λ (i : ℕ). of_worker i (added h x lists) ≡ of_worker i lists ++ x ∷ []) e
+      (get_or-set_same lists h (of_worker h lists ++ x ∷ []) [] within) in
+      omega (arith, ap (count_by test) now, sum_by-append (λ y. cond (test y) 1 0) (of_worker j lists) (x ∷ []), here_same h j (count_by test (x ∷ [])) e))
       (λ (ne : h ≢ j).
-      let now : of_hand j (added h x lists) ≡ of_hand j lists = get_or-set_other lists h j (of_hand h lists ++ x ∷ []) [] (λ e. ne (sym e)) in
+      let now : of_worker j (added h x lists) ≡ of_worker j lists = get_or-set_other lists h j (of_worker h lists ++ x ∷ []) [] (λ e. ne (sym e)) in
       omega (arith, ap (count_by test) now, here_other h j (count_by test (x ∷ [])) ne))
 
--- Deque k alone has gone on, to what a part of it says: hand k took what was popped, and hand p what was stolen.
+-- Deque k alone has gone on, to what a part of it says: worker k took what was popped, and worker p what was stolen.
 record Grown (n k p : ℕ) (old new : State) (q : Part) : Type 0 where
   lens : (length new.deques ≡ n) × (length new.taken ≡ n)
-  deque : of_hand k new.deques ≡ q.held
-  others : (j : ℕ) → j ≢ k → of_hand j new.deques ≡ of_hand j old.deques
-  taken : (test : ℕ → Bool) (j : ℕ) → count_by test (of_hand j new.taken) ≡ count_by test (of_hand j old.taken) + here k j (count_by test q.popped) + here p j
+  deque : of_worker k new.deques ≡ q.held
+  others : (j : ℕ) → j ≢ k → of_worker j new.deques ≡ of_worker j old.deques
+  taken : (test : ℕ → Bool) (j : ℕ) → count_by test (of_worker j new.taken) ≡ count_by test (of_worker j old.taken) + here k j (count_by test q.popped) + here p j
       (count_by test q.stolen)
 
 module _ (n k p : ℕ) (in_k : k < n) (in_p : p < n) where
@@ -73,7 +73,7 @@ module _ (n k p : ℕ) (in_k : k < n) (in_p : p < n) where
       let l = g.lens.0 in
       let l' = g.lens.1 in
       record {
-        lens = (omega (arith, length-set s.deques k rest), omega (arith, length-set s.taken k (of_hand k s.taken ++ x ∷ [])));
+        lens = (omega (arith, length-set s.deques k rest), omega (arith, length-set s.taken k (of_worker k s.taken ++ x ∷ [])));
         deque = get_or-set_same s.deques k rest [] (omega arith);
         others = λ j ne. get_or-set_other s.deques k j rest [] ne ∙ g.others j ne;
         taken = λ test j. omega (arith, g.taken test j, took_more test s.taken k x j (omega arith), here_push test k j q.popped x);
@@ -86,7 +86,7 @@ module _ (n k p : ℕ) (in_k : k < n) (in_p : p < n) where
       let l = g.lens.0 in
       let l' = g.lens.1 in
       record {
-        lens = (omega (arith, length-set s.deques k rest), omega (arith, length-set s.taken p (of_hand p s.taken ++ x ∷ [])));
+        lens = (omega (arith, length-set s.deques k rest), omega (arith, length-set s.taken p (of_worker p s.taken ++ x ∷ [])));
         deque = get_or-set_same s.deques k rest [] (omega arith);
         others = λ j ne. get_or-set_other s.deques k j rest [] ne ∙ g.others j ne;
         taken = λ test j. omega (arith, g.taken test j, took_more test s.taken p x j (omega arith), here_push test p j q.stolen x);
@@ -104,9 +104,9 @@ module _ (n k p : ℕ) (in_k : k < n) (in_p : p < n) where
     grown_step (add x) old s q g =
         let l = g.lens.0 in
         record {
-          lens = (omega (arith, length-set s.deques k (of_hand k s.deques ++ x ∷ [])), g.lens.1);
-          deque = get_or-set_same s.deques k (of_hand k s.deques ++ x ∷ []) [] (omega arith) ∙ ap (λ (ys : List ℕ). ys ++ x ∷ []) g.deque;
-          others = λ j ne. get_or-set_other s.deques k j (of_hand k s.deques ++ x ∷ []) [] ne ∙ g.others j ne;
+          lens = (omega (arith, length-set s.deques k (of_worker k s.deques ++ x ∷ [])), g.lens.1);
+          deque = get_or-set_same s.deques k (of_worker k s.deques ++ x ∷ []) [] (omega arith) ∙ ap (λ (ys : List ℕ). ys ++ x ∷ []) g.deque;
+          others = λ j ne. get_or-set_other s.deques k j (of_worker k s.deques ++ x ∷ []) [] ne ∙ g.others j ne;
           taken = g.taken;
         }
     grown_step (take_by owner) old s q g =
@@ -119,7 +119,7 @@ module _ (n k p : ℕ) (in_k : k < n) (in_p : p < n) where
     steps_of [] steps = steps
     steps_of (m ∷ moves) steps = step_of m ∷ steps_of moves steps
 
-    grown : (moves : List Move) (steps : List Step) → of_hand k (after n steps).deques ≡ []
+    grown : (moves : List Move) (steps : List Step) → of_worker k (after n steps).deques ≡ []
         → Grown n k p (after n steps) (after n (steps_of moves steps)) (part_after moves)
     grown [] steps empty = record {
       lens = lengths n steps;
@@ -207,13 +207,13 @@ before_next m j f = dite (ℕ_discrete m j)
     ))
     (λ (ne : m ≢ j). omega (arith, before_other m j (f j) ne, here_other m j (f m) ne))
 
--- the hand before's number at a deque is the deque's number at the hand's next
+-- the worker before's number at a deque is the deque's number at the worker's next
 here_before : (n m p j x : ℕ) → next_of n p ≡ m → p < n → j < n → here p j x ≡ here m (next_of n j) x
 here_before n m p j x is in_p in_j = dite (ℕ_discrete p j)
     (λ (e : p ≡ j). here_same p j x e ∙ sym (here_same m (next_of n j) x (sym is ∙ ap (next_of n) e)))
     (λ (ne : p ≢ j). here_other p j x ne ∙ sym (here_other m (next_of n j) x (λ e. next_of-apart n p j in_p in_j ne (is ∙ e))))
 
-none_at : (n k : ℕ) → of_hand k (replicate n []) ≡ []
+none_at : (n k : ℕ) → of_worker k (replicate n []) ≡ []
 none_at zero k = refl
 none_at (suc n) zero = refl
 none_at (suc n) (suc k) = none_at n k
@@ -262,18 +262,18 @@ module _ (n : ℕ) (ds : List Desk) (d : Desk) (len : length ds ≡ n) where
   -- the steps at the first m deques
   record Upto (m : ℕ) : Type 0 where
     steps : List Step
-    of_hands : All (IsStepOf n) steps
+    of_workers : All (IsStepOf n) steps
     round : All (IsDealtRound n) steps
     numbers : (test : ℕ → Bool) → count_by test (pushed steps) ≡ sum_by (pushed_by test) (take m ds)
-    later : (k : ℕ) → m ≤ k → of_hand k (after n steps).deques ≡ []
-    empty : (k : ℕ) → k < m → ((test : ℕ → Bool) → pushed_by test (at k) ≡ gone_by test (at k)) → of_hand k (after n steps).deques ≡ []
-    taken : (test : ℕ → Bool) (j : ℕ) → j < n → count_by test (of_hand j (after n steps).taken) ≡ before m j (popped_at test j) + before m (next_of n j)
+    later : (k : ℕ) → m ≤ k → of_worker k (after n steps).deques ≡ []
+    empty : (k : ℕ) → k < m → ((test : ℕ → Bool) → pushed_by test (at k) ≡ gone_by test (at k)) → of_worker k (after n steps).deques ≡ []
+    taken : (test : ℕ → Bool) (j : ℕ) → j < n → count_by test (of_worker j (after n steps).taken) ≡ before m j (popped_at test j) + before m (next_of n j)
         (stolen_at test (next_of n j))
 
   begin : Upto 0
   begin = record {
     steps = [];
-    of_hands = All-nil (IsStepOf n);
+    of_workers = All-nil (IsStepOf n);
     round = All-nil (IsDealtRound n);
     numbers = λ test. refl;
     later = λ k le. none_at n k;
@@ -295,7 +295,7 @@ module _ (n : ℕ) (ds : List Desk) (d : Desk) (len : length ds ≡ n) where
       let q = part_after w.moves in
       record {
         steps = steps_of n m p.0 in_m p.1 t.step t.is t.of t.no_number t.round w.moves was.steps;
-        of_hands = all_of n m p.0 in_m p.1 t.step t.is t.of t.no_number t.round w.moves was.steps was.of_hands;
+        of_workers = all_of n m p.0 in_m p.1 t.step t.is t.of t.no_number t.round w.moves was.steps was.of_workers;
         round = all_round n m p.0 in_m p.1 t.step t.is t.of t.no_number t.round w.moves was.steps
             (All-same (λ x. x % n ≡ m) q.pushed (worker_view (at m).own).pushed w.pushed dealt) was.round;
         numbers = λ test. omega (
@@ -319,7 +319,7 @@ module _ (n : ℕ) (ds : List Desk) (d : Desk) (len : length ds ≡ n) where
               ap (count_by (λ _. true)) w.popped,
               ap (count_by (λ _. true)) w.stolen,
             ) in
-            ap (λ (i : ℕ). of_hand i (after n (steps_of n m p.0 in_m p.1 t.step t.is t.of t.no_number t.round w.moves was.steps)).deques) e ∙ g.deque
+            ap (λ (i : ℕ). of_worker i (after n (steps_of n m p.0 in_m p.1 t.step t.is t.of t.no_number t.round w.moves was.steps)).deques) e ∙ g.deque
             ∙ none_left q.held none)
             (λ (ne : k ≢ m). g.others k ne ∙ was.empty k (omega arith) done);
         taken = λ test j in_j. omega (
@@ -346,8 +346,8 @@ module _ (n : ℕ) (ds : List Desk) (d : Desk) (len : length ds ≡ n) where
     all_numbers : (test : ℕ → Bool) → sum_by (pushed_by test) (take n ds) ≡ sum_by (pushed_by test) ds
     all_numbers test = ap (sum_by (pushed_by test)) (take_all n ds (omega arith))
 
-    -- what hand k took, of its own deque and of the next
-    all_taken : (u : Upto n) (test : ℕ → Bool) (k : ℕ) → k < n → count_by test (of_hand k (after n u.steps).taken) ≡ popped_at test k + stolen_at test
+    -- what worker k took, of its own deque and of the next
+    all_taken : (u : Upto n) (test : ℕ → Bool) (k : ℕ) → k < n → count_by test (of_worker k (after n u.steps).taken) ≡ popped_at test k + stolen_at test
         (next_of n k)
     all_taken u test k in_k = omega (
       arith,
@@ -365,7 +365,7 @@ module _ (n : ℕ) (ds : List Desk) (d : Desk) (len : length ds ≡ n) where
         let len_q = lengths n u.steps in
         record {
           steps = u.steps;
-          of_hands = u.of_hands;
+          of_workers = u.of_workers;
           round = u.round;
           dealt = λ test. u.numbers test ∙ all_numbers test ∙ pushes test;
           empty = All-from_get_or (λ q. q ≡ []) (after n u.steps).deques [] (λ i lt. let in_i : i < n = omega (arith, len_q.0) in u.empty i in_i (done i in_i));
@@ -379,7 +379,7 @@ module _ (n : ℕ) (ds : List Desk) (d : Desk) (len : length ds ≡ n) where
         let u = upto n (omega arith) in
         record {
           steps = u.steps;
-          of_hands = u.of_hands;
+          of_workers = u.of_workers;
           round = u.round;
           dealt = λ test. (let a = u.numbers test in let b = all_numbers test in let e = pushes test in omega arith);
           taken = λ test k in_k. (let a = all_taken u test k in_k in let b = took test k in_k in omega arith);
@@ -420,7 +420,7 @@ module _ {A : Type 0} (n count : ℕ) (lists : List (List (ℕ × A))) (len : le
       let least : sum_by (λ (q : List ℕ). count_by test q) (after n s.steps).taken ≤ sum_by (answers_of test) lists =
       sums_le (λ (q : List ℕ). count_by test q) (answers_of test) (after n s.steps).taken lists [] [] (omega (arith, l.1))
       (λ k lt. let e = s.taken test k (omega arith) in omega arith) in
-      omega (arith, law test n s.steps s.of_hands, no_sum test (after n s.steps).deques s.empty, s.dealt test)
+      omega (arith, law test n s.steps s.of_workers, no_sum test (after n s.steps).deques s.empty, s.dealt test)
 
   pub once_of_part : SharesPart n count lists → (test : ℕ → Bool) → sum_by (answers_of test) lists ≤ count_below test count
   once_of_part s test =
@@ -428,4 +428,4 @@ module _ {A : Type 0} (n count : ℕ) (lists : List (List (ℕ × A))) (len : le
       let most : sum_by (answers_of test) lists ≤ sum_by (λ (q : List ℕ). count_by test q) (after n s.steps).taken =
       sums_le (answers_of test) (λ (q : List ℕ). count_by test q) lists (after n s.steps).taken [] [] (omega (arith, l.1))
       (λ k lt. s.taken test k (omega (arith, l.1))) in
-      omega (arith, law test n s.steps s.of_hands, s.dealt test)
+      omega (arith, law test n s.steps s.of_workers, s.dealt test)

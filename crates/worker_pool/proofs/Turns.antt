@@ -3,7 +3,7 @@ use Rattle.std.proofs.Common.{◌≡◌, ◌≢◌, ◌⊎◌, inl, inr, ◌∙�
 use Rattle.std.proofs.Common.{sym, ap, subst, arith}
 use mathlib.Core.Logic.{dite}
 use native.Mathlib.Decide.{ℕ_discrete}
-use Rattle.worker_pool.specs.declared.hand.Hand.{Hand}
+use Rattle.worker_pool.specs.declared.worker.Worker.{Worker}
 use Rattle.worker_pool.specs.declared.desk.Desk.{Desk}
 use Rattle.worker_pool.specs.declared.station.Station.{Station}
 use Rattle.worker_pool.specs.inside.Desks.{KeptBelow}
@@ -37,22 +37,22 @@ module _ {J A S T : Type 0} (setup : J → T) (limit : T → ℕ) (answers : T �
     counted = counted_on _ _ _ _ _ _ was.grows now.grows was.counted now.counted;
   }
 
-  -- .. to stations of the same hands and answers
+  -- .. to stations of the same workers and answers
   pub GoesOn-along : (s t s' t' : Station J A S) → SameWork s s' → SameWork t t' → GoesOn setup answers s t → GoesOn setup answers s' t'
   GoesOn-along s t s' t' same same' was = record {
-    stays = ap (λ (h : Hand J A S). setup h.job) same'.0 ∙ was.stays ∙ sym (ap (λ (h : Hand J A S). setup h.job) same.0);
+    stays = ap (λ (h : Worker J A S). setup h.job) same'.0 ∙ was.stays ∙ sym (ap (λ (h : Worker J A S). setup h.job) same.0);
     right = λ all.
-        subst (λ (xs : List (ℕ × A)). All (λ p. answers (setup s'.hand.job) p.0 p.1) xs) (sym same'.1)
-        (subst (λ (h : Hand J A S). All (λ p. answers (setup h.job) p.0 p.1) t.answers.items) (sym same.0)
-        (was.right (subst (λ (h : Hand J A S). All (λ p. answers (setup h.job) p.0 p.1) s.answers.items) same.0
-        (subst (λ (xs : List (ℕ × A)). All (λ p. answers (setup s'.hand.job) p.0 p.1) xs) same.1 all))));
+        subst (λ (xs : List (ℕ × A)). All (λ p. answers (setup s'.worker.job) p.0 p.1) xs) (sym same'.1)
+        (subst (λ (h : Worker J A S). All (λ p. answers (setup h.job) p.0 p.1) t.answers.items) (sym same.0)
+        (was.right (subst (λ (h : Worker J A S). All (λ p. answers (setup h.job) p.0 p.1) s.answers.items) same.0
+        (subst (λ (xs : List (ℕ × A)). All (λ p. answers (setup s'.worker.job) p.0 p.1) xs) same.1 all))));
     grows = (let a = was.grows in let b = ap (λ (xs : List (ℕ × A)). length xs) same.1 in let d = ap (λ (xs : List (ℕ × A)). length xs) same'.1 in omega arith);
     counted = λ fits.
         let b : length s'.answers.items ≡ length s.answers.items = ap (λ (xs : List (ℕ × A)). length xs) same.1 in
         let d : length t'.answers.items ≡ length t.answers.items = ap (λ (xs : List (ℕ × A)). length xs) same'.1 in
-        let h : s'.hand.performed ≡ s.hand.performed = ap (λ (x : Hand J A S). x.performed) same.0 in
-        let h' : t'.hand.performed ≡ t.hand.performed = ap (λ (x : Hand J A S). x.performed) same'.0 in
-        let e : t.hand.performed + length s.answers.items ≡ s.hand.performed + length t.answers.items = was.counted (omega arith) in
+        let h : s'.worker.performed ≡ s.worker.performed = ap (λ (x : Worker J A S). x.performed) same.0 in
+        let h' : t'.worker.performed ≡ t.worker.performed = ap (λ (x : Worker J A S). x.performed) same'.0 in
+        let e : t.worker.performed + length s.answers.items ≡ s.worker.performed + length t.answers.items = was.counted (omega arith) in
         omega arith;
   }
 
@@ -65,7 +65,7 @@ module _ {J A S T : Type 0} (setup : J → T) (limit : T → ℕ) (answers : T �
     kept = subst (λ (v : T). KeptBelow (limit v) f) was.on.stays now.kept;
   }
 
-  -- .. to stations of the same hands and answers
+  -- .. to stations of the same workers and answers
   pub Worked-along : (s t s' t' : Station J A S) (d e : Desk) → SameWork s s' → SameWork t t' → Worked setup limit answers s t d e
       → Worked setup limit answers s' t' d e
   Worked-along s t s' t' d e same same' was = record {
@@ -78,7 +78,7 @@ module _ {J A S T : Type 0} (setup : J → T) (limit : T → ℕ) (answers : T �
           (λ (xs : List (ℕ × A)). count_by (λ p. test p.0) xs) same'.1,
     );
     same = was.same;
-    kept = subst (λ (h : Hand J A S). KeptBelow (limit (setup h.job)) e) (sym same.0) was.kept;
+    kept = subst (λ (h : Worker J A S). KeptBelow (limit (setup h.job)) e) (sym same.0) was.kept;
   }
 
   -- where the two stations have these desks
@@ -87,7 +87,7 @@ module _ {J A S T : Type 0} (setup : J → T) (limit : T → ℕ) (answers : T �
   Worked-from s t o p d e is is' was = subst (λ (x : Option Desk). WorkedAt setup limit answers s t (Some d) x) is'
       (subst (λ (x : Option Desk). WorkedAt setup limit answers s t x p) is was)
 
-  -- .. of two stations that have these desks and the same hands and answers
+  -- .. of two stations that have these desks and the same workers and answers
   pub WorkedAt-from : (s t s' t' : Station J A S) (o p : Option Desk) (d e : Desk) → o ≡ Some d → p ≡ Some e → SameWork s s' → SameWork t t'
       → Worked setup limit answers s t d e → WorkedAt setup limit answers s' t' o p
   WorkedAt-from s t s' t' o p d e is is' same same' was =

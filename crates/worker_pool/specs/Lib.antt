@@ -1,3 +1,3 @@
-pub mod Hands
+pub mod Workers
 pub mod Tickets
 pub mod inside

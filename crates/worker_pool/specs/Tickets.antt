@@ -1,45 +1,45 @@
--- Tickets on the deques of any number of hands. A ticket is a number. Hand h pushes at the back of deque h before the work
--- begins, pops from its front, and steals from the front of the next hand's deque.
+-- Tickets on the deques of any number of workers. A ticket is a number. Worker h pushes at the back of deque h before the work
+-- begins, pops from its front, and steals from the front of the next worker's deque.
 use Rattle.std.specs.Prelude.{◌≡◌, ℕ, zero, suc, ◌+◌, ◌%◌, ◌<◌, Bool, cond, List, [], ◌∷◌, ◌++◌, replicate, slice_set, slice_index_or}
 
--- a step, by the hand that makes it
+-- a step, by the worker that makes it
 pub data Step : Type 0 where
   push : ℕ → ℕ → Step
   pop : ℕ → Step
   steal : ℕ → Step
 
--- what stands in each hand's deque, its front first, and what each hand took
+-- what stands in each worker's deque, its front first, and what each worker took
 pub record State : Type 0 where
   pub deques : List (List ℕ)
   pub taken : List (List ℕ)
 
--- what stands at a hand's place
-abbrev pub of_hand : ℕ → List (List ℕ) → List ℕ
-of_hand h lists = slice_index_or lists h []
+-- what stands at a worker's place
+abbrev pub of_worker : ℕ → List (List ℕ) → List ℕ
+of_worker h lists = slice_index_or lists h []
 
 -- .. with a number more at its back
 abbrev pub added : ℕ → ℕ → List (List ℕ) → List (List ℕ)
-added h x lists = slice_set lists h (of_hand h lists ++ x ∷ [])
+added h x lists = slice_set lists h (of_worker h lists ++ x ∷ [])
 
--- the front of deque d goes to hand h; at an empty deque nothing happens
+-- the front of deque d goes to worker h; at an empty deque nothing happens
 abbrev pub front_taken : ℕ → ℕ → List ℕ → State → State
 front_taken h d [] s = s
 front_taken h d (x ∷ rest) s = record { deques = slice_set s.deques d rest; taken = added h x s.taken }
 
 abbrev pub taken_from : ℕ → ℕ → State → State
-taken_from h d s = front_taken h d (of_hand d s.deques) s
+taken_from h d s = front_taken h d (of_worker d s.deques) s
 
 abbrev pub stepped : ℕ → Step → State → State
 stepped n (push h x) s = record { deques = added h x s.deques; taken = s.taken }
 stepped n (pop h) s = taken_from h h s
 stepped n (steal h) s = taken_from h ((h + 1) % n) s
 
--- n hands after a list of steps, of which the latest stands first
+-- n workers after a list of steps, of which the latest stands first
 abbrev pub after : ℕ → List Step → State
 after n [] = record { deques = replicate n []; taken = replicate n [] }
 after n (step ∷ earlier) = stepped n step (after n earlier)
 
--- a step of one of n hands; where there is one deque, there is none to steal from
+-- a step of one of n workers; where there is one deque, there is none to steal from
 abbrev pub IsStepOf : ℕ → Step → Type 0
 IsStepOf n (push h x) = h < n
 IsStepOf n (pop h) = h < n
@@ -55,7 +55,7 @@ abbrev pub pushed : List Step → List ℕ
 pushed [] = []
 pushed (step ∷ earlier) = number_of step ++ pushed earlier
 
--- tickets are dealt round: number x is pushed by hand `x mod n`
+-- tickets are dealt round: number x is pushed by worker `x mod n`
 abbrev pub IsDealtRound : ℕ → Step → Type 0
 IsDealtRound n (push h x) = x % n ≡ h
 IsDealtRound n (pop h) = Unit {0}

@@ -4,4 +4,4 @@ pub mod Parts
 pub mod Desks
 pub mod Ring
 pub mod Stations
-pub mod Rooms
+pub mod Buffers

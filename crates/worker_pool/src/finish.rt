@@ -18,7 +18,7 @@ fn perform_one<J: Job>(
     desk: &mut Desk,
     ticket: Ticket,
 ) -> Result<(), AllocError>
-    requires limit { ticket < J.limit (J.setup station.old.hand.job) }
+    requires limit { ticket < J.limit (J.setup station.old.worker.job) }
     ensures on { GoesOn J.setup J.answers station.old station.new }
     ensures desk { SameButKept desk.old desk.new }
     ensures once { desk.old.kept ≡ None → (test : ℕ → Bool)
@@ -40,7 +40,7 @@ fn perform_one<J: Job>(
 
 /// Performs the ticket that a worker kept.
 fn finish_kept<J: Job>(station: &mut Station<J>, desk: &mut Desk) -> Result<(), AllocError>
-    requires below { KeptBelow (J.limit (J.setup station.old.hand.job)) desk.old }
+    requires below { KeptBelow (J.limit (J.setup station.old.worker.job)) desk.old }
     ensures on { GoesOn J.setup J.answers station.old station.new }
     ensures desk { SameButKept desk.old desk.new }
     ensures once { (test : ℕ → Bool)
@@ -55,7 +55,7 @@ fn finish_kept<J: Job>(station: &mut Station<J>, desk: &mut Desk) -> Result<(), 
 
 /// One ticket of the deque. False where it is empty, and then all that was pushed was taken.
 fn finish_turn<J: Job>(station: &mut Station<J>, desk: &mut Desk) -> Result<bool, AllocError>
-    requires left { IsLeft (J.limit (J.setup station.old.hand.job)) desk.old }
+    requires left { IsLeft (J.limit (J.setup station.old.worker.job)) desk.old }
     requires kept { desk.old.kept ≡ None }
     ensures finishes { Finishes J.setup J.answers station.old station.new desk.old desk.new }
     ensures kept { OnOk result (desk.new.kept ≡ None) }
@@ -73,7 +73,7 @@ fn finish_deque<J: Job, R: Wait>(
     station: &mut Station<J>,
     desk: &mut Desk,
 ) -> Result<(), AllocError>
-    requires left { IsLeft (J.limit (J.setup station.old.hand.job)) desk.old }
+    requires left { IsLeft (J.limit (J.setup station.old.worker.job)) desk.old }
     requires kept { desk.old.kept ≡ None }
     ensures finishes { Finishes J.setup J.answers station.old station.new desk.old desk.new }
     ensures done { OnOk result (IsDone desk.new) }
@@ -92,7 +92,7 @@ fn finish_one<J: Job, R: Wait>(
     station: &mut Station<J>,
     desk: &mut Desk,
 ) -> Result<(), AllocError>
-    requires { IsLeft (J.limit (J.setup station.old.hand.job)) desk.old }
+    requires { IsLeft (J.limit (J.setup station.old.worker.job)) desk.old }
     ensures finishes { Finishes J.setup J.answers station.old station.new desk.old desk.new }
     ensures done { OnOk result (IsDone desk.new) }
 {
@@ -109,7 +109,7 @@ fn finish_at<J: Job, R: Wait>(
 ) -> Result<(), AllocError>
     requires within { (k < vec_len stations.old) × (vec_len desks.old ≡ vec_len stations.old) }
     requires left { (h : _) (d : Desk)
-        → IsLeft (J.limit (J.setup (slice_index_or stations.old.items k h).hand.job)) (slice_index_or desks.old.items k d) }
+        → IsLeft (J.limit (J.setup (slice_index_or stations.old.items k h).worker.job)) (slice_index_or desks.old.items k d) }
     ensures len { (vec_len stations.new ≡ vec_len stations.old) × (vec_len desks.new ≡ vec_len desks.old) }
     ensures here { (h : _) (d : Desk) → Finishes J.setup J.answers
         (slice_index_or stations.old.items k h) (slice_index_or stations.new.items k h)

@@ -1,11 +1,11 @@
-//! What a hand performs.
+//! What a worker performs.
 ghost use Rattle.std.specs.Prelude.{◌≡◌, ℕ, ◌<◌, IfOk};
 
 use std::alloc::AllocError;
 
 /// Performs the numbers below a limit, which its setup names.
 ///
-/// An answer is one value of setup and number, and the setup stays, so that it does not matter which hand performs a number, nor when.
+/// An answer is one value of setup and number, and the setup stays, so that it does not matter which worker performs a number, nor when.
 pub trait Job: Send + Drop {
     type Answer: Send + Drop;
 

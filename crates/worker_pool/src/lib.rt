@@ -1,24 +1,24 @@
-//! Tickets on stealing workers: each number below a count is performed once, by any number of hands.
+//! Tickets on stealing workers: each number below a count is performed once, by any number of workers.
 #![tactic(auto)]
 
 mod apart;
+mod buffers;
 mod desk;
 mod finish;
-mod hand;
 mod job;
 mod laws;
 mod pool;
 mod ring;
-mod room;
 mod rule;
 mod run;
 mod station;
 mod steps;
 mod ticket;
 mod work;
+mod worker;
 
-pub use hand::Hand;
 pub use job::Job;
 pub use laws::tickets_are_kept;
 pub use pool::{Gathered, PoolFault, run_all};
 pub use ticket::Ticket;
+pub use worker::Worker;

@@ -1,39 +1,39 @@
-//! Every ticket once, by any number of hands.
+//! Every ticket once, by any number of workers.
 ghost use Rattle.std.specs.Prelude.{◌≡◌, ℕ, ◌+◌, ◌<◌, ◌≤◌, ◌^◌, All, IfOk, IfErr, OnOk, MatchResult, map, vec_len};
 ghost use Rattle.std.specs.List.{sum_by};
-ghost use Rattle.worker_pool.specs.Hands.{hand_job, hand_performed, setups_of, AreCounted, AreRight, EachOnce, PerformsPart, SharesAll, SharesPart};
+ghost use Rattle.worker_pool.specs.Workers.{worker_job, worker_performed, setups_of, AreCounted, AreRight, EachOnce, PerformsPart, SharesAll, SharesPart};
 ghost use Rattle.worker_pool.specs.inside.Ring.{PushedOnce};
 ghost use Rattle.worker_pool.specs.inside.Stations.{answers_of, AreAtDesks, EachGoesOn};
-ghost use Rattle.worker_pool.specs.inside.Rooms.{HasPlaces};
+ghost use Rattle.worker_pool.specs.inside.Buffers.{HasPlaces};
 
+use crate::buffers::{Buffers, leave_all, seat_all};
 use crate::desk::Desk;
 use crate::finish::finish_all;
-use crate::hand::Hand;
 use crate::job::Job;
 use crate::ring::{absorb_all, settle_all};
-use crate::room::{Room, leave_all, seat_all};
 use crate::run::round;
 use crate::station::Station;
+use crate::worker::Worker;
 use std::alloc::{AllocError, Global};
 use std::sync::Wait;
 use std::thread::Threads;
 use work_gate::Gate;
 
-/// All hands, in their order, and for each the numbers that it performed with their answers.
+/// All workers, in their order, and for each the numbers that it performed with their answers.
 #[derive(Drop)]
 pub struct Gathered<J: Job> {
-    pub hands: Vec<Hand<J>>,
+    pub workers: Vec<Worker<J>>,
     pub answers: Vec<Vec<(u32, J::Answer)>>,
 }
 
-/// Want of memory. All hands come back, in their order; the answers that they gave are gone.
+/// Want of memory. All workers come back, in their order; the answers that they gave are gone.
 #[derive(Drop)]
 pub struct PoolFault<J: Job> {
-    pub hands: Vec<Hand<J>>,
+    pub workers: Vec<Worker<J>>,
 }
 
 /// Has the tickets at the desks performed: by each station in a thread of its own, and what they leave by the caller's thread.
-/// All deques and hands together are then in a state that steps of the hands lead to.
+/// All deques and workers together are then in a state that steps of the workers lead to.
 fn work_all<J: Job, G: Gate, R: Threads + Wait + Sync>(
     rt: &R,
     gate: &G,
@@ -57,65 +57,65 @@ fn work_all<J: Job, G: Gate, R: Threads + Wait + Sync>(
 
 /// Performs each number below `count` once, and gives the answers.
 ///
-/// Ticket i is dealt to hand `i mod n`, for n hands. Each hand works in a thread of its own: it takes from the front of its
-/// own deque, and then steals from the front of the next hand's, as the only thief there. It makes room for the answer,
-/// calls `arrive` with `Phase::Plans` and i, and performs ticket i. A thread that can't be started is done without. A hand
+/// Ticket i is dealt to worker `i mod n`, for n workers. Each worker works in a thread of its own: it takes from the front of its
+/// own deque, and then steals from the front of the next worker's, as the only thief there. It makes room for the answer,
+/// calls `arrive` with `Phase::Plans` and i, and performs ticket i. A thread that can't be started is done without. A worker
 /// that finds no memory keeps its ticket and leaves. After the joins the caller's thread performs what is left, without
 /// `arrive`.
 ///
 /// # Errors
 ///
 /// Want of memory alone: before the first ticket, or where the caller's thread finds none for a ticket that was left. All
-/// hands come back, and have counted what they performed; the answers are gone.
+/// workers come back, and have counted what they performed; the answers are gone.
 pub fn run_all<J: Job, G: Gate, R: Threads + Wait + Sync>(
     rt: &R,
     alloc: Global,
     gate: &G,
-    hands: Vec<Hand<J>>,
+    workers: Vec<Worker<J>>,
     count: u32,
 ) -> Result<Gathered<J>, PoolFault<J>>
-    requires some { 0 < vec_len hands }
-    requires limit { All (λ h. count ≤ J.limit (J.setup (hand_job h))) hands.items }
+    requires some { 0 < vec_len workers }
+    requires limit { All (λ h. count ≤ J.limit (J.setup (worker_job h))) workers.items }
 
-    // Each hand comes back with its setup.
-    ensures hands { MatchResult result (λ g. vec_len g.hands ≡ vec_len hands) (λ e. vec_len e.hands ≡ vec_len hands) }
+    // Each worker comes back with its setup.
+    ensures workers { MatchResult result (λ g. vec_len g.workers ≡ vec_len workers) (λ e. vec_len e.workers ≡ vec_len workers) }
     ensures setups { MatchResult result
-        (λ g. setups_of J.setup g.hands.items ≡ setups_of J.setup hands.items)
-        (λ e. setups_of J.setup e.hands.items ≡ setups_of J.setup hands.items) }
+        (λ g. setups_of J.setup g.workers.items ≡ setups_of J.setup workers.items)
+        (λ e. setups_of J.setup e.workers.items ≡ setups_of J.setup workers.items) }
 
-    // One list for each hand, of numbers with the answers that its setup gives. Over all lists each number below the
+    // One list for each worker, of numbers with the answers that its setup gives. Over all lists each number below the
     // count stands once.
-    ensures many { IfOk result (λ g. vec_len g.answers ≡ vec_len hands) }
-    ensures right { IfOk result (λ g. AreRight J.setup J.answers (vec_len hands) hands.items g.answers.items) }
+    ensures many { IfOk result (λ g. vec_len g.answers ≡ vec_len workers) }
+    ensures right { IfOk result (λ g. AreRight J.setup J.answers (vec_len workers) workers.items g.answers.items) }
     ensures once { IfOk result (λ g. EachOnce g.answers.items count) }
 
-    // After the joins all deques and hands together are where steps of the hands lead: ticket i was pushed by hand `i mod n`,
-    // all deques are empty, and each hand took just what it answered, by pops from its own deque and steals from the next.
-    ensures shared { IfOk result (λ g. SharesAll (vec_len hands) count (map (λ l. l.items) g.answers.items)) }
+    // After the joins all deques and workers together are where steps of the workers lead: ticket i was pushed by worker `i mod n`,
+    // all deques are empty, and each worker took just what it answered, by pops from its own deque and steals from the next.
+    ensures shared { IfOk result (λ g. SharesAll (vec_len workers) count (map (λ l. l.items) g.answers.items)) }
 
-    // What the hands count, where the counter does not saturate.
-    ensures counted { IfOk result (λ g. AreCounted (vec_len hands) hands.items g.hands.items g.answers.items) }
-    ensures performed { IfOk result (λ g. sum_by hand_performed hands.items + count < 2 ^ 64
-        → sum_by hand_performed g.hands.items ≡ sum_by hand_performed hands.items + count) }
+    // What the workers count, where the counter does not saturate.
+    ensures counted { IfOk result (λ g. AreCounted (vec_len workers) workers.items g.workers.items g.answers.items) }
+    ensures performed { IfOk result (λ g. sum_by worker_performed workers.items + count < 2 ^ 64
+        → sum_by worker_performed g.workers.items ≡ sum_by worker_performed workers.items + count) }
 
-    // A refused run has performed a part of the tickets, each at most once, and each hand counted just those that it performed.
-    ensures refused { IfErr result (λ e. PerformsPart J.setup J.answers hands.items e.hands.items count) }
+    // A refused run has performed a part of the tickets, each at most once, and each worker counted just those that it performed.
+    ensures refused { IfErr result (λ e. PerformsPart J.setup J.answers workers.items e.workers.items count) }
 {
-    let Ok(room) = Room::new(alloc, hands.len(), count) else {
-        return Err(PoolFault { hands });
+    let Ok(buffers) = Buffers::new(alloc, workers.len(), count) else {
+        return Err(PoolFault { workers });
     };
-    let Room {
+    let Buffers {
         desks,
         spare,
         stations,
-        hands: back,
+        workers: back,
         answers,
-    } = room;
-    let mut stations = seat_all(alloc, hands, stations);
+    } = buffers;
+    let mut stations = seat_all(alloc, workers, stations);
     let finished = work_all(rt, gate, &mut stations, desks, spare);
-    let (hands, answers) = leave_all(stations, back, answers);
+    let (workers, answers) = leave_all(stations, back, answers);
     match finished {
-        Ok(()) => Ok(Gathered { hands, answers }),
-        Err(_) => Err(PoolFault { hands }),
+        Ok(()) => Ok(Gathered { workers, answers }),
+        Err(_) => Err(PoolFault { workers }),
     }
 }

@@ -4,7 +4,7 @@ ghost use Rattle.worker_pool.specs.declared.desk.Desk.{Desk};
 ghost use Rattle.worker_pool.specs.inside.Desks.{IsReady};
 ghost use Rattle.worker_pool.specs.inside.Ring.{IsRing};
 ghost use Rattle.worker_pool.specs.inside.Stations.{AreReadyAt, EachDesk, EachWorked, EachWorkedAt, IsReadyAt, SameWork, WorkedAt};
-ghost use Rattle.worker_pool.specs.inside.Rooms.{HasPlaces};
+ghost use Rattle.worker_pool.specs.inside.Buffers.{HasPlaces};
 
 use crate::apart::for_each_apart;
 use crate::desk::Desk;
@@ -17,7 +17,7 @@ use work_gate::Gate;
 
 /// Each station works in a thread of its own, where one can be made: a single one in the caller's.
 #[tactic(auto, unfolding(crate::specs::inside::Apart::ChangesAll))]
-pub fn run_hands<J: Job, G: Gate, R: Threads + Wait + Sync>(
+pub fn run_workers<J: Job, G: Gate, R: Threads + Wait + Sync>(
     rt: &R,
     gate: &G,
     stations: &mut [Station<J>],
@@ -31,7 +31,7 @@ pub fn run_hands<J: Job, G: Gate, R: Threads + Wait + Sync>(
     for_each_apart(
         rt,
         &|station: &mut Station<J>|
-            requires { IsReadyAt (J.limit (J.setup station.old.hand.job)) station.old.desk }
+            requires { IsReadyAt (J.limit (J.setup station.old.worker.job)) station.old.desk }
             ensures { WorkedAt J.setup J.limit J.answers station.old station.new station.old.desk station.new.desk }
         { work(rt, gate, station) },
         stations,
@@ -48,7 +48,7 @@ pub fn run_vec<J: Job, G: Gate, R: Threads + Wait + Sync>(
     ensures worked { EachWorkedAt J.setup J.limit J.answers stations.old.items stations.new.items }
     ensures len { vec_len stations.new ≡ vec_len stations.old }
 {
-    run_hands(rt, gate, stations.as_mut_slice());
+    run_workers(rt, gate, stations.as_mut_slice());
 }
 
 fn lend_one<J: Job>(station: &mut Station<J>, desk: Desk)

@@ -1,29 +1,29 @@
-//! A hand at work.
+//! A worker at work.
 ghost use Rattle.std.specs.Prelude.{◌≡◌, ℕ, ◌+◌, ◌<◌, Bool, [], ◌∷◌, None, IfErr, OnOk, count_by, vec_len, vec_capacity};
-ghost use Rattle.worker_pool.specs.Hands.{hand_job};
+ghost use Rattle.worker_pool.specs.Workers.{worker_job};
 ghost use Rattle.worker_pool.specs.inside.Stations.{answered_by, GoesOn, SameWork};
 
 use crate::desk::Desk;
-use crate::hand::Hand;
 use crate::job::Job;
 use crate::ticket::Ticket;
+use crate::worker::Worker;
 use std::alloc::{AllocError, Global};
 
-/// A hand, the desk that it works at, and the answers that it gave in this run.
+/// A worker, the desk that it works at, and the answers that it gave in this run.
 #[derive(Drop)]
 pub struct Station<J: Job> {
-    pub hand: Hand<J>,
+    pub worker: Worker<J>,
     pub answers: Vec<(u32, J::Answer)>,
     pub desk: Option<Desk>,
 }
 
 impl<J: Job> Station<J> {
-    pub fn new(alloc: Global, hand: Hand<J>) -> Station<J>
-        ensures hand { result.hand ≡ hand }
+    pub fn new(alloc: Global, worker: Worker<J>) -> Station<J>
+        ensures worker { result.worker ≡ worker }
         ensures rest { (result.answers.items ≡ []) × (result.desk ≡ None) }
     {
         Station {
-            hand,
+            worker,
             answers: Vec::new(alloc),
             desk: None,
         }
@@ -39,7 +39,7 @@ impl<J: Job> Station<J> {
 
     /// Performs a ticket and keeps its answer. Where the job refuses, the ticket comes back, and nothing changed but the job, whose setup stays.
     pub fn perform(&mut self, ticket: Ticket) -> Result<(), Ticket>
-        requires limit { ticket < J.limit (J.setup (hand_job self.old.hand)) }
+        requires limit { ticket < J.limit (J.setup (worker_job self.old.worker)) }
         requires room { vec_len self.old.answers < vec_capacity self.old.answers }
         ensures on { GoesOn J.setup J.answers self.old self.new }
         ensures desk { self.new.desk ≡ self.old.desk }
@@ -47,7 +47,7 @@ impl<J: Job> Station<J> {
         ensures refused { IfErr result (λ back. (back ≡ ticket) × (self.new.answers.items ≡ self.old.answers.items)) }
     {
         let number = ticket.number();
-        match self.hand.perform(ticket) {
+        match self.worker.perform(ticket) {
             Ok(answer) => {
                 self.answers.push_reserved((number, answer));
                 Ok(())

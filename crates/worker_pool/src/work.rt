@@ -11,7 +11,7 @@ use work_gate::{Gate, Phase};
 
 /// Performs what the station's desk gives it. Where memory is refused, the ticket stays at the desk, and the station leaves.
 pub fn work<J: Job, G: Gate, R: Wait>(rt: &R, gate: &G, station: &mut Station<J>)
-    requires { IsReadyAt (J.limit (J.setup station.old.hand.job)) station.old.desk }
+    requires { IsReadyAt (J.limit (J.setup station.old.worker.job)) station.old.desk }
     ensures { WorkedAt J.setup J.limit J.answers station.old station.new station.old.desk station.new.desk }
 {
     let Some(mut desk) = station.desk.take() else {
@@ -23,7 +23,7 @@ pub fn work<J: Job, G: Gate, R: Wait>(rt: &R, gate: &G, station: &mut Station<J>
 
 // A function of its own, since a loop over a local desk loses its ghost fields.
 fn work_at<J: Job, G: Gate, R: Wait>(rt: &R, gate: &G, station: &mut Station<J>, desk: &mut Desk)
-    requires { IsReady (J.limit (J.setup station.old.hand.job)) desk.old }
+    requires { IsReady (J.limit (J.setup station.old.worker.job)) desk.old }
     ensures { Worked J.setup J.limit J.answers station.old station.new desk.old desk.new }
 {
     for _ in rt.forever() {
@@ -40,7 +40,7 @@ fn turn<J: Job, G: Gate, R: Wait>(
     station: &mut Station<J>,
     desk: &mut Desk,
 ) -> bool
-    requires { IsReady (J.limit (J.setup station.old.hand.job)) desk.old }
+    requires { IsReady (J.limit (J.setup station.old.worker.job)) desk.old }
     ensures worked { Worked J.setup J.limit J.answers station.old station.new desk.old desk.new }
     ensures going { IsTrue result → desk.new.kept ≡ None }
 {

@@ -1,4 +1,4 @@
-//! Hands that add 7 to each number.
+//! Workers that add 7 to each number.
 ghost use Rattle.std.specs.Prelude.{◌≡◌, ◌+◌, ◌^◌};
 
 use std::alloc::{AllocError, Global};
@@ -8,7 +8,7 @@ use std::sync::atomic::{AtomicU64, Ordering};
 use std::test::Fail;
 use std::thread::Threads;
 use work_gate::Gate;
-use worker_pool::{Gathered, Hand, Job, PoolFault, run_all};
+use worker_pool::{Gathered, Job, PoolFault, Worker, run_all};
 
 /// Nothing: what is added is always 7.
 pub struct Setup;
@@ -43,60 +43,65 @@ impl<'a> Job for Adder<'a> {
     }
 }
 
-/// So many hands, each of which refuses so often at first.
+/// So many workers, each of which refuses so often at first.
 pub fn adders<'a>(
     alloc: Global,
     calls: &'a AtomicU64,
     count: usize,
     refusals: u64,
-) -> Result<Vec<Hand<Adder<'a>>>, AllocError> {
-    let mut hands = Vec::new(alloc);
+) -> Result<Vec<Worker<Adder<'a>>>, AllocError> {
+    let mut workers = Vec::new(alloc);
     for _ in 0..count {
-        hands.push(Hand::new(Adder { calls, refusals }))?;
+        workers.push(Worker::new(Adder { calls, refusals }))?;
     }
-    Ok(hands)
+    Ok(workers)
 }
 
-/// One run of some hands.
+/// One run of some workers.
 pub fn run<'a, R: Threads + Wait + Sync, G: Gate>(
     rt: &R,
     alloc: Global,
     gate: &G,
-    hands: Vec<Hand<Adder<'a>>>,
+    workers: Vec<Worker<Adder<'a>>>,
     count: u32,
 ) -> Result<Gathered<Adder<'a>>, PoolFault<Adder<'a>>> {
-    if hands.is_empty() {
-        return Err(PoolFault { hands });
+    if workers.is_empty() {
+        return Err(PoolFault { workers });
     }
-    run_all(rt, alloc, gate, hands, count)
+    run_all(rt, alloc, gate, workers, count)
 }
 
-/// One run of some hands that isn't refused.
+/// One run of some workers that isn't refused.
 pub fn finished<'a, R: Threads + Wait + Sync, G: Gate>(
     rt: &R,
     alloc: Global,
     gate: &G,
-    hands: Vec<Hand<Adder<'a>>>,
+    workers: Vec<Worker<Adder<'a>>>,
     count: u32,
 ) -> Result<Gathered<Adder<'a>>, Fail> {
-    match run(rt, alloc, gate, hands, count) {
+    match run(rt, alloc, gate, workers, count) {
         Ok(done) => Ok(done),
         Err(_) => Err("a run is refused".into()),
     }
 }
 
-/// How many tickets the hands performed over all their runs.
-pub fn performed<J: Job>(hands: &[Hand<J>]) -> u64 {
+/// How many tickets the workers performed over all their runs.
+pub fn performed<J: Job>(workers: &[Worker<J>]) -> u64 {
     let mut all = 0u64;
-    for hand in hands.iter() {
-        all = all.saturating_add(hand.performed());
+    for worker in workers.iter() {
+        all = all.saturating_add(worker.performed());
     }
     all
 }
 
-/// Over all their runs the hands performed so many tickets, and their jobs did.
-pub fn have_performed<J: Job>(rt: &impl Abort, hands: &[Hand<J>], calls: &AtomicU64, count: u64) {
-    assert_eq!(rt; performed(hands), count);
+/// Over all their runs the workers performed so many tickets, and their jobs did.
+pub fn have_performed<J: Job>(
+    rt: &impl Abort,
+    workers: &[Worker<J>],
+    calls: &AtomicU64,
+    count: u64,
+) {
+    assert_eq!(rt; performed(workers), count);
     assert_eq!(rt; calls.load(Ordering::SeqCst), count);
 }
 

@@ -1,30 +1,30 @@
 ghost use Rattle.std.specs.Prelude.{◌≤◌};
 
 use crate::plain_rows::{is_found, needs_both};
-use ddmin_parallel::{Board, Card, CardFault, Core, Event, FaultSet, Probe};
+use ddmin_parallel::{Board, Core, Event, FaultSet, Probe, RequestFault, TestRequest};
 use std::alloc::{AllocError, Global};
 use std::process::Abort;
 
-/// The next card of a core, which is of this set.
+/// The next request of a core, which is of this set.
 fn taken(
     rt: &impl Abort,
     alloc: Global,
     core: &mut Core,
     ahead: bool,
     set: &[u32],
-) -> Result<Card, AllocError> {
-    let card = core.take(alloc, ahead)?.expect(rt, "a card of the core");
-    assert!(rt; card.set() == set);
-    Ok(card)
+) -> Result<TestRequest, AllocError> {
+    let request = core.take(alloc, ahead)?.expect(rt, "a request of the core");
+    assert!(rt; request.set() == set);
+    Ok(request)
 }
 
 /// Puts an answer, which a core takes.
-fn put(rt: &impl Abort, alloc: Global, core: &mut Core, card: Card, fails: bool) {
-    assert!(rt; core.put(alloc, card, fails).is_ok());
+fn put(rt: &impl Abort, alloc: Global, core: &mut Core, request: TestRequest, fails: bool) {
+    assert!(rt; core.put(alloc, request, fails).is_ok());
 }
 
-/// Whether a core has no card now.
-fn is_out_of_cards(alloc: Global, core: &mut Core, ahead: bool) -> Result<bool, AllocError> {
+/// Whether a core has no request now.
+fn is_out_of_requests(alloc: Global, core: &mut Core, ahead: bool) -> Result<bool, AllocError> {
     Ok(core.take(alloc, ahead)?.is_none())
 }
 
@@ -36,44 +36,44 @@ fn is_end(core: &Core, kept: &[u32], tests: u64) -> bool {
     }
 }
 
-/// Answers each card before the next is taken, and counts them.
-fn cards_of<P: Probe>(alloc: Global, probe: &mut P, core: &mut Core) -> Result<u64, AllocError> {
-    let mut cards = 0u64;
+/// Answers each request before the next is taken, and counts them.
+fn requests_of<P: Probe>(alloc: Global, probe: &mut P, core: &mut Core) -> Result<u64, AllocError> {
+    let mut requests = 0u64;
     for _ in 0..1000 {
-        let Some(card) = core.take(alloc, false)? else {
+        let Some(request) = core.take(alloc, false)? else {
             break;
         };
-        cards = cards.saturating_add(1);
-        let fails = probe.test(card.set())?;
-        if core.put(alloc, card, fails).is_err() {
+        requests = requests.saturating_add(1);
+        let fails = probe.test(request.set())?;
+        if core.put(alloc, request, fails).is_err() {
             return Err(AllocError);
         }
     }
-    Ok(cards)
+    Ok(requests)
 }
 
-/// A core hands out so many cards until it is finished, and has counted so many tests.
-fn has_cards(
+/// A core hands out so many requests until it is finished, and has counted so many tests.
+fn has_requests(
     rt: &impl Abort,
     alloc: Global,
     faults: u32,
     culprits: [u32; 2],
-    cards: u64,
+    requests: u64,
     tests: u64,
 ) -> Result<(), AllocError>
     requires { faults ≤ 4096 }
 {
     let mut core = Core::start(alloc, faults);
     let mut probe = needs_both(culprits[0], culprits[1]);
-    assert_eq!(rt; cards_of(alloc, &mut probe, &mut core)?, cards);
+    assert_eq!(rt; requests_of(alloc, &mut probe, &mut core)?, requests);
     assert!(rt; is_end(&core, &culprits, tests));
     Ok(())
 }
 
 #[test]
-fn cards_one_by_one(rt: HostRuntime) -> Result<(), AllocError> {
-    has_cards(&rt, rt.alloc(), 8, [2, 6], 17, 29)?;
-    has_cards(&rt, rt.alloc(), 3, [0, 2], 6, 10)
+fn requests_one_by_one(rt: HostRuntime) -> Result<(), AllocError> {
+    has_requests(&rt, rt.alloc(), 8, [2, 6], 17, 29)?;
+    has_requests(&rt, rt.alloc(), 3, [0, 2], 6, 10)
 }
 
 #[test]
@@ -81,7 +81,7 @@ fn no_fault(rt: HostRuntime) -> Result<(), AllocError> {
     let mut core = Core::start(rt.alloc(), 0);
     assert!(&rt; is_end(&core, &[], 0));
     for ahead in [false, true] {
-        assert!(&rt; is_out_of_cards(rt.alloc(), &mut core, ahead)?);
+        assert!(&rt; is_out_of_requests(rt.alloc(), &mut core, ahead)?);
     }
     Ok(())
 }
@@ -90,36 +90,36 @@ fn no_fault(rt: HostRuntime) -> Result<(), AllocError> {
 fn one_fault(rt: HostRuntime) -> Result<(), AllocError> {
     let mut core = Core::start(rt.alloc(), 1);
     assert!(&rt; core.finished().is_none());
-    let card = taken(&rt, rt.alloc(), &mut core, false, &[])?;
-    put(&rt, rt.alloc(), &mut core, card, false);
+    let request = taken(&rt, rt.alloc(), &mut core, false, &[])?;
+    put(&rt, rt.alloc(), &mut core, request, false);
     assert!(&rt; is_end(&core, &[0], 1));
     Ok(())
 }
 
 /// The empty set as a core's answer to a stranger hands it back.
-fn is_stranger(answer: Result<(), CardFault>) -> bool {
+fn is_stranger(answer: Result<(), RequestFault>) -> bool {
     match answer {
-        Err(CardFault::Stranger(card)) => card.set().is_empty(),
-        Err(CardFault::Memory(_)) | Ok(()) => false,
+        Err(RequestFault::Stranger(request)) => request.set().is_empty(),
+        Err(RequestFault::Memory(_)) | Ok(()) => false,
     }
 }
 
-/// The empty set's card, once it came back and was taken again.
-fn taken_again(rt: &impl Abort, alloc: Global, core: &mut Core) -> Result<Card, AllocError> {
-    let card = taken(rt, alloc, core, false, &[])?;
-    assert!(rt; is_out_of_cards(alloc, core, false)?);
-    core.give_back(card);
+/// The empty set's request, once it came back and was taken again.
+fn taken_again(rt: &impl Abort, alloc: Global, core: &mut Core) -> Result<TestRequest, AllocError> {
+    let request = taken(rt, alloc, core, false, &[])?;
+    assert!(rt; is_out_of_requests(alloc, core, false)?);
+    core.give_back(request);
     taken(rt, alloc, core, false, &[])
 }
 
 #[test]
-fn cards_that_come_back(rt: HostRuntime) -> Result<(), AllocError> {
+fn requests_that_come_back(rt: HostRuntime) -> Result<(), AllocError> {
     let mut core = Core::start(rt.alloc(), 2);
-    let card = taken_again(&rt, rt.alloc(), &mut core)?;
+    let request = taken_again(&rt, rt.alloc(), &mut core)?;
     core.recall();
-    assert!(&rt; is_stranger(core.put(rt.alloc(), card, true)));
+    assert!(&rt; is_stranger(core.put(rt.alloc(), request, true)));
     assert!(&rt; core.finished().is_none());
-    let _card = taken(&rt, rt.alloc(), &mut core, false, &[])?;
+    let _request = taken(&rt, rt.alloc(), &mut core, false, &[])?;
     Ok(())
 }
 
@@ -128,8 +128,8 @@ fn past_the_empty_set(rt: &impl Abort, alloc: Global, faults: u32) -> Result<Cor
     requires { faults ≤ 4096 }
 {
     let mut core = Core::start(alloc, faults);
-    let card = taken(rt, alloc, &mut core, false, &[])?;
-    put(rt, alloc, &mut core, card, false);
+    let request = taken(rt, alloc, &mut core, false, &[])?;
+    put(rt, alloc, &mut core, request, false);
     Ok(core)
 }
 
@@ -147,21 +147,23 @@ fn the_second_is_answered_first(rt: HostRuntime) -> Result<(), AllocError> {
     Ok(())
 }
 
-/// The next card of a board, which is of this set.
+/// The next request of a board, which is of this set.
 fn taken_of(
     rt: &impl Abort,
     alloc: Global,
     board: &mut Board,
     ahead: bool,
     set: &[u32],
-) -> Result<Card, AllocError> {
-    let card = board.take(alloc, ahead)?.expect(rt, "a card of the board");
-    assert!(rt; card.set() == set);
-    Ok(card)
+) -> Result<TestRequest, AllocError> {
+    let request = board
+        .take(alloc, ahead)?
+        .expect(rt, "a request of the board");
+    assert!(rt; request.set() == set);
+    Ok(request)
 }
 
-/// The board has no card now, also ahead, and so many events.
-fn has_no_card(
+/// The board has no request now, also ahead, and so many events.
+fn has_no_request(
     rt: &impl Abort,
     alloc: Global,
     board: &mut Board,
@@ -173,11 +175,15 @@ fn has_no_card(
 }
 
 /// Takes the empty set and, ahead of its answer, the two halves.
-fn halves_ahead(rt: &impl Abort, alloc: Global, board: &mut Board) -> Result<Card, AllocError> {
+fn halves_ahead(
+    rt: &impl Abort,
+    alloc: Global,
+    board: &mut Board,
+) -> Result<TestRequest, AllocError> {
     let empty = taken_of(rt, alloc, board, true, &[])?;
     let _first = taken_of(rt, alloc, board, true, &[0, 1, 2, 3])?;
     let _second = taken_of(rt, alloc, board, true, &[4, 5, 6, 7])?;
-    has_no_card(rt, alloc, board, 3)?;
+    has_no_request(rt, alloc, board, 3)?;
     Ok(empty)
 }
 
@@ -194,13 +200,13 @@ fn quarters_ahead(rt: &impl Abort, alloc: Global, board: &mut Board) -> Result<(
         &[0, 1, 2, 3, 4, 5],
     ];
     for set in quarters {
-        let _card = taken_of(rt, alloc, board, true, set)?;
+        let _request = taken_of(rt, alloc, board, true, set)?;
     }
-    has_no_card(rt, alloc, board, 12)
+    has_no_request(rt, alloc, board, 12)
 }
 
 #[test]
-fn cards_ahead(rt: HostRuntime) -> Result<(), AllocError> {
+fn requests_ahead(rt: HostRuntime) -> Result<(), AllocError> {
     let mut board = Board::start(rt.alloc(), 8);
     let empty = halves_ahead(&rt, rt.alloc(), &mut board)?;
     assert!(&rt; board.put(rt.alloc(), empty, false).is_ok());
@@ -212,7 +218,7 @@ fn ends_before_halves(
     rt: &impl Abort,
     alloc: Global,
     core: &mut Core,
-) -> Result<(Card, Card), AllocError> {
+) -> Result<(TestRequest, TestRequest), AllocError> {
     let empty = taken(rt, alloc, core, true, &[])?;
     let first = taken(rt, alloc, core, true, &[0, 1, 2, 3])?;
     let second = taken(rt, alloc, core, true, &[4, 5, 6, 7])?;
@@ -221,15 +227,15 @@ fn ends_before_halves(
     Ok((first, second))
 }
 
-/// The cards ahead are of use to nobody, and still end.
+/// The requests ahead are of use to nobody, and still end.
 #[test]
-fn cards_ahead_of_a_failing_empty_set(rt: HostRuntime) -> Result<(), AllocError> {
+fn requests_ahead_of_a_failing_empty_set(rt: HostRuntime) -> Result<(), AllocError> {
     let mut core = Core::start(rt.alloc(), 8);
     let (first, second) = ends_before_halves(&rt, rt.alloc(), &mut core)?;
     put(&rt, rt.alloc(), &mut core, first, true);
     core.give_back(second);
     assert!(&rt; is_end(&core, &[], 1));
-    assert!(&rt; is_out_of_cards(rt.alloc(), &mut core, true)?);
+    assert!(&rt; is_out_of_requests(rt.alloc(), &mut core, true)?);
     Ok(())
 }
 
@@ -242,7 +248,7 @@ fn pass_the_empty_set(rt: &impl Abort, alloc: Global, board: &mut Board) -> Resu
     Ok(())
 }
 
-/// A board of eight faults of which one card came back and one was recalled, and the empty set passes.
+/// A board of eight faults of which one request came back and one was recalled, and the empty set passes.
 fn board_of_events(rt: &impl Abort, alloc: Global) -> Result<Board, AllocError> {
     let mut board = Board::start(alloc, 8);
     pass_the_empty_set(rt, alloc, &mut board)?;
@@ -276,7 +282,7 @@ fn are_its_events(events: &[Event]) -> bool {
     }
 }
 
-/// One hand, which was told of the empty set alone.
+/// One worker, which was told of the empty set alone.
 fn told_of_the_empty_set(
     alloc: Global,
     fails: bool,
@@ -288,7 +294,7 @@ fn told_of_the_empty_set(
     Ok(pairs)
 }
 
-/// Whether a hand's answer to the empty set backs a board.
+/// Whether a worker's answer to the empty set backs a board.
 fn is_backed(alloc: Global, board: &Board, faults: u32, fails: bool) -> Result<bool, AllocError> {
     let pairs = told_of_the_empty_set(alloc, fails)?;
     Ok(board.backed(faults, pairs.as_slice()))

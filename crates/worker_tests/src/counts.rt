@@ -1,4 +1,4 @@
-//! What the hands of a run perform, and what they have performed over all their runs.
+//! What the workers of a run perform, and what they have performed over all their runs.
 
 use crate::adding::{Adder, adders, finished, have_performed, is_each_once};
 use std::alloc::Global;
@@ -8,43 +8,43 @@ use std::sync::atomic::AtomicU64;
 use std::test::Fail;
 use std::thread::Threads;
 use work_gate::FreeGate;
-use worker_pool::Hand;
+use worker_pool::Worker;
 
-/// One run of three hands that isn't refused, after which they have performed so many tickets over all their runs.
+/// One run of three workers that isn't refused, after which they have performed so many tickets over all their runs.
 pub fn ran<'a, R: Abort + Threads + Wait + Sync>(
     rt: &R,
     alloc: Global,
-    hands: Vec<Hand<Adder<'a>>>,
+    workers: Vec<Worker<Adder<'a>>>,
     calls: &AtomicU64,
     count: u32,
     performed: u64,
-) -> Result<Vec<Hand<Adder<'a>>>, Fail> {
-    let done = finished(rt, alloc, &FreeGate, hands, count)?;
+) -> Result<Vec<Worker<Adder<'a>>>, Fail> {
+    let done = finished(rt, alloc, &FreeGate, workers, count)?;
     assert_eq!(rt; done.answers.len(), 3);
     assert!(rt; is_each_once(alloc, &done.answers, count as usize)?);
-    have_performed(rt, &done.hands, calls, performed);
-    Ok(done.hands)
+    have_performed(rt, &done.workers, calls, performed);
+    Ok(done.workers)
 }
 
 // What the body every_worker_performs_every_plan fails, by the count of calls.
 #[test]
-fn three_runs_of_three_hands(rt: HostRuntime) -> Result<(), Fail> {
+fn three_runs_of_three_workers(rt: HostRuntime) -> Result<(), Fail> {
     let alloc = rt.alloc();
     let calls = AtomicU64::new(0);
-    let mut hands = adders(alloc, &calls, 3, 0)?;
+    let mut workers = adders(alloc, &calls, 3, 0)?;
     for (count, performed) in [(19, 19), (19, 38), (0, 38)] {
-        hands = ran(&rt, alloc, hands, &calls, count, performed)?;
+        workers = ran(&rt, alloc, workers, &calls, count, performed)?;
     }
     Ok(())
 }
 
-/// Whether each hand performed only tickets that were dealt to it or to the next hand.
+/// Whether each worker performed only tickets that were dealt to it or to the next worker.
 fn is_own_or_stolen(lists: &[Vec<(u32, u64)>]) -> bool {
     let n = lists.len().max(1);
-    for (hand, list) in lists.iter().enumerate() {
+    for (worker, list) in lists.iter().enumerate() {
         for pair in list.iter() {
             let dealt_to = pair.0 as usize % n;
-            if dealt_to != hand && dealt_to != (hand + 1) % n {
+            if dealt_to != worker && dealt_to != (worker + 1) % n {
                 return false;
             }
         }
@@ -53,16 +53,16 @@ fn is_own_or_stolen(lists: &[Vec<(u32, u64)>]) -> bool {
 }
 
 #[test]
-fn any_number_of_hands(rt: HostRuntime) -> Result<(), Fail> {
+fn any_number_of_workers(rt: HostRuntime) -> Result<(), Fail> {
     let alloc = rt.alloc();
     for count in [1usize, 2, 8, 64] {
         let calls = AtomicU64::new(0);
-        let hands = adders(alloc, &calls, count, 0)?;
-        let done = finished(&rt, alloc, &FreeGate, hands, 300)?;
-        assert_eq!(rt; done.hands.len(), count);
+        let workers = adders(alloc, &calls, count, 0)?;
+        let done = finished(&rt, alloc, &FreeGate, workers, 300)?;
+        assert_eq!(rt; done.workers.len(), count);
         assert!(rt; is_each_once(alloc, &done.answers, 300)?);
         assert!(rt; is_own_or_stolen(&done.answers));
-        have_performed(&rt, &done.hands, &calls, 300);
+        have_performed(&rt, &done.workers, &calls, 300);
     }
     Ok(())
 }

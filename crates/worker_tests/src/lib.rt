@@ -1,4 +1,4 @@
-//! Tests of what workers share, the tickets of a run and the cards of a reduction: which of them performs what, what a refusal leaves, that
+//! Tests of what workers share, the tickets of a run and the requests of a reduction: which of them performs what, what a refusal leaves, that
 //! they work at the same time, and rows that were worked out by hand.
 #![tactic(auto)]
 
@@ -8,10 +8,6 @@ mod adding;
 mod core_rows;
 #[cfg(test)]
 mod counts;
-#[cfg(test)]
-mod hand_rows;
-#[cfg(test)]
-mod hands;
 #[cfg(test)]
 mod made;
 #[cfg(test)]
@@ -24,3 +20,7 @@ mod probes;
 mod refusals;
 #[cfg(test)]
 mod small;
+#[cfg(test)]
+mod worker_rows;
+#[cfg(test)]
+mod workers;

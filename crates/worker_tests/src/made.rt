@@ -1,8 +1,8 @@
 ghost use Rattle.std.specs.Prelude.{◌≡◌, ◌<◌, ◌%◌, nat_eq, IfOk};
 ghost use Rattle.std.specs.List.{list_any, list_all, count_by};
 
-use crate::hands::Twin;
 use crate::probes::has;
+use crate::workers::Twin;
 use ddmin_parallel::Probe;
 use std::alloc::{AllocError, Global};
 

@@ -1,4 +1,4 @@
-//! Hands that wait for one another, at the gate and inside their jobs.
+//! Workers that wait for one another, at the gate and inside their jobs.
 ghost use Rattle.std.specs.Prelude.{◌≡◌, ◌+◌, ◌^◌};
 
 use crate::adding::{Setup, adders, finished, is_each_once, performed};
@@ -11,7 +11,7 @@ use std::test::Fail;
 use std::thread::Threads;
 use target_checks::comes_to;
 use work_gate::{FreeGate, Gate, Phase};
-use worker_pool::{Gathered, Hand, Job, run_all};
+use worker_pool::{Gathered, Job, Worker, run_all};
 
 /// Raises its own flag and waits for the other. Counts the waits in vain.
 fn meet<C: Clock>(clock: &C, mine: &AtomicU64, other: &AtomicU64, limits: &AtomicU64) {
@@ -50,9 +50,9 @@ fn have_met(rt: &impl Abort, one: &AtomicU64, two: &AtomicU64, limits: &AtomicU6
     assert_eq!(rt; limits.load(Ordering::SeqCst), 0);
 }
 
-// What the bodies all_work_on_one_thread and every_hand_leaves_at_once fail: nobody else comes to the gate.
+// What the bodies all_work_on_one_thread and every_worker_leaves_at_once fail: nobody else comes to the gate.
 #[test]
-fn two_hands_meet_at_the_gate(rt: HostRuntime) -> Result<(), Fail> {
+fn two_workers_meet_at_the_gate(rt: HostRuntime) -> Result<(), Fail> {
     let calls = AtomicU64::new(0);
     let gate = Meeting {
         clock: &rt,
@@ -60,8 +60,8 @@ fn two_hands_meet_at_the_gate(rt: HostRuntime) -> Result<(), Fail> {
         two: AtomicU64::new(0),
         limits: AtomicU64::new(0),
     };
-    let hands = adders(rt.alloc(), &calls, 2, 0)?;
-    let done = finished(&rt, rt.alloc(), &gate, hands, 19)?;
+    let workers = adders(rt.alloc(), &calls, 2, 0)?;
+    let done = finished(&rt, rt.alloc(), &gate, workers, 19)?;
     assert!(rt; is_each_once(rt.alloc(), &done.answers, 19)?);
     have_met(&rt, &gate.one, &gate.two, &gate.limits);
     Ok(())
@@ -99,17 +99,17 @@ impl<'a, C: Clock + Sync> Job for Meeter<'a, C> {
     }
 }
 
-/// Two hands, each of which meets the other at its first ticket.
+/// Two workers, each of which meets the other at its first ticket.
 fn meeters<'a, C: Clock + Sync>(
     clock: &'a C,
     alloc: Global,
     left: &'a AtomicU64,
     right: &'a AtomicU64,
     limits: &'a AtomicU64,
-) -> Result<Vec<Hand<Meeter<'a, C>>>, AllocError> {
-    let mut hands = Vec::new(alloc);
+) -> Result<Vec<Worker<Meeter<'a, C>>>, AllocError> {
+    let mut workers = Vec::new(alloc);
     for (mine, other) in [(left, right), (right, left)] {
-        hands.push(Hand::new(Meeter {
+        workers.push(Worker::new(Meeter {
             clock,
             mine,
             other,
@@ -117,7 +117,7 @@ fn meeters<'a, C: Clock + Sync>(
             met: false,
         }))?;
     }
-    Ok(hands)
+    Ok(workers)
 }
 
 /// One run of them.
@@ -128,17 +128,17 @@ fn run_meeters<'a, R: Threads + Wait + Clock + Sync>(
     right: &'a AtomicU64,
     limits: &'a AtomicU64,
 ) -> Result<Gathered<Meeter<'a, R>>, AllocError> {
-    let hands = meeters(rt, alloc, left, right, limits)?;
-    if hands.is_empty() {
+    let workers = meeters(rt, alloc, left, right, limits)?;
+    if workers.is_empty() {
         return Err(AllocError);
     }
-    match run_all(rt, alloc, &FreeGate, hands, 19) {
+    match run_all(rt, alloc, &FreeGate, workers, 19) {
         Ok(done) => Ok(done),
         Err(_) => Err(AllocError),
     }
 }
 
-// What the bodies all_work_on_one_thread and every_hand_leaves_at_once fail, also where they go round the gate.
+// What the bodies all_work_on_one_thread and every_worker_leaves_at_once fail, also where they go round the gate.
 #[test]
 fn two_jobs_meet_inside_perform(rt: HostRuntime) -> Result<(), Fail> {
     let left = AtomicU64::new(0);
@@ -146,7 +146,7 @@ fn two_jobs_meet_inside_perform(rt: HostRuntime) -> Result<(), Fail> {
     let limits = AtomicU64::new(0);
     let done = run_meeters(&rt, rt.alloc(), &left, &right, &limits)?;
     assert!(rt; is_each_once(rt.alloc(), &done.answers, 19)?);
-    assert_eq!(rt; performed(&done.hands), 19);
+    assert_eq!(rt; performed(&done.workers), 19);
     have_met(&rt, &left, &right, &limits);
     Ok(())
 }

@@ -1,7 +1,7 @@
 ghost use Rattle.std.specs.Prelude.{◌≡◌, ◌%◌, ◌&&◌, ◌||◌, nat_eq, length, true, IfOk};
 ghost use Rattle.std.specs.List.{list_any};
 
-use crate::hands::Twin;
+use crate::workers::Twin;
 use ddmin_parallel::Probe;
 use std::alloc::{AllocError, Global};
 

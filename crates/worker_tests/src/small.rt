@@ -1,4 +1,4 @@
-//! Hands that run the plans of the small workload: the contents `old`, replaced by the chunks `ne` and `w`.
+//! Workers that run the plans of the small workload: the contents `old`, replaced by the chunks `ne` and `w`.
 ghost use Rattle.std.specs.Prelude.{◌^◌, ⊤};
 
 use crate::adding::{Setup, have_performed};
@@ -6,7 +6,7 @@ use campaign_given::CampaignSettings;
 use campaign_plans::CampaignPlans;
 use file_replace::{Replace, Replacements, Variant};
 use plan_gen::{PlanList, PlanSettings, by_census, plans};
-use result_book::{Course, Numbered};
+use result_book::{Numbered, RunInput};
 use std::alloc::{AllocError, Global};
 use std::process::Abort;
 use std::sync::Wait;
@@ -16,13 +16,13 @@ use std::thread::Threads;
 use target_checks::small_workload;
 use target_trait::{Target, Verdict};
 use work_gate::FreeGate;
-use worker_pool::{Gathered, Hand, Job, run_all};
+use worker_pool::{Gathered, Job, Worker, run_all};
 
-/// Runs the plans of a course on a target of its own, and counts its calls.
+/// Runs the plans of an input on a target of its own, and counts its calls.
 #[derive(Drop)]
 struct Runner<'a> {
     target: Replace,
-    course: &'a Course<'a, Replace>,
+    input: &'a RunInput<'a, Replace>,
     calls: &'a AtomicU64,
     alloc: Global,
 }
@@ -41,11 +41,11 @@ impl<'a> Job for Runner<'a> {
     ghost becomes = { λ _ _ _. Unit {0} };
 
     fn perform(&mut self, number: u32) -> Result<Verdict, AllocError> {
-        if number as usize >= self.course.plans.len() {
+        if number as usize >= self.input.plans.len() {
             return Err(AllocError);
         }
         self.calls.fetch_add(1, Ordering::SeqCst);
-        let result = Numbered::run(self.alloc, &mut self.target, self.course, number)?;
+        let result = Numbered::run(self.alloc, &mut self.target, self.input, number)?;
         Ok(result.verdict())
     }
 }
@@ -71,35 +71,35 @@ fn settings(alloc: Global) -> CampaignSettings {
     settings
 }
 
-/// Three hands, each with a target of its own.
-fn three_hands<'a>(
+/// Three workers, each with a target of its own.
+fn three_workers<'a>(
     alloc: Global,
-    course: &'a Course<'a, Replace>,
+    input: &'a RunInput<'a, Replace>,
     calls: &'a AtomicU64,
-) -> Result<Vec<Hand<Runner<'a>>>, AllocError> {
-    let mut hands = Vec::new(alloc);
+) -> Result<Vec<Worker<Runner<'a>>>, AllocError> {
+    let mut workers = Vec::new(alloc);
     for _ in 0..3u32 {
-        hands.push(Hand::new(Runner {
+        workers.push(Worker::new(Runner {
             target: Replace::new(alloc, Variant::Sound),
-            course,
+            input,
             calls,
             alloc,
         }))?;
     }
-    Ok(hands)
+    Ok(workers)
 }
 
 /// One run that isn't refused.
 fn run<'a, R: Threads + Wait + Sync>(
     rt: &R,
     alloc: Global,
-    hands: Vec<Hand<Runner<'a>>>,
+    workers: Vec<Worker<Runner<'a>>>,
     count: u32,
 ) -> Result<Gathered<Runner<'a>>, Fail> {
-    if hands.is_empty() {
-        return Err("no hands".into());
+    if workers.is_empty() {
+        return Err("no workers".into());
     }
-    match run_all(rt, alloc, &FreeGate, hands, count) {
+    match run_all(rt, alloc, &FreeGate, workers, count) {
         Ok(done) => Ok(done),
         Err(_) => Err("a run is refused".into()),
     }
@@ -126,49 +126,49 @@ fn passes_each_once(lists: &[Vec<(u32, Verdict)>], count: u32) -> bool {
     answers == count as usize && (0..count).all(|number| times_passed(lists, number) == 1)
 }
 
-/// One run of three hands, after which they have performed so many tickets over all their runs.
+/// One run of three workers, after which they have performed so many tickets over all their runs.
 fn ran<'a, R: Threads + Wait + Abort + Sync>(
     rt: &R,
     alloc: Global,
-    hands: Vec<Hand<Runner<'a>>>,
+    workers: Vec<Worker<Runner<'a>>>,
     calls: &AtomicU64,
     count: u32,
     performed: u64,
-) -> Result<Vec<Hand<Runner<'a>>>, Fail> {
-    let done = run(rt, alloc, hands, count)?;
+) -> Result<Vec<Worker<Runner<'a>>>, Fail> {
+    let done = run(rt, alloc, workers, count)?;
     assert_eq!(rt; done.answers.len(), 3);
     assert!(rt; passes_each_once(&done.answers, count));
-    have_performed(rt, &done.hands, calls, performed);
-    Ok(done.hands)
+    have_performed(rt, &done.workers, calls, performed);
+    Ok(done.workers)
 }
 
-/// Three runs of three hands, with what they have performed by then.
+/// Three runs of three workers, with what they have performed by then.
 fn are_run<R: Threads + Wait + Abort + Sync>(
     rt: &R,
     alloc: Global,
-    course: &Course<'_, Replace>,
+    input: &RunInput<'_, Replace>,
 ) -> Result<(), Fail> {
     let calls = AtomicU64::new(0);
-    let mut hands = three_hands(alloc, course, &calls)?;
+    let mut workers = three_workers(alloc, input, &calls)?;
     for (count, performed) in [(19, 19), (19, 38), (0, 38)] {
-        hands = ran(rt, alloc, hands, &calls, count, performed)?;
+        workers = ran(rt, alloc, workers, &calls, count, performed)?;
     }
     Ok(())
 }
 
 // What the body every_worker_performs_every_plan fails: each of its workers calls its job for every number.
 #[test]
-fn three_hands_twice_on_the_small_workload(rt: HostRuntime) -> Result<(), Fail> {
+fn three_workers_twice_on_the_small_workload(rt: HostRuntime) -> Result<(), Fail> {
     let alloc = rt.alloc();
     let work = small_workload(alloc)?;
     let listed = plans_of(alloc, &work)?;
     let plans = CampaignPlans::by_census(&listed);
     assert_eq!(rt; plans.len(), 19);
     let settings = settings(alloc);
-    let course = Course {
+    let input = RunInput {
         workload: &work,
         settings: &settings,
         plans: &plans,
     };
-    are_run(&rt, alloc, &course)
+    are_run(&rt, alloc, &input)
 }

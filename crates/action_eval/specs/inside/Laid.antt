@@ -1,9 +1,9 @@
--- How a rigging keeps its scenario: the terms of all points one after another, and how many of them each point has.
+-- How a fault table keeps its scenario: the terms of all points one after another, and how many of them each point has.
 use Rattle.std.specs.Prelude.{ℕ, zero, suc, ◌+◌, ◌≤◌, List, [], ◌∷◌, ◌++◌, length, take, drop}
 use Rattle.scenario_values.specs.declared.term.Term.{Term}
 use Rattle.scenario_values.specs.Scenario.{Entries}
 use Rattle.action_eval.specs.declared.rig.Rig.{Rig}
-use Rattle.action_eval.specs.Rigging.{chain_from, entry}
+use Rattle.action_eval.specs.RiggedScenario.{chain_from, entry}
 
 -- the entries of points of which each has so many of the terms
 abbrev pub laid : List (List ℕ) → List ℕ → List Term → Entries

@@ -11,7 +11,7 @@ use Rattle.action_eval.specs.inside.Session.{AreSpans, found_of, head_of, left_c
 -- the scenario that a session's hits are answered by
 abbrev pub faults_of : Faults → Entries
 faults_of (Written scenario) = scenario.now
-faults_of (Rigged rigging) = rigging.now.scenario
+faults_of (Rigged table) = table.now.scenario
 
 -- the run that a session stands for, of what it holds
 abbrev pub run_of : Faults → List (List ℕ) → Drawn → ℕ → List ℕ → Run

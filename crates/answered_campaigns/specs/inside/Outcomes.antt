@@ -14,7 +14,7 @@ use Rattle.answer_text.specs.Runs.{told_in}
 use Rattle.answered_runs.specs.Answered.{Answered, known_plans}
 use Rattle.answered_runs.specs.Components.{AgreesWithRuns, IsComponent}
 use Rattle.campaign_core.specs.Findings.{finding}
-use Rattle.outside_campaign.specs.Asked.{known_failures, open_cards, open_plans}
+use Rattle.outside_campaign.specs.Asked.{known_failures, open_requests, open_plans}
 use Rattle.outside_campaign.specs.Outside.{Components, EachAgrees, say_each}
 use Rattle.grown_runs.specs.GrownRuns.{cause_at, over}
 use Rattle.outside_grown.specs.Causes.{open_scenarios}
@@ -41,7 +41,7 @@ use Rattle.answered_campaigns.specs.declared.candidates.Outcome.TheVariants as o
 
 -- the open candidates of the reductions of the first failures known
 abbrev pub open_candidates : Answered → ℕ → List Entries → List Entries
-open_candidates a depth plans = open_cards (known a depth) plans (known_failures (known a depth) plans)
+open_candidates a depth plans = open_requests (known a depth) plans (known_failures (known a depth) plans)
 
 -- what is told where nothing is open: the first failures as each family of components tells them that agrees with what is known, and the causes
 pub record IsTold (a : Answered) (depth : ℕ) (plans : List Entries) (grew : List (List Rig)) (told : Told) : Type 0 where
@@ -55,8 +55,8 @@ pub record IsTold (a : Answered) (depth : ℕ) (plans : List Entries) (grew : Li
 
 abbrev pub IsOutcome : Answered → ℕ → List Entries → List (List Rig) → Outcome → Type 0
 IsOutcome a depth plans grew (outcome.Told told) = IsTold a depth plans grew told
-IsOutcome a depth plans grew (outcome.Open cards) =
-    (0 < length cards.items) × (cards.items ≡ open_candidates a depth plans ++ open_scenarios a depth grew)
+IsOutcome a depth plans grew (outcome.Open requests) =
+    (0 < length requests.items) × (requests.items ≡ open_candidates a depth plans ++ open_scenarios a depth grew)
 
 -- the lists of a campaign with a depth, of whose plans that grew each is answered
 pub record AreToldLists (a : Answered) (depth : ℕ) (asked : Asked) (lists : GrownLists) : Type 0 where
@@ -96,9 +96,9 @@ IsOpenPlan known plans why = ⊥
 
 -- one of these, of which there are some
 abbrev pub IsFirstOf : List Entries → QuestionFault → Type 0
-IsFirstOf cards (fault.Outside (refusal.NotAnswered t)) = Contains cards t
-IsFirstOf cards (fault.Outside (refusal.Campaign campaign.Memory)) = cards ≡ []
-IsFirstOf cards why = ⊥
+IsFirstOf requests (fault.Outside (refusal.NotAnswered t)) = Contains requests t
+IsFirstOf requests (fault.Outside (refusal.Campaign campaign.Memory)) = requests ≡ []
+IsFirstOf requests why = ⊥
 
 -- the counts of the run without faults, of each component that agrees
 pub record IsCleanCensus (a : Answered) (counts : List ℕ) : Type 0 where

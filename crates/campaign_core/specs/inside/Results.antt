@@ -1,4 +1,4 @@
--- What the plans of a course come to; the private contracts cite it.
+-- What the plans of an input come to; the private contracts cite it.
 use Rattle.std.specs.Prelude.{◌≡◌, ℕ, List}
 use Rattle.scenario_values.specs.Scenario.{Entries}
 use Rattle.target_trait.specs.declared.judgement.Verdict.{Verdict}

@@ -40,7 +40,7 @@ IsAdvanced known p (Some stage) place = (position_of stage ≡ furthest known p)
 
 -- ---- the place from which a round may have open candidates
 
--- no card can be made of the set: it is known to pass, or it is out
+-- no request can be made of the set: it is known to pass, or it is out
 abbrev pub is_shut : Answers → (List ℕ → Bool) → List ℕ → Bool
 is_shut known out s = elim (known s) [ None ↦ out s | Some fails ↦ not fails ]
 
@@ -78,12 +78,12 @@ IsScan known out p (scans.Open s place) = (first_open known out (round_at p) ≡
 IsScan known out p (scans.Fails s place) = (first_open known out (round_at p) ≡ None) × IsShutBelow known out p place × Leads known p (Some s)
 IsScan known out p (scans.Shut place) = (first_open known out (round_at p) ≡ None) × IsShutBelow known out p place × Leads known p None
 
--- what is out once a card is handed out, if one is
+-- what is out once a request is handed out, if one is
 abbrev pub out_after : List (List ℕ) → Option (List ℕ) → List (List ℕ)
 out_after out None = out
 out_after out (Some s) = out ++ s ∷ []
 
--- the card that comes next at a position
+-- the request that comes next at a position
 abbrev pub next_at : Answers → (List ℕ → Bool) → Position → Bool → Option (List ℕ)
 next_at known out p ahead = or_else (first_open known out (round_at p)) (elim ahead [ true ↦ first_open known out (next_round known p) | false ↦ None ])
 
@@ -104,12 +104,12 @@ abbrev pub stage_after : Stage → Option Stage → Stage
 stage_after stage None = stage
 stage_after stage (Some next) = next
 
--- a card of the round one further, if there is one, and where the search for the one after it begins
+-- a request of the round one further, if there is one, and where the search for the one after it begins
 pub record IsFurther (known : Answers) (out : List (List ℕ)) (p : Position) (o : Option (List ℕ)) (place : ℕ) : Type 0 where
-  pub card : o ≡ first_open known (is_among out) (next_round known p)
+  pub request : o ≡ first_open known (is_among out) (next_round known p)
   pub shut : IsShutBelow known (is_among (out_after out o)) (onward known p) place
 
--- the card that comes next, if there is one, and the cursor for the one after it
+-- the request that comes next, if there is one, and the cursor for the one after it
 pub record IsOpened (known : Answers) (out : List (List ℕ)) (p : Position) (ahead : Bool) (o : Option (List ℕ)) (cursor : Cursor) : Type 0 where
-  pub card : o ≡ next_at known (is_among out) p ahead
+  pub request : o ≡ next_at known (is_among out) p ahead
   pub reached : IsReached known (is_among (out_after out o)) p cursor

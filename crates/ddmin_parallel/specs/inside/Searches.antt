@@ -14,6 +14,6 @@ IsStuck known stage = step (get known) (position_of stage) ≡ None
 abbrev pub HasReached : Known → List (List ℕ) → Stage → Cursor → Type 0
 HasReached known out stage cursor = IsReached (get known) (is_among out) (position_of stage) cursor
 
--- the card that comes next, if there is one, with the cursor for the one after it
+-- the request that comes next, if there is one, with the cursor for the one after it
 abbrev pub Opens : Known → List (List ℕ) → Stage → Bool → Option (List ℕ) × Cursor → Type 0
 Opens known out stage ahead r = IsOpened (get known) out (position_of stage) ahead r.0 r.1

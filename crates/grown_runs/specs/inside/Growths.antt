@@ -4,12 +4,12 @@ use Rattle.action_eval.specs.declared.rig.Rig.{Rig}
 use Rattle.grown_plans.specs.GrownPlans.{Subject}
 use Rattle.target_trait.specs.declared.target.Target.{Ghosts}
 use Rattle.grown_plans.specs.Kept.{GrewFrom, plan_of}
-use Rattle.grown_runs.specs.declared.course.Part.{Part}
-use Rattle.grown_runs.specs.declared.course.Place.{Place}
-use Rattle.grown_runs.specs.declared.course.Place.TheVariants.{Inner, Last, Onward}
-use Rattle.grown_runs.specs.declared.course.Purpose.{Purpose}
-use Rattle.grown_runs.specs.declared.course.Purpose.TheVariants.{Plans, Report}
-use Rattle.grown_runs.specs.declared.course.GrownCourse.{GrownCourse}
+use Rattle.grown_runs.specs.declared.input.Part.{Part}
+use Rattle.grown_runs.specs.declared.input.Place.{Place}
+use Rattle.grown_runs.specs.declared.input.Place.TheVariants.{Inner, Last, Onward}
+use Rattle.grown_runs.specs.declared.input.Purpose.{Purpose}
+use Rattle.grown_runs.specs.declared.input.Purpose.TheVariants.{Plans, Report}
+use Rattle.grown_runs.specs.declared.input.GrownRunInput.{GrownRunInput}
 use Rattle.grown_runs.specs.declared.kept.Growth.{Growth}
 use Rattle.grown_runs.specs.GrownRuns.{subject_of, over, verdict_at, children_at, onward_at, cause_at, AreMost}
 
@@ -30,8 +30,8 @@ if_report Plans xs = []
 if_report Report xs = xs
 
 -- what plans are run on: a target's subject
-abbrev pub subject_on : {T W : Type 0} → (target : Ghosts T W) → T → GrownCourse T W target → Subject
-subject_on target setup course = subject_of target setup course.workload.now course.limits.max_hits
+abbrev pub subject_on : {T W : Type 0} → (target : Ghosts T W) → T → GrownRunInput T W target → Subject
+subject_on target setup input = subject_of target setup input.workload.now input.limits.max_hits
 
 -- of plans from a number on, as many as there are verdicts
 pub record IsGrowth (t : Subject) (seed : ℕ) (part : Part) (plans : List (List Rig)) (first count : ℕ) (growth : Growth) : Type 0 where
@@ -44,7 +44,7 @@ pub record IsGrowth (t : Subject) (seed : ℕ) (part : Part) (plans : List (List
   pub hits : length growth.hits.items ≡ length t.names
   pub most : AreMost t seed plans first count growth.hits.items
 
--- the same on a target's course
-abbrev pub IsGrowthOn : {T W : Type 0} → (target : Ghosts T W) → T → GrownCourse T W target → ℕ → ℕ → Growth → Type 0
-IsGrowthOn target setup course first count growth =
-    IsGrowth (subject_on target setup course) course.limits.seed course.part course.plans.now first count growth
+-- the same on a target's input
+abbrev pub IsGrowthOn : {T W : Type 0} → (target : Ghosts T W) → T → GrownRunInput T W target → ℕ → ℕ → Growth → Type 0
+IsGrowthOn target setup input first count growth =
+    IsGrowth (subject_on target setup input) input.limits.seed input.part input.plans.now first count growth

@@ -3,8 +3,8 @@ use Rattle.std.specs.Prelude.{◌≡◌, ◌⊎◌, ℕ, ◌+◌, ◌-◌, ◌�
 use Rattle.action_eval.specs.declared.rig.Rig.{Rig}
 use Rattle.grown_plans.specs.GrownPlans.{Subject, level, levels}
 use Rattle.grown_plans.specs.Kept.{Grew, plan_of}
-use Rattle.grown_runs.specs.declared.course.Purpose.{Purpose}
-use Rattle.grown_runs.specs.declared.course.Purpose.TheVariants.{Report}
+use Rattle.grown_runs.specs.declared.input.Purpose.{Purpose}
+use Rattle.grown_runs.specs.declared.input.Purpose.TheVariants.{Report}
 use Rattle.grown_runs.specs.declared.levels.Grown.{Grown}
 use Rattle.grown_runs.specs.declared.levels.Outcomes.{Outcomes}
 use Rattle.grown_runs.specs.GrownRuns.{over, verdict_at, children_at, onward_at, cause_at, AreMost}

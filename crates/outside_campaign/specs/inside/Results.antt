@@ -20,8 +20,8 @@ use Rattle.outside_campaign.specs.declared.results.Results.TheVariants.{Told, No
 
 -- the first of these
 abbrev pub IsFirst : List Entries → Results → Type 0
-IsFirst cards (Told verdicts findings) = ⊥
-IsFirst cards (NotAnswered t) = (more : List Entries) × (cards ≡ t ∷ more)
+IsFirst requests (Told verdicts findings) = ⊥
+IsFirst requests (NotAnswered t) = (more : List Entries) × (requests ≡ t ∷ more)
 
 -- no plan is open, and these are the verdicts of each family of components that agrees with what is known, with these findings; or the first open plan
 abbrev pub AreWithVerdicts : KnownVerdicts → List Entries → List FindingFacts → Results → Type 0

@@ -17,7 +17,7 @@ abbrev pub IsTested : KnownVerdicts → ℕ → Entries → List ℕ → Test �
 IsTested known code s set (Told fails) = known_tests known code s set ≡ Some fails
 IsTested known code s set (Untold t) = (known_tests known code s set ≡ None) × (t ≡ tidied (kept set s))
 
--- what settling a card leaves: its answer put, or its scenario added to those that are to be tried
+-- what settling a request leaves: its answer put, or its scenario added to those that are to be tried
 abbrev pub IsSettled : State → State → List Entries → List Entries → List ℕ → Test → Type 0
 IsSettled old new before after set (Told fails) = (is_out old set ≡ true) × (new ≡ apply old (Put set fails)) × (after ≡ before)
 IsSettled old new before after set (Untold t) = (new ≡ old) × (after ≡ before ++ t ∷ [])

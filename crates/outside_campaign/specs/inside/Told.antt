@@ -24,9 +24,9 @@ abbrev pub IsLook : KnownVerdicts → ℕ → ℕ → Entries → Look → Type 
 IsLook known number code s (look.Told f) =
     (open_candidates known code s ≡ [])
     × ((components : Components) → EachAgrees components known → f ≡ told_of components number code s)
-IsLook known number code s (look.Open cards) = (0 < length cards.items) × (cards.items ≡ open_candidates known code s)
+IsLook known number code s (look.Open requests) = (0 < length requests.items) × (requests.items ≡ open_candidates known code s)
 
 -- what a look adds to what was gathered
 abbrev pub IsGathered : List FindingFacts → List FindingFacts → List Entries → List Entries → Look → Type 0
-IsGathered before after cards cards' (look.Told f) = (after ≡ before ++ f ∷ []) × (cards' ≡ cards)
-IsGathered before after cards cards' (look.Open more) = (after ≡ before) × (cards' ≡ cards ++ more.items)
+IsGathered before after requests requests' (look.Told f) = (after ≡ before ++ f ∷ []) × (requests' ≡ requests)
+IsGathered before after requests requests' (look.Open more) = (after ≡ before) × (requests' ≡ requests ++ more.items)

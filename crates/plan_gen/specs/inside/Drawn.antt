@@ -5,7 +5,7 @@ use Rattle.scenario_values.specs.Scenario.{Entries}
 use Rattle.action_eval.specs.declared.rig.Site.{Site}
 use Rattle.action_eval.specs.declared.rig.Kind.{Kind}
 use Rattle.action_eval.specs.declared.rig.Kind.TheVariants as kind
-use Rattle.action_eval.specs.Rigging.{rig, rigging}
+use Rattle.action_eval.specs.RiggedScenario.{rig, rigged_scenario}
 use Rattle.plan_gen.specs.declared.drawing.PlainKind.{PlainKind}
 use Rattle.plan_gen.specs.declared.drawing.PlainKind.TheVariants.{OnceReturn, OnwardReturn, OncePanic}
 use Rattle.plan_gen.specs.declared.drawing.Source.{Source}
@@ -28,9 +28,9 @@ kind_of OncePanic = kind.OncePanic
 -- the scenario of a plan
 abbrev pub drawn : Shared → Source → Entries
 drawn shared Empty = []
-drawn shared (One site plain) = rigging shared.names (rig site (kind_of plain) ∷ [])
-drawn shared (Two first second plain) = rigging shared.names (rig first (kind.OnceReturn None) ∷ rig second (kind_of plain) ∷ [])
-drawn shared (Storm number) = rigging shared.names (storm shared.seed shared.rate shared.sites number)
+drawn shared (One site plain) = rigged_scenario shared.names (rig site (kind_of plain) ∷ [])
+drawn shared (Two first second plain) = rigged_scenario shared.names (rig first (kind.OnceReturn None) ∷ rig second (kind_of plain) ∷ [])
+drawn shared (Storm number) = rigged_scenario shared.names (storm shared.seed shared.rate shared.sites number)
 
 -- the plans of a list
 abbrev pub plans_of : Shared → List Source → List Entries → List Entries

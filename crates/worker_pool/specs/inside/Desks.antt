@@ -8,7 +8,7 @@ abbrev pub taken_next : (ℕ → Bool) → Option Next → ℕ
 taken_next test None = 0
 taken_next test (Some n) = count_by test (view n.seat).stolen
 
--- what a desk's hand took: by pops from its own deque, and by steals from the next
+-- what a desk's worker took: by pops from its own deque, and by steals from the next
 abbrev pub took : (ℕ → Bool) → Desk → ℕ
 took test d = count_by test (worker_view d.own).popped + taken_next test d.next
 

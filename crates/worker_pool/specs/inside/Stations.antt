@@ -19,18 +19,18 @@ IsRight answers setup s = All (λ p. answers setup p.0 p.1) s.answers.items
 abbrev pub answers_of : {J A S : Type 0} → List (Station J A S) → List (List (ℕ × A))
 answers_of stations = map (λ s. s.answers.items) stations
 
--- the same hand and answers
+-- the same worker and answers
 abbrev pub SameWork : {J A S : Type 0} → Station J A S → Station J A S → Type 0
-SameWork old new = (new.hand ≡ old.hand) × (new.answers.items ≡ old.answers.items)
+SameWork old new = (new.worker ≡ old.worker) × (new.answers.items ≡ old.answers.items)
 
 -- The station has gone on: its setup stays, answers that were right are still right, with those that it gave more, and it
 -- counted one for each of these.
 pub record GoesOn {J A S T : Type 0} (setup : J → T) (answers : T → ℕ → A → Type 0) (old new : Station J A S) : Type 0 where
-  pub stays : setup new.hand.job ≡ setup old.hand.job
-  pub right : IsRight answers (setup old.hand.job) old → IsRight answers (setup old.hand.job) new
+  pub stays : setup new.worker.job ≡ setup old.worker.job
+  pub right : IsRight answers (setup old.worker.job) old → IsRight answers (setup old.worker.job) new
   pub grows : length old.answers.items ≤ length new.answers.items
-  pub counted : old.hand.performed + length new.answers.items < 2 ^ 64 + length old.answers.items
-      → new.hand.performed + length old.answers.items ≡ old.hand.performed + length new.answers.items
+  pub counted : old.worker.performed + length new.answers.items < 2 ^ 64 + length old.answers.items
+      → new.worker.performed + length old.answers.items ≡ old.worker.performed + length new.answers.items
 
 abbrev pub EachGoesOn : {J A S T : Type 0} → (J → T) → (T → ℕ → A → Type 0) → ℕ → List (Station J A S) → List (Station J A S) → Type 0
 EachGoesOn setup answers n old new = (k : ℕ) (s : _) → k < n → GoesOn setup answers (slice_index_or old k s) (slice_index_or new k s)
@@ -38,7 +38,7 @@ EachGoesOn setup answers n old new = (k : ℕ) (s : _) → k < n → GoesOn setu
 -- a fact of each of n desks and the limit of its station's setup
 abbrev pub EachDesk : {J A S T : Type 0} → (ℕ → Desk → Type 0) → (J → T) → (T → ℕ) → ℕ → List (Station J A S) → List Desk → Type 0
 EachDesk Fact setup limit n stations desks =
-    (k : ℕ) (s : _) (d : Desk) → k < n → Fact (limit (setup (slice_index_or stations k s).hand.job)) (slice_index_or desks k d)
+    (k : ℕ) (s : _) (d : Desk) → k < n → Fact (limit (setup (slice_index_or stations k s).worker.job)) (slice_index_or desks k d)
 
 -- stations that have answered nothing yet, a desk for each, and the tickets dealt round
 pub record AreAtDesks {J A S T : Type 0} (setup : J → T) (limit : T → ℕ) (stations : Vec (Station J A S) Global) (desks : Vec Desk Global) : Type 0 where
@@ -49,7 +49,7 @@ pub record AreAtDesks {J A S T : Type 0} (setup : J → T) (limit : T → ℕ) (
   pub ring : IsRing desks.items
   pub round : AreDealtRound (vec_len stations) desks.items
 
--- what the desk's hand took more, or the desk had kept, was answered, each once, or the desk keeps it
+-- what the desk's worker took more, or the desk had kept, was answered, each once, or the desk keeps it
 abbrev pub IsBalanced : {J A S : Type 0} → Station J A S → Station J A S → Desk → Desk → Type 0
 IsBalanced old new desk desk' =
     (test : ℕ → Bool) → took test desk + answered_by test new + kept_by test desk' ≡ took test desk' + answered_by test old + kept_by test desk
@@ -59,7 +59,7 @@ pub record Worked {J A S T : Type 0} (setup : J → T) (limit : T → ℕ) (answ
   pub on : GoesOn setup answers old new
   pub once : IsBalanced old new desk desk'
   pub same : SameDesk desk desk'
-  pub kept : KeptBelow (limit (setup old.hand.job)) desk'
+  pub kept : KeptBelow (limit (setup old.worker.job)) desk'
 
 -- .. and so has each of n
 abbrev pub EachWorked : {J A S T : Type 0} → (J → T) → (T → ℕ) → (T → ℕ → A → Type 0) → ℕ
@@ -80,7 +80,7 @@ WorkedAt setup limit answers old new (Some d) (Some e) = Worked setup limit answ
 
 -- each station is ready at its desk, if it has one
 abbrev pub AreReadyAt : {J A S T : Type 0} → (J → T) → (T → ℕ) → List (Station J A S) → Type 0
-AreReadyAt setup limit stations = All (λ s. IsReadyAt (limit (setup s.hand.job)) s.desk) stations
+AreReadyAt setup limit stations = All (λ s. IsReadyAt (limit (setup s.worker.job)) s.desk) stations
 
 -- each station has worked at its desk, if it had one
 abbrev pub EachWorkedAt : {J A S T : Type 0} → (J → T) → (T → ℕ) → (T → ℕ → A → Type 0) → List (Station J A S) → List (Station J A S) → Type 0

@@ -1,5 +1,5 @@
 use Rattle.std.proofs.Common.{take}
-use Rattle.action_eval.specs.Rigging.{HaveLawfulTexts}
+use Rattle.action_eval.specs.RiggedScenario.{HaveLawfulTexts}
 use Rattle.action_eval.proofs.rig.have_lawful_texts.Given as goal
 
 abbrev pub invariant-loop-rig : goal.invariant-loop-rig

@@ -1,4 +1,4 @@
-use Rattle.answered_campaigns.proofs.Asking.{cards_asked, grew_known, listed_are, none_asked}
+use Rattle.answered_campaigns.proofs.Asking.{requests_asked, grew_known, listed_are, none_asked}
 use Rattle.answered_campaigns.proofs.grown_asks.candidates.Goals as goal
 
 pub returns-in-Told-clause-lines : goal.returns-in-Told-clause-lines
@@ -19,7 +19,7 @@ returns-clause-lines c =
     let grew = c.in_ok-lists.lists.listed.known.plans in
     let further = c.in_ok-lists.lists.further in
     let h = rw c.in-Open.is at c.in_ok-outcome_known.ensures in
-    cards_asked k.0 k.1 asked c.grown-plans.result grew c.in-Open.cards.items c.as_slice.result.now c.in_ok-of-in-Open.field-0 h.1
+    requests_asked k.0 k.1 asked c.grown-plans.result grew c.in-Open.requests.items c.as_slice.result.now c.in_ok-of-in-Open.field-0 h.1
     (listed_are k _ _ asked c.plan_settings.result _ c.grown-plans.result grew further c.known.view_is c.plan_settings.ensures.asked c.points.ensures.names c.grown-plans.ensures
     c.in_ok-lists.ensures.grown c.in_ok-lists.ensures.further)
     (grew_known k _ _ grew c.known.view_is c.in_ok-lists.ensures.grown) c.as_slice.ensures.value c.in_ok-of-in-Open.ensures

@@ -5,7 +5,7 @@ use Rattle.report.specs.Reports.{FindingFacts}
 use Rattle.answered_runs.specs.Answered.{Answered, known_plans, runs_in}
 use Rattle.answered_runs.specs.WholeList.{AreAllTold}
 use Rattle.outside_grown.specs.Further.{HasFewHits}
-use Rattle.answered_campaigns.proofs.Refused.{asks_refused, cards_refused, gap_refused, known_short, none_to_try, nothing_left, open_refused}
+use Rattle.answered_campaigns.proofs.Refused.{asks_refused, requests_refused, gap_refused, known_short, none_to_try, nothing_left, open_refused}
 use Rattle.answered_campaigns.proofs.Told.{are_candidates, decide, err_with, is_listed, lists_told, no_candidates, some_verdict}
 use Rattle.answered_campaigns.proofs.Reports.{first_is}
 use Rattle.answered_campaigns.proofs.grown_report.grown_report.Goals as goal
@@ -48,12 +48,12 @@ returns-in-Open-clause-fault c =
     c.in_ok-lists.ensures.grown c.in_ok-lists.ensures.further c.in_ok-refuse_gap.ensures.ok c.in_ok-lists.ensures.told c.in_ok-lists.ensures.unseen c.in_ok-lists.ensures.whole in
     let plans = c.grown-plans.ensures ∙ ap (λ names. grown_scenarios names lists.listed.known.plans ++ lists.further) (c.points.ensures.names ∙ ap (λ (k : Answered × ℕ). k.0.points) c.known.view_is) in
     let is = is_listed a depth asked lists c.grown-plans.result s plans in
-    let h = rw c.in-Open.is at c.in_ok-cards.ensures in
-    cards_refused a depth asked c.first_of.result c.in-Open.cards.items (h.1 ∙ are_candidates a depth asked c.grown-plans.result lists.listed.known.plans is s.grown)
+    let h = rw c.in-Open.is at c.in_ok-requests.ensures in
+    requests_refused a depth asked c.first_of.result c.in-Open.requests.items (h.1 ∙ are_candidates a depth asked c.grown-plans.result lists.listed.known.plans is s.grown)
     (none_to_try a depth asked c.grown-plans.result (subst (AreAllTold (runs_in a)) s.grown s.told) is c.in_ok-verdicts.ensures.all.1) c.first_of.ensures
 
-pub told_text-requires : goal.told_text-requires
-told_text-requires c =
+pub reported_text-requires : goal.reported_text-requires
+reported_text-requires c =
     let a = c.args.known.now.0 in
     let depth = c.args.known.now.1 in
     let lists = c.in_ok-lists.lists in
@@ -61,7 +61,7 @@ told_text-requires c =
     c.in_ok-lists.ensures.grown c.in_ok-lists.ensures.further c.in_ok-refuse_gap.ensures.ok c.in_ok-lists.ensures.told c.in_ok-lists.ensures.unseen c.in_ok-lists.ensures.whole in
     let plans = c.grown-plans.ensures ∙ ap (λ names. grown_scenarios names lists.listed.known.plans ++ lists.further) (c.points.ensures.names ∙ ap (λ (k : Answered × ℕ). k.0.points) c.known.view_is) in
     let clean = subst (λ (k : Answered × ℕ). HasFewHits k.0) c.known.view_is c.in_ok-lists.ensures.clean in
-    let told = rw c.in-Told.is at c.in_ok-cards.ensures in
+    let told = rw c.in-Told.is at c.in_ok-requests.ensures in
     record {
       some = some_verdict a depth c.args.settings.now.plans lists c.grown-plans.result c.as_slice.result.now _ s plans c.as_slice.ensures.value c.in_ok-verdicts.ensures.all;
       decided = decide c.args.outside.now c.args.settings.now a depth lists c.grown-plans.result c.as_slice.result.now _ c.in-Told.told c.requires.points c.requires.depth clean s plans
@@ -77,7 +77,7 @@ returns-clause-first c =
     c.in_ok-lists.ensures.grown c.in_ok-lists.ensures.further c.in_ok-refuse_gap.ensures.ok c.in_ok-lists.ensures.told c.in_ok-lists.ensures.unseen c.in_ok-lists.ensures.whole in
     let plans = c.grown-plans.ensures ∙ ap (λ names. grown_scenarios names lists.listed.known.plans ++ lists.further) (c.points.ensures.names ∙ ap (λ (k : Answered × ℕ). k.0.points) c.known.view_is) in
     let clean = subst (λ (k : Answered × ℕ). HasFewHits k.0) c.known.view_is c.in_ok-lists.ensures.clean in
-    let told = rw c.in-Told.is at c.in_ok-cards.ensures in
+    let told = rw c.in-Told.is at c.in_ok-requests.ensures in
     let decided = decide c.args.outside.now c.args.settings.now a depth lists c.grown-plans.result c.as_slice.result.now _ c.in-Told.told c.requires.points c.requires.depth clean s plans
     c.in_ok-verdicts.ensures.lawful c.as_slice.ensures.value c.in_ok-verdicts.ensures.all told in
     first_is c.args.outside.now c.args.settings.now a depth lists c.grown-plans.result c.as_slice.result.now c.in-Told.told c.first_number-first.result decided
@@ -102,6 +102,6 @@ returns-clause-all c =
     c.in_ok-lists.ensures.grown c.in_ok-lists.ensures.further c.in_ok-refuse_gap.ensures.ok c.in_ok-lists.ensures.told c.in_ok-lists.ensures.unseen c.in_ok-lists.ensures.whole in
     let plans = c.grown-plans.ensures ∙ ap (λ names. grown_scenarios names lists.listed.known.plans ++ lists.further) (c.points.ensures.names ∙ ap (λ (k : Answered × ℕ). k.0.points) c.known.view_is) in
     let is = is_listed a depth asked lists c.grown-plans.result s plans in
-    let told = rw c.in-Told.is at c.in_ok-cards.ensures in
+    let told = rw c.in-Told.is at c.in_ok-requests.ensures in
     nothing_left a depth asked (none_to_try a depth asked c.grown-plans.result (subst (AreAllTold (runs_in a)) s.grown s.told) is c.in_ok-verdicts.ensures.all.1)
     (no_candidates a depth asked c.grown-plans.result lists.listed.known.plans c.in-Told.told is s.grown told)

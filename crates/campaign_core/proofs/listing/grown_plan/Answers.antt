@@ -2,7 +2,7 @@ use Rattle.std.proofs.Common.{rules, ◌≡◌, ◌<◌, ℕ, zero, suc, Option,
 use Rattle.std.specs.Prelude.{slice_get}
 use Rattle.action_eval.specs.declared.rig.Rig.{Rig}
 use Rattle.action_eval.specs.Answers.{texts}
-use Rattle.action_eval.specs.Rigging.{rigging}
+use Rattle.action_eval.specs.RiggedScenario.{rigged_scenario}
 use Rattle.grown_plans.specs.GrownPlans.{rigs_of}
 use Rattle.campaign_plans.specs.GrownScenarios.{grown_among, grown_scenario, grown_scenarios}
 use Rattle.campaign_core.proofs.listing.grown_plan.Goals as goal
@@ -21,4 +21,4 @@ returns c =
     let faults = c.as_slice.ensures.value ∙ c.in_ok-faults_of.ensures in
     let rigs = c.as_slice-2.ensures.value ∙ c.in_ok-rigs_of.ensures ∙ ap rigs_of faults in
     subst (λ (o : Option (List (List Rig))). Some c.in_ok-scenario_of.field-0 ≡ slice_get (grown_scenarios names (grown_among o)) c.args.number) (sym c.in-Some.is)
-    (ap Some (c.in_ok-scenario_of.ensures ∙ ap (rigging names) rigs) ∙ sym (placed (grown_scenario names) plans c.args.number [] lt))
+    (ap Some (c.in_ok-scenario_of.ensures ∙ ap (rigged_scenario names) rigs) ∙ sym (placed (grown_scenario names) plans c.args.number [] lt))

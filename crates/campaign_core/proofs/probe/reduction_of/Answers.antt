@@ -9,12 +9,12 @@ use Rattle.campaign_core.proofs.probe.reduction_of.Goals as goal
 
 pub returns : goal.returns
 returns g c =
-    let hands = c.in_ok-hands.hands.items in
+    let worker_probes = c.in_ok-worker_probes.worker_probes.items in
     let f = c.args.failure.now in
-    let some : 0 < length hands = omega (arith, c.in_ok-hands.ensures.many, c.in_ok-hands.hands.ok.0, c.workers.ensures.some) in
+    let some : 0 < length worker_probes = omega (arith, c.in_ok-worker_probes.ensures.many, c.in_ok-worker_probes.worker_probes.ok.0, c.workers.ensures.some) in
     IfOk-weaker c.reduce.result _ (λ r. r
     ≡ reduction (failure_says g.T.Target c.args.target.now f) f.stream f.code f.scenario.now)
-    (λ r is. by_first hands c.args.target.now f (λ p. p.target) (λ p. p.failure.now)
+    (λ r is. by_first worker_probes c.args.target.now f (λ p. p.target) (λ p. p.failure.now)
     (λ t s. fault_test (failure_says g.T.Target t s s.stream) s.code s.scenario.now)
-    (all_faults f.scenario.now) f.faults r some c.in_ok-hands.ensures.same f.counted is)
+    (all_faults f.scenario.now) f.faults r some c.in_ok-worker_probes.ensures.same f.counted is)
     c.reduce.ensures

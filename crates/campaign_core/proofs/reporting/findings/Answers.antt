@@ -3,7 +3,7 @@ use Rattle.std.proofs.lemmas.List.{map-append, take_more}
 use Rattle.std.proofs.lemmas.List.Elements.{All-push}
 use Rattle.scenario_values.specs.Scenario.{Entries}
 use Rattle.target_trait.specs.declared.judgement.Verdict.{Verdict}
-use Rattle.result_book.specs.Says.{course_says}
+use Rattle.result_book.specs.Says.{input_says}
 use Rattle.report.specs.Reports.{FindingFacts}
 use Rattle.campaign_core.specs.Findings.{finding, ReducesToMinimal}
 use Rattle.campaign_core.proofs.reporting.findings.Goals as goal
@@ -18,12 +18,12 @@ more f fs i all new x lt added so_far is =
 
 pub loop-first-preserved : goal.loop-first-preserved
 loop-first-preserved g c =
-    let course = c.args.course.now in
-    let say : ℕ → Entries → Verdict = course_says g.T.Target c.args.target.now course in
+    let input = c.args.input.now in
+    let say : ℕ → Entries → Verdict = input_says g.T.Target c.args.target.now input in
     let all : List FindingFacts = c.loop-first.all.items in
     record {
       found =
-          more (finding say course.plans.now) c.args.firsts.now c.loop-first.first-index all c.push.new.self.items c.in_ok-found.found c.loop-first-test.true
+          more (finding say input.plans.now) c.args.firsts.now c.loop-first.first-index all c.push.new.self.items c.in_ok-found.found c.loop-first-test.true
           c.in_ok-push.ensures.items c.loop-first.invariant.found c.in_ok-found.ensures.found;
       minimal =
           subst (λ (xs : List FindingFacts). All (ReducesToMinimal say) xs) (sym c.in_ok-push.ensures.items)

@@ -1,47 +1,47 @@
 use Rattle.std.proofs.Common.{◌≡◌, ◌<◌, ◌-◌, ℕ, List, nat_eq, get_or, length, vec_len, ap, sym, subst, ◌∙◌, arith}
 use Rattle.scenario_values.specs.Scenario.{Entries}
 use Rattle.target_trait.specs.declared.judgement.Verdict.{Verdict}
-use Rattle.result_book.specs.Says.{course_says}
-use Rattle.result_book.specs.Rows.{enter_lists, enter_row}
-use Rattle.result_book.proofs.RowLemmas.{book_after_known}
-use Rattle.plan_rows.specs.Rows.{row_count}
-use Rattle.campaign_core.specs.inside.Rows.{row_of}
+use Rattle.result_book.specs.Says.{input_says}
+use Rattle.result_book.specs.Ranges.{enter_lists, enter_range}
+use Rattle.result_book.proofs.RangeLemmas.{book_after_known}
+use Rattle.plan_ranges.specs.Ranges.{range_count}
+use Rattle.campaign_core.specs.inside.Ranges.{range_of}
 use Rattle.campaign_core.proofs.Gathered.{all_own, below_some}
-use Rattle.campaign_core.proofs.PlanRows.{row_reaches, rows_said}
+use Rattle.campaign_core.proofs.PlanRanges.{range_reaches, ranges_said}
 use Rattle.campaign_core.proofs.workers.run_plans.Goals as goal
 
 pub answers_of-requires-clause-limit : goal.answers_of-requires-clause-limit
 answers_of-requires-clause-limit g c κs within = λ k d lt.
     let same = c.in_ok-jobs.ensures.same k d lt in
     let known = length c.args.known.now in
-    let count : c.row_count.result ≡ row_count (length c.args.course.now.plans.now - known) =
-    c.row_count.ensures ∙ ap (λ n. row_count (n - known)) c.len-plans.ensures.many in
-    let here = count ∙ sym (ap (λ co. row_count (length co.plans.now - known)) same.1) ∙ sym (ap (λ n. row_count (length (get_or c.in_ok-jobs.jobs.items k d).course.now.plans.now - n)) same.2) in
+    let count : c.range_count.result ≡ range_count (length c.args.input.now.plans.now - known) =
+    c.range_count.ensures ∙ ap (λ n. range_count (n - known)) c.len-plans.ensures.many in
+    let here = count ∙ sym (ap (λ co. range_count (length co.plans.now - known)) same.1) ∙ sym (ap (λ n. range_count (length (get_or c.in_ok-jobs.jobs.items k d).input.now.plans.now - n)) same.2) in
     omega (arith, here)
 
 pub returns : goal.returns
 returns g c =
-    let course = c.args.course.now in
-    let plans : List Entries = course.plans.now in
+    let input = c.args.input.now in
+    let plans : List Entries = input.plans.now in
     let known = c.args.known.now in
     let first = length known in
     let jobs = c.in_ok-jobs.jobs.items in
-    let ls = c.in_ok-rows.rows.items in
-    let say : ℕ → Entries → Verdict = course_says g.T.Target c.args.target.now course in
-    let same_len : length ls ≡ length jobs = omega (arith, c.in_ok-rows.ensures.many, c.in_ok-rows.rows.ok.0, c.in_ok-jobs.jobs.ok.0) in
-    c.put_all.ensures ∙ ap (λ s. enter_lists s ls) (c.put_known.ensures ∙ ap (λ vs. enter_row c.in_ok-book.book 0 vs) c.in_ok-from_slice.ensures.items
-    ∙ ap (λ s. enter_row s 0 known) c.in_ok-book.ensures)
-    ∙ book_after_known say plans known (row_of say plans first) ls c.requires.known.said c.requires.known.few
-    (all_own jobs ls c.args.target.now course first (λ r. r.target) (λ r. r.course.now) (λ r. r.first)
-    (λ t s n. row_of (course_says g.T.Target t s) s.plans.now n) same_len c.in_ok-jobs.ensures.same
-    (λ k j l lt. c.in_ok-rows.ensures.right k j l (let low : k < vec_len c.in_ok-jobs.jobs = omega (arith, c.in_ok-jobs.jobs.ok.0) in low)))
-    (λ n. rows_said say plans first n c.requires.known.few)
-    (λ m from lt. let found = row_reaches say plans first m from lt in (
+    let ls = c.in_ok-ranges.ranges.items in
+    let say : ℕ → Entries → Verdict = input_says g.T.Target c.args.target.now input in
+    let same_len : length ls ≡ length jobs = omega (arith, c.in_ok-ranges.ensures.many, c.in_ok-ranges.ranges.ok.0, c.in_ok-jobs.jobs.ok.0) in
+    c.put_all.ensures ∙ ap (λ s. enter_lists s ls) (c.put_known.ensures ∙ ap (λ vs. enter_range c.in_ok-book.book 0 vs) c.in_ok-from_slice.ensures.items
+    ∙ ap (λ s. enter_range s 0 known) c.in_ok-book.ensures)
+    ∙ book_after_known say plans known (range_of say plans first) ls c.requires.known.said c.requires.known.few
+    (all_own jobs ls c.args.target.now input first (λ r. r.target) (λ r. r.input.now) (λ r. r.first)
+    (λ t s n. range_of (input_says g.T.Target t s) s.plans.now n) same_len c.in_ok-jobs.ensures.same
+    (λ k j l lt. c.in_ok-ranges.ensures.right k j l (let low : k < vec_len c.in_ok-jobs.jobs = omega (arith, c.in_ok-jobs.jobs.ok.0) in low)))
+    (λ n. ranges_said say plans first n c.requires.known.few)
+    (λ m from lt. let found = range_reaches say plans first m from lt in (
       found.0,
       (
         found.1.1,
         found.1.2,
-        subst (λ n. 0 < n) (sym (c.in_ok-rows.ensures.once (λ y. nat_eq y found.0)))
-            (below_some found.0 c.row_count.result (subst (λ n. found.0 < n) (sym (c.row_count.ensures ∙ ap (λ n. row_count (n - first)) c.len-plans.ensures.many)) found.1.0)),
+        subst (λ n. 0 < n) (sym (c.in_ok-ranges.ensures.once (λ y. nat_eq y found.0)))
+            (below_some found.0 c.range_count.result (subst (λ n. found.0 < n) (sym (c.range_count.ensures ∙ ap (λ n. range_count (n - first)) c.len-plans.ensures.many)) found.1.0)),
       ),
     ))

@@ -11,7 +11,7 @@ use Rattle.outside_campaign.specs.Results.{answers_fault}
 use Rattle.answered_campaigns.specs.declared.fault.QuestionFault.TheVariants.{Outside}
 use Rattle.answered_campaigns.proofs.Asking.{err_is}
 use Rattle.campaign_main.specs.Questions.{IsUnnotedTo}
-use Rattle.campaign_main.proofs.RunLemmas.{answers_unread}
+use Rattle.campaign_main.proofs.RunLemmas.{answers_fault_is_unnoted_by_names}
 use Rattle.campaign_main.proofs.StrictLemmas.{answered-is}
 use Rattle.campaign_main.proofs.answer_notes.strict_by_census.Goals as goal
 
@@ -40,4 +40,4 @@ returns-in_err-known-clause-fault c =
     let codes = c.as_slice.ensures.value ∙ ap (λ (d : Description). d.codes) c.outside.view_is in
     let points = c.as_slice-2.ensures.value ∙ ap (λ (d : Description). d.points) c.outside.view_is in
     err_is c.from_residual.result (Outside (answers_fault c.in_err-known.field-0.0)) (IsUnnotedTo None (c.args.settings.now, outside) c.args.answers.now)
-    c.from_residual.ensures.1 (answers_unread outside c.args.settings.now 0 c.args.answers.now c.in_err-known.field-0.0 _ _ codes points c.in_err-known.ensures.refused)
+    c.from_residual.ensures.1 (answers_fault_is_unnoted_by_names outside c.args.settings.now 0 c.args.answers.now c.in_err-known.field-0.0 _ _ codes points c.in_err-known.ensures.refused)

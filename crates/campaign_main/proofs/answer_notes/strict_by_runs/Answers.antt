@@ -10,7 +10,7 @@ use Rattle.answered_campaigns.specs.declared.fault.QuestionFault.TheVariants.{Ou
 use Rattle.answered_campaigns.proofs.Asking.{err_is}
 use Rattle.answered_campaigns.proofs.Read.{tells}
 use Rattle.campaign_main.specs.Questions.{IsUnnotedTo}
-use Rattle.campaign_main.proofs.RunLemmas.{many_runs, runs_unread, told_doubts}
+use Rattle.campaign_main.proofs.RunLemmas.{many_runs, runs_fault_is_unnoted_by_names, told_doubts}
 use Rattle.campaign_main.proofs.answer_notes.strict_by_runs.Goals as goal
 
 pub returns-clause-ok : goal.returns-clause-ok
@@ -32,7 +32,7 @@ returns-in_err-told-clause-fault c =
     let points = c.as_slice-2.ensures.value ∙ ap (λ (d : Description). d.points) c.outside.view_is in
     err_is c.from_residual.result (Outside (answers_fault c.in_err-told.field-0.0)) (IsUnnotedTo (Some c.args.depth) (c.args.settings.now, outside) c.args.answers.now)
     c.from_residual.ensures.1
-    (runs_unread outside c.args.settings.now c.args.depth c.args.answers.now c.in_err-told.field-0.0 _ _ codes points c.in_err-told.ensures.refused)
+    (runs_fault_is_unnoted_by_names outside c.args.settings.now c.args.depth c.args.answers.now c.in_err-told.field-0.0 _ _ codes points c.in_err-told.ensures.refused)
 
 pub returns-in_err-lines-clause-fault : goal.returns-in_err-lines-clause-fault
 returns-in_err-lines-clause-fault c =

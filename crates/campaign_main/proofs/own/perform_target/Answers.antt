@@ -4,7 +4,7 @@ use Rattle.campaign_main.specs.Commands.{Answer}
 use Rattle.campaign_main.specs.Ends.{EndsAs, IsRefused, TellsAs, TellsNotes}
 use Rattle.campaign_main.specs.OwnTarget.{OwnKeepsPromises, own_answer, own_text_answer, target_answer}
 use Rattle.campaign_core.specs.Headline.{campaign_on}
-use Rattle.campaign_main.proofs.EndLemmas.{cause-unread, read-answer, read-whole, refuses-by, refuses-leaves, refuses-whole, tells-unread, whole-map}
+use Rattle.campaign_main.proofs.EndLemmas.{read-fault-cause, read-answer, read-whole, refuses-by, refuses-leaves, refuses-whole, tells-read-fault, whole-map}
 use Rattle.campaign_main.proofs.NoteLemmas.{may-own, some-tells, told-notes}
 use Rattle.campaign_core.specs.Writes.{change}
 use Rattle.campaign_main.proofs.own.perform_target.Goals as goal
@@ -34,11 +34,11 @@ unfolding own_answer
 returns-in-Err-clause-cause g c =
     λ refused.
     let meaning = own_text_answer c.args.order.now (campaign_on g.T.Target c.args.target.now c.args.workload.now) in
-    cause-unread meaning _ _ _ c.in-Err.fault (λ e. c.in-Err.ensures.too_long (ap (λ f. Err f) e)) (λ e. c.in-Err.ensures.not_text (ap (λ f. Err f) e))
+    read-fault-cause meaning _ _ _ c.in-Err.fault (λ e. c.in-Err.ensures.too_long (ap (λ f. Err f) e)) (λ e. c.in-Err.ensures.not_text (ap (λ f. Err f) e))
     c.end_unreadable_settings.ensures.end c.end_unreadable_settings.ensures.memory refused
 
 pub returns-in-Err-clause-told : goal.returns-in-Err-clause-told
-returns-in-Err-clause-told g c = tells-unread c.args.order.now c.in-Err.fault c.end_unreadable_settings.result _ c.end_unreadable_settings.ensures.end c.end_unreadable_settings.ensures.memory
+returns-in-Err-clause-told g c = tells-read-fault c.args.order.now c.in-Err.fault c.end_unreadable_settings.result _ c.end_unreadable_settings.ensures.end c.end_unreadable_settings.ensures.memory
 
 pub returns-in-Ok-clause-promises : goal.returns-in-Ok-clause-promises
 returns-in-Ok-clause-promises g c =

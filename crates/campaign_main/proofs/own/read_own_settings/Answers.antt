@@ -6,7 +6,7 @@ use Rattle.campaign_main.specs.declared.exit.Exit.TheVariants as exit
 use Rattle.campaign_main.specs.Commands.{Answer}
 use Rattle.campaign_main.specs.Ends.{IsRefused, TellsRefusal}
 use Rattle.campaign_main.specs.OwnTarget.{worded_answer, worded_text_answer}
-use Rattle.campaign_main.proofs.EndLemmas.{cause-unread, read-answer}
+use Rattle.campaign_main.proofs.EndLemmas.{read-fault-cause, read-answer}
 use Rattle.campaign_core.specs.Writes.{change}
 use Rattle.campaign_main.proofs.own.read_own_settings.Goals as goal
 
@@ -44,5 +44,5 @@ pub returns-in-Err-clause-cause : goal.returns-in-Err-clause-cause
 unfolding worded_answer
 returns-in-Err-clause-cause g c =
     λ answer refused.
-    cause-unread (worded_text_answer answer) _ _ _ c.in-Err.fault (λ e. c.in-Err.ensures.too_long (ap (λ f. Err f) e)) (λ e. c.in-Err.ensures.not_text (ap (λ f. Err f) e))
+    read-fault-cause (worded_text_answer answer) _ _ _ c.in-Err.fault (λ e. c.in-Err.ensures.too_long (ap (λ f. Err f) e)) (λ e. c.in-Err.ensures.not_text (ap (λ f. Err f) e))
     c.end_unreadable_settings.ensures.end c.end_unreadable_settings.ensures.memory refused

@@ -1,14 +1,14 @@
 use Rattle.std.proofs.Common.{refl, subst, sym}
 use Rattle.campaign_main.specs.Commands.{Answer}
 use Rattle.campaign_main.specs.Ends.{EndsAs, TellsAs}
-use Rattle.campaign_main.proofs.EndLemmas.{answer-chosen, cause-unset, refuses-ends, tells-of}
+use Rattle.campaign_main.proofs.EndLemmas.{answer-chosen, settings-fault-tells, refuses-ends, tells-of}
 use Rattle.campaign_core.specs.Writes.{change}
 use Rattle.campaign_main.proofs.performing.perform_text.Goals as goal
 
 pub returns-in-Err-clause-told : goal.returns-in-Err-clause-told
 returns-in-Err-clause-told g c =
     tells-of _ _ _ _ _ c.end_bad_settings.ensures.end
-    (λ refused. cause-unset _ _ _ _ refused c.in-Err.fault c.in-Err.ensures.refused c.end_bad_settings.ensures.memory c.end_bad_settings.ensures.end)
+    (λ refused. settings-fault-tells _ _ _ _ refused c.in-Err.fault c.in-Err.ensures.refused c.end_bad_settings.ensures.memory c.end_bad_settings.ensures.end)
 
 pub returns-in-Ok-clause-end : goal.returns-in-Ok-clause-end
 returns-in-Ok-clause-end g c =

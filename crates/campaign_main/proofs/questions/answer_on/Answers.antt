@@ -3,7 +3,7 @@ use Rattle.campaign_main.specs.Ends.{IsNoted}
 use Rattle.campaign_main.specs.QuestionNotes.{question_notes}
 use Rattle.campaign_main.specs.Questions.{EndsAnswered, IsNotAnswered}
 use Rattle.campaign_main.proofs.EndLemmas.{read-whole, refuses-whole, whole-map}
-use Rattle.campaign_main.proofs.QuestionLemmas.{answered-leaves, cause-unread-answers, for-any, refused-question, refused-why, some-why, unread-answers-tells, whole-noted}
+use Rattle.campaign_main.proofs.QuestionLemmas.{answered-leaves, answers-read-fault-cause, for-any, refused-question, refused-why, some-why, answers-read-fault-tells, whole-noted}
 use Rattle.campaign_core.specs.Writes.{change}
 use Rattle.campaign_main.proofs.questions.answer_on.Goals as goal
 
@@ -48,7 +48,7 @@ returns-in-Err-clause-end g c =
 pub returns-in-Err-clause-cause : goal.returns-in-Err-clause-cause
 returns-in-Err-clause-cause g c =
     λ refused.
-    cause-unread-answers _ _ _ c.in-Err.fault c.end_unreadable_answers.result _ (λ e. c.in-Err.ensures.too_long (ap (λ f. Err f) e)) c.end_unreadable_answers.ensures.end c.end_unreadable_answers.ensures.memory refused
+    answers-read-fault-cause _ _ _ c.in-Err.fault c.end_unreadable_answers.result _ (λ e. c.in-Err.ensures.too_long (ap (λ f. Err f) e)) c.end_unreadable_answers.ensures.end c.end_unreadable_answers.ensures.memory refused
 
 pub returns-in-Err-clause-told : goal.returns-in-Err-clause-told
-returns-in-Err-clause-told g c = unread-answers-tells c.end_unreadable_answers.result _ c.in-Err.fault c.end_unreadable_answers.ensures.end c.end_unreadable_answers.ensures.memory
+returns-in-Err-clause-told g c = answers-read-fault-tells c.end_unreadable_answers.result _ c.in-Err.fault c.end_unreadable_answers.ensures.end c.end_unreadable_answers.ensures.memory

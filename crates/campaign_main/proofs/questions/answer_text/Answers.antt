@@ -3,7 +3,7 @@ use Rattle.campaign_main.specs.Commands.{Refusal}
 use Rattle.campaign_main.specs.Ends.{OnWhole}
 use Rattle.campaign_main.specs.Questions.{EndsQuestion, IsNotAnswered, NotesQuestion, Subject, text_subject}
 use Rattle.campaign_main.proofs.EndLemmas.{refuses-whole}
-use Rattle.campaign_main.proofs.QuestionLemmas.{chosen-is, refused-any, unset-tells, unset-why}
+use Rattle.campaign_main.proofs.QuestionLemmas.{chosen-is, refused-any, settings-fault-tells-question, settings-fault-why}
 use Rattle.campaign_core.specs.Writes.{change}
 use Rattle.campaign_main.proofs.questions.answer_text.Goals as goal
 
@@ -13,11 +13,11 @@ returns-in-Err-clause-end g c =
 
 pub returns-in-Err-clause-cause : goal.returns-in-Err-clause-cause
 returns-in-Err-clause-cause g c =
-    λ refused. unset-why _ _ c.end_bad_settings.result _ c.in-Err.fault c.in-Err.ensures.refused c.end_bad_settings.ensures.memory c.end_bad_settings.ensures.end _ refused
+    λ refused. settings-fault-why _ _ c.end_bad_settings.result _ c.in-Err.fault c.in-Err.ensures.refused c.end_bad_settings.ensures.memory c.end_bad_settings.ensures.end _ refused
 
 pub returns-in-Err-clause-told : goal.returns-in-Err-clause-told
 returns-in-Err-clause-told g c =
-    unset-tells _ c.args.question.now c.end_bad_settings.result _ c.in-Err.fault c.in-Err.ensures.refused c.end_bad_settings.ensures.memory c.end_bad_settings.ensures.end
+    settings-fault-tells-question _ c.args.question.now c.end_bad_settings.result _ c.in-Err.fault c.in-Err.ensures.refused c.end_bad_settings.ensures.memory c.end_bad_settings.ensures.end
 
 pub returns-in-Ok-clause-end : goal.returns-in-Ok-clause-end
 returns-in-Ok-clause-end g c =

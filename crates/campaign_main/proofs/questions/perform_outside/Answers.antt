@@ -2,7 +2,7 @@ use Rattle.std.proofs.Common.{Err, IfSome, Result, ap, refl}
 use Rattle.campaign_main.specs.Commands.{Refusal}
 use Rattle.campaign_main.specs.Questions.{EndsQuestion, IsNotAnswered, NotesQuestion, Subject, subject_of}
 use Rattle.campaign_main.proofs.EndLemmas.{refuses-whole, whole-map}
-use Rattle.campaign_main.proofs.QuestionLemmas.{for-any, read-subject, refused-any, unread-tells, unread-why}
+use Rattle.campaign_main.proofs.QuestionLemmas.{for-any, read-subject, refused-any, read-fault-tells-question, read-fault-why}
 use Rattle.campaign_core.specs.Writes.{change}
 use Rattle.campaign_main.proofs.questions.perform_outside.Goals as goal
 
@@ -48,8 +48,8 @@ returns-in-Err-clause-end g c =
 pub returns-in-Err-clause-cause : goal.returns-in-Err-clause-cause
 returns-in-Err-clause-cause g c =
     λ refused.
-    unread-why _ _ _ c.end_unreadable_settings.result _ refused c.in-Err.fault (λ e. c.in-Err.ensures.too_long (ap (λ f. Err f) e)) (λ e. c.in-Err.ensures.not_text (ap (λ f. Err f) e))
+    read-fault-why _ _ _ c.end_unreadable_settings.result _ refused c.in-Err.fault (λ e. c.in-Err.ensures.too_long (ap (λ f. Err f) e)) (λ e. c.in-Err.ensures.not_text (ap (λ f. Err f) e))
     c.end_unreadable_settings.ensures.end c.end_unreadable_settings.ensures.memory
 
 pub returns-in-Err-clause-told : goal.returns-in-Err-clause-told
-returns-in-Err-clause-told g c = unread-tells c.end_unreadable_settings.result _ c.in-Err.fault c.end_unreadable_settings.ensures.end c.end_unreadable_settings.ensures.memory
+returns-in-Err-clause-told g c = read-fault-tells-question c.end_unreadable_settings.result _ c.in-Err.fault c.end_unreadable_settings.ensures.end c.end_unreadable_settings.ensures.memory

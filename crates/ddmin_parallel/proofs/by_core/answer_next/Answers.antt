@@ -7,7 +7,7 @@ pub returns-in-Ok-clause-tells : goal.returns-in-Ok-clause-tells
 returns-in-Ok-clause-tells g c = λ faults tells. λ is.
     let test = g.P.Probe.answers c.args.probe.now in
     let taken : Tells faults test c.take.new.self =
-    subst (Tells faults test) (sym c.in_ok-card.ensures.event) (tells_take faults test c.args.core.now c.in_ok-card.field-0 tells) in
-    let own : c.in_ok-fails.fails ≡ test c.in-Some.card =
+    subst (Tells faults test) (sym c.in_ok-request.ensures.event) (tells_take faults test c.args.core.now c.in_ok-request.field-0 tells) in
+    let own : c.in_ok-fails.fails ≡ test c.in-Some.request =
     c.in_ok-fails.ensures.answer ∙ ap test c.set.ensures in
-    subst (Tells faults test) (sym c.in-Ok.ensures.event) (tells_put faults test c.take.new.self c.in-Some.card c.in_ok-fails.fails taken own)
+    subst (Tells faults test) (sym c.in-Ok.ensures.event) (tells_put faults test c.take.new.self c.in-Some.request c.in_ok-fails.fails taken own)

@@ -24,8 +24,8 @@ returns-then-is_none c = λ tests.
     let known = get c.args.known.now in
     let out = is_among c.args.out.now in
     let is = c.in_ok-packed.ensures ∙ ap (λ s. s.set) c.in_ok-attempt.ensures in
-    let card = c.of.ensures ∙ ap (λ s. s.set) (c.attempt.view_is ∙ c.in_ok-attempt.ensures) in
-    found_open known out c.args.kept.now c.args.parts c.loop-place.place tests _ c.loop-place.invariant (omega arith) card
+    let request = c.of.ensures ∙ ap (λ s. s.set) (c.attempt.view_is ∙ c.in_ok-attempt.ensures) in
+    found_open known out c.args.kept.now c.args.parts c.loop-place.place tests _ c.loop-place.invariant (omega arith) request
     (sym (ap known is) ∙ sym c.in-None.ensures)
     (sym (ap out is) ∙ unplaced c.in_ok-packed.packed c.args.out.now c.place_of.result c.place_of.ensures c.if-is_none.ensures)
 

@@ -17,9 +17,9 @@ was_out s xs ys o h is list = ap (list_any (same_set s)) (sym list) ∙ placed s
 
 pub advanced-requires-clause-counted : goal.advanced-requires-clause-counted
 advanced-requires-clause-counted c =
-    rw c.of-heard.ensures (counted_put c.args.known.now c.args.out.now.items (position_of c.args.stage.now) c.card.inside.packed c.args.fails c.args.cursor.now
+    rw c.of-heard.ensures (counted_put c.args.known.now c.args.out.now.items (position_of c.args.stage.now) c.request.inside.packed c.args.fails c.args.cursor.now
     c.requires.open_sets
-    (was_out c.card.inside.packed c.as_slice.result.now c.args.out.now.items c.place_of.result c.place_of.ensures c.if-is_none.ensures c.as_slice.ensures.value)
+    (was_out c.request.inside.packed c.as_slice.result.now c.args.out.now.items c.place_of.result c.place_of.ensures c.if-is_none.ensures c.as_slice.ensures.value)
     c.requires.reached)
 
 -- the cursor after the answer, where each value is known by an equation
@@ -40,7 +40,7 @@ reached_then known known' out out' stage stage' s b anew cursor cursor' o place 
 
 pub returns-clause-reached : goal.returns-clause-reached
 returns-clause-reached c =
-    let s = c.card.inside.packed in
+    let s = c.request.inside.packed in
     reached_then c.args.known.now c.learn.new.known c.args.out.now.items
     c.take_from.new.out.items c.args.stage.now c.go_on.new.stage s c.args.fails (c.args.fails || c.is_some.result)
     c.args.cursor.now c.moved_cursor.result c.in-Ok.advance.0 c.in-Ok.advance.1 c.requires.open_sets

@@ -1,5 +1,5 @@
 use Rattle.std.proofs.Common.{◌∙◌, ap, sym, subst, not}
-use Rattle.action_eval.specs.Rigging.{CanBeRigged}
+use Rattle.action_eval.specs.RiggedScenario.{CanBeRigged}
 use Rattle.grown_runs.specs.GrownRuns.{fails_with, told_of_rigs}
 use Rattle.grown_runs.specs.inside.Growths.{subject_on}
 use Rattle.grown_runs.proofs.Lesser.{left_can, fine_next, fine_all, fails_at}
@@ -14,37 +14,37 @@ run-requires g c =
 pub loop-left_out-preserved : goal.loop-left_out-preserved
 loop-left_out-preserved g c =
     let rigs = c.args.ran.now.rigs.now in
-    let course = c.args.course.now in
+    let input = c.args.input.now in
     let n = c.args.ran.now.number in
     let inv = c.loop-left_out.invariant in
     let said = c.in_ok-verdict.ensures.verdict
-    ∙ ap (λ t. (told_of_rigs (subject_on g.T.Target t course) course.limits.seed c.from.result c.as_slice.result.now).verdict) inv.setup
-    ∙ ap (λ k. (told_of_rigs (subject_on g.T.Target c.args.target.now course) course.limits.seed k c.as_slice.result.now).verdict) c.from.ensures
-    ∙ ap (λ rs. (told_of_rigs (subject_on g.T.Target c.args.target.now course) course.limits.seed n rs).verdict) c.as_slice.ensures.value in
+    ∙ ap (λ t. (told_of_rigs (subject_on g.T.Target t input) input.limits.seed c.from.result c.as_slice.result.now).verdict) inv.setup
+    ∙ ap (λ k. (told_of_rigs (subject_on g.T.Target c.args.target.now input) input.limits.seed k c.as_slice.result.now).verdict) c.from.ensures
+    ∙ ap (λ rs. (told_of_rigs (subject_on g.T.Target c.args.target.now input) input.limits.seed n rs).verdict) c.as_slice.ensures.value in
     record {
       setup = c.run.ensures.setup ∙ inv.setup;
       fine =
-          fine_next (λ less. not (fails_with c.args.code (told_of_rigs (subject_on g.T.Target c.args.target.now course) course.limits.seed n less).verdict)) rigs
+          fine_next (λ less. not (fails_with c.args.code (told_of_rigs (subject_on g.T.Target c.args.target.now input) input.limits.seed n less).verdict)) rigs
           c.loop-left_out.left_out c.leave_out.new.less.items c.loop-left_out-test.true c.in_ok-leave_out.ensures
           (ap (λ v. not (fails_with c.args.code v)) (sym said) ∙ ap not (sym c.is_failure.ensures ∙ c.if-is_failure.false)) inv.fine;
     }
 
 pub returns-clause-least : goal.returns-clause-least
 returns-clause-least g c =
-    let course = c.args.course.now in
-    sym (fine_all (λ less. not (fails_with c.args.code (told_of_rigs (subject_on g.T.Target c.args.target.now course) course.limits.seed c.args.ran.now.number less).verdict))
+    let input = c.args.input.now in
+    sym (fine_all (λ less. not (fails_with c.args.code (told_of_rigs (subject_on g.T.Target c.args.target.now input) input.limits.seed c.args.ran.now.number less).verdict))
     c.args.ran.now.rigs.now c.loop-left_out.left_out c.loop-left_out-test.false c.loop-left_out.invariant.fine)
 
 pub returns-then-is_failure-clause-least : goal.returns-then-is_failure-clause-least
 returns-then-is_failure-clause-least g c =
     let rigs = c.args.ran.now.rigs.now in
-    let course = c.args.course.now in
+    let input = c.args.input.now in
     let n = c.args.ran.now.number in
     let inv = c.loop-left_out.invariant in
     let said = c.in_ok-verdict.ensures.verdict
-    ∙ ap (λ t. (told_of_rigs (subject_on g.T.Target t course) course.limits.seed c.from.result c.as_slice.result.now).verdict) inv.setup
-    ∙ ap (λ k. (told_of_rigs (subject_on g.T.Target c.args.target.now course) course.limits.seed k c.as_slice.result.now).verdict) c.from.ensures
-    ∙ ap (λ rs. (told_of_rigs (subject_on g.T.Target c.args.target.now course) course.limits.seed n rs).verdict) c.as_slice.ensures.value in
-    sym (fails_at (λ less. not (fails_with c.args.code (told_of_rigs (subject_on g.T.Target c.args.target.now course) course.limits.seed n less).verdict)) rigs
+    ∙ ap (λ t. (told_of_rigs (subject_on g.T.Target t input) input.limits.seed c.from.result c.as_slice.result.now).verdict) inv.setup
+    ∙ ap (λ k. (told_of_rigs (subject_on g.T.Target c.args.target.now input) input.limits.seed k c.as_slice.result.now).verdict) c.from.ensures
+    ∙ ap (λ rs. (told_of_rigs (subject_on g.T.Target c.args.target.now input) input.limits.seed n rs).verdict) c.as_slice.ensures.value in
+    sym (fails_at (λ less. not (fails_with c.args.code (told_of_rigs (subject_on g.T.Target c.args.target.now input) input.limits.seed n less).verdict)) rigs
     c.loop-left_out.left_out c.leave_out.new.less.items c.loop-left_out-test.true c.in_ok-leave_out.ensures
     (ap (λ v. not (fails_with c.args.code v)) (sym said) ∙ ap not (sym c.is_failure.ensures ∙ c.if-is_failure.true)))

@@ -2,7 +2,7 @@ use Rattle.std.proofs.Common.{◌≡◌, ◌++◌, ◌∷◌, ◌+◌, ◌<◌, 
 use Rattle.std.proofs.lemmas.List.{length-append}
 use Rattle.std.proofs.lemmas.List.Elements.{recursion_from_All}
 use Rattle.action_eval.specs.declared.rig.Rig.{Rig}
-use Rattle.action_eval.specs.Rigging.{CanBeRigged, HasLawfulText}
+use Rattle.action_eval.specs.RiggedScenario.{CanBeRigged, HasLawfulText}
 use Rattle.plan_gen.specs.LoopRuns.{times}
 use Rattle.grown_plans.specs.GrownPlans.{Subject, Tried, kinds_at, rigs_of}
 use Rattle.grown_plans.specs.Kept.{kept_children, plan_of}
@@ -18,28 +18,28 @@ use Rattle.grown_runs.proofs.growth.run_one.Goals as goal
 
 pub run-requires : goal.run-requires
 run-requires g c =
-    let course = c.args.course.now in
+    let input = c.args.input.now in
     subst CanBeRigged (sym (c.as_slice-rigs.ensures.value ∙ c.in_ok-rigs_of.ensures ∙ ap rigs_of (c.as_slice.ensures.value ∙ c.in_ok-faults_of.ensures)))
-    (course.few_rigs c.args.number c.requires.within, recursion_from_All (λ (r : Rig). r.site.hit < 4294967296) _ (course.small_rigs c.args.number c.requires.within), recursion_from_All (λ (r : Rig). HasLawfulText r.kind) _ (course.lawful_texts c.args.number c.requires.within))
+    (input.few_rigs c.args.number c.requires.within, recursion_from_All (λ (r : Rig). r.site.hit < 4294967296) _ (input.small_rigs c.args.number c.requires.within), recursion_from_All (λ (r : Rig). HasLawfulText r.kind) _ (input.lawful_texts c.args.number c.requires.within))
 
 pub grow_one-requires-clause-number : goal.grow_one-requires-clause-number
 grow_one-requires-clause-number g c =
-    let few = c.args.course.now.few in
+    let few = c.args.input.now.few in
     omega (arith, few, c.requires.within)
 
 pub grow_one-requires-clause-ordinals : goal.grow_one-requires-clause-ordinals
 grow_one-requires-clause-ordinals g c =
-    let course = c.args.course.now in
-    let t : Subject = subject_on g.T.Target c.args.target.now course in
-    subst AreOrdinals (sym (c.as_slice-2.ensures.value ∙ c.in_ok-faults_of.ensures)) (ordinals t (get_or course.plans.now c.args.number []) (c.requires.alike c.args.number c.requires.within))
+    let input = c.args.input.now in
+    let t : Subject = subject_on g.T.Target c.args.target.now input in
+    subst AreOrdinals (sym (c.as_slice-2.ensures.value ∙ c.in_ok-faults_of.ensures)) (ordinals t (get_or input.plans.now c.args.number []) (c.requires.alike c.args.number c.requires.within))
 
 pub grow_one-requires-clause-serves : goal.grow_one-requires-clause-serves
 grow_one-requires-clause-serves g c =
-    let course = c.args.course.now in
-    let t : Subject = subject_on g.T.Target c.args.target.now course in
-    let seed = course.limits.seed in
+    let input = c.args.input.now in
+    let t : Subject = subject_on g.T.Target c.args.target.now input in
+    let seed = input.limits.seed in
     let n = c.args.number in
-    let plan : List Rig = get_or course.plans.now n [] in
+    let plan : List Rig = get_or input.plans.now n [] in
     let faults_is : c.as_slice.result.now ≡ plan = c.as_slice.ensures.value ∙ c.in_ok-faults_of.ensures in
     let faults_too : c.as_slice-2.result.now ≡ plan = c.as_slice-2.ensures.value ∙ c.in_ok-faults_of.ensures in
     let rigs_is : c.as_slice-rigs.result.now ≡ rigs_of plan = c.as_slice-rigs.ensures.value ∙ c.in_ok-rigs_of.ensures ∙ ap rigs_of faults_is in
@@ -47,16 +47,16 @@ grow_one-requires-clause-serves g c =
     c.as_slice-asked.ensures.value ∙ c.in_ok-verdict.ensures.asked ∙ ap (λ (rs : List Rig). (told_of_rigs t seed n rs).asked) rigs_is in
     let law = g.met.T.Target in
     let parent = c.parent_of-parent.result in
-    let parents : List ℕ = (told t seed parent (get_or course.plans.now parent [])).asked in
+    let parents : List ℕ = (told t seed parent (get_or input.plans.now parent [])).asked in
     subst (λ (p : List Rig). Serves c.args.workspace.now.begun parent p c.as_slice-asked.result.now) (sym faults_too)
-    (serves_next t seed n parent course.plans.now c.args.workspace.now.begun plan c.as_slice-asked.result.now
-    (asked_few _ g.T.Target.names 0 law.lawful (law.within c.args.target.now course.workload.now) _ parents refl)
+    (serves_next t seed n parent input.plans.now c.args.workspace.now.begun plan c.as_slice-asked.result.now
+    (asked_few _ g.T.Target.names 0 law.lawful (law.within c.args.target.now input.workload.now) _ parents refl)
     (c.requires.alike n c.requires.within) c.parent_of-parent.ensures asked_is c.requires.begun)
 
 pub grow_one-requires-clause-points : goal.grow_one-requires-clause-points
 grow_one-requires-clause-points g c =
     let law = g.met.T.Target in
-    asked_few _ g.T.Target.names 0 law.lawful (law.within c.args.target.now c.args.course.now.workload.now) _ c.as_slice-asked.result.now
+    asked_few _ g.T.Target.names 0 law.lawful (law.within c.args.target.now c.args.input.now.workload.now) _ c.as_slice-asked.result.now
     (c.as_slice-asked.ensures.value ∙ c.in_ok-verdict.ensures.asked)
 
 pub grow_one-requires-clause-few : goal.grow_one-requires-clause-few
@@ -67,7 +67,7 @@ grow_one-requires-clause-few g c =
 
 pub overflow_add-growth : goal.overflow_add-growth
 overflow_add-growth g c =
-    let few = children_few c.args.course.now.kinds g.T.Target.names c.args.course.now.of_target c.args.number c.as_slice-2.result.now c.as_slice-asked.result.now in
+    let few = children_few c.args.input.now.kinds g.T.Target.names c.args.input.now.of_target c.args.number c.as_slice-2.result.now c.as_slice-asked.result.now in
     let asked = c.in_ok-verdict.ensures.few in
     let same = ap length c.as_slice-asked.ensures.value in
     let before = c.args.growth.now.bounded in
@@ -75,57 +75,57 @@ overflow_add-growth g c =
 
 pub cause_of-requires : goal.cause_of-requires
 cause_of-requires g c =
-    let course = c.args.course.now in
+    let input = c.args.input.now in
     subst CanBeRigged (sym (c.as_slice-rigs.ensures.value ∙ c.in_ok-rigs_of.ensures ∙ ap rigs_of (c.as_slice.ensures.value ∙ c.in_ok-faults_of.ensures)))
-    (course.few_rigs c.args.number c.requires.within, recursion_from_All (λ (r : Rig). r.site.hit < 4294967296) _ (course.small_rigs c.args.number c.requires.within), recursion_from_All (λ (r : Rig). HasLawfulText r.kind) _ (course.lawful_texts c.args.number c.requires.within))
+    (input.few_rigs c.args.number c.requires.within, recursion_from_All (λ (r : Rig). r.site.hit < 4294967296) _ (input.small_rigs c.args.number c.requires.within), recursion_from_All (λ (r : Rig). HasLawfulText r.kind) _ (input.lawful_texts c.args.number c.requires.within))
 
 pub returns-clause-begun : goal.returns-clause-begun
 returns-clause-begun g c =
-    let course = c.args.course.now in
-    let t : Subject = subject_on g.T.Target c.args.target.now course in
-    let seed = course.limits.seed in
+    let input = c.args.input.now in
+    let t : Subject = subject_on g.T.Target c.args.target.now input in
+    let seed = input.limits.seed in
     let n = c.args.number in
-    let plan : List Rig = get_or course.plans.now n [] in
+    let plan : List Rig = get_or input.plans.now n [] in
     let faults_is : c.as_slice.result.now ≡ plan = c.as_slice.ensures.value ∙ c.in_ok-faults_of.ensures in
     let faults_too : c.as_slice-2.result.now ≡ plan = c.as_slice-2.ensures.value ∙ c.in_ok-faults_of.ensures in
     let rigs_is : c.as_slice-rigs.result.now ≡ rigs_of plan = c.as_slice-rigs.ensures.value ∙ c.in_ok-rigs_of.ensures ∙ ap rigs_of faults_is in
     let asked_is : c.as_slice-asked.result.now ≡ (told t seed n plan).asked =
     c.as_slice-asked.ensures.value ∙ c.in_ok-verdict.ensures.asked ∙ ap (λ (rs : List Rig). (told_of_rigs t seed n rs).asked) rigs_is in
     let parent = c.parent_of-parent.result in
-    tells_next t seed n parent course.plans.now c.args.workspace.now.begun c.grow_one.new.begun plan c.as_slice-asked.result.now (c.requires.alike n c.requires.within)
+    tells_next t seed n parent input.plans.now c.args.workspace.now.begun c.grow_one.new.begun plan c.as_slice-asked.result.now (c.requires.alike n c.requires.within)
     c.parent_of-parent.ensures asked_is c.requires.begun
     (subst (λ (p : List Rig). MovesOn c.args.workspace.now.begun c.grow_one.new.begun parent p c.as_slice-asked.result.now) faults_too c.in_ok-growing.ensures.begun)
 
 pub returns-clause-grown : goal.returns-clause-grown
 returns-clause-grown g c = λ first count at was.
-    let course = c.args.course.now in
-    let t : Subject = subject_on g.T.Target c.args.target.now course in
-    let seed = course.limits.seed in
+    let input = c.args.input.now in
+    let t : Subject = subject_on g.T.Target c.args.target.now input in
+    let seed = input.limits.seed in
     let n = c.args.number in
-    let plan : List Rig = get_or course.plans.now n [] in
+    let plan : List Rig = get_or input.plans.now n [] in
     let faults_is : c.as_slice.result.now ≡ plan = c.as_slice.ensures.value ∙ c.in_ok-faults_of.ensures in
     let faults_too : c.as_slice-2.result.now ≡ plan = c.as_slice-2.ensures.value ∙ c.in_ok-faults_of.ensures in
     let rigs_is : c.as_slice-rigs.result.now ≡ rigs_of plan = c.as_slice-rigs.ensures.value ∙ c.in_ok-rigs_of.ensures ∙ ap rigs_of faults_is in
     let asked_is : c.as_slice-asked.result.now ≡ (told t seed n plan).asked =
     c.as_slice-asked.ensures.value ∙ c.in_ok-verdict.ensures.asked ∙ ap (λ (rs : List Rig). (told_of_rigs t seed n rs).asked) rigs_is in
     let verdict_is : c.in_ok-verdict.verdict ≡ (told t seed n plan).verdict = c.in_ok-verdict.ensures.verdict ∙ ap (λ (rs : List Rig). (told_of_rigs t seed n rs).verdict) rigs_is in
-    let children_is : kept_children (kinds_at course.kinds) n c.as_slice-2.result.now c.as_slice-asked.result.now ≡ children_at t seed n plan =
-    ap (λ (p : List Rig). kept_children (kinds_at course.kinds) n p c.as_slice-asked.result.now) faults_too
-    ∙ ap (kept_children (kinds_at course.kinds) n plan) asked_is
-    ∙ ap (λ (kinds : Tried). kept_children (kinds_at kinds) n plan (told t seed n plan).asked) course.of_target in
-    growth_next t seed course.part course.plans.now first count n _ _ at was
+    let children_is : kept_children (kinds_at input.kinds) n c.as_slice-2.result.now c.as_slice-asked.result.now ≡ children_at t seed n plan =
+    ap (λ (p : List Rig). kept_children (kinds_at input.kinds) n p c.as_slice-asked.result.now) faults_too
+    ∙ ap (kept_children (kinds_at input.kinds) n plan) asked_is
+    ∙ ap (λ (kinds : Tried). kept_children (kinds_at kinds) n plan (told t seed n plan).asked) input.of_target in
+    growth_next t seed input.part input.plans.now first count n _ _ at was
     (c.in_ok-push.ensures.items ∙ ap (λ v. c.args.growth.now.verdicts.items ++ v ∷ []) verdict_is)
-    (c.in_ok-growing.ensures.kept ∙ ap (λ l. c.args.growth.now.children.items ++ if_inner course.part.place l) children_is)
+    (c.in_ok-growing.ensures.kept ∙ ap (λ l. c.args.growth.now.children.items ++ if_inner input.part.place l) children_is)
     (ap (λ k. c.args.growth.now.child_count + k) (c.in_ok-growing.ensures.many ∙ ap length children_is))
     (c.in_ok-keep_onward.ensures.ok
-    ∙ ap (λ (b : Bool). map (plan_of course.plans.now) c.args.growth.now.onward.items ++ if_last course.part.place (onward_if (is_last_return plan && b) plan))
+    ∙ ap (λ (b : Bool). map (plan_of input.plans.now) c.args.growth.now.onward.items ++ if_last input.part.place (onward_if (is_last_return plan && b) plan))
     (c.in_ok-growing.ensures.again ∙ ap (λ (p : List Rig). is_asked_again p c.as_slice-asked.result.now) faults_too ∙ ap (is_asked_again plan) asked_is))
     (c.keep_onward.ensures.from was.from)
     (c.in_ok-keep_cause.ensures
     ∙ ap (λ l. c.args.growth.now.causes.items ++ l)
     (c.in_ok-cause.ensures.cause
-    ∙ ap (if_report course.part.purpose)
-    (ap (λ s. cause_by (subject_on g.T.Target s course) seed n c.as_slice-rigs.result.now c.in_ok-verdict.verdict) c.run.ensures.setup
+    ∙ ap (if_report input.part.purpose)
+    (ap (λ s. cause_by (subject_on g.T.Target s input) seed n c.as_slice-rigs.result.now c.in_ok-verdict.verdict) c.run.ensures.setup
     ∙ ap (λ (rs : List Rig). cause_by t seed n rs c.in_ok-verdict.verdict) rigs_is ∙ ap (cause_by t seed n (rigs_of plan)) verdict_is)))
     c.raise.ensures.many
     (λ p lt.
@@ -137,7 +137,7 @@ returns-clause-grown g c = λ first count at was.
 
 pub invariant_of-growth-in-Break-branch-6 : goal.invariant_of-growth-in-Break-branch-6
 invariant_of-growth-in-Break-branch-6 g c =
-    let few = children_few c.args.course.now.kinds g.T.Target.names c.args.course.now.of_target c.args.number c.as_slice-2.result.now c.as_slice-asked.result.now in
+    let few = children_few c.args.input.now.kinds g.T.Target.names c.args.input.now.of_target c.args.number c.as_slice-2.result.now c.as_slice-asked.result.now in
     let asked = c.in_ok-verdict.ensures.few in
     let same = ap length c.as_slice-asked.ensures.value in
     let before = c.args.growth.now.bounded in
@@ -147,7 +147,7 @@ invariant_of-growth-in-Break-branch-6 g c =
 
 pub invariant_of-growth-in-Break-branch-7 : goal.invariant_of-growth-in-Break-branch-7
 invariant_of-growth-in-Break-branch-7 g c =
-    let few = children_few c.args.course.now.kinds g.T.Target.names c.args.course.now.of_target c.args.number c.as_slice-2.result.now c.as_slice-asked.result.now in
+    let few = children_few c.args.input.now.kinds g.T.Target.names c.args.input.now.of_target c.args.number c.as_slice-2.result.now c.as_slice-asked.result.now in
     let asked = c.in_ok-verdict.ensures.few in
     let same = ap length c.as_slice-asked.ensures.value in
     let before = c.args.growth.now.bounded in
@@ -157,7 +157,7 @@ invariant_of-growth-in-Break-branch-7 g c =
 
 pub invariant_of-growth-2 : goal.invariant_of-growth-2
 invariant_of-growth-2 g c =
-    let few = children_few c.args.course.now.kinds g.T.Target.names c.args.course.now.of_target c.args.number c.as_slice-2.result.now c.as_slice-asked.result.now in
+    let few = children_few c.args.input.now.kinds g.T.Target.names c.args.input.now.of_target c.args.number c.as_slice-2.result.now c.as_slice-asked.result.now in
     let asked = c.in_ok-verdict.ensures.few in
     let same = ap length c.as_slice-asked.ensures.value in
     let before = c.args.growth.now.bounded in

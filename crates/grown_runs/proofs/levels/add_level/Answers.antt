@@ -3,7 +3,7 @@ use Rattle.action_eval.specs.declared.rig.Rig.{Rig}
 use Rattle.grown_plans.specs.Kept.{GrewFrom, plan_of}
 use Rattle.grown_plans.specs.GrownPlans.{Subject}
 use Rattle.grown_runs.specs.Grown.{subject_in}
-use Rattle.grown_runs.specs.declared.course.Place.TheVariants.{Inner}
+use Rattle.grown_runs.specs.declared.input.Place.TheVariants.{Inner}
 use Rattle.grown_runs.specs.inside.Levels.{AreTold, new_children}
 use Rattle.grown_runs.proofs.LevelRuns.{parents_low}
 use Rattle.grown_runs.proofs.levels.add_level.Goals as goal

@@ -3,7 +3,7 @@ use Rattle.action_eval.specs.declared.rig.Rig.{Rig}
 use Rattle.grown_plans.specs.GrownPlans.{Subject, level, onward, grown}
 use Rattle.grown_plans.specs.Promises.{IsLawful}
 use Rattle.grown_runs.specs.Grown.{subject_in, level_sizes}
-use Rattle.grown_runs.specs.declared.course.Purpose.TheVariants.{Report}
+use Rattle.grown_runs.specs.declared.input.Purpose.TheVariants.{Report}
 use Rattle.grown_runs.specs.inside.Levels.{AreTold}
 use Rattle.grown_runs.proofs.Begun.{begun_most, whole_levels}
 use Rattle.grown_runs.proofs.LevelRuns.{next_many, onward_is, reached_by, can_rig, can_rig_onward, ask_alike, ask_alike_onward, grown_is, grown_many}

@@ -2,7 +2,7 @@ use Rattle.std.proofs.Common.{rules, ◌<◌, ℕ, length, ap, ◌∙◌, subst,
 use Rattle.grown_plans.specs.GrownPlans.{Subject, grown}
 use Rattle.grown_plans.specs.Promises.{IsLawful}
 use Rattle.grown_runs.specs.Grown.{subject_in}
-use Rattle.grown_runs.specs.declared.course.Purpose.TheVariants.{Plans}
+use Rattle.grown_runs.specs.declared.input.Purpose.TheVariants.{Plans}
 use Rattle.grown_runs.proofs.Begun.{levels_begin, levels_whole, whole_levels}
 use Rattle.grown_runs.proofs.LevelRuns.{can_rig, ask_alike, grown_is, grown_many}
 use Rattle.grown_runs.proofs.levels.grow_list.Goals as goal

@@ -5,8 +5,8 @@ use Rattle.grown_plans.specs.GrownPlans.{Subject}
 use Rattle.grown_plans.specs.AskedPoints.{AsksLikeParent}
 use Rattle.grown_runs.specs.Grown.{subject_in}
 use Rattle.grown_runs.specs.inside.Growths.{IsGrowth}
-use Rattle.grown_runs.specs.declared.course.Place.TheVariants.{Last, Onward}
-use Rattle.grown_runs.specs.declared.course.Purpose.TheVariants.{Report}
+use Rattle.grown_runs.specs.declared.input.Place.TheVariants.{Last, Onward}
+use Rattle.grown_runs.specs.declared.input.Purpose.TheVariants.{Report}
 use Rattle.grown_runs.specs.inside.Levels.{AreTold, going_onward}
 use Rattle.grown_runs.proofs.LevelRuns.{can_rig_more, each_more, told_more}
 use Rattle.grown_runs.proofs.levels.run_onward.Goals as goal

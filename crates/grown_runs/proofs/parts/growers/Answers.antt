@@ -9,9 +9,9 @@ pub loop-preserved : goal.loop-preserved
 loop-preserved g c =
     let long = ap length c.in_ok-push.ensures.items in
     let so_far = c.loop.invariant.0 in
-    (long ∙ length_push c.loop.all.items _ ∙ ap (λ n. n + 1) so_far, same_push c.loop.all.items c.push.new.self.items _ c.args.target.now c.args.course.now (λ r. r.target) (λ r. r.course.now) c.in_ok-push.ensures.items c.loop.invariant.1 c.in_ok-target.ensures refl)
+    (long ∙ length_push c.loop.all.items _ ∙ ap (λ n. n + 1) so_far, same_push c.loop.all.items c.push.new.self.items _ c.args.target.now c.args.input.now (λ r. r.target) (λ r. r.input.now) c.in_ok-push.ensures.items c.loop.invariant.1 c.in_ok-target.ensures refl)
 
 pub invariant_of-push : goal.invariant_of-push
 invariant_of-push g c =
-    let course = c.args.course.now in
-    record { alike = subst (λ s. AskLikeParents (subject_on g.T.Target s course) course.plans.now) (sym c.in_ok-target.ensures) c.requires }
+    let input = c.args.input.now in
+    record { alike = subst (λ s. AskLikeParents (subject_on g.T.Target s input) input.plans.now) (sym c.in_ok-target.ensures) c.requires }

@@ -4,5 +4,5 @@ use Rattle.outside_campaign.proofs.asking.asked.Goals as goal
 
 pub returns : goal.returns
 returns g c =
-    both_added c.args.cards.now (open_plans (g.K.VerdictTable.verdicts c.args.known.now) c.args.plans.now) c.add_cards.new.lines c.add_plans.new.lines
-    (from_nothing c.args.cards.now c.new-lines.result c.add_cards.new.lines c.new-lines.ensures c.in_ok-add_cards.ensures) c.in_ok-add_plans.ensures
+    both_added c.args.requests.now (open_plans (g.K.VerdictTable.verdicts c.args.known.now) c.args.plans.now) c.add_requests.new.lines c.add_plans.new.lines
+    (from_nothing c.args.requests.now c.new-lines.result c.add_requests.new.lines c.new-lines.ensures c.in_ok-add_requests.ensures) c.in_ok-add_plans.ensures

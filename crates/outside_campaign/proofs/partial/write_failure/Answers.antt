@@ -1,6 +1,6 @@
 use Rattle.std.proofs.Common.{◌≡◌, ◌∙◌, ◌++◌, List, ℕ, append_assoc, ap, codes, string_bytes}
 use Rattle.std.proofs.lemmas.Result.{on_ok_weaker}
-use Rattle.report.proofs.ToldLines.{on_ok_if}
+use Rattle.report.proofs.ReportedLines.{on_ok_if}
 use Rattle.outside_campaign.proofs.partial.write_failure.Goals as goal
 
 regrouped : (o l n s t v : List ℕ) → ((((o ++ l) ++ n) ++ s) ++ t) ++ v ≡ o ++ (l ++ (((n ++ s) ++ t) ++ v))

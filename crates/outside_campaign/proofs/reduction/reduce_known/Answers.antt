@@ -12,15 +12,15 @@ loop-init g c =
 
 pub returns-in_default : goal.returns-in_default
 returns-in_default g c =
-    let card : None ≡ next c.loop.core false = sym c.in_default.is ∙ c.in_ok-card.ensures.card in
-    let event : c.take.new.self ≡ after_take c.loop.core None = c.in_ok-card.ensures.event ∙ ap (after_take c.loop.core) c.in_default.is in
+    let request : None ≡ next c.loop.core false = sym c.in_default.is ∙ c.in_ok-request.ensures.request in
+    let event : c.take.new.self ≡ after_take c.loop.core None = c.in_ok-request.ensures.event ∙ ap (after_take c.loop.core) c.in_default.is in
     IfOk-weaker c.ended.result (IsEnded c.take.new.self c.loop.untried.items) (IsReached (g.K.VerdictTable.verdicts c.args.known.now) c.args.code c.args.scenario.now)
-    (λ reached is. end_reached (g.K.VerdictTable.verdicts c.args.known.now) c.args.code c.args.scenario.now c.loop.core c.take.new.self c.loop.untried.items c.loop.invariant card event reached is) c.ended.ensures
+    (λ reached is. end_reached (g.K.VerdictTable.verdicts c.args.known.now) c.args.code c.args.scenario.now c.loop.core c.take.new.self c.loop.untried.items c.loop.invariant request event reached is) c.ended.ensures
 
 pub loop-preserved : goal.loop-preserved
 loop-preserved g c =
-    let card : Some c.in-Some.card ≡ next c.loop.core false = sym c.in-Some.is ∙ c.in_ok-card.ensures.card in
-    let event : c.take.new.self ≡ after_take c.loop.core (Some c.in-Some.card) = c.in_ok-card.ensures.event ∙ ap (after_take c.loop.core) c.in-Some.is in
+    let request : Some c.in-Some.request ≡ next c.loop.core false = sym c.in-Some.is ∙ c.in_ok-request.ensures.request in
+    let event : c.take.new.self ≡ after_take c.loop.core (Some c.in-Some.request) = c.in_ok-request.ensures.event ∙ ap (after_take c.loop.core) c.in-Some.is in
     let P : List ℕ → Type 0 = λ set. IsTested (g.K.VerdictTable.verdicts c.args.known.now) c.args.code c.args.scenario.now set c.in_ok-test.test in
-    settle_keeps (g.K.VerdictTable.verdicts c.args.known.now) c.args.code c.args.scenario.now c.loop.core c.take.new.self c.settle.new.core c.loop.untried.items c.settle.new.untried.items c.in-Some.card c.in_ok-test.test
-    c.loop.invariant card event (subst P c.set.ensures c.in_ok-test.ensures) c.in_ok-settle.ensures
+    settle_keeps (g.K.VerdictTable.verdicts c.args.known.now) c.args.code c.args.scenario.now c.loop.core c.take.new.self c.settle.new.core c.loop.untried.items c.settle.new.untried.items c.in-Some.request c.in_ok-test.test
+    c.loop.invariant request event (subst P c.set.ensures c.in_ok-test.ensures) c.in_ok-settle.ensures

@@ -20,9 +20,9 @@ returns-in-Open g c =
     let firsts : c.as_slice-2.result.now ≡ known_failures known c.args.plans.now =
     failures_are known c.args.plans.now c.in_ok-verdicts.verdicts.items c.as_slice-2.result.now c.in_ok-verdicts.ensures.verdicts
     (c.as_slice-2.ensures.value ∙ c.in_ok-failures.ensures ∙ ap (λ (slots : List (Option Verdict)). first_failures (in_book slots)) c.as_slice.ensures.value) in
-    let h = rw c.in-Open.is at c.in_ok-cards.ensures in
-    IfOk-weaker c.first_card.result (IsFirst c.in-Open.cards.items) (AreResults known c.args.plans.now)
-    (λ r is. open_first known c.args.plans.now c.as_slice-2.result.now c.in-Open.cards.items r firsts h.1 is) c.first_card.ensures
+    let h = rw c.in-Open.is at c.in_ok-requests.ensures in
+    IfOk-weaker c.first_request.result (IsFirst c.in-Open.requests.items) (AreResults known c.args.plans.now)
+    (λ r is. open_first known c.args.plans.now c.as_slice-2.result.now c.in-Open.requests.items r firsts h.1 is) c.first_request.ensures
 
 pub returns : goal.returns
 returns g c =
@@ -30,7 +30,7 @@ returns g c =
     let firsts : c.as_slice-2.result.now ≡ known_failures known c.args.plans.now =
     failures_are known c.args.plans.now c.in_ok-verdicts.verdicts.items c.as_slice-2.result.now c.in_ok-verdicts.ensures.verdicts
     (c.as_slice-2.ensures.value ∙ c.in_ok-failures.ensures ∙ ap (λ (slots : List (Option Verdict)). first_failures (in_book slots)) c.as_slice.ensures.value) in
-    let h = rw c.in-Told.is at c.in_ok-cards.ensures in
+    let h = rw c.in-Told.is at c.in_ok-requests.ensures in
     let same : c.as_slice-in-Told.result.now ≡ plan_verdicts known c.args.plans.now = c.as_slice-in-Told.ensures.value ∙ c.in_ok-verdicts.ensures.verdicts in
     IfOk-weaker c.with_verdicts.result _ (AreResults known c.args.plans.now)
     (λ r is. told_all known c.args.plans.now c.as_slice-2.result.now c.in-Told.findings.items r firsts h (is known same)) c.with_verdicts.ensures

@@ -1,6 +1,6 @@
 use Rattle.std.proofs.Common.{◌≡◌, ◌<◌, ◌≤◌, ◌∙◌, List, [], length, map, get_or, ap, subst, sym, arith}
 use Rattle.action_eval.specs.declared.rig.Rig.{Rig}
-use Rattle.action_eval.specs.Rigging.{CanBeRigged}
+use Rattle.action_eval.specs.RiggedScenario.{CanBeRigged}
 use Rattle.grown_plans.specs.GrownPlans.{rigs_of}
 use Rattle.grown_runs.proofs.Overs.{over_next}
 use Rattle.outside_grown.specs.Causes.{Verdicts, cause_known, known_by, open_by, rigged_in, verdicts_in}

@@ -3,7 +3,7 @@ use Rattle.std.specs.List.{AllByRecursion}
 use Rattle.rand_chacha.specs.ChaCha.{ChaCha, word_at}
 use Rattle.action_eval.specs.Words.{at_word}
 use Rattle.action_eval.specs.declared.rig.Rig.{Rig}
-use Rattle.action_eval.specs.Rigging.{HaveLawfulTexts}
+use Rattle.action_eval.specs.RiggedScenario.{HaveLawfulTexts}
 use Rattle.plan_gen.proofs.StormLemmas.{storm_next, storm_is, storm_whole}
 use Rattle.plan_gen.proofs.storms.storm.Goals as goal
 

@@ -1,7 +1,7 @@
 use Rattle.std.proofs.Common.{◌≡◌, ◌≤◌, ◌<◌, ◌^◌, take, length, vec_capacity}
 use Rattle.std.specs.List.{AllByRecursion}
 use Rattle.rand_chacha.specs.ChaCha.{word_at}
-use Rattle.action_eval.specs.Rigging.{HaveLawfulTexts}
+use Rattle.action_eval.specs.RiggedScenario.{HaveLawfulTexts}
 use Rattle.plan_gen.specs.PlanList.{storm_by}
 use Rattle.plan_gen.proofs.storms.storm.Given as goal
 

@@ -1,5 +1,5 @@
 use Rattle.report.specs.BriefText.{code_count}
-use Rattle.report.proofs.ToldLines.{element_on}
+use Rattle.report.proofs.ReportedLines.{element_on}
 use Rattle.report.proofs.brief.write_code_counts.Goals as goal
 
 pub loop-finding-preserved : goal.loop-finding-preserved

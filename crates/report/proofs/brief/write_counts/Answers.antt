@@ -3,7 +3,7 @@ use Rattle.std.specs.Fmt.{decimal}
 use Rattle.std.proofs.lemmas.Result.{on_ok_weaker}
 use Rattle.target_trait.specs.Verdicts.{is_pass}
 use Rattle.report.specs.BriefText.{code_count}
-use Rattle.report.proofs.ToldLines.{five_pieces, on_ok_if}
+use Rattle.report.proofs.ReportedLines.{five_pieces, on_ok_if}
 use Rattle.report.proofs.brief.write_counts.Goals as goal
 
 pub returns : goal.returns

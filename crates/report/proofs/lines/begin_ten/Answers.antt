@@ -1,7 +1,7 @@
 use Rattle.std.proofs.Common.{◌≡◌, ◌++◌, ℕ, get_or, codes, rules, append_assoc}
 use Rattle.std.proofs.lemmas.List.{get_or_default}
 use Rattle.report.specs.inside.Tens.{passed_line, ten_passed}
-use Rattle.report.proofs.ToldLines.{element_on}
+use Rattle.report.proofs.ReportedLines.{element_on}
 use Rattle.report.proofs.lines.begin_ten.Goals as goal
 
 pub loop-digit-init : goal.loop-digit-init

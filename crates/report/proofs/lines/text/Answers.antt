@@ -2,7 +2,7 @@ use Rattle.std.proofs.Common.{◌≡◌, ◌∷◌, [], ◌++◌, List, ℕ, Vec
 use Rattle.std.specs.String.{string_bytes}
 use Rattle.report.specs.Reports.{ReportFacts}
 use Rattle.report.specs.ReportText.{text_of, head_lines, point_lines, growth_lines, count_line, verdict_lines, nonzero_lines, findings_lines, causes_lines, report_lines}
-use Rattle.report.proofs.ToldLines.{lines_on, joined_whole}
+use Rattle.report.proofs.ReportedLines.{lines_on, joined_whole}
 use Rattle.report.proofs.lines.text.Goals as goal
 
 pub returns : goal.returns

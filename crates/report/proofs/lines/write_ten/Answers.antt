@@ -3,7 +3,7 @@ use Rattle.std.specs.List.{list_all}
 use Rattle.std.proofs.lemmas.Result.{on_ok_weaker}
 use Rattle.target_trait.specs.Verdicts.{is_pass}
 use Rattle.report.proofs.Tens.{ten_passed_are}
-use Rattle.report.proofs.ToldLines.{on_ok_if}
+use Rattle.report.proofs.ReportedLines.{on_ok_if}
 use Rattle.report.proofs.lines.write_ten.Goals as goal
 
 pub returns-then-all_pass : goal.returns-then-all_pass

@@ -1,6 +1,6 @@
 use Rattle.std.proofs.Common.{◌≡◌, ℕ, ◌+◌, ◌-◌, subst, arith}
 use Rattle.report.specs.inside.Tens.{ten_passed}
-use Rattle.report.proofs.ToldLines.{ten_on}
+use Rattle.report.proofs.ReportedLines.{ten_on}
 use Rattle.report.proofs.lines.write_verdicts.Goals as goal
 
 pub loop-ten-preserved : goal.loop-ten-preserved

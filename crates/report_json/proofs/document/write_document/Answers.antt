@@ -3,7 +3,7 @@ use Rattle.std.specs.Fmt.{decimal}
 use Rattle.std.proofs.lemmas.Result.{on_ok_weaker}
 use Rattle.json.specs.Json.{string, no_members, member}
 use Rattle.report.specs.Reports.{ReportFacts}
-use Rattle.report_json.specs.Document.{form, whole, list_of, clean_value, point_values, counts_value, told_values, finding_value, growth_value}
+use Rattle.report_json.specs.Document.{form, whole, list_of, clean_value, point_values, counts_value, reported_values, finding_value, growth_value}
 use Rattle.report_json.specs.inside.Tokens.{member_tokens}
 use Rattle.report_json.proofs.Lists.{ten_members}
 use Rattle.report_json.proofs.document.write_document.Goals as goal
@@ -18,7 +18,7 @@ returns g c =
     (member_tokens (codes "seed") (string (decimal report.seed))) (member_tokens (codes "clean") (clean_value name report.clean))
     (member_tokens (codes "census") (list_of (point_values points report.census)))
     (member_tokens (codes "counts") (counts_value report.verdicts))
-    (member_tokens (codes "not_passed") (list_of (told_values name 0 report.verdicts c.args.plans.now)))
+    (member_tokens (codes "not_passed") (list_of (reported_values name 0 report.verdicts c.args.plans.now)))
     (member_tokens (codes "findings") (list_of (map (finding_value name) report.findings)))
     (member_tokens (codes "growth") (growth_value points name report.growth))
     (codes "unmet") report.unmet

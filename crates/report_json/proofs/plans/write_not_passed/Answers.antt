@@ -4,4 +4,4 @@ use Rattle.report_json.proofs.plans.write_not_passed.Goals as goal
 
 pub returns : goal.returns
 returns g c =
-    on_ok_weaker c.token.result (λ ends. list_member _ _ _ _ _ _ c.in_ok-begin_list.ensures c.in_ok-write_each_told.ensures ends) c.token.ensures.ok
+    on_ok_weaker c.token.result (λ ends. list_member _ _ _ _ _ _ c.in_ok-begin_list.ensures c.in_ok-write_each_reported.ensures ends) c.token.ensures.ok

@@ -2,7 +2,7 @@ use Rattle.std.proofs.Common.{List, ℕ, ◌++◌, codes, ap, ◌∙◌}
 use Rattle.std.specs.String.{string_bytes}
 use Rattle.std.proofs.lemmas.Result.{on_ok_weaker}
 use Rattle.xml_text.specs.Xml.{escaped}
-use Rattle.report.proofs.ToldLines.{on_ok_if}
+use Rattle.report.proofs.ReportedLines.{on_ok_if}
 use Rattle.report_junit.specs.Junit.{failure_head}
 use Rattle.report_junit.proofs.OneByOne.{five_pieces}
 use Rattle.report_junit.proofs.cases.write_failure_head.Goals as goal

@@ -1,4 +1,4 @@
-use Rattle.report.proofs.ToldLines.{element_on}
+use Rattle.report.proofs.ReportedLines.{element_on}
 use Rattle.report_page.specs.Page.{hit_text}
 use Rattle.report_page.proofs.runs.write_hits.Goals as goal
 

@@ -1,4 +1,4 @@
-use Rattle.report.proofs.ToldLines.{element_on}
+use Rattle.report.proofs.ReportedLines.{element_on}
 use Rattle.report_page.specs.Page.{code_row_of}
 use Rattle.report_page.proofs.tables.write_codes.Goals as goal
 

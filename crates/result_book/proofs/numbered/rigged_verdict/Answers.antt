@@ -12,10 +12,10 @@ run_session-requires-clause-points g c = ap (λ (r : Run). r.given.catalogue) c.
 
 pub returns-clause-ok : goal.returns-clause-ok
 returns-clause-ok g c =
-    let course = c.args.course.now in
-    let settings = course.settings.now in
-    let asks = g.T.Target.asks c.args.target.now course.workload.now in
+    let input = c.args.input.now in
+    let settings = input.settings.now in
+    let asks = g.T.Target.asks c.args.target.now input.workload.now in
     c.in_ok-verdict.ensures.ok
     ∙ ap (λ (r : Run). verdict_with asks g.T.Target.names r.given.seed r.given.limit r.given.stream r.given.scenario) c.in_ok-session.ensures
-    ∙ ap (λ (s : Settled). verdict_with asks g.T.Target.names s.plans.seed s.max_hits c.from.result c.args.rigging.now.scenario) c.settings.view_is
-    ∙ ap (λ n. verdict_with asks g.T.Target.names settings.plans.seed settings.max_hits n c.args.rigging.now.scenario) c.from.ensures
+    ∙ ap (λ (s : Settled). verdict_with asks g.T.Target.names s.plans.seed s.max_hits c.from.result c.args.table.now.scenario) c.settings.view_is
+    ∙ ap (λ n. verdict_with asks g.T.Target.names settings.plans.seed settings.max_hits n c.args.table.now.scenario) c.from.ensures

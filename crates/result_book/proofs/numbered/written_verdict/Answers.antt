@@ -6,9 +6,9 @@ use Rattle.result_book.proofs.numbered.written_verdict.Goals as goal
 
 pub returns-clause-ok : goal.returns-clause-ok
 returns-clause-ok g c =
-    let course = c.args.course.now in
-    let settings = course.settings.now in
-    let asks = g.T.Target.asks c.args.target.now course.workload.now in
+    let input = c.args.input.now in
+    let settings = input.settings.now in
+    let asks = g.T.Target.asks c.args.target.now input.workload.now in
     c.in_ok-verdict.ensures.ok
     ∙ ap (λ (k : Case). verdict_with asks g.T.Target.names k.seed k.max_hits k.stream k.scenario.now) c.case-case.ensures
     ∙ ap (λ n. verdict_with asks g.T.Target.names settings.plans.seed settings.max_hits n c.in_ok-scenario.scenario) c.from.ensures

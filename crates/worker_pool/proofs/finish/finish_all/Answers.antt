@@ -22,9 +22,9 @@ finish_at-requires-clause-left g c κs within = λ s d.
     let setup = g.J.Job.setup in
     let k = c.loop-k.k in
     let in_k : k < vec_len c.args.stations.now = omega arith in
-    subst (λ (x : Station g.row.J.Denot g.row.J-Answer.Denot g.row.J-Setup.Denot). IsLeft (limit (setup x.hand.job)) (slice_index_or c.loop-k.desks.items k d))
+    subst (λ (x : Station g.row.J.Denot g.row.J-Answer.Denot g.row.J-Setup.Denot). IsLeft (limit (setup x.worker.job)) (slice_index_or c.loop-k.desks.items k d))
     (sym (was.others k s (omega arith)))
-    (subst (λ (x : Desk). IsLeft (limit (setup (slice_index_or c.args.stations.now.items k s).hand.job)) x) (sym (was.still k d (omega arith)))
+    (subst (λ (x : Desk). IsLeft (limit (setup (slice_index_or c.args.stations.now.items k s).worker.job)) x) (sym (was.still k d (omega arith)))
     (c.requires.left k s d in_k))
 
 pub returns-in_err-finish_at-clause-finishes : goal.returns-in_err-finish_at-clause-finishes

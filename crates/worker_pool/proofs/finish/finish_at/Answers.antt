@@ -8,7 +8,7 @@ pub finish_one-requires-after_bounds : goal.finish_one-requires-after_bounds
 finish_one-requires-after_bounds g c κs within =
     let s : Station g.row.J.Denot g.row.J-Answer.Denot g.row.J-Setup.Denot = c.index_mut.result.now in
     let d : Desk = c.index_mut-2.result.now in
-    subst (λ (x : Station g.row.J.Denot g.row.J-Answer.Denot g.row.J-Setup.Denot). IsLeft (g.J.Job.limit (g.J.Job.setup x.hand.job)) d)
+    subst (λ (x : Station g.row.J.Denot g.row.J-Answer.Denot g.row.J-Setup.Denot). IsLeft (g.J.Job.limit (g.J.Job.setup x.worker.job)) d)
     (sym c.index_mut.ensures.value)
-    (subst (λ (x : Desk). IsLeft (g.J.Job.limit (g.J.Job.setup (slice_index_or c.args.stations.now.items c.args.k s).hand.job)) x)
+    (subst (λ (x : Desk). IsLeft (g.J.Job.limit (g.J.Job.setup (slice_index_or c.args.stations.now.items c.args.k s).worker.job)) x)
     (sym c.index_mut-2.ensures.value) (c.requires.left s d))

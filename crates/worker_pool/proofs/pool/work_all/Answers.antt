@@ -26,8 +26,8 @@ finish_all-finished-requires-clause-left g c κs within = λ k s d lt.
     record {
       taken_in = c.absorb_all.ensures.whole k d in_a;
       below = subst (λ (t : g.row.J-Setup.Denot). All (λ x. x < limit t) (worker_view (slice_index_or c.absorb_all.new.desks.items k d).own).pushed) now
-          (All-same (λ x. x < limit (setup (slice_index_or c.args.stations.now.items k s).hand.job)) _ _ (own.pushed ∙ worked.same.pushed) fresh);
-      kept = subst (λ (o : Option ℕ). IfSome o (λ x. x < limit (setup (slice_index_or c.round-back.new.stations.items k s).hand.job))) (sym own.kept)
+          (All-same (λ x. x < limit (setup (slice_index_or c.args.stations.now.items k s).worker.job)) _ _ (own.pushed ∙ worked.same.pushed) fresh);
+      kept = subst (λ (o : Option ℕ). IfSome o (λ x. x < limit (setup (slice_index_or c.round-back.new.stations.items k s).worker.job))) (sym own.kept)
           (subst (λ (t : g.row.J-Setup.Denot). KeptBelow (limit t) (slice_index_or c.round-back.result.items k d)) now worked.kept);
     }
 

@@ -1,5 +1,5 @@
 use Rattle.std.proofs.Common.{◌<◌, Option, length, vec_len, slice_index_or, sym, subst, arith}
-use Rattle.worker_pool.specs.declared.hand.Hand.{Hand}
+use Rattle.worker_pool.specs.declared.worker.Worker.{Worker}
 use Rattle.worker_pool.specs.declared.desk.Desk.{Desk}
 use Rattle.worker_pool.specs.declared.station.Station.{Station}
 use Rattle.worker_pool.specs.inside.Desks.{IsReady}
@@ -13,9 +13,9 @@ run_vec-requires-after_bounds g c κs within = λ k s lt.
     let in_k : k < vec_len c.args.stations.now = omega arith in
     let in_d : k < length c.args.desks.items = omega arith in
     let d : Desk = pick c.args.desks.items k in_d in
-    subst (λ (o : Option Desk). IsReadyAt (g.J.Job.limit (g.J.Job.setup (slice_index_or c.lend.new.stations.items k s).hand.job)) o)
+    subst (λ (o : Option Desk). IsReadyAt (g.J.Job.limit (g.J.Job.setup (slice_index_or c.lend.new.stations.items k s).worker.job)) o)
     (sym (c.lend.ensures.lent k s d in_k))
-    (subst (λ (h : Hand g.row.J.Denot g.row.J-Answer.Denot g.row.J-Setup.Denot).
+    (subst (λ (h : Worker g.row.J.Denot g.row.J-Answer.Denot g.row.J-Setup.Denot).
     IsReady (g.J.Job.limit (g.J.Job.setup h.job)) (slice_index_or c.args.desks.items k d)) (sym (c.lend.ensures.same k s).0) (c.requires.ready k s d in_k))
 
 pub take_back-requires-clause-lent : goal.take_back-requires-clause-lent

@@ -7,7 +7,7 @@ use Rattle.worker_pool.proofs.work.work.Goals as goal
 pub work_at-requires-after_bounds : goal.work_at-requires-after_bounds
 work_at-requires-after_bounds g c κs within =
     let had : c.args.station.now.desk ≡ Some c.in-Some.desk = sym c.take.ensures.value ∙ c.in-Some.is in
-    subst (λ (o : Option Desk). IsReadyAt (g.J.Job.limit (g.J.Job.setup c.args.station.now.hand.job)) o) had c.requires
+    subst (λ (o : Option Desk). IsReadyAt (g.J.Job.limit (g.J.Job.setup c.args.station.now.worker.job)) o) had c.requires
 
 pub returns : goal.returns
 returns g c =

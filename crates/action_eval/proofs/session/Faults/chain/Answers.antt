@@ -6,4 +6,4 @@ use Rattle.action_eval.proofs.Spans.{span_within}
 use Rattle.action_eval.proofs.session.Faults.chain.Goals as goal
 
 pub terms-requires-clause-within : goal.terms-requires-clause-within
-terms-requires-clause-within c = span_within c.in-Rigged.rigging.now.scenario c.args.span (subst (λ (f : Faults). IsSpan (faults_of f) c.args.span) c.in-Rigged.is c.requires)
+terms-requires-clause-within c = span_within c.in-Rigged.table.now.scenario c.args.span (subst (λ (f : Faults). IsSpan (faults_of f) c.args.span) c.in-Rigged.is c.requires)

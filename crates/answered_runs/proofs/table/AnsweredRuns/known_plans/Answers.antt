@@ -3,7 +3,7 @@ use Rattle.std.specs.List.{AllByRecursion}
 use Rattle.std.proofs.lemmas.Result.{IfOk-weaker}
 use Rattle.action_eval.specs.declared.rig.Kind.{Kind}
 use Rattle.action_eval.specs.declared.rig.Rig.{Rig}
-use Rattle.action_eval.specs.Rigging.{CanBeRigged, HasLawfulText}
+use Rattle.action_eval.specs.RiggedScenario.{CanBeRigged, HasLawfulText}
 use Rattle.answer_text.specs.Runs.{told_in}
 use Rattle.grown_plans.specs.GrownPlans.{kinds_at, rigs_of, tried_over}
 use Rattle.grown_plans.proofs.ListedKinds.{listed_can}

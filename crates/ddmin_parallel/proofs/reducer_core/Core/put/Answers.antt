@@ -33,7 +33,7 @@ unfolding position
 invariant_of-self c =
     let i = c.self.invariant in
     let good = after c.settle.result c.self.inside.faults c.self.inside.known c.self.inside.out.items
-    (position_of c.self.inside.stage) c.args.card c.args.fails
+    (position_of c.self.inside.stage) c.args.request c.args.fails
     c.settle.new.known c.settle.new.out.items (position_of c.settle.new.stage)
     (record { few = i.few; stands = i.stands; open_sets = i.open_sets }) c.settle.ensures.ok c.settle.ensures.err in
     record { few = good.few; stands = good.stands; open_sets = good.open_sets; reached = c.settle.ensures.reached }

@@ -38,15 +38,15 @@ invariant_of-self c =
       stands = i.stands;
       open_sets = handed_open (option_then (λ r. r.0)) c.hand_out.result c.self.inside.known c.self.inside.out.items c.hand_out.new.out.items
           (position_of c.self.inside.stage) c.args.ahead
-          i.open_sets c.hand_out.ensures.card c.hand_out.ensures.out c.hand_out.ensures.err;
+          i.open_sets c.hand_out.ensures.request c.hand_out.ensures.out c.hand_out.ensures.err;
       reached = c.hand_out.ensures.reached;
     }
 
-pub returns-clause-card : goal.returns-clause-card
-returns-clause-card c =
+pub returns-clause-request : goal.returns-clause-request
+returns-clause-request c =
     let state = state_of c.self.inside in
     let p = position_of c.self.inside.stage in
     IfOk-weaker c.hand_out.result (λ o. option_then (λ r. r.0) o ≡ next_at (get state.known) (is_among state.out) p c.args.ahead)
     (λ o. option_then (λ r. r.0) o ≡ next c.args.self.now c.args.ahead)
     (λ o is. next_is state c.args.ahead p (option_then (λ r. r.0) o) c.self.invariant.stands is ∙ ap (λ s. next s c.args.ahead) c.self.view_is)
-    c.hand_out.ensures.card
+    c.hand_out.ensures.request

@@ -6,6 +6,6 @@ use Rattle.grown_runs.proofs.kept.Growth.run_over.Given as goal
 abbrev pub invariant-loop-number : goal.invariant-loop-number
 invariant-loop-number g l = record {
   setup : l.target ≡ l.fn.target;
-  begun : TellsParent (subject_on g.T.Target l.fn.target l.course) l.course.limits.seed l.course.plans.now l.workspace.begun;
-  grown : IsGrowthOn g.T.Target l.fn.target l.course l.first (l.number - l.first) l.growth;
+  begun : TellsParent (subject_on g.T.Target l.fn.target l.input) l.input.limits.seed l.input.plans.now l.workspace.begun;
+  grown : IsGrowthOn g.T.Target l.fn.target l.input l.first (l.number - l.first) l.growth;
 }

@@ -1,0 +1,244 @@
+//! Faults rigged for hits of points, laid out for a session.
+ghost use Rattle.std.specs.Prelude.{◌≡◌, ◌-◌, ◌∷◌, ◌++◌, [], ◌≤◌, ◌^◌, OnOk, OnErr, IfOk, length, map};
+ghost use Rattle.action_eval.specs.Answers.{texts};
+ghost use Rattle.action_eval.specs.Catalogue.{IsCatalogue, HasDistinct};
+ghost use Rattle.action_eval.specs.RiggedScenario.{term_of, offs, terms_at, done_after, chain_from, rigged_scenario, CanBeRigged, rigged_as};
+ghost use Rattle.action_eval.specs.inside.Laid.{joined, sizes_of, laid, AreSizes};
+ghost use Rattle.scenario_values.specs.Scenario.{IsScenario};
+ghost use Rattle.scenario_values.specs.declared.term.Task.TheVariants as task;
+ghost use Rattle.std.specs.List.{slice_range};
+ghost use Rattle.action_eval.specs.inside.Layout.{IsLayout};
+ghost use Rattle.action_eval.specs.inside.Session.{terms_of};
+
+use crate::argument::Argument;
+use crate::counts::push_counts;
+use crate::found::{Found, Layout, Span, first_head};
+use crate::rig::{Kind, Rig};
+use crate::terms::FULL_SHARE;
+use scenario_values::{Task, Term, Text};
+use std::alloc::{AllocError, Global};
+use std::marker::Model;
+
+/// The task of a return with this text, or none.
+fn return_of(alloc: Global, text: &Argument) -> Result<Task, AllocError>
+    ensures { IfOk result (λ what. what ≡ task.Return text.now) }
+{
+    match text.as_str() {
+        Some(text) => Ok(Task::Return(Some(Text::copy_of(alloc, text)?))),
+        None => Ok(Task::Return(None)),
+    }
+}
+
+/// The term of a rigged hit. An error means that memory was refused.
+fn term_of(alloc: Global, kind: &Kind) -> Result<Term, AllocError>
+    ensures { IfOk result (λ term. term ≡ term_of kind.now) }
+{
+    let count = match kind {
+        Kind::OnwardReturn(_) => None,
+        Kind::OnceReturn(_) | Kind::OncePanic => Some(1),
+    };
+    let task = match kind {
+        Kind::OnceReturn(text) | Kind::OnwardReturn(text) => return_of(alloc, text)?,
+        Kind::OncePanic => Task::Panic(None),
+    };
+    Ok(Term {
+        share: FULL_SHARE,
+        count,
+        task,
+    })
+}
+
+/// Adds the terms of a rigged hit of this number and kind, after some hits of its point.
+// Most rigged hits that are walked are of other points; those are passed over within the loop.
+#[inline(never)]
+fn push_rigged(terms: &mut Vec<Term>, done: u32, hit: u32, kind: &Kind) -> Result<(), AllocError>
+    ensures { OnOk result (terms.new.items ≡ terms.old.items ++ offs (hit - done - 1) ++ term_of kind.now ∷ []) }
+{
+    let between = hit.saturating_sub(done).saturating_sub(1);
+    if between > 0 {
+        terms.push(Term {
+            share: FULL_SHARE,
+            count: Some(between),
+            task: Task::Off,
+        })?;
+    }
+    let term = term_of(*terms.allocator(), kind)?;
+    terms.push(term)?;
+    Ok(())
+}
+
+/// Adds what a rigged hit adds to the chain of a point, and gives the hits of the point after it.
+#[inline(always)]
+fn push_at(terms: &mut Vec<Term>, point: u32, done: u32, rig: &Rig) -> Result<u32, AllocError>
+    ensures terms { OnOk result (terms.new.items ≡ terms.old.items ++ terms_at point done rig.now) }
+    ensures done { IfOk result (λ next. next ≡ done_after point done rig.now) }
+{
+    if rig.site.point != point {
+        return Ok(done);
+    }
+    push_rigged(terms, done, rig.site.hit, &rig.kind)?;
+    Ok(rig.site.hit)
+}
+
+/// Adds the chain of the point of this number, for rigged hits that ascend.
+///
+/// An error means that memory was refused. A part of the chain may have been added then.
+#[inline(always)]
+pub fn push_chain(terms: &mut Vec<Term>, point: u32, rigs: &[Rig]) -> Result<(), AllocError>
+    ensures { OnOk result (terms.new.items ≡ terms.old.items ++ chain_from point 0 rigs.now) }
+{
+    let mut done = 0;
+    for rig in rigs {
+        done = push_at(terms, point, done, rig)?;
+    }
+    Ok(())
+}
+
+/// The terms of so many points and how many each has, in place of what stood there.
+fn lay(
+    terms: &mut Vec<Term>,
+    sizes: &mut Vec<usize>,
+    count: u32,
+    rigs: &[Rig],
+) -> Result<(), AllocError>
+    ensures terms { OnOk result (terms.new.items ≡ joined 0 count rigs.now) }
+    ensures sizes { OnOk result (sizes.new.items ≡ sizes_of 0 count rigs.now) }
+{
+    terms.clear();
+    sizes.clear();
+    for point in 0..count {
+        let before = terms.len();
+        push_chain(terms, point, rigs)?;
+        sizes.push(terms.len() - before)?;
+    }
+    Ok(())
+}
+
+/// Where the chains of points stand that have so many of the terms each, and their counts, in the buffers of another layout.
+#[inline(always)]
+fn layout_of(
+    catalogue: &[&str],
+    sizes: &[usize],
+    terms: &[Term],
+    buffers: Layout,
+) -> Result<Layout, AllocError>
+    requires distinct { HasDistinct (texts catalogue.now) }
+    requires sizes { AreSizes (texts catalogue.now) sizes.now terms.now }
+    requires limits { IsScenario (laid (texts catalogue.now) sizes.now terms.now) }
+    ensures { IfOk result (λ layout. IsLayout (laid (texts catalogue.now) sizes.now terms.now) (texts catalogue.now) layout) }
+{
+    let mut spans = buffers.spans;
+    spans.clear();
+    spans.reserve(catalogue.len())?;
+    let mut heads = buffers.heads;
+    heads.clear();
+    heads.reserve(catalogue.len())?;
+    let mut left = buffers.left;
+    left.clear();
+    left.reserve(terms.len())?;
+    let mut rest = terms;
+    let mut entry = 0;
+    for point in 0..catalogue.len() {
+        let (chain, behind) = rest.split_at(sizes[point]);
+        let start = left.len();
+        push_counts(&mut left, chain);
+        heads.push_reserved(first_head(Found { chain, start }));
+        spans.push_reserved(Span::of(entry, start, left.len()));
+        entry += usize::from(!chain.is_empty());
+        rest = behind;
+    }
+    Ok(Layout { spans, heads, left })
+}
+
+/// Hits of points at which faults are rigged, laid out so that a session finds each point's chain by the point's number.
+///
+/// One fault table serves run after run: it keeps the memory that it has taken. Contracts see it as the names of its points and the scenario
+/// of the rigged hits.
+#[derive(Drop)]
+pub struct FaultTable<'a> {
+    catalogue: &'a [&'a str],
+    terms: Vec<Term>,
+    sizes: Vec<usize>,
+}
+
+impl<'a> Model for FaultTable<'a> {
+    ghost use Rattle.std.specs.Prelude.{map};
+    ghost use Rattle.scenario_values.specs.Scenario.{IsScenario};
+    ghost use Rattle.scenario_values.specs.declared.term.Task.TheVariants as task;
+    ghost use Rattle.action_eval.specs.Catalogue.{HasDistinct};
+    ghost use Rattle.action_eval.specs.RiggedScenario.{Rigged};
+    ghost use Rattle.action_eval.specs.inside.Laid.{laid, AreSizes};
+
+    ghost Value = { Rigged };
+
+    ghost view = { λ r. record {
+      names = map (λ n. n.now) r.catalogue.now;
+      scenario = laid (map (λ n. n.now) r.catalogue.now) r.sizes.items r.terms.items;
+    } };
+
+    ghost invariant = { λ r. HasDistinct (map (λ n. n.now) r.catalogue.now)
+        × AreSizes (map (λ n. n.now) r.catalogue.now) r.sizes.items r.terms.items
+        × IsScenario (laid (map (λ n. n.now) r.catalogue.now) r.sizes.items r.terms.items) };
+}
+
+impl<'a> FaultTable<'a> {
+    /// A fault table without a point.
+    pub fn new(alloc: Global) -> Self
+        ensures { result ≡ rigged_as [] [] }
+    {
+        FaultTable {
+            catalogue: &[],
+            terms: Vec::new(alloc),
+            sizes: Vec::new(alloc),
+        }
+    }
+
+    /// Rigs these hits of the points of a catalogue, in ascending order, in place of those that were rigged.
+    ///
+    /// An error means that memory was refused. The fault table has no point then, and may be loaded again.
+    pub fn load(&mut self, catalogue: &'a [&'a str], rigs: &[Rig]) -> Result<(), AllocError>
+        requires lawful { IsCatalogue (texts catalogue.now) }
+        requires small { CanBeRigged rigs.now }
+        ensures ok { OnOk result (self.new ≡ rigged_as (texts catalogue.now) (rigged_scenario (texts catalogue.now) rigs.now)) }
+        ensures err { OnErr result (self.new ≡ rigged_as [] []) }
+    {
+        self.catalogue = &[];
+        lay(
+            &mut self.terms,
+            &mut self.sizes,
+            catalogue.len() as u32,
+            rigs,
+        )?;
+        self.catalogue = catalogue;
+        Ok(())
+    }
+
+    /// The names of the points, in the order of their numbers.
+    pub(crate) fn catalogue(&self) -> &'a [&'a str]
+        ensures { texts result.now ≡ self.now.names }
+    {
+        self.catalogue
+    }
+
+    /// The terms of which all chains are made, from one place to another.
+    pub(crate) fn terms(&self, start: usize, end: usize) -> &[Term]
+        requires ordered { start ≤ end }
+        requires within { end ≤ length (terms_of self.now.scenario) }
+        ensures { result.now ≡ slice_range (terms_of self.now.scenario) start end }
+    {
+        &self.terms[start..end]
+    }
+
+    /// Where the chains of the points stand, and their counts, in the buffers of another layout. An error means that memory was refused.
+    #[inline(always)]
+    pub(crate) fn layout(&self, buffers: Layout) -> Result<Layout, AllocError>
+        ensures { IfOk result (λ layout. IsLayout self.now.scenario self.now.names layout) }
+    {
+        layout_of(
+            self.catalogue,
+            self.sizes.as_slice(),
+            self.terms.as_slice(),
+            buffers,
+        )
+    }
+}

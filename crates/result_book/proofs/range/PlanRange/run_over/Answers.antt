@@ -1,0 +1,35 @@
+use Rattle.std.proofs.Common.{◌≡◌, ℕ, ◌≤◌, ◌+◌, length, List, [], ◌∷◌, ◌++◌, get_or, ap, sym, ◌∙◌, subst, arith}
+use Rattle.scenario_values.specs.Scenario.{Entries}
+use Rattle.target_trait.specs.declared.judgement.Verdict.{Verdict}
+use Rattle.result_book.specs.Says.{input_says}
+use Rattle.result_book.specs.Ranges.{AreSaid}
+use Rattle.result_book.proofs.RangeLemmas.{plan_range_more, range_said, range_length}
+use Rattle.result_book.proofs.range.PlanRange.run_over.Goals as goal
+
+pub loop-number-preserved : goal.loop-number-preserved
+loop-number-preserved g c =
+    let input = c.args.input.now in
+    let plans : List Entries = input.plans.now in
+    let n = c.loop-number.number in
+    let say_of : g.row.T.Denot → ℕ → Entries → Verdict = λ setup. input_says g.T.Target setup input in
+    let say = say_of c.args.target.now in
+    let so_far = c.loop-number.verdicts.items in
+    record {
+      setup = c.in_ok-verdict.ensures.setup ∙ c.loop-number.invariant.setup;
+      verdicts = c.in_ok-push.ensures.items
+          ∙ ap (λ v. so_far ++ v ∷ []) (c.in_ok-verdict.ensures.ok ∙ ap (λ setup. say_of setup n (get_or plans n [])) c.loop-number.invariant.setup)
+          ∙ ap (λ vs. vs ++ say n (get_or plans n []) ∷ []) c.loop-number.invariant.verdicts
+          ∙ sym (plan_range_more say plans c.args.first n (omega arith) (omega arith));
+    }
+
+pub invariant_of-result : goal.invariant_of-result
+invariant_of-result g c =
+    let input = c.args.input.now in
+    let plans : List Entries = input.plans.now in
+    let first = c.args.first in
+    let n = c.loop-number.number in
+    let say = input_says g.T.Target c.args.target.now input in
+    let up : first ≤ n = omega arith in
+    let fits : n ≤ length plans = omega arith in
+    let ends : first + length c.loop-number.verdicts.items ≡ n = ap (λ vs. first + length vs) c.loop-number.invariant.verdicts ∙ range_length say plans first n up fits in
+    (omega (arith, ends), (c.args.target.now, subst (AreSaid say plans first) (sym c.loop-number.invariant.verdicts) (range_said say plans first n up fits)))

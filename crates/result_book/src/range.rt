@@ -1,0 +1,91 @@
+//! Verdicts of plans that stand one after another.
+ghost use Rattle.std.specs.Prelude.{◌≡◌, ◌≤◌, [], length, IfOk, MatchOption, slice_range};
+ghost use Rattle.result_book.specs.Says.{input_says};
+ghost use Rattle.result_book.specs.Ranges.{IsLast};
+ghost use Rattle.result_book.specs.Verdicts.{verdicts_from};
+
+use crate::input::RunInput;
+use crate::numbered::{Numbered, verdict_of};
+use crate::workspace::Workspace;
+use std::alloc::{AllocError, Global};
+use std::marker::Model;
+use target_trait::{Target, Verdict};
+
+/// The verdicts of plans of an input that stand one after another, from a number on.
+///
+/// Only `run_over` makes one, so each verdict is that of its plan, under the stream of its plan's number, for one setup of the target: the
+/// type keeps that. A range holds its input once, and 8 bytes a plan.
+#[derive(Drop)]
+pub struct PlanRange<'a, T: Target> {
+    input: &'a RunInput<'a, T>,
+    first: u32,
+    verdicts: Vec<Verdict>,
+}
+
+impl<'a, T: Target> Model for PlanRange<'a, T> {
+    ghost use Rattle.result_book.specs.Ranges.{Stretch};
+
+    ghost Value = { Stretch };
+
+    ghost use Rattle.std.specs.Prelude.{◌+◌, ◌<◌, ◌^◌, length};
+    ghost use Rattle.result_book.specs.Says.{input_says};
+    ghost use Rattle.result_book.specs.Ranges.{AreSaid};
+
+    ghost view = { λ r. record { first = r.first; verdicts = r.verdicts.items } };
+
+    ghost invariant = { λ r. (r.first + length r.verdicts.items < 2 ^ 32)
+        × ((setup : T) × AreSaid (input_says T.Target setup r.input.now) r.input.now.plans.now r.first r.verdicts.items) };
+}
+
+impl<'a, T: Target> PlanRange<'a, T> {
+    /// Runs the plans from this number on, before `end`, in their order, in a workspace that serves run after run: it keeps the
+    /// memory that it has taken, and whatever it holds before makes no difference. An error means that memory was refused. The target keeps
+    /// its setup, after an error too.
+    pub fn run_over(
+        alloc: Global,
+        target: &mut T,
+        workspace: &mut Workspace,
+        input: &'a RunInput<'a, T>,
+        first: u32,
+        end: u32,
+    ) -> Result<Self, AllocError>
+        requires within { (first ≤ end) × (end ≤ length input.now.plans.now) }
+        ensures ok { IfOk result (λ range. range ≡ record {
+          first = first;
+          verdicts = verdicts_from (input_says T.Target target.old input.now) first (slice_range input.now.plans.now first end);
+        }) }
+        ensures setup { target.new ≡ target.old }
+    {
+        let rigger = input.plans.rigger(T::catalogue());
+        let mut verdicts = Vec::with_capacity(alloc, (end - first) as usize)?;
+        for number in first..end {
+            let verdict = verdict_of(alloc, target, &rigger, workspace, input, number)?;
+            verdicts.push(verdict)?;
+        }
+        Ok(PlanRange {
+            input,
+            first,
+            verdicts,
+        })
+    }
+
+    /// The verdicts, in the order of their plans.
+    pub fn verdicts(&self) -> &[Verdict]
+        ensures { result.now ≡ self.now.verdicts }
+    {
+        self.verdicts.as_slice()
+    }
+
+    /// Takes the last plan's result out of the range. None where the range is empty, which leaves it so.
+    pub fn pop(&mut self) -> Option<Numbered<'a, T>>
+        ensures { MatchOption result ((self.old.verdicts ≡ []) × (self.new ≡ self.old)) (IsLast self.old self.new) }
+    {
+        let verdict = self.verdicts.pop()?;
+        let number = self.first + self.verdicts.len() as u32;
+        Some(Numbered {
+            input: self.input,
+            number,
+            verdict,
+        })
+    }
+}
