@@ -7,4 +7,6 @@ pub mod Refused
 pub mod Told
 pub mod Reports
 pub mod Wholes
+pub mod ReadFaults
+pub mod Partial
 pub mod Read

@@ -38,6 +38,18 @@ pub record Tells (outside : Description) (answers : List ℕ) (a : Answered) : T
   pub lines : List RunLine
   pub read : runs_of outside.codes outside.points answers ≡ Ok lines
 
+-- why such a text isn't read: its first fault, or want of memory
+abbrev pub IsReadingFault : Description → List ℕ → QuestionFault → Type 0
+IsReadingFault outside answers (fault.Outside (refusal.Answers f)) = runs_of outside.codes outside.points answers ≡ Err f
+IsReadingFault outside answers (fault.Outside (refusal.Campaign campaign.Memory)) = Unit {0}
+IsReadingFault outside answers (fault.Outside (refusal.Campaign campaign.TooManyPlans)) = ⊥
+IsReadingFault outside answers (fault.Outside (refusal.Campaign (campaign.Write n))) = ⊥
+IsReadingFault outside answers (fault.Outside (refusal.NotAnswered t)) = ⊥
+IsReadingFault outside answers (fault.Outside (refusal.Census line)) = ⊥
+IsReadingFault outside answers (fault.Broken b) = ⊥
+IsReadingFault outside answers (fault.Scenario f) = ⊥
+IsReadingFault outside answers (fault.Unseen line) = ⊥
+
 -- the lines that ask for what is still to be tried
 abbrev pub grown_lines : Given → ℕ → Answered → List (List ℕ)
 grown_lines given depth a = lines_for (grown.untried a depth given.plans)

@@ -7,14 +7,12 @@ use crate::fault::QuestionFault;
 use crate::grown_asks::grown_lines;
 use crate::grown_partial::grown_partial;
 use crate::grown_report::grown_report;
-use crate::kinds::listed_kinds;
+use crate::reading::ReadRuns;
 use crate::table::KnownByRuns;
-use answer_text::read_runs;
-use answered_runs::AnsweredRuns;
 use asked_lines::AskedPart;
 use campaign_core::Ending;
 use campaign_given::{CampaignSettings, Outside};
-use outside_campaign::{Form, borrowed};
+use outside_campaign::Form;
 use report::write_report;
 use std::alloc::Global;
 use target_trait::Sink;
@@ -32,15 +30,8 @@ fn asked_text(
     ensures text { IfOk result (λ text. IsAskedText part outside.now settings.now depth answers.now (string_bytes text)) }
     ensures fault { IfErr result (RefusesAsked outside.now settings.now depth answers.now) }
 {
-    let told = read_runs(
-        alloc,
-        outside.codes.as_slice(),
-        outside.points.as_slice(),
-        answers,
-    )?;
-    let points = borrowed(alloc, outside.points.as_slice())?;
-    let kinds = listed_kinds(alloc, outside)?;
-    let runs = AnsweredRuns::new(alloc, points.as_slice(), kinds.as_slice(), &told);
+    let read = ReadRuns::read(alloc, outside, answers)?;
+    let runs = read.table(alloc);
     let known = KnownByRuns { runs: &runs, depth };
     let lines = grown_lines(alloc, &known, settings)?;
     Ok(lines.text(alloc, part)?)
@@ -59,15 +50,8 @@ fn report_text(
     ensures report { IfOk result (λ r. IsReportedText form.now outside.now settings.now depth answers.now r.0.items r.1) }
     ensures fault { IfErr result (RefusesGrown outside.now settings.now depth answers.now) }
 {
-    let told = read_runs(
-        alloc,
-        outside.codes.as_slice(),
-        outside.points.as_slice(),
-        answers,
-    )?;
-    let points = borrowed(alloc, outside.points.as_slice())?;
-    let kinds = listed_kinds(alloc, outside)?;
-    let runs = AnsweredRuns::new(alloc, points.as_slice(), kinds.as_slice(), &told);
+    let read = ReadRuns::read(alloc, outside, answers)?;
+    let runs = read.table(alloc);
     let known = KnownByRuns { runs: &runs, depth };
     grown_report(alloc, form, outside, settings, &known)
 }
@@ -84,15 +68,8 @@ fn known_text(
     ensures text { IfOk result (λ r. IsPartialText outside.now settings.now depth answers.now (string_bytes r.0) r.1) }
     ensures fault { IfErr result (RefusesAsked outside.now settings.now depth answers.now) }
 {
-    let told = read_runs(
-        alloc,
-        outside.codes.as_slice(),
-        outside.points.as_slice(),
-        answers,
-    )?;
-    let points = borrowed(alloc, outside.points.as_slice())?;
-    let kinds = listed_kinds(alloc, outside)?;
-    let runs = AnsweredRuns::new(alloc, points.as_slice(), kinds.as_slice(), &told);
+    let read = ReadRuns::read(alloc, outside, answers)?;
+    let runs = read.table(alloc);
     let known = KnownByRuns { runs: &runs, depth };
     grown_partial(alloc, outside, settings, &known)
 }

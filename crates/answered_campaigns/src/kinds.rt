@@ -50,7 +50,7 @@ fn kinds_of_each(alloc: Global, tried: &[TriedFaults]) -> Result<Vec<Vec<Kind>>,
 
 /// For each point the kinds of faults that plans grow by at its hits, in their order, up to 8, none twice; none where the usual ones are tried. An
 /// error means that memory was refused.
-pub fn listed_kinds(alloc: Global, outside: &Outside) -> Result<Vec<Vec<Kind>>, AllocError>
+pub(crate) fn listed_kinds(alloc: Global, outside: &Outside) -> Result<Vec<Vec<Kind>>, AllocError>
     ensures listed { IfOk result (λ kinds. map (λ k. k.items) kinds.items ≡ listed_kinds outside.now) }
     ensures lawful { IfOk result (λ kinds. AllByRecursion (λ k. CanBeListed k.items) kinds.items) }
 {

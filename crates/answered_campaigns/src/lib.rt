@@ -12,10 +12,11 @@ mod grown_partial;
 mod grown_report;
 mod kinds;
 mod laws;
+mod reading;
 mod table;
 
 pub use depth::{write_asks, write_partial, write_report_in};
 pub use explaining::write_explained;
 pub use fault::QuestionFault;
-pub use kinds::listed_kinds;
 pub use laws::kinds_of_settings_can_be_tried;
+pub use reading::ReadRuns;

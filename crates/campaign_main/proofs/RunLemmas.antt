@@ -6,7 +6,7 @@ use Rattle.std.specs.Prelude.{IsErrAnd}
 use Rattle.std.specs.List.{range_with_len}
 use Rattle.action_eval.specs.declared.rig.Kind.{Kind}
 use Rattle.plan_gen.specs.PlanList.{Asked}
-use Rattle.answer_text.specs.Runs.{KnownRuns, TellsAnswers, TellsRuns, known_runs, told_in}
+use Rattle.answer_text.specs.Runs.{KnownRuns, TellsAnswers, known_runs, told_in}
 use Rattle.answer_text.specs.declared.fault.AnswersFault.{AnswersFault}
 use Rattle.answer_text.specs.declared.fault.AnswersFault.TheVariants as answers
 use Rattle.known_runs.specs.declared.growing.KnownFault.{KnownFault}
@@ -14,12 +14,14 @@ use Rattle.known_runs.specs.declared.growing.KnownFault.TheVariants as known
 use Rattle.answered_runs.specs.Answered.{Answered, known_plans}
 use Rattle.campaign_given.specs.Description.{Description}
 use Rattle.campaign_given.specs.Given.{Given}
+use Rattle.campaign_core.specs.declared.ending.CampaignFault.TheVariants as campaign
 use Rattle.outside_campaign.specs.Results.{answers_fault}
 use Rattle.outside_campaign.specs.declared.refusal.OutsideFault.TheVariants as outside
 use Rattle.outside_grown.specs.Further.{AreTooMany}
 use Rattle.answered_campaigns.specs.Faults.{known_fault}
 use Rattle.answered_campaigns.specs.Kinds.{listed_kinds}
-use Rattle.answered_campaigns.specs.Questions.{Tells}
+use Rattle.answered_campaigns.specs.Questions.{IsReadingFault, Tells}
+use Rattle.answered_campaigns.specs.declared.fault.QuestionFault.{QuestionFault}
 use Rattle.answered_campaigns.specs.declared.fault.QuestionFault.TheVariants as fault
 use Rattle.campaign_main.specs.QuestionNotes.{run_doubts, strict_doubts}
 use Rattle.campaign_main.specs.Questions.{IsUnnotedTo}
@@ -99,18 +101,17 @@ module _ (d : Description) (given : Given) (depth : ℕ) (text : List ℕ) where
       ∙ ap (λ (kinds : List (List Kind)). run_doubts d.points kinds (told_in a.book) depth given) listed
       ∙ ap (λ (runs : KnownRuns). run_doubts d.points (listed_kinds d) runs depth given) told
 
-  -- why nothing is noted
-  pub runs_fault_is_unnoted : (f : AnswersFault) → TellsRuns f d.codes d.points text
-      → IsUnnotedTo (Some depth) (given, d) text (fault.Outside (answers_fault f))
-  runs_fault_is_unnoted answers.TooLong h = h
-  runs_fault_is_unnoted (answers.Line number f) h = h
-  runs_fault_is_unnoted answers.Memory h = tt
-
-  -- the same by names that are those of the description
-  pub runs_fault_is_unnoted_by_names : (f : AnswersFault) (codes points : List (List ℕ)) → codes ≡ d.codes → points ≡ d.points → TellsRuns f codes points text
-      → IsUnnotedTo (Some depth) (given, d) text (fault.Outside (answers_fault f))
-  runs_fault_is_unnoted_by_names f codes points codes_are points_are h =
-      runs_fault_is_unnoted f (subst (λ (names : List (List ℕ)). TellsRuns f d.codes names text) points_are (subst (λ (names : List (List ℕ)). TellsRuns f names points text) codes_are h))
+  -- why nothing is noted: answers with a fault
+  pub reading_is_unnoted : (why : QuestionFault) → IsReadingFault d text why → IsUnnotedTo (Some depth) (given, d) text why
+  reading_is_unnoted (fault.Outside (outside.Answers f)) h = h
+  reading_is_unnoted (fault.Outside (outside.Campaign campaign.Memory)) h = tt
+  reading_is_unnoted (fault.Outside (outside.Campaign campaign.TooManyPlans)) h = absurd h
+  reading_is_unnoted (fault.Outside (outside.Campaign (campaign.Write n))) h = absurd h
+  reading_is_unnoted (fault.Outside (outside.NotAnswered t)) h = absurd h
+  reading_is_unnoted (fault.Outside (outside.Census line)) h = absurd h
+  reading_is_unnoted (fault.Broken b) h = absurd h
+  reading_is_unnoted (fault.Scenario f) h = absurd h
+  reading_is_unnoted (fault.Unseen line) h = absurd h
 
   pub many_runs : (a : Answered) → Tells d text a → (cause : KnownFault) → (cause ≡ known.TooManyPlans → AreTooMany a given.plans (length (known_plans a depth)))
       → IsUnnotedTo (Some depth) (given, d) text (fault.Outside (outside.Campaign (known_fault cause)))

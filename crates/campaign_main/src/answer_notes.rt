@@ -15,9 +15,8 @@ use crate::notes::{
     write_strangers,
 };
 use crate::run_notes::run_doubts;
-use answer_text::{LineError, Runs, answer_in, read, read_runs};
-use answered_campaigns::{QuestionFault, listed_kinds};
-use answered_runs::AnsweredRuns;
+use answer_text::{LineError, Runs, answer_in, read};
+use answered_campaigns::{QuestionFault, ReadRuns};
 use campaign_given::{CampaignSettings, Outside};
 use campaign_plans::CampaignPlans;
 use command_words::Question;
@@ -240,15 +239,8 @@ fn strict_by_runs(
     ensures ok { IfOk result (λ lines. string_bytes lines ≡ strict_doubts (Some depth) settings.now outside.now answers.now) }
     ensures fault { IfErr result (IsUnnotedTo (Some depth) (settings.now, outside.now) answers.now) }
 {
-    let told = read_runs(
-        alloc,
-        outside.codes.as_slice(),
-        outside.points.as_slice(),
-        answers,
-    )?;
-    let points = borrowed(alloc, outside.points.as_slice())?;
-    let kinds = listed_kinds(alloc, outside)?;
-    let runs = AnsweredRuns::new(alloc, points.as_slice(), kinds.as_slice(), &told);
+    let read = ReadRuns::read(alloc, outside, answers)?;
+    let runs = read.table(alloc);
     let lines = run_doubts(alloc, &runs, settings, depth)?;
     Ok(lines)
 }

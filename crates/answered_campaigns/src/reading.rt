@@ -1,0 +1,71 @@
+//! Answers that tell hits, read over the settings.
+ghost use Rattle.std.specs.Prelude.{◌≡◌, IfErr, IfOk};
+ghost use Rattle.answered_campaigns.specs.Questions.{IsReadingFault, Tells};
+
+use crate::fault::QuestionFault;
+use crate::kinds::listed_kinds;
+use action_eval::Kind;
+use answer_text::{Runs, read_runs};
+use answered_runs::AnsweredRuns;
+use campaign_given::Outside;
+use outside_campaign::borrowed;
+use std::alloc::Global;
+use std::marker::Model;
+
+/// What answers tell of a component's runs, with what its settings say of the component: its points, and the faults that are tried at them.
+/// Contracts see what an [`AnsweredRuns`] over it shows.
+#[derive(Drop)]
+pub struct ReadRuns<'a> {
+    points: Vec<&'a str>,
+    listed: Vec<Vec<Kind>>,
+    runs: Runs,
+}
+
+impl<'a> Model for ReadRuns<'a> {
+    ghost use Rattle.std.specs.Prelude.{map};
+    ghost use Rattle.std.specs.List.{AllByRecursion};
+    ghost use Rattle.action_eval.specs.Answers.{texts};
+    ghost use Rattle.action_eval.specs.Catalogue.{IsCatalogue};
+    ghost use Rattle.answered_runs.specs.Answered.{Answered, CanBeListed};
+
+    ghost Value = { Answered };
+
+    ghost view = { λ r. record { points = texts r.points.items; listed = map (λ kinds. kinds.items) r.listed.items; book = r.runs } };
+
+    ghost invariant = { λ r. IsCatalogue (texts r.points.items) × AllByRecursion (λ kinds. CanBeListed kinds.items) r.listed.items };
+}
+
+impl<'a> ReadRuns<'a> {
+    /// Reads a text of answers, each line of which has to tell its hits, though `-` where they weren't seen. `Answers` is the text's first fault;
+    /// else memory was refused.
+    pub fn read(alloc: Global, outside: &'a Outside, answers: &[u8]) -> Result<Self, QuestionFault>
+        ensures read { IfOk result (λ runs. Tells outside.now answers.now runs) }
+        ensures fault { IfErr result (IsReadingFault outside.now answers.now) }
+    {
+        let runs = read_runs(
+            alloc,
+            outside.codes.as_slice(),
+            outside.points.as_slice(),
+            answers,
+        )?;
+        let points = borrowed(alloc, outside.points.as_slice())?;
+        let listed = listed_kinds(alloc, outside)?;
+        Ok(ReadRuns {
+            points,
+            listed,
+            runs,
+        })
+    }
+
+    /// The table of these runs.
+    pub fn table(&self, alloc: Global) -> AnsweredRuns<'_>
+        ensures { result ≡ self.now }
+    {
+        AnsweredRuns::new(
+            alloc,
+            self.points.as_slice(),
+            self.listed.as_slice(),
+            &self.runs,
+        )
+    }
+}
