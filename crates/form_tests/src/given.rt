@@ -1,5 +1,5 @@
 //! Names, plans and findings of small reports, and their documents.
-ghost use Rattle.std.specs.Prelude.{◌≡◌, [], length, slice_index_or, IfSome};
+ghost use Rattle.std.specs.Prelude.{◌≡◌, [], length, slice_index_or, IfOk, IfSome};
 ghost use Rattle.action_eval.specs.Answers.{texts};
 
 use campaign_plans::CampaignPlans;
@@ -92,6 +92,16 @@ pub fn cause(alloc: Global, number: u32, code: u32, scenario: &str) -> Result<Ca
     })
 }
 
+/// The plans of a report, where there is a verdict for each.
+fn judged<'p>(report: &Report<'_>, plans: &'p PlanList<'p>) -> Result<CampaignPlans<'p>, Fail>
+    ensures { IfOk result (λ judged. length report.now.verdicts ≡ length judged) }
+{
+    if report.verdicts.len() != plans.len() {
+        return Err(Fail::from("no verdict for each plan"));
+    }
+    Ok(CampaignPlans::by_census(plans))
+}
+
 /// The JSON document of a report, where there is a verdict for each plan.
 pub fn json_of<N: Names>(
     alloc: Global,
@@ -102,10 +112,7 @@ pub fn json_of<N: Names>(
     requires counts { length report.now.census ≡ length (N.points names.now) }
     requires reached { IfSome report.now.growth (λ growth. length growth.reached ≡ length (N.points names.now)) }
 {
-    if report.verdicts.len() != plans.len() {
-        return Err(Fail::from("no verdict for each plan"));
-    }
-    Ok(json_text(alloc, names, report, &CampaignPlans::by_census(plans))?)
+    Ok(json_text(alloc, names, report, &judged(report, plans)?)?)
 }
 
 /// The brief text of a report, where there is a verdict for each plan.
@@ -118,10 +125,7 @@ pub fn brief_of<N: Names>(
     requires counts { length report.now.census ≡ length (N.points names.now) }
     requires reached { IfSome report.now.growth (λ growth. length growth.reached ≡ length (N.points names.now)) }
 {
-    if report.verdicts.len() != plans.len() {
-        return Err(Fail::from("no verdict for each plan"));
-    }
-    Ok(brief_text(alloc, names, report, &CampaignPlans::by_census(plans))?)
+    Ok(brief_text(alloc, names, report, &judged(report, plans)?)?)
 }
 
 /// The JUnit document of a report, where there is a verdict for each plan.
@@ -131,8 +135,5 @@ pub fn junit_of<N: Names>(
     report: &Report<'_>,
     plans: &PlanList<'_>,
 ) -> Result<Vec<u8>, Fail> {
-    if report.verdicts.len() != plans.len() {
-        return Err(Fail::from("no verdict for each plan"));
-    }
-    Ok(junit_text(alloc, names, report, &CampaignPlans::by_census(plans))?)
+    Ok(junit_text(alloc, names, report, &judged(report, plans)?)?)
 }
