@@ -5,6 +5,7 @@ ghost use Rattle.action_eval.specs.Words.{seed_bytes, at_word, word};
 use rand_chacha::ChaCha8Rng;
 use rand_core::SeedableRng;
 use rand_core::utils::NextWord;
+use std::alloc::Global;
 use std::marker::Model;
 
 /// A seed of eight bytes, low byte first, and then zeros.
@@ -41,15 +42,17 @@ fn pass_over(generator: &mut ChaCha8Rng, words: u64)
     }
 }
 
-/// The words of a run. Most runs look at none, so the generator is made for the first one that is looked at.
+/// The words of a run. Most runs look at none, so the generator is made for the first one that is looked at, and stands in memory of its own: it
+/// is larger than all else that a session has.
 #[derive(Drop)]
 pub struct Draws {
+    alloc: Global,
     seed: u64,
     stream: u64,
     taken: u64,
     /// The number of the word that the generator gives next. It lags behind: words that nobody looks at aren't made.
     at: u64,
-    generator: Option<ChaCha8Rng>,
+    generator: Option<Box<ChaCha8Rng>>,
 }
 
 impl Model for Draws {
@@ -65,14 +68,15 @@ impl Model for Draws {
       taken = d.taken;
     } };
 
-    ghost invariant = { λ d. (d.at ≤ d.taken) × ForSome d.generator (λ g. g ≡ at_word d.seed d.stream d.at) };
+    ghost invariant = { λ d. (d.at ≤ d.taken) × ForSome d.generator (λ g. g.value ≡ at_word d.seed d.stream d.at) };
 }
 
 impl Draws {
-    pub fn new(seed: u64, stream: u64) -> Self
+    pub fn new(alloc: Global, seed: u64, stream: u64) -> Self
         ensures { result ≡ record { seed = seed; stream = stream; taken = 0 } }
     {
         Draws {
+            alloc,
             seed,
             stream,
             taken: 0,
@@ -96,7 +100,7 @@ impl Draws {
         self.taken += words;
     }
 
-    /// Takes the next word.
+    /// Takes the next word. Where memory for the generator is refused, it isn't kept: the next word has one of its own, which gives the same.
     #[tactic(auto, unfolding(crate::specs::Words::at_word, crate::specs::Words::word))]
     #[inline(never)]
     pub fn take(&mut self) -> u32
@@ -115,7 +119,7 @@ impl Draws {
             None => {
                 let mut generator = generator_at(self.seed, self.stream, self.taken);
                 let word = generator.next_word();
-                self.generator = Some(generator);
+                self.generator = Box::new(self.alloc, generator).ok();
                 word
             }
         };

@@ -145,7 +145,7 @@ pub fn history<'a>(
 {
     let mut left = Vec::new(alloc);
     fill_counts(&mut left, scenario)?;
-    let mut draws = Draws::new(seed, stream);
+    let mut draws = Draws::new(alloc, seed, stream);
     let mut hits = Vec::with_capacity(alloc, points.len())?;
     for point in points {
         let name = name_of(catalogue, *point);

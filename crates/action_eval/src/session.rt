@@ -252,6 +252,7 @@ impl<'a> Session<'a> {
         ensures { IfOk result (λ s. s ≡ start (given_of (faults_of faults.entry) (texts catalogue.now) seed stream max_hits)) }
     {
         let mut hits = records.hits;
+        let alloc = *hits.allocator();
         hits.clear();
         hits.reserve(first_room(max_hits))?;
         let mut notes = records.notes;
@@ -264,7 +265,7 @@ impl<'a> Session<'a> {
             spans: layout.spans,
             heads: layout.heads,
             left: layout.left,
-            draws: Draws::new(seed, stream),
+            draws: Draws::new(alloc, seed, stream),
             notes,
             millis: 0,
             stopped: None,
