@@ -8,6 +8,7 @@ use crate::work::Replacements;
 use chunked_text::Chunks;
 
 /// Whether bytes are the contents of one of these replacements.
+#[inline(always)]
 fn is_one(replacements: &[Chunks], bytes: &[u8]) -> bool
     ensures { result ≡ is_among bytes.now (map joined replacements.now) }
 {
@@ -20,6 +21,8 @@ fn is_one(replacements: &[Chunks], bytes: &[u8]) -> bool
 }
 
 /// Whether bytes are contents of a workload with a number from `first` to `last`. Number 0 are the old ones.
+// Each run asks it once, with bounds that its caller knows.
+#[inline(always)]
 pub fn is_among(workload: &Replacements, first: usize, last: usize, bytes: &[u8]) -> bool
     requires order { first ≤ last }
     requires within { last ≤ length workload.now.replacements }

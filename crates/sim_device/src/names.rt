@@ -4,7 +4,9 @@ ghost use Rattle.sim_device.specs.Disk.{entry_at, ChangesName, IsNext, MovesName
 use std::alloc::{AllocError, Global};
 use std::marker::Model;
 
-/// How many names the table makes room for at once: names mostly come one after another.
+/// How many names a table makes room for first: many a run has no more.
+const AT_FIRST: usize = 4;
+/// How many names it makes room for at once from then on: names mostly come one after another.
 const AT_ONCE: usize = 16;
 
 /// The files that a name leads to, by number: now, and after a power cut.
@@ -124,8 +126,13 @@ impl Directory {
         ensures room { OnOk result (name < length self.new) }
         ensures err { OnErr result (self.new ≡ self.old) }
     {
+        let room = if self.entries.is_empty() {
+            AT_FIRST
+        } else {
+            AT_ONCE
+        };
         self.entries.resize(
-            name as usize + AT_ONCE,
+            name as usize + room,
             Entry {
                 live: None,
                 lasting: None,
