@@ -12,6 +12,7 @@ use crate::judge::{LOST, SPLIT};
 use crate::logs::Logs;
 use crate::play::{TO_CUT, play, play_out, play_to_cut};
 use crate::progress::Progress;
+use crate::script::Script;
 use crate::texts::call_texts;
 use crate::variant::Variant;
 use crate::work::Transactions;
@@ -78,13 +79,11 @@ impl Commit {
             case.max_hits,
         )?;
         self.logs.clear_to_note(workload.participants())?;
-        play_out(
-            self.variant,
+        let script = Script {
+            variant: self.variant,
             workload,
-            &mut self.progress,
-            &mut self.logs,
-            &mut session,
-        )?;
+        };
+        play_out(script, &mut self.progress, &mut self.logs, &mut session)?;
         // for its clause alone, that at most one hit is past the limit
         let _ = session.trace();
         call_texts(alloc, self.logs.pending())
@@ -151,13 +150,11 @@ impl Target for Commit {
         // Presumed abort is kept, whatever fails.
         ensures sound { self.old ≡ Sound → IfOk result (λ judgement. judgement ≡ Kept) }
     {
-        play(
-            self.variant,
+        let script = Script {
+            variant: self.variant,
             workload,
-            &mut self.progress,
-            &mut self.logs,
-            session,
-        )
+        };
+        play(script, &mut self.progress, &mut self.logs, session)
     }
 
     ghost within = { asks-within };
@@ -179,10 +176,13 @@ impl CrashTarget for Commit {
         workload: &Transactions,
         session: &mut Session<'_>,
     ) -> Result<Judgement, AllocError> {
+        let script = Script {
+            variant: self.variant,
+            workload,
+        };
         play_to_cut(
             self.alloc,
-            self.variant,
-            workload,
+            script,
             &mut self.progress,
             &mut self.logs,
             session,

@@ -14,6 +14,7 @@ mod play;
 mod points;
 mod progress;
 mod records;
+mod script;
 mod texts;
 mod variant;
 mod votes;

@@ -11,8 +11,8 @@ use crate::marked::Manner;
 use crate::points::Point;
 use crate::progress::Progress;
 use crate::records::{Kind, Party, Write};
+use crate::script::Script;
 use crate::variant::Variant;
-use crate::work::Transactions;
 use std::alloc::AllocError;
 use target_trait::Session;
 
@@ -25,24 +25,24 @@ const ROUND: [u32; 3] = [
 
 /// The coordinator forces the commit record. end_first has the end record behind it.
 fn force_commit(
-    variant: Variant,
-    workload: &Transactions,
+    script: Script<'_>,
     progress: &Progress,
     logs: &mut Logs,
     session: &mut Session<'_>,
 ) -> Result<bool, Cut>
-    requires { Stands variant workload.now session.old (at_step progress.now ForceCommit) logs.old }
+    requires { Stands script.variant script.workload.now session.old (at_step progress.now ForceCommit) logs.old }
     ensures given { session.new.given ≡ session.old.given }
     ensures notes { logs.new.notes ≡ logs.old.notes }
-    ensures led { Leads result (λ forced.
-        Stands variant workload.now session.new (if forced then committed progress.now else after_no_commit variant workload.now progress.now) logs.new)
+    ensures led { let variant = script.entry.variant in let workload = script.entry.workload in
+        Leads result (λ forced. Stands variant workload.now session.new
+        (if forced then committed progress.now else after_no_commit variant workload.now progress.now) logs.new)
         (Ended variant workload.now session.new (at_step progress.now Over) logs.new) }
 {
     if !ask(session, Point::ForceCommit as u32)? {
         return Ok(false);
     }
     logs.write(Write::Force(Party::Coordinator, progress.entry(Kind::Commit)))?;
-    if let Some(end) = progress.early_write(variant) {
+    if let Some(end) = progress.early_write(script.variant) {
         logs.write(end)?;
     }
     Ok(true)
@@ -50,16 +50,16 @@ fn force_commit(
 
 /// It tries once more, and goes on as if the record stood.
 fn force_commit_again(
-    variant: Variant,
-    workload: &Transactions,
+    script: Script<'_>,
     progress: &Progress,
     logs: &mut Logs,
     session: &mut Session<'_>,
 ) -> Result<(), Cut>
-    requires { Stands variant workload.now session.old (at_step progress.now ForceCommitAgain) logs.old }
+    requires { Stands script.variant script.workload.now session.old (at_step progress.now ForceCommitAgain) logs.old }
     ensures given { session.new.given ≡ session.old.given }
     ensures notes { logs.new.notes ≡ logs.old.notes }
-    ensures led { Leads result (λ _. Stands variant workload.now session.new (committed progress.now) logs.new)
+    ensures led { let variant = script.entry.variant in let workload = script.entry.workload in
+        Leads result (λ _. Stands variant workload.now session.new (committed progress.now) logs.new)
         (Ended variant workload.now session.new (at_step progress.now Over) logs.new) }
 {
     if !ask(session, Point::ForceCommit as u32)? {
@@ -71,24 +71,24 @@ fn force_commit_again(
 
 /// Where every yes arrived: whether the decision is commit. The client is told of it then.
 pub fn commits(
-    variant: Variant,
-    workload: &Transactions,
+    script: Script<'_>,
     progress: &mut Progress,
     logs: &mut Logs,
     session: &mut Session<'_>,
 ) -> Result<bool, Cut>
-    requires { Stands variant workload.now session.old (at_step progress.old ForceCommit) logs.old }
+    requires { Stands script.variant script.workload.now session.old (at_step progress.old ForceCommit) logs.old }
     ensures given { session.new.given ≡ session.old.given }
     ensures notes { logs.new.notes ≡ logs.old.notes }
     ensures begun { progress.new.begun ≡ progress.old.begun }
-    ensures led { Leads result (λ commits.
-        Stands variant workload.now session.new (if commits then at_step progress.new (SendCommit 0) else aborted workload.now progress.new) logs.new)
+    ensures led { let variant = script.entry.variant in let workload = script.entry.workload in
+        Leads result (λ commits. Stands variant workload.now session.new
+        (if commits then at_step progress.new (SendCommit 0) else aborted workload.now progress.new) logs.new)
         (Ended variant workload.now session.new (at_step progress.new Over) logs.new) }
 {
-    if !force_commit(variant, workload, progress, logs, session)? {
-        match variant {
+    if !force_commit(script, progress, logs, session)? {
+        match script.variant {
             Variant::TwoTries => {
-                force_commit_again(variant, workload, progress, logs, session)?;
+                force_commit_again(script, progress, logs, session)?;
             }
             Variant::Sound | Variant::LazyPrepare | Variant::EarlyEnd | Variant::EndFirst => {
                 return Ok(false);
@@ -101,18 +101,18 @@ pub fn commits(
 
 /// The participant at this place among those whose yes arrived is told of the abort.
 fn abort_to(
-    variant: Variant,
-    workload: &Transactions,
+    script: Script<'_>,
     place: usize,
     progress: &Progress,
     logs: &mut Logs,
     session: &mut Session<'_>,
 ) -> Result<(), Cut>
-    requires { Stands variant workload.now session.old (at_step progress.now (SendAbort place)) logs.old }
+    requires { Stands script.variant script.workload.now session.old (at_step progress.now (SendAbort place)) logs.old }
     ensures given { session.new.given ≡ session.old.given }
     ensures notes { logs.new.notes ≡ logs.old.notes }
-    ensures led { Leads result (λ _.
-        Stands variant workload.now session.new (abort_to workload.now progress.now (next_of place (length progress.now.yes))) logs.new)
+    ensures led { let variant = script.entry.variant in let workload = script.entry.workload in
+        Leads result (λ _. Stands variant workload.now session.new
+        (abort_to workload.now progress.now (next_of place (length progress.now.yes))) logs.new)
         (Ended variant workload.now session.new (at_step progress.now Over) logs.new) }
 {
     if !ask(session, Point::SendOutcome as u32)? {
@@ -139,16 +139,16 @@ fn abort_each(count: usize, progress: &Progress, logs: &mut Logs) -> Result<(), 
 
 /// Those whose yes arrived are told of the abort where nothing comes between, from the first one on: how many they are.
 fn pass_aborts(
-    variant: Variant,
-    workload: &Transactions,
+    script: Script<'_>,
     progress: &Progress,
     logs: &mut Logs,
     session: &mut Session<'_>,
 ) -> Result<usize, Cut>
-    requires { Stands variant workload.now session.old (aborted workload.now progress.now) logs.old }
+    requires { Stands script.variant script.workload.now session.old (aborted script.workload.now progress.now) logs.old }
     ensures given { session.new.given ≡ session.old.given }
     ensures notes { logs.new.notes ≡ logs.old.notes }
-    ensures led { Leads result (λ n. (n ≤ length progress.now.yes)
+    ensures led { let variant = script.entry.variant in let workload = script.entry.workload in
+        Leads result (λ n. (n ≤ length progress.now.yes)
         × Stands variant workload.now session.new (abort_to workload.now progress.now (one_of n (length progress.now.yes))) logs.new)
         (Ended variant workload.now session.new (at_step progress.now Over) logs.new) }
 {
@@ -159,38 +159,38 @@ fn pass_aborts(
 
 /// Those whose yes arrived are told of the abort.
 pub fn tell_abort(
-    variant: Variant,
-    workload: &Transactions,
+    script: Script<'_>,
     progress: &Progress,
     logs: &mut Logs,
     session: &mut Session<'_>,
 ) -> Result<(), Cut>
-    requires { Stands variant workload.now session.old (aborted workload.now progress.now) logs.old }
+    requires { Stands script.variant script.workload.now session.old (aborted script.workload.now progress.now) logs.old }
     ensures given { session.new.given ≡ session.old.given }
     ensures notes { logs.new.notes ≡ logs.old.notes }
-    ensures led { Leads result (λ _. Stands variant workload.now session.new (begun workload.now progress.now) logs.new)
+    ensures led { let variant = script.entry.variant in let workload = script.entry.workload in
+        Leads result (λ _. Stands variant workload.now session.new (begun workload.now progress.now) logs.new)
         (Ended variant workload.now session.new (at_step progress.now Over) logs.new) }
 {
-    let passed = pass_aborts(variant, workload, progress, logs, session)?;
+    let passed = pass_aborts(script, progress, logs, session)?;
     for place in passed..progress.voters() {
-        abort_to(variant, workload, place, progress, logs, session)?;
+        abort_to(script, place, progress, logs, session)?;
     }
     Ok(())
 }
 
 /// A participant is told of the commit: whether it has acknowledged it.
 fn commit_to(
-    variant: Variant,
-    workload: &Transactions,
+    script: Script<'_>,
     participant: usize,
     progress: &Progress,
     logs: &mut Logs,
     session: &mut Session<'_>,
 ) -> Result<bool, Cut>
-    requires { Stands variant workload.now session.old (at_step progress.now (SendCommit participant)) logs.old }
+    requires { Stands script.variant script.workload.now session.old (at_step progress.now (SendCommit participant)) logs.old }
     ensures given { session.new.given ≡ session.old.given }
     ensures notes { logs.new.notes ≡ logs.old.notes }
-    ensures led { Leads result (λ acknowledges.
+    ensures led { let variant = script.entry.variant in let workload = script.entry.workload in
+        Leads result (λ acknowledges.
         let t = (if acknowledges then progress.now else unacknowledged progress.now) in let next = next_of participant workload.now.participants in
         Due variant workload.now session.new (commit_to variant workload.now t next) (end_unless variant t t.acknowledged next) logs.new)
         (Ended variant workload.now session.new (at_step progress.now Over) logs.new) }
@@ -210,23 +210,23 @@ fn commit_to(
 
 /// Participants in a row, from this one on, are told of the commit where nothing comes between: how many they are.
 fn pass_commits(
-    variant: Variant,
-    workload: &Transactions,
+    script: Script<'_>,
     participant: usize,
     progress: &Progress,
     logs: &mut Logs,
     session: &mut Session<'_>,
 ) -> Result<usize, Cut>
-    requires within { participant < workload.now.participants }
-    requires stands { Stands variant workload.now session.old (at_step progress.now (SendCommit participant)) logs.old }
+    requires within { participant < script.workload.now.participants }
+    requires stands { Stands script.variant script.workload.now session.old (at_step progress.now (SendCommit participant)) logs.old }
     ensures given { session.new.given ≡ session.old.given }
     ensures notes { logs.new.notes ≡ logs.old.notes }
-    ensures led { Leads result (λ n. let next = one_of (participant + n) workload.now.participants in (participant + n ≤ workload.now.participants)
+    ensures led { let variant = script.entry.variant in let workload = script.entry.workload in
+        Leads result (λ n. let next = one_of (participant + n) workload.now.participants in (participant + n ≤ workload.now.participants)
         × Due variant workload.now session.new (commit_to variant workload.now progress.now next)
         (end_unless variant progress.now progress.now.acknowledged next) logs.new)
         (Ended variant workload.now session.new (at_step progress.now Over) logs.new) }
 {
-    let left = workload.participants() - participant;
+    let left = script.workload.participants() - participant;
     let passed = session.pass_rounds(&ROUND, left)?;
     let entry = progress.entry(Kind::Commit);
     logs.add_each(participant, passed, entry, Manner::Force)?;
@@ -235,29 +235,29 @@ fn pass_commits(
 
 /// Participants from this one on are told of the commit, one at least: the next participant.
 fn some_commits(
-    variant: Variant,
-    workload: &Transactions,
+    script: Script<'_>,
     participant: usize,
     progress: &mut Progress,
     logs: &mut Logs,
     session: &mut Session<'_>,
 ) -> Result<usize, Cut>
-    requires within { participant < workload.now.participants }
-    requires fits { workload.now.participants ≤ usize.MAX }
-    requires stands { Stands variant workload.now session.old (at_step progress.old (SendCommit participant)) logs.old }
+    requires within { participant < script.workload.now.participants }
+    requires fits { script.workload.now.participants ≤ usize.MAX }
+    requires stands { Stands script.variant script.workload.now session.old (at_step progress.old (SendCommit participant)) logs.old }
     ensures given { session.new.given ≡ session.old.given }
     ensures notes { logs.new.notes ≡ logs.old.notes }
     ensures begun { progress.new.begun ≡ progress.old.begun }
-    ensures led { Leads result (λ n. let next = one_of n workload.now.participants in (participant < n) × (n ≤ workload.now.participants)
+    ensures led { let variant = script.entry.variant in let workload = script.entry.workload in
+        Leads result (λ n. let next = one_of n workload.now.participants in (participant < n) × (n ≤ workload.now.participants)
         × Due variant workload.now session.new (commit_to variant workload.now progress.new next)
         (end_unless variant progress.new progress.new.acknowledged next) logs.new)
         (Ended variant workload.now session.new (at_step progress.new Over) logs.new) }
 {
-    let passed = pass_commits(variant, workload, participant, progress, logs, session)?;
+    let passed = pass_commits(script, participant, progress, logs, session)?;
     if passed > 0 {
         return Ok(participant + passed);
     }
-    if !commit_to(variant, workload, participant, progress, logs, session)? {
+    if !commit_to(script, participant, progress, logs, session)? {
         progress.miss();
     }
     Ok(participant + 1)
@@ -265,25 +265,25 @@ fn some_commits(
 
 /// All participants are told of the commit, and then the coordinator ends it.
 fn tell_all(
-    variant: Variant,
-    workload: &Transactions,
+    script: Script<'_>,
     progress: &mut Progress,
     logs: &mut Logs,
     session: &mut Session<'_>,
 ) -> Result<(), Cut>
-    requires { Stands variant workload.now session.old (at_step progress.old (SendCommit 0)) logs.old }
+    requires { Stands script.variant script.workload.now session.old (at_step progress.old (SendCommit 0)) logs.old }
     ensures given { session.new.given ≡ session.old.given }
     ensures notes { logs.new.notes ≡ logs.old.notes }
     ensures begun { progress.new.begun ≡ progress.old.begun }
-    ensures led { Leads result (λ _. Stands variant workload.now session.new (after_phase variant workload.now progress.new) logs.new)
+    ensures led { let variant = script.entry.variant in let workload = script.entry.workload in
+        Leads result (λ _. Stands variant workload.now session.new (after_phase variant workload.now progress.new) logs.new)
         (Ended variant workload.now session.new (at_step progress.new Over) logs.new) }
 {
-    let all = workload.participants();
+    let all = script.workload.participants();
     let mut participant = 0;
     while participant < all {
-        participant = some_commits(variant, workload, participant, progress, logs, session)?;
+        participant = some_commits(script, participant, progress, logs, session)?;
     }
-    if let Some(end) = progress.end_write(variant) {
+    if let Some(end) = progress.end_write(script.variant) {
         logs.write(end)?;
     }
     Ok(())
@@ -291,21 +291,21 @@ fn tell_all(
 
 /// The second phase of a commit. end_first gives up where an acknowledgement is missing then.
 pub fn tell_commit(
-    variant: Variant,
-    workload: &Transactions,
+    script: Script<'_>,
     progress: &mut Progress,
     logs: &mut Logs,
     session: &mut Session<'_>,
 ) -> Result<(), Cut>
-    requires { Stands variant workload.now session.old (at_step progress.old (SendCommit 0)) logs.old }
+    requires { Stands script.variant script.workload.now session.old (at_step progress.old (SendCommit 0)) logs.old }
     ensures given { session.new.given ≡ session.old.given }
     ensures notes { logs.new.notes ≡ logs.old.notes }
     ensures begun { progress.new.begun ≡ progress.old.begun }
-    ensures led { Leads result (λ _. Stands variant workload.now session.new (begun workload.now progress.new) logs.new)
+    ensures led { let variant = script.entry.variant in let workload = script.entry.workload in
+        Leads result (λ _. Stands variant workload.now session.new (begun workload.now progress.new) logs.new)
         (Ended variant workload.now session.new (at_step progress.new Over) logs.new) }
 {
-    tell_all(variant, workload, progress, logs, session)?;
-    if progress.gives_up(variant) {
+    tell_all(script, progress, logs, session)?;
+    if progress.gives_up(script.variant) {
         return Err(Cut::Over);
     }
     Ok(())

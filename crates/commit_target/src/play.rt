@@ -14,75 +14,73 @@ use crate::judge::{judge, judge_keeping};
 use crate::logs::Logs;
 use crate::outcomes::{commits, tell_abort, tell_commit};
 use crate::progress::Progress;
-use crate::variant::Variant;
+use crate::script::Script;
 use crate::votes::votes;
-use crate::work::Transactions;
 use std::alloc::{AllocError, Global};
 use target_trait::{Judgement, Session, ask_cut};
 
 /// Plays a transaction that was begun.
 fn transaction(
-    variant: Variant,
-    workload: &Transactions,
+    script: Script<'_>,
     progress: &mut Progress,
     logs: &mut Logs,
     session: &mut Session<'_>,
 ) -> Result<(), Cut>
-    requires { Stands variant workload.now session.old (at_step progress.old (SendPrepare 0)) logs.old }
+    requires { Stands script.variant script.workload.now session.old (at_step progress.old (SendPrepare 0)) logs.old }
     ensures given { session.new.given ≡ session.old.given }
     ensures notes { logs.new.notes ≡ logs.old.notes }
     ensures begun { progress.new.begun ≡ progress.old.begun }
-    ensures led { Leads result (λ _. Stands variant workload.now session.new (begun workload.now progress.new) logs.new)
+    ensures led { let variant = script.entry.variant in let workload = script.entry.workload in
+        Leads result (λ _. Stands variant workload.now session.new (begun workload.now progress.new) logs.new)
         (Ended variant workload.now session.new (at_step progress.new Over) logs.new) }
 {
-    votes(variant, workload, progress, logs, session)?;
-    if progress.voters() == workload.participants() {
-        if commits(variant, workload, progress, logs, session)? {
-            return tell_commit(variant, workload, progress, logs, session);
+    votes(script, progress, logs, session)?;
+    if progress.voters() == script.workload.participants() {
+        if commits(script, progress, logs, session)? {
+            return tell_commit(script, progress, logs, session);
         }
     }
-    tell_abort(variant, workload, progress, logs, session)
+    tell_abort(script, progress, logs, session)
 }
 
 /// Plays the transactions, one after another.
 fn transactions(
-    variant: Variant,
-    workload: &Transactions,
+    script: Script<'_>,
     progress: &mut Progress,
     logs: &mut Logs,
     session: &mut Session<'_>,
 ) -> Result<(), Cut>
     requires none { progress.old.begun ≡ 0 }
-    requires stands { Stands variant workload.now session.old (begun workload.now progress.old) logs.old }
+    requires stands { Stands script.variant script.workload.now session.old (begun script.workload.now progress.old) logs.old }
     ensures given { session.new.given ≡ session.old.given }
     ensures notes { logs.new.notes ≡ logs.old.notes }
-    ensures led { Leads result (λ _. Ended variant workload.now session.new (at_step progress.new Over) logs.new)
+    ensures led { let variant = script.entry.variant in let workload = script.entry.workload in
+        Leads result (λ _. Ended variant workload.now session.new (at_step progress.new Over) logs.new)
         (Ended variant workload.now session.new (at_step progress.new Over) logs.new) }
 {
-    for _number in 0..workload.len() {
+    for _number in 0..script.workload.len() {
         progress.begin();
-        transaction(variant, workload, progress, logs, session)?;
+        transaction(script, progress, logs, session)?;
     }
     Ok(())
 }
 
 /// Plays a run up to where it is judged, from empty logs on.
 pub fn play_out(
-    variant: Variant,
-    workload: &Transactions,
+    script: Script<'_>,
     progress: &mut Progress,
     logs: &mut Logs,
     session: &mut Session<'_>,
 ) -> Result<(), AllocError>
     requires new { session.old ≡ start session.old.given }
     requires points { 7 ≤ length session.old.given.catalogue }
-    requires empty { LogsStandFor workload.now.participants logs.old [] }
-    ensures ended { OnOk result (Ended variant workload.now session.new (at_step progress.new Over) logs.new) }
+    requires empty { LogsStandFor script.workload.now.participants logs.old [] }
+    ensures ended { OnOk result (Ended script.entry.variant script.entry.workload.now session.new (at_step progress.new Over) logs.new) }
     ensures given { session.new.given ≡ session.old.given }
     ensures notes { logs.new.notes ≡ logs.old.notes }
 {
     progress.clear();
-    match transactions(variant, workload, progress, logs, session) {
+    match transactions(script, progress, logs, session) {
         Ok(()) | Err(Cut::Over) => Ok(()),
         Err(Cut::Refused) => Err(AllocError),
     }
@@ -90,21 +88,20 @@ pub fn play_out(
 
 /// Plays a run, restarts all parties, and judges.
 pub fn play(
-    variant: Variant,
-    workload: &Transactions,
+    script: Script<'_>,
     progress: &mut Progress,
     logs: &mut Logs,
     session: &mut Session<'_>,
 ) -> Result<Judgement, AllocError>
     requires new { session.old ≡ start session.old.given }
     requires points { session.old.given.catalogue ≡ point_names }
-    ensures play { IfOk result (IsPlay (asks_of variant workload.now) session.new) }
+    ensures play { IfOk result (IsPlay (asks_of script.entry.variant script.entry.workload.now) session.new) }
     ensures given { session.new.given ≡ session.old.given }
-    ensures some { 1 ≤ workload.now.participants }
+    ensures some { 1 ≤ script.entry.workload.now.participants }
 {
-    let participants = workload.participants();
+    let participants = script.workload.participants();
     logs.clear(participants)?;
-    play_out(variant, workload, progress, logs, session)?;
+    play_out(script, progress, logs, session)?;
     Ok(judge(logs, participants, progress.told(), progress.begun()))
 }
 
@@ -128,21 +125,21 @@ pub const TO_CUT: &[&str] = &[
 /// An error means that memory was refused. The session then has the hits up to there.
 pub fn play_to_cut(
     alloc: Global,
-    variant: Variant,
-    workload: &Transactions,
+    script: Script<'_>,
     progress: &mut Progress,
     logs: &mut Logs,
     session: &mut Session<'_>,
 ) -> Result<Judgement, AllocError>
     requires new { session.old ≡ start session.old.given }
     requires points { session.old.given.catalogue ≡ with_keep point_names }
-    ensures play { IfOk result (IsCutPlay (asks_with (asks_of variant workload.now) (cut_of variant workload.now) 7) session.new) }
+    ensures play { let variant = script.entry.variant in let workload = script.entry.workload in
+        IfOk result (IsCutPlay (asks_with (asks_of variant workload.now) (cut_of variant workload.now) 7) session.new) }
     ensures given { session.new.given ≡ session.old.given }
 {
-    logs.clear_to_note(workload.participants())?;
-    play_out(variant, workload, progress, logs, session)?;
+    logs.clear_to_note(script.workload.participants())?;
+    play_out(script, progress, logs, session)?;
     match ask_cut(alloc, session, KEEP, logs.pending().len())? {
-        Some(kept) => judge_keeping(logs, workload.participants(), progress, &kept),
+        Some(kept) => judge_keeping(logs, script.workload.participants(), progress, &kept),
         None => Ok(Judgement::Kept),
     }
 }

@@ -14,8 +14,9 @@ use crate::marked::Manner;
 use crate::points::Point;
 use crate::progress::Progress;
 use crate::records::Kind;
+use crate::script::Script;
 use crate::variant::Variant;
-use crate::work::{Transactions, Vote};
+use crate::work::Vote;
 use std::alloc::AllocError;
 use target_trait::Session;
 
@@ -28,68 +29,68 @@ const ROUND: [u32; 3] = [
 
 /// A participant that wishes yes writes its prepare record. One that can't votes no.
 fn prepare(
-    variant: Variant,
-    workload: &Transactions,
+    script: Script<'_>,
     participant: usize,
     progress: &Progress,
     logs: &mut Logs,
     session: &mut Session<'_>,
 ) -> Result<Vote, Cut>
-    requires { Stands variant workload.now session.old (at_step progress.now (ForcePrepare participant)) logs.old }
+    requires { Stands script.variant script.workload.now session.old (at_step progress.now (ForcePrepare participant)) logs.old }
     ensures given { session.new.given ≡ session.old.given }
     ensures notes { logs.new.notes ≡ logs.old.notes }
-    ensures led { Leads result (λ vote. Stands variant workload.now session.new (at_step progress.now (SendVote participant vote)) logs.new)
+    ensures led { let variant = script.entry.variant in let workload = script.entry.workload in
+        Leads result (λ vote. Stands variant workload.now session.new (at_step progress.now (SendVote participant vote)) logs.new)
         (Ended variant workload.now session.new (at_step progress.now Over) logs.new) }
 {
     if !ask(session, Point::ForcePrepare as u32)? {
         return Ok(Vote::No);
     }
-    logs.write(progress.prepare_write(variant, participant))?;
+    logs.write(progress.prepare_write(script.variant, participant))?;
     Ok(Vote::Yes)
 }
 
 /// What a participant votes that was asked to prepare.
 fn choose(
-    variant: Variant,
-    workload: &Transactions,
+    script: Script<'_>,
     participant: usize,
     progress: &Progress,
     logs: &mut Logs,
     session: &mut Session<'_>,
 ) -> Result<Vote, Cut>
-    requires { Stands variant workload.now session.old
-        (at_step progress.now (vote_step (wish workload.now (number progress.now) participant) participant)) logs.old }
+    requires { Stands script.variant script.workload.now session.old
+        (at_step progress.now (vote_step (wish script.workload.now (number progress.now) participant) participant)) logs.old }
     ensures given { session.new.given ≡ session.old.given }
     ensures notes { logs.new.notes ≡ logs.old.notes }
-    ensures led { Leads result (λ vote. Stands variant workload.now session.new (at_step progress.now (SendVote participant vote)) logs.new)
+    ensures led { let variant = script.entry.variant in let workload = script.entry.workload in
+        Leads result (λ vote. Stands variant workload.now session.new (at_step progress.now (SendVote participant vote)) logs.new)
         (Ended variant workload.now session.new (at_step progress.now Over) logs.new) }
 {
-    match workload.wish(progress.number(), participant) {
-        Vote::Yes => prepare(variant, workload, participant, progress, logs, session),
+    match script.workload.wish(progress.number(), participant) {
+        Vote::Yes => prepare(script, participant, progress, logs, session),
         Vote::No => Ok(Vote::No),
     }
 }
 
 /// A participant is asked to prepare, and its vote is taken, if it arrives.
 fn vote(
-    variant: Variant,
-    workload: &Transactions,
+    script: Script<'_>,
     participant: usize,
     progress: &mut Progress,
     logs: &mut Logs,
     session: &mut Session<'_>,
 ) -> Result<(), Cut>
-    requires { Stands variant workload.now session.old (at_step progress.old (SendPrepare participant)) logs.old }
+    requires { Stands script.variant script.workload.now session.old (at_step progress.old (SendPrepare participant)) logs.old }
     ensures given { session.new.given ≡ session.old.given }
     ensures notes { logs.new.notes ≡ logs.old.notes }
     ensures begun { progress.new.begun ≡ progress.old.begun }
-    ensures led { Leads result (λ _. Stands variant workload.now session.new (after_vote workload.now progress.new participant) logs.new)
+    ensures led { let variant = script.entry.variant in let workload = script.entry.workload in
+        Leads result (λ _. Stands variant workload.now session.new (after_vote workload.now progress.new participant) logs.new)
         (Ended variant workload.now session.new (at_step progress.new Over) logs.new) }
 {
     if !ask(session, Point::SendPrepare as u32)? {
         return Ok(());
     }
-    let vote = choose(variant, workload, participant, progress, logs, session)?;
+    let vote = choose(script, participant, progress, logs, session)?;
     if !ask(session, Point::SendVote as u32)? {
         return Ok(());
     }
@@ -125,76 +126,77 @@ fn prepare_each(
 
 /// The votes of participants in a row, from this one on, that wish yes and where nothing comes between: how many they are.
 fn pass_votes(
-    variant: Variant,
-    workload: &Transactions,
+    script: Script<'_>,
     participant: usize,
     progress: &mut Progress,
     logs: &mut Logs,
     session: &mut Session<'_>,
 ) -> Result<usize, Cut>
-    requires within { participant < workload.now.participants }
-    requires fits { workload.now.participants ≤ usize.MAX }
-    requires stands { Stands variant workload.now session.old (at_step progress.old (SendPrepare participant)) logs.old }
+    requires within { participant < script.workload.now.participants }
+    requires fits { script.workload.now.participants ≤ usize.MAX }
+    requires stands { Stands script.variant script.workload.now session.old (at_step progress.old (SendPrepare participant)) logs.old }
     ensures given { session.new.given ≡ session.old.given }
     ensures notes { logs.new.notes ≡ logs.old.notes }
     ensures begun { progress.new.begun ≡ progress.old.begun }
-    ensures led { Leads result (λ n. (participant + n ≤ workload.now.participants)
-        × Stands variant workload.now session.new (prepare_to workload.now progress.new (one_of (participant + n) workload.now.participants)) logs.new)
+    ensures led { let variant = script.entry.variant in let workload = script.entry.workload in
+        Leads result (λ n. (participant + n ≤ workload.now.participants)
+        × Stands variant workload.now session.new
+        (prepare_to workload.now progress.new (one_of (participant + n) workload.now.participants)) logs.new)
         (Ended variant workload.now session.new (at_step progress.new Over) logs.new) }
 {
-    let willing = workload.willing(progress.number(), participant);
+    let willing = script.workload.willing(progress.number(), participant);
     let passed = session.pass_rounds(&ROUND, willing)?;
-    prepare_each(variant, participant, passed, progress, logs)?;
+    prepare_each(script.variant, participant, passed, progress, logs)?;
     progress.take_yes(participant, passed)?;
     Ok(passed)
 }
 
 /// The votes of participants from this one on, one at least: the next participant.
 fn some_votes(
-    variant: Variant,
-    workload: &Transactions,
+    script: Script<'_>,
     participant: usize,
     progress: &mut Progress,
     logs: &mut Logs,
     session: &mut Session<'_>,
 ) -> Result<usize, Cut>
-    requires within { participant < workload.now.participants }
-    requires fits { workload.now.participants ≤ usize.MAX }
-    requires stands { Stands variant workload.now session.old (at_step progress.old (SendPrepare participant)) logs.old }
+    requires within { participant < script.workload.now.participants }
+    requires fits { script.workload.now.participants ≤ usize.MAX }
+    requires stands { Stands script.variant script.workload.now session.old (at_step progress.old (SendPrepare participant)) logs.old }
     ensures given { session.new.given ≡ session.old.given }
     ensures notes { logs.new.notes ≡ logs.old.notes }
     ensures begun { progress.new.begun ≡ progress.old.begun }
-    ensures led { Leads result (λ next. (participant < next) × (next ≤ workload.now.participants)
+    ensures led { let variant = script.entry.variant in let workload = script.entry.workload in
+        Leads result (λ next. (participant < next) × (next ≤ workload.now.participants)
         × Stands variant workload.now session.new (prepare_to workload.now progress.new (one_of next workload.now.participants)) logs.new)
         (Ended variant workload.now session.new (at_step progress.new Over) logs.new) }
 {
-    let passed = pass_votes(variant, workload, participant, progress, logs, session)?;
+    let passed = pass_votes(script, participant, progress, logs, session)?;
     if passed > 0 {
         return Ok(participant + passed);
     }
-    vote(variant, workload, participant, progress, logs, session)?;
+    vote(script, participant, progress, logs, session)?;
     Ok(participant + 1)
 }
 
 /// All participants are asked.
 pub fn votes(
-    variant: Variant,
-    workload: &Transactions,
+    script: Script<'_>,
     progress: &mut Progress,
     logs: &mut Logs,
     session: &mut Session<'_>,
 ) -> Result<(), Cut>
-    requires { Stands variant workload.now session.old (at_step progress.old (SendPrepare 0)) logs.old }
+    requires { Stands script.variant script.workload.now session.old (at_step progress.old (SendPrepare 0)) logs.old }
     ensures given { session.new.given ≡ session.old.given }
     ensures notes { logs.new.notes ≡ logs.old.notes }
     ensures begun { progress.new.begun ≡ progress.old.begun }
-    ensures led { Leads result (λ _. Stands variant workload.now session.new (decided workload.now progress.new) logs.new)
+    ensures led { let variant = script.entry.variant in let workload = script.entry.workload in
+        Leads result (λ _. Stands variant workload.now session.new (decided workload.now progress.new) logs.new)
         (Ended variant workload.now session.new (at_step progress.new Over) logs.new) }
 {
-    let all = workload.participants();
+    let all = script.workload.participants();
     let mut participant = 0;
     while participant < all {
-        participant = some_votes(variant, workload, participant, progress, logs, session)?;
+        participant = some_votes(script, participant, progress, logs, session)?;
     }
     Ok(())
 }

@@ -53,13 +53,7 @@ impl Journal {
     fn judged(&self, workload: &Transactions, progress: &Progress, kept: &[bool]) -> Judgement
         ensures { result ≡ judged self.now workload.now progress.now kept.now }
     {
-        judged_all(
-            self.variant,
-            progress.acknowledged(),
-            progress.file(),
-            kept,
-            workload.as_slice(),
-        )
+        judged_all(self.variant, progress, kept, workload.as_slice())
     }
 }
 

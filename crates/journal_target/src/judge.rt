@@ -3,7 +3,7 @@ ghost use Rattle.std.specs.Prelude.{◌≡◌, ◌<◌, ◌≤◌, length};
 ghost use Rattle.journal_target.specs.File.{left};
 ghost use Rattle.journal_target.specs.Judgement.{is_committed, judged_by, judged_one, or_then, judged_from};
 
-use crate::file::File;
+use crate::progress::Progress;
 use crate::scan::{Scan, scan_for};
 use crate::variant::Variant;
 use crate::work::Records;
@@ -38,38 +38,36 @@ fn judged_by(is_committed: bool, is_whole: bool, is_acknowledged: bool) -> Judge
 /// The judgement of a transaction of so many records.
 fn judged_one(
     variant: Variant,
-    acknowledged: &[u8],
-    file: &File,
+    progress: &Progress,
     kept: &[bool],
     transaction: u8,
     count: usize,
 ) -> Judgement
     requires { 0 < transaction }
-    ensures { result ≡ judged_one variant acknowledged.now (left file.now kept.now) transaction count }
+    ensures { result ≡ judged_one variant progress.now.acknowledged (left progress.now.file kept.now) transaction count }
 {
-    let scan = scan_for(transaction, file, kept);
+    let scan = scan_for(transaction, progress.file(), kept);
     judged_by(
         is_committed(variant, scan),
         scan.whole == count,
-        acknowledged.contains(&transaction),
+        progress.acknowledged().contains(&transaction),
     )
 }
 
 /// The judgement of what a power cut leaves of the file which keeps these pending appends, for these transactions, numbered from 1.
 pub fn judged_all(
     variant: Variant,
-    acknowledged: &[u8],
-    file: &File,
+    progress: &Progress,
     kept: &[bool],
     transactions: &[Records],
 ) -> Judgement
     requires { length transactions.now ≤ 100 }
-    ensures { result ≡ judged_from variant acknowledged.now (left file.now kept.now) 1 transactions.now }
+    ensures { result ≡ judged_from variant progress.now.acknowledged (left progress.now.file kept.now) 1 transactions.now }
 {
     let mut number = 1;
     for records in transactions {
         let count = records.as_slice().len();
-        match judged_one(variant, acknowledged, file, kept, number, count) {
+        match judged_one(variant, progress, kept, number, count) {
             Judgement::Kept => {}
             Judgement::Broken(code) => return Judgement::Broken(code),
         }

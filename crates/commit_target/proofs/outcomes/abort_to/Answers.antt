@@ -12,5 +12,5 @@ returns-in_err-ask-clause-led c = cut_off _ _ _ _ c.from_residual.ensures.1 (c.i
 pub returns-clause-led : goal.returns-clause-led
 returns-clause-led c =
     let t : Tally = at_step c.args.progress.now (SendAbort c.args.place) in
-    written c.args.variant c.args.workload.now _ _ _ _ _ _ (goes_on _ _ _ t _ _ c.if-not-branch.false (c.in_ok-ask.ensures.answered _ _ t _ c.requires refl))
+    written c.args.script.variant c.args.script.workload.now _ _ _ _ _ _ (goes_on _ _ _ t _ _ c.if-not-branch.false (c.in_ok-ask.ensures.answered _ _ t _ c.requires refl))
     _ (ap (λ (i : ℕ). Append (Participant i) c.entry.result) c.voter.ensures ∙ ap (λ (r : Record). Append (Participant (get_or c.args.progress.now.yes c.args.place 0)) r) c.entry.ensures) c.in_ok-write.ensures.ok

@@ -8,6 +8,6 @@ returns-clause-led c =
     let most : n ≤ c.voters.result = c.in_ok-passed.ensures.count in
     let few : n ≤ length c.args.progress.now.yes = omega arith in (
       few,
-      aborts_passed c.args.variant c.args.workload.now c.args.session.now c.args.progress.now c.args.logs.now n few c.requires c.in_ok-passed.ensures.told
+      aborts_passed c.args.script.variant c.args.script.workload.now c.args.session.now c.args.progress.now c.args.logs.now n few c.requires c.in_ok-passed.ensures.told
           _ c.in_ok-passed.ensures.ok c.in_ok-passed.ensures.goes_on _ c.in_ok-abort_each.ensures.adds,
     )

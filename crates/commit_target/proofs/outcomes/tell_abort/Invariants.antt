@@ -7,5 +7,5 @@ abbrev pub invariant-loop-place : goal.invariant-loop-place
 invariant-loop-place l = record {
   given : l.session.given ≡ l.fn.session.given;
   notes : l.logs.notes ≡ l.fn.logs.notes;
-  stands : Stands l.variant l.workload l.session (abort_to l.workload l.progress (one_of l.place (length l.progress.yes))) l.logs;
+  stands : Stands l.script.variant l.script.workload.now l.session (abort_to l.script.workload.now l.progress (one_of l.place (length l.progress.yes))) l.logs;
 }

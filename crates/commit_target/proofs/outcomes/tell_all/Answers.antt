@@ -6,10 +6,10 @@ use Rattle.commit_target.proofs.outcomes.tell_all.Goals as goal
 
 pub returns-in_ok-write-clause-led : goal.returns-in_ok-write-clause-led
 returns-in_ok-write-clause-led c =
-    let all : c.args.workload.now.participants ≤ c.loop-participant.participant = omega arith in
-    ended_by c.args.variant c.args.workload.now c.loop-participant.session _ _ _ _
-    (at_end _ _ _ (λ (o : Option ℕ). commit_to c.args.variant c.args.workload.now c.loop-participant.progress o)
-    (λ (o : Option ℕ). end_unless c.args.variant c.loop-participant.progress c.loop-participant.progress.acknowledged o) _ _ _ all c.loop-participant.invariant.due)
+    let all : c.args.script.workload.now.participants ≤ c.loop-participant.participant = omega arith in
+    ended_by c.args.script.variant c.args.script.workload.now c.loop-participant.session _ _ _ _
+    (at_end _ _ _ (λ (o : Option ℕ). commit_to c.args.script.variant c.args.script.workload.now c.loop-participant.progress o)
+    (λ (o : Option ℕ). end_unless c.args.script.variant c.loop-participant.progress c.loop-participant.progress.acknowledged o) _ _ _ all c.loop-participant.invariant.due)
     c.in-Some.end c.in-Some.ensures c.in_ok-write.ensures.ok
 
 pub loop-participant-init : goal.loop-participant-init
@@ -18,5 +18,5 @@ loop-participant-init c = record {
   notes = refl;
   begun = refl;
   few = omega arith;
-  due = first_told c.args.variant c.args.workload.now c.args.session.now c.args.progress.now c.args.logs.now (omega arith) c.requires;
+  due = first_told c.args.script.variant c.args.script.workload.now c.args.session.now c.args.progress.now c.args.logs.now (omega arith) c.requires;
 }

@@ -8,10 +8,10 @@ invariant-loop-participant l = record {
   given : l.session.given ≡ l.fn.session.given;
   notes : l.logs.notes ≡ l.fn.logs.notes;
   begun : l.progress.begun ≡ l.fn.progress.begun;
-  few : l.participant ≤ l.workload.participants;
-  due : Due l.variant l.workload l.session (commit_to l.variant l.workload l.progress (one_of l.participant l.workload.participants))
-      (end_unless l.variant l.progress l.progress.acknowledged (one_of l.participant l.workload.participants)) l.logs;
+  few : l.participant ≤ l.script.workload.now.participants;
+  due : Due l.script.variant l.script.workload.now l.session (commit_to l.script.variant l.script.workload.now l.progress (one_of l.participant l.script.workload.now.participants))
+      (end_unless l.script.variant l.progress l.progress.acknowledged (one_of l.participant l.script.workload.now.participants)) l.logs;
 }
 
 abbrev pub decreases-loop-participant : goal.decreases-loop-participant
-decreases-loop-participant l = l.workload.participants - l.participant
+decreases-loop-participant l = l.script.workload.now.participants - l.participant

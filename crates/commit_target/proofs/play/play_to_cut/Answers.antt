@@ -14,8 +14,8 @@ use Rattle.commit_target.proofs.play.play_to_cut.Goals as goal
 
 pub returns-in-Some-clause-play : goal.returns-in-Some-clause-play
 returns-in-Some-clause-play c =
-    let v = c.args.variant in
-    let w = c.args.workload.now in
+    let v = c.args.script.variant in
+    let w = c.args.script.workload.now in
     let noted : c.play_out.new.logs.notes ≡ true = c.play_out.ensures.notes ∙ c.clear_to_note.ensures.notes in
     let t : Tally = c.play_out.new.progress in
     let k = c.in_ok-play_out.ensures.ended in
@@ -35,8 +35,8 @@ returns-in-Some-clause-play c =
 
 pub returns-in-None-clause-play : goal.returns-in-None-clause-play
 returns-in-None-clause-play c =
-    let v = c.args.variant in
-    let w = c.args.workload.now in
+    let v = c.args.script.variant in
+    let w = c.args.script.workload.now in
     let noted : c.play_out.new.logs.notes ≡ true = c.play_out.ensures.notes ∙ c.clear_to_note.ensures.notes in
     let asked = subst (λ (o : Option (Vec Bool Global)). CutEnded 7 (length c.pending.result.now) c.play_out.new.session c.ask_cut.new.session (option_map (λ x. x.items) o))
     c.in-None.is c.in_ok-kept.ensures.cut in

@@ -8,5 +8,5 @@ invariant-loop-number l = record {
   given : l.session.given ≡ l.fn.session.given;
   notes : l.logs.notes ≡ l.fn.logs.notes;
   number : l.progress.begun ≡ l._number;
-  stands : Stands l.variant l.workload l.session (begun l.workload l.progress) l.logs;
+  stands : Stands l.script.variant l.script.workload.now l.session (begun l.script.workload.now l.progress) l.logs;
 }

@@ -9,7 +9,7 @@ returns-in_err-ask-clause-led c = cut_off _ _ _ _ c.from_residual.ensures.1 (c.i
 pub choose-requires : goal.choose-requires
 choose-requires c =
     let t : Tally = at_step c.args.progress.now (SendPrepare c.args.participant) in
-    goes_on c.args.variant c.args.workload.now _ t _ _ c.if-not-branch.false (c.in_ok-ask.ensures.answered _ _ t _ c.requires refl)
+    goes_on c.args.script.variant c.args.script.workload.now _ t _ _ c.if-not-branch.false (c.in_ok-ask.ensures.answered _ _ t _ c.requires refl)
 
 pub returns-in_err-vote-clause-led : goal.returns-in_err-vote-clause-led
 returns-in_err-vote-clause-led c = cut_off _ _ _ _ c.from_residual-in_err-vote.ensures.1 c.in_err-vote.ensures.led

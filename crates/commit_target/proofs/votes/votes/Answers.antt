@@ -8,5 +8,5 @@ loop-participant-init c = record {
   notes = refl;
   begun = refl;
   few = omega arith;
-  stands = first_vote c.args.variant c.args.workload.now c.args.session.now c.args.progress.now c.args.logs.now (omega arith) c.requires;
+  stands = first_vote c.args.script.variant c.args.script.workload.now c.args.session.now c.args.progress.now c.args.logs.now (omega arith) c.requires;
 }

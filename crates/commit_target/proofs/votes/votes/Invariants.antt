@@ -8,9 +8,9 @@ invariant-loop-participant l = record {
   given : l.session.given ≡ l.fn.session.given;
   notes : l.logs.notes ≡ l.fn.logs.notes;
   begun : l.progress.begun ≡ l.fn.progress.begun;
-  few : l.participant ≤ l.workload.participants;
-  stands : Stands l.variant l.workload l.session (prepare_to l.workload l.progress (one_of l.participant l.workload.participants)) l.logs;
+  few : l.participant ≤ l.script.workload.now.participants;
+  stands : Stands l.script.variant l.script.workload.now l.session (prepare_to l.script.workload.now l.progress (one_of l.participant l.script.workload.now.participants)) l.logs;
 }
 
 abbrev pub decreases-loop-participant : goal.decreases-loop-participant
-decreases-loop-participant l = l.workload.participants - l.participant
+decreases-loop-participant l = l.script.workload.now.participants - l.participant
