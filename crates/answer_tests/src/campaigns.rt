@@ -2,9 +2,10 @@
 
 use crate::plain::{number_of, plain_report, tidied_text, verdict_of};
 use asked_lines::AskedPart;
-use campaign_given::{CampaignSettings, Outside};
 use campaign_settings::{Choice, Settings};
-use outside_campaign::{Form, OutsideFault, list_plans, write_asks, write_report_in};
+use outside_campaign::{
+    Form, OutsideCampaign, OutsideFault, list_plans, write_asks, write_report_in,
+};
 use std::alloc::Global;
 use std::fmt::Write;
 use std::process::Abort;
@@ -26,23 +27,17 @@ fn text_in(out: Out<Vec<u8>>) -> Result<String, Fail> {
     }
 }
 
-fn plans(alloc: Global, outside: &Outside, settings: &CampaignSettings) -> Result<String, Fail> {
+fn plans(alloc: Global, campaign: &OutsideCampaign<'_>) -> Result<String, Fail> {
     let mut out = Out::new(Vec::new(alloc));
-    list_plans(alloc, outside, settings, &mut out)?;
+    list_plans(alloc, campaign, &mut out)?;
     text_in(out)
 }
 
-fn asks(
-    alloc: Global,
-    outside: &Outside,
-    settings: &CampaignSettings,
-    answers: &str,
-) -> Result<String, Fail> {
+fn asks(alloc: Global, campaign: &OutsideCampaign<'_>, answers: &str) -> Result<String, Fail> {
     let mut out = Out::new(Vec::new(alloc));
     write_asks(
         alloc,
-        outside,
-        settings,
+        campaign,
         AskedPart::All,
         answers.as_bytes(),
         &mut out,
@@ -51,21 +46,9 @@ fn asks(
 }
 
 /// The report, or `not answered` and the scenario.
-fn told(
-    alloc: Global,
-    outside: &Outside,
-    settings: &CampaignSettings,
-    answers: &str,
-) -> Result<String, Fail> {
+fn told(alloc: Global, campaign: &OutsideCampaign<'_>, answers: &str) -> Result<String, Fail> {
     let mut out = Out::new(Vec::new(alloc));
-    match write_report_in(
-        alloc,
-        &Form::Whole,
-        outside,
-        settings,
-        answers.as_bytes(),
-        &mut out,
-    ) {
+    match write_report_in(alloc, &Form::Whole, campaign, answers.as_bytes(), &mut out) {
         Ok(_) => text_in(out),
         Err(OutsideFault::NotAnswered(scenario)) => {
             let text = tidied_text(alloc, &scenario)?;
@@ -116,12 +99,16 @@ fn comes_to_the_plain_report(rt: &impl Abort, alloc: Global, salt: u32) -> Resul
     let Choice::Outside(outside) = &settings.choice else {
         return Err(Fail::from("another target"));
     };
+    let campaign = OutsideCampaign {
+        outside,
+        settings: &settings.campaign,
+    };
     let mut answers = String::new(alloc);
     for _ in 0..200 {
-        let asked = asks(alloc, outside, &settings.campaign, answers.as_str())?;
-        let report = told(alloc, outside, &settings.campaign, answers.as_str())?;
+        let asked = asks(alloc, &campaign, answers.as_str())?;
+        let report = told(alloc, &campaign, answers.as_str())?;
         let Some(line) = asked.as_str().lines().next() else {
-            let plans = plans(alloc, outside, &settings.campaign)?;
+            let plans = plans(alloc, &campaign)?;
             return is_the_plain_report(rt, alloc, salt, hits, &plans, report.as_str());
         };
         assert_eq!(rt;
@@ -148,11 +135,14 @@ fn is_refused(rt: &impl Abort, alloc: Global, answers: &str, line: &str) -> Resu
     let Choice::Outside(outside) = &settings.choice else {
         return Err(Fail::from("another target"));
     };
+    let campaign = OutsideCampaign {
+        outside,
+        settings: &settings.campaign,
+    };
     let mut out = Out::new(Vec::new(alloc));
     match write_asks(
         alloc,
-        outside,
-        &settings.campaign,
+        &campaign,
         AskedPart::All,
         answers.as_bytes(),
         &mut out,

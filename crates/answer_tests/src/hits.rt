@@ -2,7 +2,7 @@
 
 use crate::shared::read_as;
 use campaign_settings::{Choice, Settings};
-use outside_campaign::{Form, OutsideFault, write_partial, write_report_in};
+use outside_campaign::{Form, OutsideCampaign, OutsideFault, write_partial, write_report_in};
 use scenario_grammar::parse;
 use std::alloc::Global;
 use std::process::Abort;
@@ -117,23 +117,20 @@ fn reports(alloc: Global, answers: &str) -> Result<(String, String), Fail> {
     let Choice::Outside(outside) = &settings.choice else {
         return Err(Fail::from("another target"));
     };
+    let campaign = OutsideCampaign {
+        outside,
+        settings: &settings.campaign,
+    };
     let mut whole = Out::new(Vec::new(alloc));
     let report = write_report_in(
         alloc,
         &Form::Whole,
-        outside,
-        &settings.campaign,
+        &campaign,
         answers.as_bytes(),
         &mut whole,
     );
     let mut part = Out::new(Vec::new(alloc));
-    let partial = write_partial(
-        alloc,
-        outside,
-        &settings.campaign,
-        answers.as_bytes(),
-        &mut part,
-    );
+    let partial = write_partial(alloc, &campaign, answers.as_bytes(), &mut part);
     Ok((
         written(alloc, report.err(), whole)?,
         written(alloc, partial.err(), part)?,

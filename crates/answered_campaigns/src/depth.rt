@@ -11,8 +11,7 @@ use crate::reading::ReadRuns;
 use crate::table::KnownByRuns;
 use asked_lines::AskedPart;
 use campaign_core::Ending;
-use campaign_given::{CampaignSettings, Outside};
-use outside_campaign::Form;
+use outside_campaign::{Form, OutsideCampaign};
 use report::write_report;
 use std::alloc::Global;
 use target_trait::Sink;
@@ -20,20 +19,19 @@ use target_trait::Sink;
 /// A part of the lines that ask for what is still to be tried of a campaign with this depth.
 fn asked_text(
     alloc: Global,
-    outside: &Outside,
-    settings: &CampaignSettings,
+    campaign: &OutsideCampaign<'_>,
     depth: u32,
     part: AskedPart,
     answers: &[u8],
 ) -> Result<String, QuestionFault>
     requires { depth ≤ 64 }
-    ensures text { IfOk result (λ text. IsAskedText part outside.now settings.now depth answers.now (string_bytes text)) }
-    ensures fault { IfErr result (RefusesAsked outside.now settings.now depth answers.now) }
+    ensures text { IfOk result (λ text. IsAskedText part campaign.now.outside.now campaign.now.settings.now depth answers.now (string_bytes text)) }
+    ensures fault { IfErr result (RefusesAsked campaign.now.outside.now campaign.now.settings.now depth answers.now) }
 {
-    let read = ReadRuns::read(alloc, outside, answers)?;
+    let read = ReadRuns::read(alloc, campaign.outside, answers)?;
     let runs = read.table(alloc);
     let known = KnownByRuns { runs: &runs, depth };
-    let lines = grown_lines(alloc, &known, settings)?;
+    let lines = grown_lines(alloc, &known, campaign.settings)?;
     Ok(lines.text(alloc, part)?)
 }
 
@@ -41,37 +39,35 @@ fn asked_text(
 fn report_text(
     alloc: Global,
     form: &Form<'_>,
-    outside: &Outside,
-    settings: &CampaignSettings,
+    campaign: &OutsideCampaign<'_>,
     depth: u32,
     answers: &[u8],
 ) -> Result<(Vec<u8>, Option<u32>), QuestionFault>
     requires { depth ≤ 64 }
-    ensures report { IfOk result (λ r. IsReportedText form.now outside.now settings.now depth answers.now r.0.items r.1) }
-    ensures fault { IfErr result (RefusesGrown outside.now settings.now depth answers.now) }
+    ensures report { IfOk result (λ r. IsReportedText form.now campaign.now.outside.now campaign.now.settings.now depth answers.now r.0.items r.1) }
+    ensures fault { IfErr result (RefusesGrown campaign.now.outside.now campaign.now.settings.now depth answers.now) }
 {
-    let read = ReadRuns::read(alloc, outside, answers)?;
+    let read = ReadRuns::read(alloc, campaign.outside, answers)?;
     let runs = read.table(alloc);
     let known = KnownByRuns { runs: &runs, depth };
-    grown_report(alloc, form, outside, settings, &known)
+    grown_report(alloc, form, campaign, &known)
 }
 
 /// What is known so far of a campaign with this depth, as a text, and whether a plan is known to fail.
 fn known_text(
     alloc: Global,
-    outside: &Outside,
-    settings: &CampaignSettings,
+    campaign: &OutsideCampaign<'_>,
     depth: u32,
     answers: &[u8],
 ) -> Result<(String, bool), QuestionFault>
     requires { depth ≤ 64 }
-    ensures text { IfOk result (λ r. IsPartialText outside.now settings.now depth answers.now (string_bytes r.0) r.1) }
-    ensures fault { IfErr result (RefusesAsked outside.now settings.now depth answers.now) }
+    ensures text { IfOk result (λ r. IsPartialText campaign.now.outside.now campaign.now.settings.now depth answers.now (string_bytes r.0) r.1) }
+    ensures fault { IfErr result (RefusesAsked campaign.now.outside.now campaign.now.settings.now depth answers.now) }
 {
-    let read = ReadRuns::read(alloc, outside, answers)?;
+    let read = ReadRuns::read(alloc, campaign.outside, answers)?;
     let runs = read.table(alloc);
     let known = KnownByRuns { runs: &runs, depth };
-    grown_partial(alloc, outside, settings, &known)
+    grown_partial(alloc, campaign, &known)
 }
 
 /// Writes what is still to be tried of a campaign on a component that somebody else runs, by the answers so far: a line for each scenario,
@@ -89,21 +85,21 @@ fn known_text(
 /// is as it was and hasn't failed; `Write` tells how many bytes of the text, fewer than all, went out before the sink failed.
 pub fn write_asks<W: Sink>(
     alloc: Global,
-    outside: &Outside,
-    settings: &CampaignSettings,
+    campaign: &OutsideCampaign<'_>,
     part: AskedPart,
     answers: &[u8],
     sink: &mut W,
 ) -> Result<(), QuestionFault>
     requires { W.has_failed sink.old ≡ false }
-    ensures asked { OnOk result (IsAsked part outside.now settings.now answers.now (change W.Sink sink.old sink.new)) }
-    ensures fault { IfErr result (AsksRefused part outside.now settings.now answers.now (change W.Sink sink.old sink.new)) }
+    ensures asked { OnOk result (IsAsked part campaign.now.outside.now campaign.now.settings.now answers.now (change W.Sink sink.old sink.new)) }
+    ensures fault { IfErr result (AsksRefused part campaign.now.outside.now campaign.now.settings.now answers.now (change W.Sink sink.old sink.new)) }
 {
+    let settings = campaign.settings;
     let Some(depth) = settings.depth else {
-        outside_campaign::write_asks(alloc, outside, settings, part, answers, sink)?;
+        outside_campaign::write_asks(alloc, campaign, part, answers, sink)?;
         return Ok(());
     };
-    let text = asked_text(alloc, outside, settings, depth, part, answers)?;
+    let text = asked_text(alloc, campaign, depth, part, answers)?;
     write_report(text.as_bytes(), sink)?;
     Ok(())
 }
@@ -122,23 +118,22 @@ pub fn write_asks<W: Sink>(
 pub fn write_report_in<W: Sink>(
     alloc: Global,
     form: &Form<'_>,
-    outside: &Outside,
-    settings: &CampaignSettings,
+    campaign: &OutsideCampaign<'_>,
     answers: &[u8],
     sink: &mut W,
 ) -> Result<Ending, QuestionFault>
     requires { W.has_failed sink.old ≡ false }
-    ensures reported { IfOk result (λ ending. IsReported form.now outside.now settings.now answers.now (change W.Sink sink.old sink.new)
-        ending.first) }
-    ensures fault { IfErr result (ReportRefused form.now outside.now settings.now answers.now (change W.Sink sink.old sink.new)) }
+    ensures reported { IfOk result (λ ending. IsReported form.now campaign.now.outside.now campaign.now.settings.now answers.now
+        (change W.Sink sink.old sink.new) ending.first) }
+    ensures fault { IfErr result (ReportRefused form.now campaign.now.outside.now campaign.now.settings.now answers.now
+        (change W.Sink sink.old sink.new)) }
 {
+    let settings = campaign.settings;
     let Some(depth) = settings.depth else {
-        let ending = outside_campaign::write_report_in(
-            alloc, form, outside, settings, answers, sink,
-        )?;
+        let ending = outside_campaign::write_report_in(alloc, form, campaign, answers, sink)?;
         return Ok(ending);
     };
-    let (text, first) = report_text(alloc, form, outside, settings, depth, answers)?;
+    let (text, first) = report_text(alloc, form, campaign, depth, answers)?;
     write_report(text.as_slice(), sink)?;
     Ok(Ending { first })
 }
@@ -153,20 +148,20 @@ pub fn write_report_in<W: Sink>(
 /// The faults are those of [`write_asks`].
 pub fn write_partial<W: Sink>(
     alloc: Global,
-    outside: &Outside,
-    settings: &CampaignSettings,
+    campaign: &OutsideCampaign<'_>,
     answers: &[u8],
     sink: &mut W,
 ) -> Result<bool, QuestionFault>
     requires { W.has_failed sink.old ≡ false }
-    ensures known { IfOk result (IsKnownSoFar outside.now settings.now answers.now (change W.Sink sink.old sink.new)) }
-    ensures fault { IfErr result (KnownRefused outside.now settings.now answers.now (change W.Sink sink.old sink.new)) }
+    ensures known { IfOk result (IsKnownSoFar campaign.now.outside.now campaign.now.settings.now answers.now (change W.Sink sink.old sink.new)) }
+    ensures fault { IfErr result (KnownRefused campaign.now.outside.now campaign.now.settings.now answers.now (change W.Sink sink.old sink.new)) }
 {
+    let settings = campaign.settings;
     let Some(depth) = settings.depth else {
-        let fails = outside_campaign::write_partial(alloc, outside, settings, answers, sink)?;
+        let fails = outside_campaign::write_partial(alloc, campaign, answers, sink)?;
         return Ok(fails);
     };
-    let (text, fails) = known_text(alloc, outside, settings, depth, answers)?;
+    let (text, fails) = known_text(alloc, campaign, depth, answers)?;
     write_report(text.as_bytes(), sink)?;
     Ok(fails)
 }

@@ -10,8 +10,8 @@ ghost use Rattle.answered_campaigns.specs.Explained.{ExplainRefused, IsExplained
 
 use crate::fault::QuestionFault;
 use answer_text::{AnswersFault, Hits, Runs, ToldRun, read, read_runs};
-use campaign_given::{CampaignSettings, Outside};
-use outside_campaign::{OutsideFault, Words, borrowed};
+use campaign_given::Outside;
+use outside_campaign::{OutsideCampaign, OutsideFault, Words, borrowed};
 use report::write_report;
 use run_explained::explain_answer;
 use scenario_grammar::{ScenarioFault, parse};
@@ -77,14 +77,16 @@ fn run_text(
 /// What a text of answers tells; with a depth each line has to tell hits.
 fn runs_told(
     alloc: Global,
-    outside: &Outside,
-    settings: &CampaignSettings,
+    campaign: &OutsideCampaign<'_>,
     answers: &[u8],
 ) -> Result<Runs, AnswersFault>
-    ensures known { IfOk result (λ runs. told_in runs ≡ known_of (said outside.now settings.now answers.now)) }
-    ensures read { OnOk result ((lines : List RunLine) × (said outside.now settings.now answers.now ≡ Ok lines)) }
-    ensures refused { IfErr result (λ fault. Tells fault (is_some settings.now.depth) outside.now.codes outside.now.points answers.now) }
+    ensures known { IfOk result (λ runs. told_in runs ≡ known_of (said campaign.now.outside.now campaign.now.settings.now answers.now)) }
+    ensures read { OnOk result ((lines : List RunLine) × (said campaign.now.outside.now campaign.now.settings.now answers.now ≡ Ok lines)) }
+    ensures refused { IfErr result (λ fault. Tells fault (is_some campaign.now.settings.now.depth)
+        campaign.now.outside.now.codes campaign.now.outside.now.points answers.now) }
 {
+    let outside = campaign.outside;
+    let settings = campaign.settings;
     let codes = outside.codes.as_slice();
     let points = outside.points.as_slice();
     match settings.depth {
@@ -96,18 +98,18 @@ fn runs_told(
 /// The lines of the run that answers tell of the scenario of a text, and whether it fails.
 fn explained_text(
     alloc: Global,
-    outside: &Outside,
-    settings: &CampaignSettings,
+    campaign: &OutsideCampaign<'_>,
     text: &str,
     answers: &[u8],
 ) -> Result<(String, bool), QuestionFault>
-    ensures shown { IfOk result (λ r. IsExplainedText text.now outside.now settings.now answers.now (string_bytes r.0) r.1) }
-    ensures fault { IfErr result (RefusesText text.now outside.now settings.now answers.now) }
+    ensures shown { IfOk result (λ r. IsExplainedText text.now campaign.now.outside.now campaign.now.settings.now answers.now
+        (string_bytes r.0) r.1) }
+    ensures fault { IfErr result (RefusesText text.now campaign.now.outside.now campaign.now.settings.now answers.now) }
 {
     let scenario = spelled(alloc, text)?;
-    let told = runs_told(alloc, outside, settings, answers)?;
+    let told = runs_told(alloc, campaign, answers)?;
     match told.told(alloc, &scenario)? {
-        Some(run) => run_text(alloc, outside, &scenario, run),
+        Some(run) => run_text(alloc, campaign.outside, &scenario, run),
         None => {
             let tidied = tidy(alloc, &scenario)?;
             Err(QuestionFault::Outside(OutsideFault::NotAnswered(tidied)))
@@ -125,17 +127,18 @@ fn explained_text(
 /// the sink failed.
 pub fn write_explained<W: Sink>(
     alloc: Global,
-    outside: &Outside,
-    settings: &CampaignSettings,
+    campaign: &OutsideCampaign<'_>,
     text: &str,
     answers: &[u8],
     sink: &mut W,
 ) -> Result<bool, QuestionFault>
     requires { W.has_failed sink.old ≡ false }
-    ensures explained { IfOk result (IsExplained text.now outside.now settings.now answers.now (change W.Sink sink.old sink.new)) }
-    ensures fault { IfErr result (ExplainRefused text.now outside.now settings.now answers.now (change W.Sink sink.old sink.new)) }
+    ensures explained { IfOk result (IsExplained text.now campaign.now.outside.now campaign.now.settings.now answers.now
+        (change W.Sink sink.old sink.new)) }
+    ensures fault { IfErr result (ExplainRefused text.now campaign.now.outside.now campaign.now.settings.now answers.now
+        (change W.Sink sink.old sink.new)) }
 {
-    let (lines, fails) = explained_text(alloc, outside, settings, text, answers)?;
+    let (lines, fails) = explained_text(alloc, campaign, text, answers)?;
     write_report(lines.as_bytes(), sink)?;
     Ok(fails)
 }

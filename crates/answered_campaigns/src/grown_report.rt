@@ -18,11 +18,10 @@ use crate::fault::QuestionFault;
 use crate::grown::{refuse_broken, refuse_gap};
 use crate::table::KnownByRuns;
 use campaign_core::causes_of;
-use campaign_given::{CampaignSettings, Outside};
 use campaign_plans::CampaignPlans;
 use outside_campaign::{
-    Form, OutsideFault, Shown, Verdicts, Words, first_number, plan_verdicts, text_in,
-    verdicts_known,
+    Form, OutsideCampaign, OutsideFault, Shown, Verdicts, Words, first_number, plan_verdicts,
+    text_in, verdicts_known,
 };
 use outside_grown::{GrownLists, census, grown_lists, reached};
 use report::{Growth, Report};
@@ -32,9 +31,8 @@ use target_trait::Verdict;
 
 /// A campaign with a depth in which each plan is answered.
 #[derive(Drop)]
-struct Campaign<'a> {
-    outside: &'a Outside,
-    settings: &'a CampaignSettings,
+struct AnsweredCampaign<'a> {
+    campaign: &'a OutsideCampaign<'a>,
     known: &'a KnownByRuns<'a>,
     lists: &'a GrownLists<'a>,
     plans: &'a CampaignPlans<'a>,
@@ -92,24 +90,25 @@ fn clean_of(verdicts: &[Verdict]) -> Verdict
 fn reported_text<'a>(
     alloc: Global,
     form: &Form<'_>,
-    campaign: &'a Campaign<'a>,
+    answered: &'a AnsweredCampaign<'a>,
     verdicts: &'a [Verdict],
     told: Told,
 ) -> Result<Vec<u8>, AllocError>
     requires some { 0 < length verdicts.now }
-    requires decided { let k = campaign.now in
-        IsDecided k.outside.now k.settings.now k.known.now.0 k.known.now.1 k.lists.now k.plans.now verdicts.now told }
-    ensures { let k = campaign.now in
-        IfOk result (λ text. IsTextOf form.now k.outside.now k.settings.now k.known.now.0 k.known.now.1 text.items) }
+    requires decided { let k = answered.now in
+        IsDecided k.campaign.now.outside.now k.campaign.now.settings.now k.known.now.0 k.known.now.1 k.lists.now k.plans.now verdicts.now told }
+    ensures { let k = answered.now in
+        IfOk result (λ text. IsTextOf form.now k.campaign.now.outside.now k.campaign.now.settings.now k.known.now.0 k.known.now.1 text.items) }
 {
+    let campaign = answered.campaign;
     let outside = campaign.outside;
     let settings = campaign.settings;
-    let known = campaign.known;
-    let lists = campaign.lists;
+    let known = answered.known;
+    let lists = answered.lists;
     let grown = &lists.listed.known;
     let census = clean_census(alloc, known)?;
     let reached = reached(alloc, known.runs, &grown.plans)?;
-    let causes = causes_of(alloc, campaign.plans, told.causes.as_slice())?;
+    let causes = causes_of(alloc, answered.plans, told.causes.as_slice())?;
     let growth = Growth {
         depth: known.depth,
         levels: grown.levels.as_slice(),
@@ -131,7 +130,7 @@ fn reported_text<'a>(
     };
     let words = Words { outside };
     let shown = Shown {
-        plans: campaign.plans,
+        plans: answered.plans,
         pairs: settings.pairs,
         grown: Some(&grown.plans),
         onward: grown.onward as usize,
@@ -144,20 +143,20 @@ fn reported_text<'a>(
 pub fn grown_report<'a>(
     alloc: Global,
     form: &Form<'_>,
-    outside: &'a Outside,
-    settings: &'a CampaignSettings,
+    campaign: &'a OutsideCampaign<'a>,
     known: &'a KnownByRuns<'a>,
 ) -> Result<(Vec<u8>, Option<u32>), QuestionFault>
     requires depth { known.now.1 ≤ 64 }
-    requires points { known.now.0.points ≡ outside.now.points }
-    ensures text { IfOk result (λ r. IsTextOf form.now outside.now settings.now known.now.0 known.now.1 r.0.items) }
-    ensures first { IfOk result (λ r. IsFirstNumberOf outside.now settings.now known.now.0 known.now.1 r.1) }
+    requires points { known.now.0.points ≡ campaign.now.outside.now.points }
+    ensures text { IfOk result (λ r. IsTextOf form.now campaign.now.outside.now campaign.now.settings.now known.now.0 known.now.1 r.0.items) }
+    ensures first { IfOk result (λ r. IsFirstNumberOf campaign.now.outside.now campaign.now.settings.now known.now.0 known.now.1 r.1) }
     ensures unbroken { OnOk result (AreUnbroken known.now.0 known.now.1) }
     ensures told { OnOk result (AreAllTold (runs_in known.now.0) (known_plans known.now.0 known.now.1)) }
-    ensures all { OnOk result (untried known.now.0 known.now.1 settings.now.plans ≡ []) }
-    ensures fault { IfErr result (RefusesBy known.now.0 known.now.1 settings.now.plans) }
+    ensures all { OnOk result (untried known.now.0 known.now.1 campaign.now.settings.now.plans ≡ []) }
+    ensures fault { IfErr result (RefusesBy known.now.0 known.now.1 campaign.now.settings.now.plans) }
 {
     refuse_broken(alloc, known)?;
+    let settings = campaign.settings;
     let lists = grown_lists(alloc, known.runs, known.depth, &settings.plan_settings())?;
     refuse_gap(alloc, known, &lists.listed)?;
     let grown = &lists.listed.known.plans;
@@ -167,14 +166,13 @@ pub fn grown_report<'a>(
         Outcome::Open(requests) => Err(first_of(requests)),
         Outcome::Told(told) => {
             let first = first_number(&told.findings);
-            let campaign = Campaign {
-                outside: &*outside,
-                settings: &*settings,
+            let answered = AnsweredCampaign {
+                campaign: &*campaign,
                 known: &*known,
                 lists: &lists,
                 plans: &plans,
             };
-            let text = reported_text(alloc, form, &campaign, verdicts.as_slice(), told)?;
+            let text = reported_text(alloc, form, &answered, verdicts.as_slice(), told)?;
             Ok((text, first))
         }
     }

@@ -17,10 +17,10 @@ use crate::notes::{
 use crate::run_notes::run_doubts;
 use answer_text::{LineError, Runs, answer_in, read};
 use answered_campaigns::{QuestionFault, ReadRuns};
-use campaign_given::{CampaignSettings, Outside};
+use campaign_given::Outside;
 use campaign_plans::CampaignPlans;
 use command_words::Question;
-use outside_campaign::{borrowed, count_unmet, outside_plans};
+use outside_campaign::{OutsideCampaign, borrowed, count_unmet, outside_plans};
 use plan_gen::PlanList;
 use scenario_grammar::Scenario;
 use scenario_values::build;
@@ -76,12 +76,13 @@ fn write_answers_strangers(
 /// What is noted of names that no point has: those of the listed scenarios, and then those of the answers.
 fn name_notes_on(
     alloc: Global,
-    outside: &Outside,
-    settings: &CampaignSettings,
+    campaign: &OutsideCampaign<'_>,
     answers: &[u8],
 ) -> Result<String, AllocError>
-    ensures { IfOk result (λ lines. string_bytes lines ≡ name_notes settings.now outside.now answers.now) }
+    ensures { IfOk result (λ lines. string_bytes lines ≡ name_notes campaign.now.settings.now campaign.now.outside.now answers.now) }
 {
+    let outside = campaign.outside;
+    let settings = campaign.settings;
     let points = borrowed(alloc, outside.points.as_slice())?;
     let points = points.as_slice();
     let mut lines = listed_on(alloc, points, settings.scenarios.as_slice())?;
@@ -132,20 +133,20 @@ fn count_left_open(alloc: Global, known: &Runs, plans: &PlanList<'_>) -> Result<
 fn doubts_known(
     alloc: Global,
     known: &Runs,
-    outside: &Outside,
-    settings: &CampaignSettings,
+    campaign: &OutsideCampaign<'_>,
     plans: &PlanList<'_>,
 ) -> Result<Doubts, AllocError>
-    requires { plans.now ≡ outside_plans settings.now outside.now }
-    ensures { IfOk result (λ doubts. doubts ≡ doubts_by (verdicts_in (told_in known.now)) settings.now outside.now) }
+    requires { plans.now ≡ outside_plans campaign.now.settings.now campaign.now.outside.now }
+    ensures { IfOk result (λ doubts. doubts ≡ doubts_by (verdicts_in (told_in known.now)) campaign.now.settings.now campaign.now.outside.now) }
 {
+    let outside = campaign.outside;
     let none = build(alloc, &[])?;
     Ok(Doubts {
         clean: is_left_open(alloc, known, &none)?,
         unresolved: count_left_open(alloc, known, plans)?,
         plans: plans.len() as u32,
         unhit: is_unhit(outside.hits.as_slice()),
-        unstormed: draws_nothing(settings),
+        unstormed: draws_nothing(campaign.settings),
     })
 }
 
@@ -202,13 +203,13 @@ fn write_all_unhit(out: &mut String, points: &[&str], hits: &[u32]) -> Result<()
 /// What is noted besides of a report without a depth that is to be strict.
 fn strict_by_census(
     alloc: Global,
-    outside: &Outside,
-    settings: &CampaignSettings,
+    campaign: &OutsideCampaign<'_>,
     answers: &[u8],
 ) -> Result<String, QuestionFault>
-    ensures ok { IfOk result (λ lines. string_bytes lines ≡ census_doubts settings.now outside.now answers.now) }
-    ensures fault { IfErr result (IsUnnotedTo None (settings.now, outside.now) answers.now) }
+    ensures ok { IfOk result (λ lines. string_bytes lines ≡ census_doubts campaign.now.settings.now campaign.now.outside.now answers.now) }
+    ensures fault { IfErr result (IsUnnotedTo None (campaign.now.settings.now, campaign.now.outside.now) answers.now) }
 {
+    let outside = campaign.outside;
     let known = read(
         alloc,
         outside.codes.as_slice(),
@@ -217,8 +218,8 @@ fn strict_by_census(
     )?;
     let points = borrowed(alloc, outside.points.as_slice())?;
     let points = points.as_slice();
-    let plans = outside_plans(alloc, points, outside, settings)?;
-    let doubts = doubts_known(alloc, &known, outside, settings, &plans)?;
+    let plans = outside_plans(alloc, points, campaign)?;
+    let doubts = doubts_known(alloc, &known, campaign, &plans)?;
     let unmet = count_unmet(alloc, &known, points, &CampaignPlans::by_census(&plans))?;
     let mut lines = String::new(alloc);
     write_doubts(&mut lines, &doubts)?;
@@ -230,34 +231,34 @@ fn strict_by_census(
 /// What is noted besides of a report with this depth that is to be strict.
 fn strict_by_runs(
     alloc: Global,
-    outside: &Outside,
-    settings: &CampaignSettings,
+    campaign: &OutsideCampaign<'_>,
     depth: u32,
     answers: &[u8],
 ) -> Result<String, QuestionFault>
     requires { depth ≤ 64 }
-    ensures ok { IfOk result (λ lines. string_bytes lines ≡ strict_doubts (Some depth) settings.now outside.now answers.now) }
-    ensures fault { IfErr result (IsUnnotedTo (Some depth) (settings.now, outside.now) answers.now) }
+    ensures ok { IfOk result (λ lines. string_bytes lines
+        ≡ strict_doubts (Some depth) campaign.now.settings.now campaign.now.outside.now answers.now) }
+    ensures fault { IfErr result (IsUnnotedTo (Some depth) (campaign.now.settings.now, campaign.now.outside.now) answers.now) }
 {
-    let read = ReadRuns::read(alloc, outside, answers)?;
+    let read = ReadRuns::read(alloc, campaign.outside, answers)?;
     let runs = read.table(alloc);
-    let lines = run_doubts(alloc, &runs, settings, depth)?;
+    let lines = run_doubts(alloc, &runs, campaign.settings, depth)?;
     Ok(lines)
 }
 
 /// What is noted besides of a report that is to be strict.
 fn strict_answered(
     alloc: Global,
-    outside: &Outside,
-    settings: &CampaignSettings,
+    campaign: &OutsideCampaign<'_>,
     answers: &[u8],
 ) -> Result<String, QuestionFault>
-    ensures ok { IfOk result (λ lines. string_bytes lines ≡ answered_doubts true settings.now outside.now answers.now) }
-    ensures fault { IfErr result (IsUnnotedTo settings.now.depth (settings.now, outside.now) answers.now) }
+    ensures ok { IfOk result (λ lines. string_bytes lines ≡ answered_doubts true campaign.now.settings.now campaign.now.outside.now answers.now) }
+    ensures fault { IfErr result (IsUnnotedTo campaign.now.settings.now.depth (campaign.now.settings.now, campaign.now.outside.now) answers.now) }
 {
+    let settings = campaign.settings;
     match settings.depth {
-        None => strict_by_census(alloc, outside, settings, answers),
-        Some(depth) => strict_by_runs(alloc, outside, settings, depth, answers),
+        None => strict_by_census(alloc, campaign, answers),
+        Some(depth) => strict_by_runs(alloc, campaign, depth, answers),
     }
 }
 
@@ -265,16 +266,16 @@ fn strict_answered(
 pub fn question_notes_on(
     alloc: Global,
     question: &Question,
-    outside: &Outside,
-    settings: &CampaignSettings,
+    campaign: &OutsideCampaign<'_>,
     answers: &[u8],
 ) -> Result<String, QuestionFault>
-    ensures ok { IfOk result (λ lines. string_bytes lines ≡ question_notes question.now settings.now outside.now answers.now) }
-    ensures fault { IfErr result (IsUnnoted question.now (settings.now, outside.now) answers.now) }
+    ensures ok { IfOk result (λ lines. string_bytes lines
+        ≡ question_notes question.now campaign.now.settings.now campaign.now.outside.now answers.now) }
+    ensures fault { IfErr result (IsUnnoted question.now (campaign.now.settings.now, campaign.now.outside.now) answers.now) }
 {
-    let mut lines = name_notes_on(alloc, outside, settings, answers)?;
+    let mut lines = name_notes_on(alloc, campaign, answers)?;
     if let Question::Report { strict: true, .. } = question {
-        let more = strict_answered(alloc, outside, settings, answers)?;
+        let more = strict_answered(alloc, campaign, answers)?;
         lines.push_str(more.as_str())?;
     }
     Ok(lines)

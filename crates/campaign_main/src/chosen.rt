@@ -12,12 +12,12 @@ use crate::fault::CommandFault;
 use crate::outside::outside_command;
 use crate::pending::TellsWrites;
 use campaign_core::{Host, Subject};
-use campaign_given::CampaignSettings;
-use campaign_settings::Choice;
+use campaign_settings::{Choice, Settings};
 use command_words::Order;
 use commit_target::Commit;
 use file_replace::Replace;
 use maildir_target::Maildir;
+use outside_campaign::OutsideCampaign;
 use std::sync::Wait;
 use std::thread::Threads;
 use target_trait::{Sink, Target, WithCut};
@@ -77,14 +77,15 @@ where
 pub fn chosen_command<W: Sink, H: Threads + Wait + Sync, G: Gate>(
     host: &Host<'_, G, H>,
     order: &Order,
-    choice: &Choice,
-    settings: &CampaignSettings,
+    settings: &Settings,
     output: &mut W,
 ) -> Result<Answered, CommandFault>
     requires { W.has_failed output.old ≡ false }
-    ensures text { ComesTo (choice_answer order.now settings.now choice.now) (change W.Sink output.old output.new) result }
-    ensures promises { OnOk result (IfSome (campaign_for settings.now choice.now) (KeepsPromises order.now)) }
+    ensures text { ComesTo (choice_answer order.now settings.now.campaign settings.now.choice) (change W.Sink output.old output.new) result }
+    ensures promises { OnOk result (IfSome (campaign_for settings.now.campaign settings.now.choice) (KeepsPromises order.now)) }
 {
+    let choice = &settings.choice;
+    let settings = &settings.campaign;
     match choice {
         Choice::Replace(variant, work) => {
             let target = &Replace::new(host.alloc, *variant);
@@ -114,7 +115,8 @@ pub fn chosen_command<W: Sink, H: Threads + Wait + Sync, G: Gate>(
             bundled_command(host, &subject, order, output)
         }
         Choice::Outside(outside) => {
-            outside_command(host.alloc, order, outside, settings, output)
+            let campaign = OutsideCampaign { outside, settings };
+            outside_command(host.alloc, order, &campaign, output)
         }
     }
 }

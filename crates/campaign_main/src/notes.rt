@@ -10,10 +10,11 @@ ghost use Rattle.campaign_core.specs.Headline.{campaign_in, campaign_on, say};
 ghost use Rattle.campaign_main.specs.Notes.{doubt_notes, draws_nothing, is_doubted, is_point, is_unhit, listed_notes, notes_of, origin_text, report_notes, stranger_line, stranger_of, strangers_in, strict_notes, text_if, unreached_line, unreached_lines, unresolved_line};
 
 use campaign_core::{CampaignFault, Host, Subject, plan_campaign, plans_of};
-use campaign_given::{CampaignSettings, Outside};
+use campaign_given::CampaignSettings;
 use campaign_plans::CampaignPlans;
-use outside_campaign::borrowed;
+use outside_campaign::{OutsideCampaign, borrowed};
 use plan_survey::{Survey, survey_plans};
+use result_book::RunInput;
 use scenario_grammar::Scenario;
 use scenario_values::build;
 use std::alloc::{AllocError, Global};
@@ -144,13 +145,11 @@ pub fn listed_of<T: Target>(
 }
 
 /// The same of a component that somebody else runs.
-pub fn listed_outside(
-    alloc: Global,
-    outside: &Outside,
-    settings: &CampaignSettings,
-) -> Result<String, AllocError>
-    ensures { IfOk result (λ lines. string_bytes lines ≡ listed_notes outside.now.points settings.now.plans.listed) }
+pub fn listed_outside(alloc: Global, campaign: &OutsideCampaign<'_>) -> Result<String, AllocError>
+    ensures { IfOk result (λ lines. string_bytes lines ≡ listed_notes campaign.now.outside.now.points campaign.now.settings.now.plans.listed) }
 {
+    let outside = campaign.outside;
+    let settings = campaign.settings;
     let points = borrowed(alloc, outside.points.as_slice())?;
     listed_on(alloc, points.as_slice(), settings.scenarios.as_slice())
 }
@@ -280,8 +279,12 @@ fn survey_of<T: Target>(
     ensures points { IfOk result (λ s. All (λ p. p < length T.names) s.unreached.items) }
     ensures setup { target.new ≡ target.old }
 {
-    let seed = settings.seed;
-    survey_plans(alloc, target, workload, plans, seed, settings.max_hits)
+    let input = RunInput {
+        workload,
+        settings,
+        plans: &*plans,
+    };
+    survey_plans(alloc, target, &input)
 }
 
 /// What is noted of a campaign whose report is to be strict: each of its plans is run once more, one after another. The caller's target

@@ -8,25 +8,23 @@ ghost use Rattle.campaign_main.specs.Ends.{ComesTo};
 use crate::exit::{Answered, Conclusion};
 use crate::fault::CommandFault;
 use crate::notes::listed_outside;
-use campaign_given::{CampaignSettings, Outside};
 use command_words::Order;
-use outside_campaign::list_plans;
+use outside_campaign::{OutsideCampaign, list_plans};
 use std::alloc::Global;
 use target_trait::Sink;
 
 /// Writes the list of plans. What is noted is of the listed scenarios.
 fn list<W: Sink>(
     alloc: Global,
-    outside: &Outside,
-    settings: &CampaignSettings,
+    campaign: &OutsideCampaign<'_>,
     output: &mut W,
 ) -> Result<Answered, CommandFault>
     requires { W.has_failed output.old ≡ false }
-    ensures { ComesTo (outside_answer Order.Plans None (outside_plans settings.now outside.now)
-        (listed_notes outside.now.points settings.now.plans.listed)) (change W.Sink output.old output.new) result }
+    ensures { ComesTo (outside_answer Order.Plans None (outside_plans campaign.now.settings.now campaign.now.outside.now)
+        (listed_notes campaign.now.outside.now.points campaign.now.settings.now.plans.listed)) (change W.Sink output.old output.new) result }
 {
-    let notes = listed_outside(alloc, outside, settings)?;
-    list_plans(alloc, outside, settings, output)?;
+    let notes = listed_outside(alloc, campaign)?;
+    list_plans(alloc, campaign, output)?;
     Ok(Answered {
         conclusion: Conclusion::Clean,
         notes,
@@ -38,17 +36,17 @@ fn list<W: Sink>(
 pub fn outside_command<W: Sink>(
     alloc: Global,
     order: &Order,
-    outside: &Outside,
-    settings: &CampaignSettings,
+    campaign: &OutsideCampaign<'_>,
     output: &mut W,
 ) -> Result<Answered, CommandFault>
     requires { W.has_failed output.old ≡ false }
-    ensures { ComesTo (outside_answer order.now settings.now.depth (outside_plans settings.now outside.now)
-        (listed_notes outside.now.points settings.now.plans.listed)) (change W.Sink output.old output.new) result }
+    ensures { ComesTo (outside_answer order.now campaign.now.settings.now.depth (outside_plans campaign.now.settings.now campaign.now.outside.now)
+        (listed_notes campaign.now.outside.now.points campaign.now.settings.now.plans.listed)) (change W.Sink output.old output.new) result }
 {
+    let settings = campaign.settings;
     match order {
         Order::Plans => match settings.depth {
-            None => list(alloc, outside, settings, output),
+            None => list(alloc, campaign, output),
             Some(_) => Err(CommandFault::OutsideWithDepth),
         },
         Order::Run { .. } | Order::Map | Order::Try(_) | Order::Reduce(_) | Order::Explain(_) =>

@@ -1,6 +1,6 @@
 //! The commands over a target that the program brings itself, by any reader and any sinks.
 ghost use Rattle.std.specs.Prelude.{◌≡◌, ℕ, List, None, false, IfErr, IfOk, IfSome, OnOk, string_bytes};
-ghost use Rattle.campaign_core.specs.Headline.{campaign_on};
+ghost use Rattle.campaign_core.specs.Headline.{campaign_in, campaign_on};
 ghost use Rattle.campaign_settings.specs.declared.own.OwnSettings.{OwnSettings};
 ghost use Rattle.campaign_main.specs.Commands.{Answer, order_answer};
 ghost use Rattle.campaign_core.specs.Writes.{change};
@@ -16,7 +16,6 @@ use crate::lines::{
     end_bad_settings, end_outcome, end_unreadable_settings, no_memory, refused_by, unlawful,
 };
 use campaign_core::{Host, Subject};
-use campaign_given::CampaignSettings;
 use campaign_settings::{OwnSettings, Settings};
 use command_words::Order;
 use std::alloc::{AllocError, Global};
@@ -50,16 +49,14 @@ pub fn broken_off<T: Target, E: Sink>(
     }
 }
 
-/// Does what is ordered with this target on this workload, under these settings, and writes the command's text to the output: what
+/// Does what is ordered with this target on its workload, under its settings, and writes the command's text to the output: what
 /// [`perform_target`] does once it has read settings, with the same lines and ends.
 ///
 /// The target is looked at first, as there: where it is seen to break a law, which none does that is proved, the command is refused.
 pub fn perform_settings<T: Target + Send, W: Sink, E: Sink, H: Threads + Wait + Sync, G: Gate>(
     host: &Host<'_, G, H>,
     order: &Order,
-    target: &mut T,
-    workload: &T::Workload,
-    settings: &CampaignSettings,
+    subject: &Subject<'_, T>,
     output: &mut W,
     faults: &mut E,
 ) -> Exit
@@ -67,20 +64,14 @@ where
     T::Workload: Sync,
     requires output { W.has_failed output.old ≡ false }
     requires faults { E.has_failed faults.old ≡ false }
-    ensures end { EndsAs result (order_answer order.now (campaign_on T.Target target.old workload.now settings.now)) (change W.Sink output.old output.new) }
-    ensures told { TellsAs result (order_answer order.now (campaign_on T.Target target.old workload.now settings.now))
-        (change E.Sink faults.old faults.new) }
-    ensures promises { OnWhole result (KeepsPromises order.now (campaign_on T.Target target.old workload.now settings.now)) }
+    ensures end { EndsAs result (order_answer order.now (campaign_in T.Target subject.now)) (change W.Sink output.old output.new) }
+    ensures told { TellsAs result (order_answer order.now (campaign_in T.Target subject.now)) (change E.Sink faults.old faults.new) }
+    ensures promises { OnWhole result (KeepsPromises order.now (campaign_in T.Target subject.now)) }
 {
-    let subject = Subject {
-        target: &*target,
-        workload,
-        settings,
-    };
-    if let Some(exit) = broken_off(host.alloc, &subject, faults) {
+    if let Some(exit) = broken_off(host.alloc, subject, faults) {
         return exit;
     }
-    let outcome = command(host, &subject, order, output);
+    let outcome = command(host, subject, order, output);
     end_outcome(host.alloc, outcome, faults)
 }
 
@@ -104,7 +95,14 @@ where
     ensures promises { OnWhole result (OwnKeepsPromises order.now (campaign_on T.Target target.old workload.now) text.now) }
 {
     match Settings::read_own(host.alloc, text) {
-        Ok(settings) => perform_settings(host, order, target, workload, &settings, output, faults),
+        Ok(settings) => {
+            let subject = Subject {
+                target: &*target,
+                workload,
+                settings: &settings,
+            };
+            perform_settings(host, order, &subject, output, faults)
+        }
         Err(fault) => end_bad_settings(host.alloc, &fault, faults),
     }
 }

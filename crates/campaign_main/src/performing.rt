@@ -32,7 +32,7 @@ fn perform_chosen<W: Sink, E: Sink, H: Threads + Wait + Sync, G: Gate>(
     ensures told { let s = settings.now in TellsAs result (choice_answer order.now s.campaign s.choice) (change E.Sink faults.old faults.new) }
     ensures promises { let s = settings.now in OnWhole result (IfSome (campaign_for s.campaign s.choice) (KeepsPromises order.now)) }
 {
-    let outcome = chosen_command(host, order, &settings.choice, &settings.campaign, output);
+    let outcome = chosen_command(host, order, settings, output);
     end_outcome(host.alloc, outcome, faults)
 }
 

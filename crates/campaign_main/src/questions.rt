@@ -18,10 +18,9 @@ use answered_campaigns::{
 };
 use asked_lines::AskedPart;
 use campaign_core::PageNotes;
-use campaign_given::{CampaignSettings, Outside};
 use campaign_settings::{Choice, Settings};
 use command_words::{AskedPart as Part, Form as ReportForm, Question, Shown, VERSION};
-use outside_campaign::Form;
+use outside_campaign::{Form, OutsideCampaign};
 use std::alloc::Global;
 use std::io::Read;
 use target_trait::Sink;
@@ -44,15 +43,15 @@ fn asked_part(part: Part) -> AskedPart
 fn write_asked<W: Sink>(
     alloc: Global,
     part: Part,
-    outside: &Outside,
-    settings: &CampaignSettings,
+    campaign: &OutsideCampaign<'_>,
     answers: &[u8],
     output: &mut W,
 ) -> Result<bool, QuestionFault>
     requires { W.has_failed output.old ≡ false }
-    ensures { ComesToText (Question.Asks part) (settings.now, outside.now) answers.now (change W.Sink output.old output.new) result }
+    ensures { ComesToText (Question.Asks part) (campaign.now.settings.now, campaign.now.outside.now) answers.now
+        (change W.Sink output.old output.new) result }
 {
-    write_asks(alloc, outside, settings, asked_part(part), answers, output)?;
+    write_asks(alloc, campaign, asked_part(part), answers, output)?;
     Ok(false)
 }
 
@@ -78,20 +77,20 @@ fn report_form(shown: Shown) -> Option<Form<'static>>
 fn write_reported<W: Sink>(
     alloc: Global,
     shown: Shown,
-    outside: &Outside,
-    settings: &CampaignSettings,
+    campaign: &OutsideCampaign<'_>,
     answers: &[u8],
     output: &mut W,
 ) -> Result<bool, QuestionFault>
     requires { W.has_failed output.old ≡ false }
-    ensures { ComesToText (Question.Report shown false) (settings.now, outside.now) answers.now (change W.Sink output.old output.new) result }
+    ensures { ComesToText (Question.Report shown false) (campaign.now.settings.now, campaign.now.outside.now) answers.now
+        (change W.Sink output.old output.new) result }
 {
     match report_form(shown) {
         Some(form) => {
-            let ending = write_report_in(alloc, &form, outside, settings, answers, output)?;
+            let ending = write_report_in(alloc, &form, campaign, answers, output)?;
             Ok(ending.first.is_some())
         }
-        None => write_partial(alloc, outside, settings, answers, output),
+        None => write_partial(alloc, campaign, answers, output),
     }
 }
 
@@ -99,21 +98,19 @@ fn write_reported<W: Sink>(
 fn write_answer<W: Sink>(
     alloc: Global,
     question: &Question,
-    outside: &Outside,
-    settings: &CampaignSettings,
+    campaign: &OutsideCampaign<'_>,
     answers: &[u8],
     output: &mut W,
 ) -> Result<bool, QuestionFault>
     requires { W.has_failed output.old ≡ false }
-    ensures { ComesToText question.now (settings.now, outside.now) answers.now (change W.Sink output.old output.new) result }
+    ensures { ComesToText question.now (campaign.now.settings.now, campaign.now.outside.now) answers.now
+        (change W.Sink output.old output.new) result }
 {
     match question {
-        Question::Asks(part) => write_asked(alloc, *part, outside, settings, answers, output),
-        Question::Report { shown, .. } => {
-            write_reported(alloc, *shown, outside, settings, answers, output)
-        }
+        Question::Asks(part) => write_asked(alloc, *part, campaign, answers, output),
+        Question::Report { shown, .. } => write_reported(alloc, *shown, campaign, answers, output),
         Question::Explain(text) => {
-            write_explained(alloc, outside, settings, text.as_str(), answers, output)
+            write_explained(alloc, campaign, text.as_str(), answers, output)
         }
     }
 }
@@ -122,19 +119,20 @@ fn write_answer<W: Sink>(
 fn write_noted<W: Sink, E: Sink>(
     alloc: Global,
     question: &Question,
-    outside: &Outside,
-    settings: &CampaignSettings,
+    campaign: &OutsideCampaign<'_>,
     answers: &[u8],
     output: &mut W,
     faults: &mut E,
 ) -> Result<Conclusion, QuestionFault>
     requires output { W.has_failed output.old ≡ false }
     requires faults { E.has_failed faults.old ≡ false }
-    ensures text { ConcludesText question.now (settings.now, outside.now) answers.now (change W.Sink output.old output.new) result }
-    ensures noted { NotesText question.now (settings.now, outside.now) answers.now (change E.Sink faults.old faults.new) result }
+    ensures text { ConcludesText question.now (campaign.now.settings.now, campaign.now.outside.now) answers.now
+        (change W.Sink output.old output.new) result }
+    ensures noted { NotesText question.now (campaign.now.settings.now, campaign.now.outside.now) answers.now
+        (change E.Sink faults.old faults.new) result }
 {
-    let notes = question_notes_on(alloc, question, outside, settings, answers)?;
-    let found = write_answer(alloc, question, outside, settings, answers, output)?;
+    let notes = question_notes_on(alloc, question, campaign, answers)?;
+    let found = write_answer(alloc, question, campaign, answers, output)?;
     note(notes.as_str(), faults);
     let doubted = is_question_doubted(question, notes.as_str());
     Ok(concluded(found, doubted))
@@ -144,20 +142,21 @@ fn write_noted<W: Sink, E: Sink>(
 fn answer_by<W: Sink, E: Sink>(
     alloc: Global,
     question: &Question,
-    outside: &Outside,
-    settings: &CampaignSettings,
+    campaign: &OutsideCampaign<'_>,
     answers: &[u8],
     output: &mut W,
     faults: &mut E,
 ) -> Exit
     requires output { W.has_failed output.old ≡ false }
     requires faults { E.has_failed faults.old ≡ false }
-    ensures end { EndsAnswered question.now (settings.now, outside.now) answers.now result (change W.Sink output.old output.new) }
-    ensures told { TellsOf (IsNoted (question_notes question.now settings.now outside.now answers.now) (change E.Sink faults.old faults.new))
-        (TellsWhy question.now (Ok (settings.now, outside.now)) answers.now (change E.Sink faults.old faults.new))
+    ensures end { EndsAnswered question.now (campaign.now.settings.now, campaign.now.outside.now) answers.now result
+        (change W.Sink output.old output.new) }
+    ensures told { TellsOf
+        (IsNoted (question_notes question.now campaign.now.settings.now campaign.now.outside.now answers.now) (change E.Sink faults.old faults.new))
+        (TellsWhy question.now (Ok (campaign.now.settings.now, campaign.now.outside.now)) answers.now (change E.Sink faults.old faults.new))
         result (change E.Sink faults.old faults.new) }
 {
-    match write_noted(alloc, question, outside, settings, answers, output, faults) {
+    match write_noted(alloc, question, campaign, answers, output, faults) {
         Ok(conclusion) => exit_of(conclusion),
         Err(fault) => end_question(alloc, &fault, faults),
     }
@@ -167,33 +166,26 @@ fn answer_by<W: Sink, E: Sink>(
 fn answer_on<A: Read, W: Sink, E: Sink>(
     alloc: Global,
     question: &Question,
-    outside: &Outside,
-    settings: &CampaignSettings,
+    campaign: &OutsideCampaign<'_>,
     answers: &mut A,
     output: &mut W,
     faults: &mut E,
 ) -> Exit
     requires output { W.has_failed output.old ≡ false }
     requires faults { E.has_failed faults.old ≡ false }
-    ensures end { IfSome (A.remaining answers.old) (λ bytes. EndsAnswered question.now (settings.now, outside.now) bytes result
+    ensures end { IfSome (A.remaining answers.old)
+        (λ bytes. EndsAnswered question.now (campaign.now.settings.now, campaign.now.outside.now) bytes result
         (change W.Sink output.old output.new)) }
-    ensures noted { OnWhole result (IfSome (A.remaining answers.old) (λ bytes. IsNoted (question_notes question.now settings.now outside.now bytes)
+    ensures noted { OnWhole result (IfSome (A.remaining answers.old)
+        (λ bytes. IsNoted (question_notes question.now campaign.now.settings.now campaign.now.outside.now bytes)
         (change E.Sink faults.old faults.new))) }
     ensures cause { result ≡ Exit.Refused → IfSome (A.remaining answers.old)
-        (λ bytes. IsNotAnswered question.now (Ok (settings.now, outside.now)) bytes (change E.Sink faults.old faults.new)) }
+        (λ bytes. IsNotAnswered question.now (Ok (campaign.now.settings.now, campaign.now.outside.now)) bytes (change E.Sink faults.old faults.new)) }
     ensures output { Leaves result (change W.Sink output.old output.new) }
     ensures told { TellsOfQuestion result (change E.Sink faults.old faults.new) }
 {
     match read_bytes(alloc, answers, LIMIT) {
-        Ok(bytes) => answer_by(
-            alloc,
-            question,
-            outside,
-            settings,
-            bytes.as_slice(),
-            output,
-            faults,
-        ),
+        Ok(bytes) => answer_by(alloc, question, campaign, bytes.as_slice(), output, faults),
         Err(fault) => end_unreadable_answers(fault, faults),
     }
 }
@@ -202,8 +194,7 @@ fn answer_on<A: Read, W: Sink, E: Sink>(
 fn answer_choice<A: Read, W: Sink, E: Sink>(
     alloc: Global,
     question: &Question,
-    choice: &Choice,
-    settings: &CampaignSettings,
+    settings: &Settings,
     answers: &mut A,
     output: &mut W,
     faults: &mut E,
@@ -211,17 +202,21 @@ fn answer_choice<A: Read, W: Sink, E: Sink>(
     requires output { W.has_failed output.old ≡ false }
     requires faults { E.has_failed faults.old ≡ false }
     ensures end { IfSome (A.remaining answers.old) (λ bytes. EndsQuestion question.now
-        (chosen_subject settings.now choice.now) bytes result (change W.Sink output.old output.new)) }
-    ensures noted { OnWhole result (IfSome (A.remaining answers.old) (λ bytes. NotesQuestion question.now (chosen_subject settings.now choice.now)
-        bytes (change E.Sink faults.old faults.new))) }
+        (chosen_subject settings.now.campaign settings.now.choice) bytes result (change W.Sink output.old output.new)) }
+    ensures noted { OnWhole result (IfSome (A.remaining answers.old) (λ bytes. NotesQuestion question.now
+        (chosen_subject settings.now.campaign settings.now.choice) bytes (change E.Sink faults.old faults.new))) }
     ensures cause { result ≡ Exit.Refused → IfSome (A.remaining answers.old)
-        (λ bytes. IsNotAnswered question.now (chosen_subject settings.now choice.now) bytes (change E.Sink faults.old faults.new)) }
+        (λ bytes. IsNotAnswered question.now (chosen_subject settings.now.campaign settings.now.choice) bytes (change E.Sink faults.old faults.new)) }
     ensures output { Leaves result (change W.Sink output.old output.new) }
     ensures told { TellsOfQuestion result (change E.Sink faults.old faults.new) }
 {
-    match choice {
+    match &settings.choice {
         Choice::Outside(outside) => {
-            answer_on(alloc, question, outside, settings, answers, output, faults)
+            let campaign = OutsideCampaign {
+                outside,
+                settings: &settings.campaign,
+            };
+            answer_on(alloc, question, &campaign, answers, output, faults)
         }
         Choice::Replace(..) | Choice::Maildir(..) | Choice::Commit(..) => refuse_bundled(faults),
     }
@@ -248,15 +243,7 @@ fn answer_text<A: Read, W: Sink, E: Sink>(
     ensures told { TellsOfQuestion result (change E.Sink faults.old faults.new) }
 {
     match Settings::read(alloc, text) {
-        Ok(settings) => answer_choice(
-            alloc,
-            question,
-            &settings.choice,
-            &settings.campaign,
-            answers,
-            output,
-            faults,
-        ),
+        Ok(settings) => answer_choice(alloc, question, &settings, answers, output, faults),
         Err(fault) => end_bad_settings(alloc, &fault, faults),
     }
 }

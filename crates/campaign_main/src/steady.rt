@@ -7,6 +7,7 @@ use crate::fault::CommandFault;
 use campaign_core::{Host, Subject, plan_campaign, plans_of};
 use plan_gen::PlanFault;
 use report::{Names, write_verdict};
+use result_book::RunInput;
 use std::alloc::{AllocError, Global};
 use std::sync::Wait;
 use std::thread::Threads;
@@ -30,20 +31,12 @@ where
         Err(PlanFault::Memory) => return Err(AllocError),
     };
     let plans = plans_of(subject, &planned);
-    let Subject {
-        target,
-        workload,
-        settings,
-    } = subject;
-    let seed = settings.seed;
-    changed_verdict(
-        host.alloc,
-        *target,
-        *workload,
-        &plans,
-        seed,
-        settings.max_hits,
-    )
+    let input = RunInput {
+        workload: subject.workload,
+        settings: subject.settings,
+        plans: &plans,
+    };
+    changed_verdict(host.alloc, subject.target, &input)
 }
 
 /// The line for a plan whose verdict isn't the same twice.

@@ -1,6 +1,6 @@
 //! The commands over a target that tells of the end of a run.
 ghost use Rattle.std.specs.Prelude.{◌≡◌, false, OnOk};
-ghost use Rattle.campaign_core.specs.Headline.{campaign_in, campaign_on};
+ghost use Rattle.campaign_core.specs.Headline.{campaign_in};
 ghost use Rattle.campaign_core.specs.Writes.{change};
 ghost use Rattle.campaign_main.specs.Ends.{ComesTo, EndsAs, OnWhole, TellsAs};
 ghost use Rattle.campaign_main.specs.Promises.{KeepsPromises};
@@ -12,7 +12,6 @@ use crate::fault::CommandFault;
 use crate::lines::end_outcome;
 use crate::own::broken_off;
 use campaign_core::{Host, Subject, explain_one_telling};
-use campaign_given::CampaignSettings;
 use command_words::{Order, Which};
 use std::sync::Wait;
 use std::thread::Threads;
@@ -71,9 +70,7 @@ pub fn perform_telling<
 >(
     host: &Host<'_, G, H>,
     order: &Order,
-    target: &mut T,
-    workload: &T::Workload,
-    settings: &CampaignSettings,
+    subject: &Subject<'_, T>,
     output: &mut W,
     faults: &mut E,
 ) -> Exit
@@ -81,20 +78,17 @@ where
     T::Workload: Sync,
     requires output { W.has_failed output.old ≡ false }
     requires faults { E.has_failed faults.old ≡ false }
-    ensures end { EndsAs result (telling_answer (T.state_of target.old workload.now) (T.reason_of target.old workload.now) order.now
-        (campaign_on T.Target target.old workload.now settings.now)) (change W.Sink output.old output.new) }
-    ensures told { TellsAs result (telling_answer (T.state_of target.old workload.now) (T.reason_of target.old workload.now) order.now
-        (campaign_on T.Target target.old workload.now settings.now)) (change E.Sink faults.old faults.new) }
-    ensures promises { OnWhole result (KeepsPromises order.now (campaign_on T.Target target.old workload.now settings.now)) }
+    ensures end { EndsAs result (telling_answer (T.state_of subject.now.target.now subject.now.workload.now)
+        (T.reason_of subject.now.target.now subject.now.workload.now) order.now (campaign_in T.Target subject.now))
+        (change W.Sink output.old output.new) }
+    ensures told { TellsAs result (telling_answer (T.state_of subject.now.target.now subject.now.workload.now)
+        (T.reason_of subject.now.target.now subject.now.workload.now) order.now (campaign_in T.Target subject.now))
+        (change E.Sink faults.old faults.new) }
+    ensures promises { OnWhole result (KeepsPromises order.now (campaign_in T.Target subject.now)) }
 {
-    let subject = Subject {
-        target: &*target,
-        workload,
-        settings,
-    };
-    if let Some(exit) = broken_off(host.alloc, &subject, faults) {
+    if let Some(exit) = broken_off(host.alloc, subject, faults) {
         return exit;
     }
-    let outcome = telling_command(host, &subject, order, output);
+    let outcome = telling_command(host, subject, order, output);
     end_outcome(host.alloc, outcome, faults)
 }

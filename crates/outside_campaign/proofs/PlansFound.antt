@@ -94,10 +94,10 @@ written label seed counted last known text is =
 
 -- ---- by the settings and the answers
 
-pub partial_is : (outside : Description) (given : Given) (answers : List ℕ) (known : KnownVerdicts) (plans : List Entries) (seed : ℕ) (text : List ℕ) → known ≡ known_by outside.codes outside.points answers → plans ≡ listed outside given → seed ≡ given.plans.seed
-    → text ≡ partial_text outside seed false known plans → text ≡ partial_by outside given answers
-partial_is outside given answers known plans seed text k p s is =
-    is ∙ ap (λ (n : ℕ). partial_text outside n false known plans) s ∙ ap (λ (ps : List Entries). partial_text outside given.plans.seed false known ps) p
+pub partial_is : (outside : Description) (given : Given) (answers : List ℕ) (known : KnownVerdicts) (plans : List Entries) (text : List ℕ) → known ≡ known_by outside.codes outside.points answers → plans ≡ listed outside given
+    → text ≡ partial_text outside given.plans.seed false known plans → text ≡ partial_by outside given answers
+partial_is outside given answers known plans text k p is =
+    is ∙ ap (λ (ps : List Entries). partial_text outside given.plans.seed false known ps) p
     ∙ ap (λ (v : KnownVerdicts). partial_text outside given.plans.seed false v (listed outside given)) k
 
 pub fails_is : (outside : Description) (given : Given) (answers : List ℕ) (known : KnownVerdicts) (plans : List Entries) (fails : Bool) → known ≡ known_by outside.codes outside.points answers → plans ≡ listed outside given → fails ≡ some_fails known plans

@@ -7,10 +7,10 @@ ghost use Rattle.outside_campaign.specs.Readable.{IsReadable};
 
 use crate::answers::read_answers;
 use crate::asking::asks_text;
+use crate::campaign::OutsideCampaign;
 use crate::planned::{borrowed, planned};
 use crate::refusal::OutsideFault;
 use asked_lines::AskedPart;
-use campaign_given::{CampaignSettings, Outside};
 use campaign_plans::CampaignPlans;
 use report::write_report;
 use std::alloc::Global;
@@ -29,24 +29,25 @@ use target_trait::Sink;
 /// `Write` tells how many bytes of the text, fewer than all, went out before the sink failed.
 pub fn write_asks<W: Sink>(
     alloc: Global,
-    outside: &Outside,
-    settings: &CampaignSettings,
+    campaign: &OutsideCampaign<'_>,
     part: AskedPart,
     answers: &[u8],
     sink: &mut W,
 ) -> Result<(), OutsideFault>
     requires { W.has_failed sink.old ≡ false }
-    ensures text { OnOk result (Appends (W.told sink.old) (W.told sink.new) (asks_text part outside.now settings.now answers.now)) }
-    ensures few { OnOk result (length (plans outside.now settings.now) ≤ most_plans) }
+    ensures text { OnOk result (Appends (W.told sink.old) (W.told sink.new)
+        (asks_text part campaign.now.outside.now campaign.now.settings.now answers.now)) }
+    ensures few { OnOk result (length (plans campaign.now.outside.now campaign.now.settings.now) ≤ most_plans) }
     ensures sound { OnOk result (W.has_failed sink.new ≡ false) }
     // Where something is wrong with the answers nothing is asked.
-    ensures readable { OnOk result (IsReadable outside.now answers.now) }
-    ensures fault { IfErr result (AsksFault part outside.now settings.now answers.now
+    ensures readable { OnOk result (IsReadable campaign.now.outside.now answers.now) }
+    ensures fault { IfErr result (AsksFault part campaign.now.outside.now campaign.now.settings.now answers.now
         (W.told sink.old) (W.told sink.new) (W.has_failed sink.new)) }
 {
+    let outside = campaign.outside;
     let known = read_answers(alloc, outside, answers)?;
     let points = borrowed(alloc, outside.points.as_slice())?;
-    let plans = planned(alloc, points.as_slice(), outside, settings)?;
+    let plans = planned(alloc, points.as_slice(), campaign)?;
     let text = asks_text(alloc, &known, &CampaignPlans::by_census(&plans), part)?;
     write_report(text.as_bytes(), sink)?;
     Ok(())

@@ -3,6 +3,7 @@
 
 mod answers;
 mod asking;
+mod campaign;
 mod driving;
 mod findings;
 mod forms;
@@ -19,6 +20,7 @@ mod unmet;
 mod verdicts;
 
 pub use answers::read_answers;
+pub use campaign::OutsideCampaign;
 pub use driving::write_asks;
 pub use findings::{Findings, findings_known};
 pub use forms::{Form, Shown, text_in};

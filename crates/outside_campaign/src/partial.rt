@@ -12,11 +12,11 @@ ghost use Rattle.outside_campaign.specs.inside.Found.{IsAdded, IsFound};
 ghost use Rattle.outside_campaign.specs.inside.Results.{IsUntoldYet};
 
 use crate::answers::read_answers;
+use crate::campaign::OutsideCampaign;
 use crate::planned::{borrowed, planned};
 use crate::refusal::OutsideFault;
 use crate::table::VerdictTable;
 use crate::telling::Words;
-use campaign_given::{CampaignSettings, Outside};
 use campaign_plans::{CampaignPlan, CampaignPlans};
 use report::{Names, write_report, write_scenario, write_verdict};
 use scenario_values::Scenario;
@@ -117,11 +117,14 @@ fn found_in<K: VerdictTable>(
     Ok(found)
 }
 
-fn write_head(out: &mut String, outside: &Outside, seed: u64) -> Result<(), AllocError>
+fn write_head(out: &mut String, campaign: &OutsideCampaign<'_>) -> Result<(), AllocError>
     ensures { OnOk result (string_bytes out.new ≡ string_bytes out.old
-        ++ text_of ((codes "target " ++ outside.now.label) ∷ (codes "seed " ++ decimal seed) ∷ [])) }
+        ++ text_of ((codes "target " ++ campaign.now.outside.now.label) ∷ (codes "seed " ++ decimal campaign.now.settings.now.plans.seed) ∷ [])) }
 {
+    let outside = campaign.outside;
+    let settings = campaign.settings;
     let label = outside.label.as_str();
+    let seed = settings.seed;
     write!(out, "target {label}\nseed {seed}\n")
 }
 
@@ -180,50 +183,51 @@ fn write_first(
     }
 }
 
-/// What a campaign on the component of these words has come to, told before all is answered, by what is known of its plans: the label, the
-/// seed, how many plans are answered, a line for each that is known not to pass, and the first that is known to fail; and whether one is known
-/// to fail. Where more plans become known as answers come in, `is_growing`, the line of how many says so.
+/// What a campaign has come to, told before all is answered, by what is known of its plans: the label, the seed, how many plans are answered,
+/// a line for each that is known not to pass, and the first that is known to fail; and whether one is known to fail. Where more plans become
+/// known as answers come in, `is_growing`, the line of how many says so.
 ///
 /// An error means that memory was refused.
 pub fn partial_text<K: VerdictTable>(
     alloc: Global,
-    words: &Words<'_>,
-    seed: u64,
+    campaign: &OutsideCampaign<'_>,
     known: &K,
     plans: &CampaignPlans<'_>,
     is_growing: bool,
 ) -> Result<(String, bool), AllocError>
-    ensures text { IfOk result (λ r. string_bytes r.0 ≡ partial_text words.now.outside.now seed is_growing (K.verdicts known.now) plans.now) }
+    ensures text { IfOk result (λ r. string_bytes r.0 ≡ partial_text campaign.now.outside.now campaign.now.settings.now.plans.seed
+        is_growing (K.verdicts known.now) plans.now) }
     ensures fails { IfOk result (λ r. r.1 ≡ some_fails (K.verdicts known.now) plans.now) }
 {
-    let found = found_in(alloc, words, known, plans)?;
+    let outside = campaign.outside;
+    let words = Words { outside };
+    let found = found_in(alloc, &words, known, plans)?;
     let mut text = String::new(alloc);
-    write_head(&mut text, words.outside, seed)?;
+    write_head(&mut text, campaign)?;
     write_answered(&mut text, found.answered, plans.len(), is_growing)?;
     text.push_str(found.lines.as_str())?;
-    write_first(alloc, &mut text, words, &found.first)?;
+    write_first(alloc, &mut text, &words, &found.first)?;
     Ok((text, found.first.is_some()))
 }
 
 /// The text of what a campaign has come to by the answers, and whether a plan is known to fail.
 fn reported_so_far(
     alloc: Global,
-    outside: &Outside,
-    settings: &CampaignSettings,
+    campaign: &OutsideCampaign<'_>,
     answers: &[u8],
 ) -> Result<(String, bool), OutsideFault>
-    ensures text { IfOk result (λ r. string_bytes r.0 ≡ partial_by outside.now settings.now answers.now) }
-    ensures fails { IfOk result (λ r. r.1 ≡ some_fails_by outside.now settings.now answers.now) }
-    ensures few { OnOk result (length (listed outside.now settings.now) ≤ most_plans) }
-    ensures readable { OnOk result (IsReadable outside.now answers.now) }
-    ensures fault { IfErr result (IsUntoldYet outside.now settings.now answers.now) }
+    ensures text { IfOk result (λ r. string_bytes r.0 ≡ partial_by campaign.now.outside.now campaign.now.settings.now answers.now) }
+    ensures fails { IfOk result (λ r. r.1 ≡ some_fails_by campaign.now.outside.now campaign.now.settings.now answers.now) }
+    ensures few { OnOk result (length (listed campaign.now.outside.now campaign.now.settings.now) ≤ most_plans) }
+    ensures readable { OnOk result (IsReadable campaign.now.outside.now answers.now) }
+    ensures fault { IfErr result (IsUntoldYet campaign.now.outside.now campaign.now.settings.now answers.now) }
 {
+    let outside = campaign.outside;
     let known = read_answers(alloc, outside, answers)?;
     let points = borrowed(alloc, outside.points.as_slice())?;
-    let list = planned(alloc, points.as_slice(), outside, settings)?;
-    let words = Words { outside: &*outside };
+    let list = planned(alloc, points.as_slice(), campaign)?;
     let plans = CampaignPlans::by_census(&list);
-    let told = partial_text(alloc, &words, settings.seed, &known, &plans, false)?;
+    let told = partial_text(alloc, campaign, &known, &plans, false)?;
     Ok(told)
 }
 
@@ -238,21 +242,22 @@ fn reported_so_far(
 /// `Write` tells how many bytes of the text, fewer than all, went out before the sink failed.
 pub fn write_partial<W: Sink>(
     alloc: Global,
-    outside: &Outside,
-    settings: &CampaignSettings,
+    campaign: &OutsideCampaign<'_>,
     answers: &[u8],
     sink: &mut W,
 ) -> Result<bool, OutsideFault>
     requires { W.has_failed sink.old ≡ false }
-    ensures text { OnOk result (Appends (W.told sink.old) (W.told sink.new) (partial_by outside.now settings.now answers.now)) }
-    ensures fails { IfOk result (λ fails. fails ≡ some_fails_by outside.now settings.now answers.now) }
-    ensures few { OnOk result (length (listed outside.now settings.now) ≤ most_plans) }
+    ensures text { OnOk result (Appends (W.told sink.old) (W.told sink.new)
+        (partial_by campaign.now.outside.now campaign.now.settings.now answers.now)) }
+    ensures fails { IfOk result (λ fails. fails ≡ some_fails_by campaign.now.outside.now campaign.now.settings.now answers.now) }
+    ensures few { OnOk result (length (listed campaign.now.outside.now campaign.now.settings.now) ≤ most_plans) }
     ensures sound { OnOk result (W.has_failed sink.new ≡ false) }
     // Where something is wrong with the answers nothing is told.
-    ensures readable { OnOk result (IsReadable outside.now answers.now) }
-    ensures fault { IfErr result (PartialFault outside.now settings.now answers.now (W.told sink.old) (W.told sink.new) (W.has_failed sink.new)) }
+    ensures readable { OnOk result (IsReadable campaign.now.outside.now answers.now) }
+    ensures fault { IfErr result (PartialFault campaign.now.outside.now campaign.now.settings.now answers.now
+        (W.told sink.old) (W.told sink.new) (W.has_failed sink.new)) }
 {
-    let (text, fails) = reported_so_far(alloc, outside, settings, answers)?;
+    let (text, fails) = reported_so_far(alloc, campaign, answers)?;
     write_report(text.as_bytes(), sink)?;
     Ok(fails)
 }

@@ -5,8 +5,8 @@ ghost use Rattle.action_eval.specs.Answers.{texts};
 ghost use Rattle.plan_gen.specs.PlanList.{most_plans};
 ghost use Rattle.outside_campaign.specs.Campaigns.{plans, plans_text, IsCut, IsUnwritten};
 
+use crate::campaign::OutsideCampaign;
 use campaign_core::{CampaignFault, plans_text};
-use campaign_given::{CampaignSettings, Outside};
 use campaign_plans::CampaignPlans;
 use plan_gen::{Census, PlanFault, PlanList, plans};
 use report::write_report;
@@ -29,15 +29,16 @@ pub fn borrowed(alloc: Global, from: &[Text]) -> Result<Vec<&str>, AllocError>
 pub fn planned<'a>(
     alloc: Global,
     points: &'a [&'a str],
-    outside: &Outside,
-    settings: &'a CampaignSettings,
+    campaign: &OutsideCampaign<'a>,
 ) -> Result<PlanList<'a>, PlanFault>
-    requires { texts points.now ≡ outside.now.points }
-    ensures plans { IfOk result (λ r. r ≡ plans outside.now settings.now) }
-    ensures few { OnOk result (length (plans outside.now settings.now) ≤ most_plans) }
+    requires { texts points.now ≡ campaign.now.outside.now.points }
+    ensures plans { IfOk result (λ r. r ≡ plans campaign.now.outside.now campaign.now.settings.now) }
+    ensures few { OnOk result (length (plans campaign.now.outside.now campaign.now.settings.now) ≤ most_plans) }
     ensures some { IfOk result (λ r. 0 < length r) }
-    ensures many { IsErrOf result PlanFault.TooManyPlans → most_plans < length (plans outside.now settings.now) }
+    ensures many { IsErrOf result PlanFault.TooManyPlans → most_plans < length (plans campaign.now.outside.now campaign.now.settings.now) }
 {
+    let outside = campaign.outside;
+    let settings = campaign.settings;
     let Ok(counts) = Vec::from_slice(alloc, outside.hits.as_slice()) else {
         return Err(PlanFault::Memory);
     };
@@ -51,20 +52,20 @@ pub fn planned<'a>(
 /// out before the sink failed.
 pub fn list_plans<W: Sink>(
     alloc: Global,
-    outside: &Outside,
-    settings: &CampaignSettings,
+    campaign: &OutsideCampaign<'_>,
     sink: &mut W,
 ) -> Result<(), CampaignFault>
     requires { W.has_failed sink.old ≡ false }
-    ensures text { OnOk result (Appends (W.told sink.old) (W.told sink.new) (plans_text outside.now settings.now)) }
-    ensures few { OnOk result (length (plans outside.now settings.now) ≤ most_plans) }
+    ensures text { OnOk result (Appends (W.told sink.old) (W.told sink.new) (plans_text campaign.now.outside.now campaign.now.settings.now)) }
+    ensures few { OnOk result (length (plans campaign.now.outside.now campaign.now.settings.now) ≤ most_plans) }
     ensures sound { OnOk result (W.has_failed sink.new ≡ false) }
-    ensures fault { IfErr result (IsUnwritten (plans outside.now settings.now)
-        (IsCut (W.told sink.old) (W.told sink.new) (plans_text outside.now settings.now))
+    ensures fault { IfErr result (IsUnwritten (plans campaign.now.outside.now campaign.now.settings.now)
+        (IsCut (W.told sink.old) (W.told sink.new) (plans_text campaign.now.outside.now campaign.now.settings.now))
         (W.told sink.old) (W.told sink.new) (W.has_failed sink.new)) }
 {
+    let outside = campaign.outside;
     let points = borrowed(alloc, outside.points.as_slice())?;
-    let plans = planned(alloc, points.as_slice(), outside, settings)?;
+    let plans = planned(alloc, points.as_slice(), campaign)?;
     let text = plans_text(alloc, &CampaignPlans::by_census(&plans))?;
     write_report(text.as_bytes(), sink)?;
     Ok(())

@@ -9,6 +9,7 @@ ghost use Rattle.outside_campaign.specs.Readable.{IsReadable};
 ghost use Rattle.outside_campaign.specs.inside.Results.{IsUntold};
 
 use crate::answers::read_answers;
+use crate::campaign::OutsideCampaign;
 use crate::forms::Form;
 use crate::planned::{borrowed, planned};
 use crate::refusal::OutsideFault;
@@ -16,7 +17,6 @@ use crate::results::{Results, results_known};
 use crate::telling::{first_number, report_of, reported_text};
 use crate::unmet::count_unmet;
 use campaign_core::Ending;
-use campaign_given::{CampaignSettings, Outside};
 use campaign_plans::CampaignPlans;
 use report::write_report;
 use std::alloc::Global;
@@ -26,23 +26,27 @@ use target_trait::Sink;
 fn reported(
     alloc: Global,
     form: &Form<'_>,
-    outside: &Outside,
-    settings: &CampaignSettings,
+    campaign: &OutsideCampaign<'_>,
     answers: &[u8],
 ) -> Result<(Vec<u8>, Option<u32>), OutsideFault>
-    ensures text { IfOk result (λ r. (component : Component) → AgreesWithText outside.now.codes outside.now.points answers.now component
-        → r.0.items ≡ report_in form.now outside.now settings.now answers.now component) }
-    ensures first { IfOk result (λ r. (component : Component) → AgreesWithText outside.now.codes outside.now.points answers.now component
-        → r.1 ≡ first_failure outside.now settings.now component) }
-    ensures readable { OnOk result (IsReadable outside.now answers.now) }
-    ensures some { OnOk result ((component : Component) × AgreesWithText outside.now.codes outside.now.points answers.now component) }
-    ensures all { OnOk result (untried_by outside.now settings.now answers.now ≡ []) }
-    ensures few { OnOk result (length (plans outside.now settings.now) ≤ most_plans) }
-    ensures fault { IfErr result (IsUntold outside.now settings.now answers.now) }
+    ensures text { IfOk result (λ r. (component : Component)
+        → AgreesWithText campaign.now.outside.now.codes campaign.now.outside.now.points answers.now component
+        → r.0.items ≡ report_in form.now campaign.now.outside.now campaign.now.settings.now answers.now component) }
+    ensures first { IfOk result (λ r. (component : Component)
+        → AgreesWithText campaign.now.outside.now.codes campaign.now.outside.now.points answers.now component
+        → r.1 ≡ first_failure campaign.now.outside.now campaign.now.settings.now component) }
+    ensures readable { OnOk result (IsReadable campaign.now.outside.now answers.now) }
+    ensures some { OnOk result ((component : Component)
+        × AgreesWithText campaign.now.outside.now.codes campaign.now.outside.now.points answers.now component) }
+    ensures all { OnOk result (untried_by campaign.now.outside.now campaign.now.settings.now answers.now ≡ []) }
+    ensures few { OnOk result (length (plans campaign.now.outside.now campaign.now.settings.now) ≤ most_plans) }
+    ensures fault { IfErr result (IsUntold campaign.now.outside.now campaign.now.settings.now answers.now) }
 {
+    let outside = campaign.outside;
+    let settings = campaign.settings;
     let known = read_answers(alloc, outside, answers)?;
     let points = borrowed(alloc, outside.points.as_slice())?;
-    let list = planned(alloc, points.as_slice(), outside, settings)?;
+    let list = planned(alloc, points.as_slice(), campaign)?;
     let plans = CampaignPlans::by_census(&list);
     match results_known(alloc, &known, &plans)? {
         Results::NotAnswered(scenario) => Err(OutsideFault::NotAnswered(scenario)),
@@ -50,7 +54,7 @@ fn reported(
             let first = first_number(&findings);
             let unmet = count_unmet(alloc, &known, points.as_slice(), &plans)?;
             let report = report_of(outside, settings.seed, verdicts.as_slice(), unmet, findings);
-            let text = reported_text(alloc, form, outside, settings, &report, &plans)?;
+            let text = reported_text(alloc, form, campaign, &report, &plans)?;
             Ok((text, first))
         }
     }
@@ -67,27 +71,29 @@ fn reported(
 pub fn write_report_in<W: Sink>(
     alloc: Global,
     form: &Form<'_>,
-    outside: &Outside,
-    settings: &CampaignSettings,
+    campaign: &OutsideCampaign<'_>,
     answers: &[u8],
     sink: &mut W,
 ) -> Result<Ending, OutsideFault>
     requires { W.has_failed sink.old ≡ false }
     // The promise: for every component that agrees with the answers.
-    ensures text { OnOk result ((component : Component) → AgreesWithText outside.now.codes outside.now.points answers.now component
-        → Appends (W.told sink.old) (W.told sink.new) (report_in form.now outside.now settings.now answers.now component)) }
-    ensures first { IfOk result (λ ending. (component : Component) → AgreesWithText outside.now.codes outside.now.points answers.now component
-        → ending.first ≡ first_failure outside.now settings.now component) }
+    ensures text { OnOk result ((component : Component)
+        → AgreesWithText campaign.now.outside.now.codes campaign.now.outside.now.points answers.now component
+        → Appends (W.told sink.old) (W.told sink.new) (report_in form.now campaign.now.outside.now campaign.now.settings.now answers.now component)) }
+    ensures first { IfOk result (λ ending. (component : Component)
+        → AgreesWithText campaign.now.outside.now.codes campaign.now.outside.now.points answers.now component
+        → ending.first ≡ first_failure campaign.now.outside.now campaign.now.settings.now component) }
     // Some component agrees with the answers, and nothing is still to be tried.
-    ensures readable { OnOk result (IsReadable outside.now answers.now) }
-    ensures some { OnOk result ((component : Component) × AgreesWithText outside.now.codes outside.now.points answers.now component) }
-    ensures all { OnOk result (untried_by outside.now settings.now answers.now ≡ []) }
-    ensures few { OnOk result (length (plans outside.now settings.now) ≤ most_plans) }
+    ensures readable { OnOk result (IsReadable campaign.now.outside.now answers.now) }
+    ensures some { OnOk result ((component : Component)
+        × AgreesWithText campaign.now.outside.now.codes campaign.now.outside.now.points answers.now component) }
+    ensures all { OnOk result (untried_by campaign.now.outside.now campaign.now.settings.now answers.now ≡ []) }
+    ensures few { OnOk result (length (plans campaign.now.outside.now campaign.now.settings.now) ≤ most_plans) }
     ensures sound { OnOk result (W.has_failed sink.new ≡ false) }
-    ensures fault { IfErr result (ReportFault form.now outside.now settings.now answers.now
+    ensures fault { IfErr result (ReportFault form.now campaign.now.outside.now campaign.now.settings.now answers.now
         (W.told sink.old) (W.told sink.new) (W.has_failed sink.new)) }
 {
-    let (text, first) = reported(alloc, form, outside, settings, answers)?;
+    let (text, first) = reported(alloc, form, campaign, answers)?;
     write_report(text.as_slice(), sink)?;
     Ok(Ending { first })
 }

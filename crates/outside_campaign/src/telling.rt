@@ -6,8 +6,9 @@ ghost use Rattle.outside_campaign.specs.Campaigns.{code_name, plans as listed, s
 ghost use Rattle.outside_campaign.specs.Forms.{text_in};
 ghost use Rattle.outside_campaign.specs.inside.Results.{facts_of};
 
+use crate::campaign::OutsideCampaign;
 use crate::forms::{Form, Shown, text_in};
-use campaign_given::{CampaignSettings, Outside};
+use campaign_given::Outside;
 use campaign_plans::CampaignPlans;
 use report::{Finding, Names, Report};
 use std::alloc::{AllocError, Global};
@@ -87,19 +88,21 @@ fn shown_of<'a>(plans: &'a CampaignPlans<'a>, pairs: bool, settings: &'a str) ->
 pub fn reported_text(
     alloc: Global,
     form: &Form<'_>,
-    outside: &Outside,
-    settings: &CampaignSettings,
+    campaign: &OutsideCampaign<'_>,
     report: &Report<'_>,
     plans: &CampaignPlans<'_>,
 ) -> Result<Vec<u8>, AllocError>
-    requires lawful { IsDescription outside.now }
-    requires plans { plans.now ≡ listed outside.now settings.now }
-    requires few { length (listed outside.now settings.now) ≤ most_plans }
-    requires census { report.now.census ≡ outside.now.hits }
+    requires lawful { IsDescription campaign.now.outside.now }
+    requires plans { plans.now ≡ listed campaign.now.outside.now campaign.now.settings.now }
+    requires few { length (listed campaign.now.outside.now campaign.now.settings.now) ≤ most_plans }
+    requires census { report.now.census ≡ campaign.now.outside.now.hits }
     requires growth { report.now.growth ≡ None }
     requires each { length report.now.verdicts ≡ length plans.now }
-    ensures { IfOk result (λ text. text.items ≡ text_in form.now outside.now.points (code_name outside.now.codes) report.now (shown outside.now settings.now)) }
+    ensures { IfOk result (λ text. text.items ≡ text_in form.now campaign.now.outside.now.points (code_name campaign.now.outside.now.codes)
+        report.now (shown campaign.now.outside.now campaign.now.settings.now)) }
 {
+    let outside = campaign.outside;
+    let settings = campaign.settings;
     let words = Words { outside: &*outside };
     let shown = shown_of(&*plans, settings.pairs, settings.source.as_str());
     text_in(alloc, form, &words, report, &shown)

@@ -3,11 +3,11 @@ ghost use Rattle.std.specs.List.{range_with_len};
 ghost use Rattle.action_eval.specs.Answers.{given_of};
 ghost use Rattle.target_trait.specs.Outcomes.{outcome};
 ghost use Rattle.target_trait.specs.Verdicts.{is_unresolved};
-ghost use Rattle.plan_survey.specs.Runs.{is_asked, runs_of, unreached_in, unresolved_in};
+ghost use Rattle.plan_survey.specs.Runs.{input_runs, is_asked, unreached_in, unresolved_in};
 
-use campaign_plans::CampaignPlans;
+use result_book::RunInput;
 use std::alloc::{AllocError, Global};
-use target_trait::{Case, Outcome, Target, Verdict, run_case};
+use target_trait::{Outcome, Target, Verdict, run_case};
 
 /// What the runs of a list of plans come to.
 #[derive(Debug, Drop)]
@@ -62,49 +62,36 @@ fn count_of(verdict: Verdict) -> u32
 fn run_plan<T: Target>(
     alloc: Global,
     target: &mut T,
-    workload: &T::Workload,
-    plans: &CampaignPlans<'_>,
+    input: &RunInput<'_, T>,
     number: usize,
-    seed: u64,
-    max_hits: u32,
 ) -> Result<Outcome, AllocError>
-    requires { number < length plans.now }
-    ensures run { IfOk result (λ run. run ≡ outcome (T.asks target.old workload.now)
-        (given_of (slice_index_or plans.now number []) T.names seed number max_hits)) }
+    requires { number < length input.now.plans.now }
+    ensures run { IfOk result (λ run. run ≡ outcome (T.asks target.old input.now.workload.now)
+        (given_of (slice_index_or input.now.plans.now number []) T.names input.now.settings.now.plans.seed number input.now.settings.now.max_hits)) }
     ensures setup { target.new ≡ target.old }
 {
-    let scenario = plans.plan(number).scenario(alloc)?;
-    let case = Case {
-        scenario: &scenario,
-        seed,
-        stream: number as u64,
-        max_hits,
-    };
-    run_case(alloc, target, workload, &case)
+    let scenario = input.plans.plan(number).scenario(alloc)?;
+    let case = input.settings.case(&scenario, number as u64);
+    run_case(alloc, target, input.workload, &case)
 }
 
-/// What the runs of the plans come to, one after another, each under its number as the stream number.
+/// What the runs of an input's plans come to, one after another, each under its number as the stream number.
 ///
 /// An error means that memory was refused. The target keeps its setup, after an error too.
 pub fn survey_plans<T: Target>(
     alloc: Global,
     target: &mut T,
-    workload: &T::Workload,
-    plans: &CampaignPlans<'_>,
-    seed: u64,
-    max_hits: u32,
+    input: &RunInput<'_, T>,
 ) -> Result<Survey, AllocError>
-    ensures unresolved { IfOk result (λ s. s.unresolved
-        ≡ unresolved_in (runs_of (T.asks target.old workload.now) T.names seed max_hits plans.now)) }
-    ensures unreached { IfOk result (λ s. s.unreached.items
-        ≡ unreached_in (length T.names) (runs_of (T.asks target.old workload.now) T.names seed max_hits plans.now)) }
+    ensures unresolved { IfOk result (λ s. s.unresolved ≡ unresolved_in (input_runs T.Target target.old input.now)) }
+    ensures unreached { IfOk result (λ s. s.unreached.items ≡ unreached_in (length T.names) (input_runs T.Target target.old input.now)) }
     ensures points { IfOk result (λ s. All (λ p. p < length T.names) s.unreached.items) }
     ensures setup { target.new ≡ target.old }
 {
     let mut unresolved = 0;
     let mut unreached = all_points(alloc, T::catalogue().len() as u32)?;
-    for number in 0..plans.len() {
-        let run = run_plan(alloc, target, workload, plans, number, seed, max_hits)?;
+    for number in 0..input.plans.len() {
+        let run = run_plan(alloc, target, input, number)?;
         unresolved += count_of(run.verdict);
         unreached = without(alloc, unreached.as_slice(), run.asked.as_slice())?;
     }

@@ -12,7 +12,7 @@ returns-in-Some-clause-shown c =
     let s : Entries = c.in_ok-scenario.scenario in
     let told = ap (λ (known : KnownRuns). known (tidied s)) (sym c.in_ok-told.ensures.known) ∙ sym c.in_ok-run.ensures
     ∙ ap (λ (o : Option (Bor ToldRun)). option_map (λ r. r.now) o) c.in-Some.is in
-    explained c.args.text.now c.args.outside.now c.args.settings.now c.args.answers.now s c.in_ok-scenario.ensures c.in-Some.run'.now told (λ r. string_bytes r.0) (λ r. r.1)
+    explained c.args.text.now c.args.campaign.now.outside.now c.args.campaign.now.settings.now c.args.answers.now s c.in_ok-scenario.ensures c.in-Some.run'.now told (λ r. string_bytes r.0) (λ r. r.1)
     c.run_text.result c.run_text.ensures.shown
 
 pub returns-in-Some-clause-fault : goal.returns-in-Some-clause-fault
@@ -20,7 +20,7 @@ returns-in-Some-clause-fault c =
     let s : Entries = c.in_ok-scenario.scenario in
     let told = ap (λ (known : KnownRuns). known (tidied s)) (sym c.in_ok-told.ensures.known) ∙ sym c.in_ok-run.ensures
     ∙ ap (λ (o : Option (Bor ToldRun)). option_map (λ r. r.now) o) c.in-Some.is in
-    hidden c.args.text.now c.args.outside.now c.args.settings.now c.args.answers.now s c.in_ok-scenario.ensures c.in-Some.run'.now told c.run_text.result c.run_text.ensures.fault
+    hidden c.args.text.now c.args.campaign.now.outside.now c.args.campaign.now.settings.now c.args.answers.now s c.in_ok-scenario.ensures c.in-Some.run'.now told c.run_text.result c.run_text.ensures.fault
 
 pub returns-clause-fault : goal.returns-clause-fault
 returns-clause-fault c =

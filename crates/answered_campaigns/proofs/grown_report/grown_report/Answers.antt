@@ -13,7 +13,7 @@ use Rattle.answered_campaigns.proofs.grown_report.grown_report.Goals as goal
 pub returns-in_err-refuse_broken-clause-fault : goal.returns-in_err-refuse_broken-clause-fault
 returns-in_err-refuse_broken-clause-fault c =
     err_with _ c.from_residual.result c.in_err-refuse_broken.field-0.0 c.from_residual.ensures.1
-    (asks_refused c.args.known.now.0 c.args.known.now.1 c.args.settings.now.plans c.in_err-refuse_broken.field-0.0 (c.in_err-refuse_broken.ensures.fault c.args.settings.now.plans))
+    (asks_refused c.args.known.now.0 c.args.known.now.1 c.args.campaign.now.settings.now.plans c.in_err-refuse_broken.field-0.0 (c.in_err-refuse_broken.ensures.fault c.args.campaign.now.settings.now.plans))
 
 pub refuse_gap-requires-clause-short : goal.refuse_gap-requires-clause-short
 refuse_gap-requires-clause-short c =
@@ -24,25 +24,25 @@ pub returns-in_err-refuse_gap-clause-fault : goal.returns-in_err-refuse_gap-clau
 returns-in_err-refuse_gap-clause-fault c =
     let plans = c.in_ok-lists.lists.listed.known.plans in
     err_with _ c.from_residual-in_err-refuse_gap.result c.in_err-refuse_gap.field-0.0 c.from_residual-in_err-refuse_gap.ensures.1
-    (gap_refused c.args.known.now.0 c.args.known.now.1 c.args.settings.now.plans plans c.in_err-refuse_gap.field-0.0
+    (gap_refused c.args.known.now.0 c.args.known.now.1 c.args.campaign.now.settings.now.plans plans c.in_err-refuse_gap.field-0.0
     (subst (λ (k : Answered × ℕ). plans ≡ known_plans k.0 k.1) c.known.view_is c.in_ok-lists.ensures.grown) c.in_err-refuse_gap.ensures.fault)
 
 pub returns-in_err-verdicts-clause-fault : goal.returns-in_err-verdicts-clause-fault
 returns-in_err-verdicts-clause-fault c =
     let a = c.args.known.now.0 in
     let lists = c.in_ok-lists.lists in
-    let s = lists_told (c.known.inside.runs.now, c.known.inside.depth) c.args.known.now c.plan_settings.result c.args.settings.now.plans lists c.known.view_is c.plan_settings.ensures.asked
+    let s = lists_told (c.known.inside.runs.now, c.known.inside.depth) c.args.known.now c.plan_settings.result c.args.campaign.now.settings.now.plans lists c.known.view_is c.plan_settings.ensures.asked
     c.in_ok-lists.ensures.grown c.in_ok-lists.ensures.further c.in_ok-refuse_gap.ensures.ok c.in_ok-lists.ensures.told c.in_ok-lists.ensures.unseen c.in_ok-lists.ensures.whole in
     let plans = c.grown-plans.ensures ∙ ap (λ names. grown_scenarios names lists.listed.known.plans ++ lists.further) (c.points.ensures.names ∙ ap (λ (k : Answered × ℕ). k.0.points) c.known.view_is) in
     err_with _ c.from_residual-in_err-verdicts.result c.in_err-verdicts.field-0.0 c.from_residual-in_err-verdicts.ensures.1
-    (open_refused a c.args.known.now.1 c.args.settings.now.plans c.grown-plans.result c.in_err-verdicts.field-0.0
-    (is_listed a c.args.known.now.1 c.args.settings.now.plans lists c.grown-plans.result s plans) c.in_err-verdicts.ensures.fault)
+    (open_refused a c.args.known.now.1 c.args.campaign.now.settings.now.plans c.grown-plans.result c.in_err-verdicts.field-0.0
+    (is_listed a c.args.known.now.1 c.args.campaign.now.settings.now.plans lists c.grown-plans.result s plans) c.in_err-verdicts.ensures.fault)
 
 pub returns-in-Open-clause-fault : goal.returns-in-Open-clause-fault
 returns-in-Open-clause-fault c =
     let a = c.args.known.now.0 in
     let depth = c.args.known.now.1 in
-    let asked = c.args.settings.now.plans in
+    let asked = c.args.campaign.now.settings.now.plans in
     let lists = c.in_ok-lists.lists in
     let s = lists_told (c.known.inside.runs.now, c.known.inside.depth) c.args.known.now c.plan_settings.result asked lists c.known.view_is c.plan_settings.ensures.asked
     c.in_ok-lists.ensures.grown c.in_ok-lists.ensures.further c.in_ok-refuse_gap.ensures.ok c.in_ok-lists.ensures.told c.in_ok-lists.ensures.unseen c.in_ok-lists.ensures.whole in
@@ -57,14 +57,14 @@ reported_text-requires c =
     let a = c.args.known.now.0 in
     let depth = c.args.known.now.1 in
     let lists = c.in_ok-lists.lists in
-    let s = lists_told (c.known.inside.runs.now, c.known.inside.depth) c.args.known.now c.plan_settings.result c.args.settings.now.plans lists c.known.view_is c.plan_settings.ensures.asked
+    let s = lists_told (c.known.inside.runs.now, c.known.inside.depth) c.args.known.now c.plan_settings.result c.args.campaign.now.settings.now.plans lists c.known.view_is c.plan_settings.ensures.asked
     c.in_ok-lists.ensures.grown c.in_ok-lists.ensures.further c.in_ok-refuse_gap.ensures.ok c.in_ok-lists.ensures.told c.in_ok-lists.ensures.unseen c.in_ok-lists.ensures.whole in
     let plans = c.grown-plans.ensures ∙ ap (λ names. grown_scenarios names lists.listed.known.plans ++ lists.further) (c.points.ensures.names ∙ ap (λ (k : Answered × ℕ). k.0.points) c.known.view_is) in
     let clean = subst (λ (k : Answered × ℕ). HasFewHits k.0) c.known.view_is c.in_ok-lists.ensures.clean in
     let told = rw c.in-Told.is at c.in_ok-requests.ensures in
     record {
-      some = some_verdict a depth c.args.settings.now.plans lists c.grown-plans.result c.as_slice.result.now _ s plans c.as_slice.ensures.value c.in_ok-verdicts.ensures.all;
-      decided = decide c.args.outside.now c.args.settings.now a depth lists c.grown-plans.result c.as_slice.result.now _ c.in-Told.told c.requires.points c.requires.depth clean s plans
+      some = some_verdict a depth c.args.campaign.now.settings.now.plans lists c.grown-plans.result c.as_slice.result.now _ s plans c.as_slice.ensures.value c.in_ok-verdicts.ensures.all;
+      decided = decide c.args.campaign.now.outside.now c.args.campaign.now.settings.now a depth lists c.grown-plans.result c.as_slice.result.now _ c.in-Told.told c.requires.points c.requires.depth clean s plans
           c.in_ok-verdicts.ensures.lawful c.as_slice.ensures.value c.in_ok-verdicts.ensures.all told;
     }
 
@@ -73,14 +73,14 @@ returns-clause-first c =
     let a = c.args.known.now.0 in
     let depth = c.args.known.now.1 in
     let lists = c.in_ok-lists.lists in
-    let s = lists_told (c.known.inside.runs.now, c.known.inside.depth) c.args.known.now c.plan_settings.result c.args.settings.now.plans lists c.known.view_is c.plan_settings.ensures.asked
+    let s = lists_told (c.known.inside.runs.now, c.known.inside.depth) c.args.known.now c.plan_settings.result c.args.campaign.now.settings.now.plans lists c.known.view_is c.plan_settings.ensures.asked
     c.in_ok-lists.ensures.grown c.in_ok-lists.ensures.further c.in_ok-refuse_gap.ensures.ok c.in_ok-lists.ensures.told c.in_ok-lists.ensures.unseen c.in_ok-lists.ensures.whole in
     let plans = c.grown-plans.ensures ∙ ap (λ names. grown_scenarios names lists.listed.known.plans ++ lists.further) (c.points.ensures.names ∙ ap (λ (k : Answered × ℕ). k.0.points) c.known.view_is) in
     let clean = subst (λ (k : Answered × ℕ). HasFewHits k.0) c.known.view_is c.in_ok-lists.ensures.clean in
     let told = rw c.in-Told.is at c.in_ok-requests.ensures in
-    let decided = decide c.args.outside.now c.args.settings.now a depth lists c.grown-plans.result c.as_slice.result.now _ c.in-Told.told c.requires.points c.requires.depth clean s plans
+    let decided = decide c.args.campaign.now.outside.now c.args.campaign.now.settings.now a depth lists c.grown-plans.result c.as_slice.result.now _ c.in-Told.told c.requires.points c.requires.depth clean s plans
     c.in_ok-verdicts.ensures.lawful c.as_slice.ensures.value c.in_ok-verdicts.ensures.all told in
-    first_is c.args.outside.now c.args.settings.now a depth lists c.grown-plans.result c.as_slice.result.now c.in-Told.told c.first_number-first.result decided
+    first_is c.args.campaign.now.outside.now c.args.campaign.now.settings.now a depth lists c.grown-plans.result c.as_slice.result.now c.in-Told.told c.first_number-first.result decided
     (c.first_number-first.ensures ∙ ap (λ (fs : List FindingFacts). option_map (λ f. f.number) (slice_get fs 0)) c.deref.ensures.value)
 
 pub returns-clause-told : goal.returns-clause-told
@@ -88,7 +88,7 @@ returns-clause-told c =
     let a = c.args.known.now.0 in
     let depth = c.args.known.now.1 in
     let lists = c.in_ok-lists.lists in
-    let s = lists_told (c.known.inside.runs.now, c.known.inside.depth) c.args.known.now c.plan_settings.result c.args.settings.now.plans lists c.known.view_is c.plan_settings.ensures.asked
+    let s = lists_told (c.known.inside.runs.now, c.known.inside.depth) c.args.known.now c.plan_settings.result c.args.campaign.now.settings.now.plans lists c.known.view_is c.plan_settings.ensures.asked
     c.in_ok-lists.ensures.grown c.in_ok-lists.ensures.further c.in_ok-refuse_gap.ensures.ok c.in_ok-lists.ensures.told c.in_ok-lists.ensures.unseen c.in_ok-lists.ensures.whole in
     subst (AreAllTold (runs_in a)) s.grown s.told
 
@@ -96,7 +96,7 @@ pub returns-clause-all : goal.returns-clause-all
 returns-clause-all c =
     let a = c.args.known.now.0 in
     let depth = c.args.known.now.1 in
-    let asked = c.args.settings.now.plans in
+    let asked = c.args.campaign.now.settings.now.plans in
     let lists = c.in_ok-lists.lists in
     let s = lists_told (c.known.inside.runs.now, c.known.inside.depth) c.args.known.now c.plan_settings.result asked lists c.known.view_is c.plan_settings.ensures.asked
     c.in_ok-lists.ensures.grown c.in_ok-lists.ensures.further c.in_ok-refuse_gap.ensures.ok c.in_ok-lists.ensures.told c.in_ok-lists.ensures.unseen c.in_ok-lists.ensures.whole in

@@ -17,15 +17,15 @@ use Rattle.answered_campaigns.proofs.grown_report.reported_text.Goals as goal
 
 pub causes_of-requires : goal.causes_of-requires
 causes_of-requires c = λ k d within.
-    cause_within c.args.campaign.now.outside.now c.args.campaign.now.settings.now c.args.campaign.now.known.now.0 c.args.campaign.now.known.now.1 c.args.campaign.now.lists.now
-    c.args.campaign.now.plans.now c.args.verdicts.now c.args.told c.as_slice.result.now c.requires.decided c.as_slice.ensures.value k d within
+    cause_within c.args.answered.now.campaign.now.outside.now c.args.answered.now.campaign.now.settings.now c.args.answered.now.known.now.0 c.args.answered.now.known.now.1 c.args.answered.now.lists.now
+    c.args.answered.now.plans.now c.args.verdicts.now c.args.told c.as_slice.result.now c.requires.decided c.as_slice.ensures.value k d within
 
 pub returns : goal.returns
 returns c =
-    let k = c.args.campaign.now in
+    let k = c.args.answered.now in
     let lists = k.lists.now in
-    let outside : Description = k.outside.now in
-    let given : Given = k.settings.now in
+    let outside : Description = k.campaign.now.outside.now in
+    let given : Given = k.campaign.now.settings.now in
     let d = c.requires.decided in
     let runs_are : c.known.inside.runs.now ≡ k.known.now.0 = ap (λ x. x.0) c.known.view_is in
     let depth_is : c.known.inside.depth ≡ k.known.now.1 = ap (λ x. x.1) c.known.view_is in

@@ -1,5 +1,5 @@
 use Rattle.std.proofs.Common.{subst}
-use Rattle.campaign_core.specs.Headline.{campaign_on}
+use Rattle.campaign_core.specs.Headline.{campaign_in}
 use Rattle.campaign_core.specs.Writes.{change}
 use Rattle.campaign_main.specs.Commands.{order_answer}
 use Rattle.campaign_main.specs.Ends.{TellsAs}
@@ -16,7 +16,7 @@ pub returns-clause-told : goal.returns-clause-told
 returns-clause-told g c =
     let w = change g.W.Sink c.args.output.now c.command-outcome.new.output in
     let new = c.end_outcome.new.faults in
-    let answer = order_answer c.args.order.now (campaign_on g.T.Target c.args.target.now c.args.workload.now c.args.settings.now) in
+    let answer = order_answer c.args.order.now (campaign_in g.T.Target c.args.subject.now) in
     subst (λ f. TellsAs c.end_outcome.result answer (change g.E.Sink f new)) (c.broken_off.ensures.untold c.in_default.is)
     (outcome-tells c.command-outcome.result c.end_outcome.result (change g.E.Sink c.broken_off.new.faults new) answer w c.end_outcome.ensures c.command-outcome.ensures.text)
 

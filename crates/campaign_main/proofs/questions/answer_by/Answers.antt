@@ -11,15 +11,15 @@ pub returns-in-Ok-clause-end : goal.returns-in-Ok-clause-end
 returns-in-Ok-clause-end g c =
     let W = g.W.Sink in
     let w = change W c.args.output.now c.write_noted.new.output in
-    let P : Exit → Type 0 = λ e. EndsAnswered c.args.question.now (c.args.settings.now, c.args.outside.now) c.args.answers.now e w in
-    subst P (sym c.exit_of.ensures) (concluded-ends c.args.question.now (c.args.settings.now, c.args.outside.now) c.args.answers.now w c.in-Ok.conclusion c.in-Ok.ensures.text)
+    let P : Exit → Type 0 = λ e. EndsAnswered c.args.question.now (c.args.campaign.now.settings.now, c.args.campaign.now.outside.now) c.args.answers.now e w in
+    subst P (sym c.exit_of.ensures) (concluded-ends c.args.question.now (c.args.campaign.now.settings.now, c.args.campaign.now.outside.now) c.args.answers.now w c.in-Ok.conclusion c.in-Ok.ensures.text)
 
 pub returns-in-Ok-clause-told : goal.returns-in-Ok-clause-told
 returns-in-Ok-clause-told g c =
     let E = g.E.Sink in
     let w = change E c.args.faults.now c.write_noted.new.faults in
-    let notes = question_notes c.args.question.now c.args.settings.now c.args.outside.now c.args.answers.now in
-    let why = TellsWhy c.args.question.now (Ok (c.args.settings.now, c.args.outside.now)) c.args.answers.now w in
+    let notes = question_notes c.args.question.now c.args.campaign.now.settings.now c.args.campaign.now.outside.now c.args.answers.now in
+    let why = TellsWhy c.args.question.now (Ok (c.args.campaign.now.settings.now, c.args.campaign.now.outside.now)) c.args.answers.now w in
     let P : Exit → Type 0 = λ e. TellsOf (IsNoted notes w) why e w in
     subst P (sym c.exit_of.ensures) (concluded-tells why notes c.in-Ok.conclusion w c.in-Ok.ensures.noted)
 
@@ -27,8 +27,8 @@ pub returns-in-Err-clause-end : goal.returns-in-Err-clause-end
 returns-in-Err-clause-end g c =
     let W = g.W.Sink in
     let w = change W c.args.output.now c.write_noted.new.output in
-    short-ends c.args.question.now (c.args.settings.now, c.args.outside.now) c.args.answers.now w _ c.in-Err.fault c.end_question.result c.in-Err.ensures.text c.end_question.ensures
+    short-ends c.args.question.now (c.args.campaign.now.settings.now, c.args.campaign.now.outside.now) c.args.answers.now w _ c.in-Err.fault c.end_question.result c.in-Err.ensures.text c.end_question.ensures
 
 pub returns-in-Err-clause-told : goal.returns-in-Err-clause-told
 returns-in-Err-clause-told g c =
-    short-told c.args.question.now (c.args.settings.now, c.args.outside.now) c.args.answers.now _ _ _ _ c.in-Err.fault c.end_question.result c.in-Err.ensures.noted c.in-Err.ensures.text c.end_question.ensures
+    short-told c.args.question.now (c.args.campaign.now.settings.now, c.args.campaign.now.outside.now) c.args.answers.now _ _ _ _ c.in-Err.fault c.end_question.result c.in-Err.ensures.noted c.in-Err.ensures.text c.end_question.ensures

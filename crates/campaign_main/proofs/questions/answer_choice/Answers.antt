@@ -17,12 +17,12 @@ returns-in-Replace-clause-noted g c = refuses-whole _ c.refuse_bundled.result _ 
 pub returns-in-Replace-clause-cause : goal.returns-in-Replace-clause-cause
 returns-in-Replace-clause-cause g c =
     λ refused.
-    let f : Choice → Result Subject Refusal = λ ch. chosen_subject c.args.settings.now ch in
-    let is : f c.args.choice.now ≡ Err bundled_target = elim c.in-Replace.is [
+    let f : Choice → Result Subject Refusal = λ ch. chosen_subject c.args.settings.now.campaign ch in
+    let is : f c.args.settings.now.choice ≡ Err bundled_target = elim c.in-Replace.is [
       | inl replace ↦ ap f replace.2
       | inr other ↦ elim other [ inl maildir ↦ ap f maildir.2 | inr commit ↦ ap f commit.2 ]
     ] in
-    settings-why c.args.question.now (f c.args.choice.now) bundled_target is (g.A.Read.remaining c.args.answers.now) c.refuse_bundled.result _
+    settings-why c.args.question.now (f c.args.settings.now.choice) bundled_target is (g.A.Read.remaining c.args.answers.now) c.refuse_bundled.result _
     (refuses-with _ _ _ c.refuse_bundled.ensures.end c.refuse_bundled.ensures.told) refused
 
 pub returns-in-Outside-clause-cause : goal.returns-in-Outside-clause-cause
@@ -33,5 +33,5 @@ returns-in-Outside-clause-cause g c =
     let new = c.answer_on.new.faults in
     let P : Choice → Type 0 =
     λ ch. IfSome (A.remaining c.args.answers.now)
-    (λ b. IsNotAnswered c.args.question.now (chosen_subject c.args.settings.now ch) b (change E c.args.faults.now new)) in
+    (λ b. IsNotAnswered c.args.question.now (chosen_subject c.args.settings.now.campaign ch) b (change E c.args.faults.now new)) in
     subst P (sym c.in-Outside.is) (c.answer_on.ensures.cause refused)

@@ -11,7 +11,7 @@ pub returns-in-Ok-clause-end : goal.returns-in-Ok-clause-end
 returns-in-Ok-clause-end g c =
     let W = g.W.Sink in
     let new = c.answer_by.new.output in
-    let P : List ℕ → Type 0 = λ b. EndsAnswered c.args.question.now (c.args.settings.now, c.args.outside.now) b c.answer_by.result (change W c.args.output.now new) in
+    let P : List ℕ → Type 0 = λ b. EndsAnswered c.args.question.now (c.args.campaign.now.settings.now, c.args.campaign.now.outside.now) b c.answer_by.result (change W c.args.output.now new) in
     read-whole _ _ _ P c.as_slice.ensures.value c.in-Ok.ensures.ok c.answer_by.ensures.end
 
 pub returns-in-Ok-clause-cause : goal.returns-in-Ok-clause-cause
@@ -19,14 +19,14 @@ returns-in-Ok-clause-cause g c =
     λ refused.
     let E = g.E.Sink in
     let new = c.answer_by.new.faults in
-    let P : List ℕ → Type 0 = λ b. IsNotAnswered c.args.question.now (Ok (c.args.settings.now, c.args.outside.now)) b (change E c.args.faults.now new) in
+    let P : List ℕ → Type 0 = λ b. IsNotAnswered c.args.question.now (Ok (c.args.campaign.now.settings.now, c.args.campaign.now.outside.now)) b (change E c.args.faults.now new) in
     read-whole _ _ _ P c.as_slice.ensures.value c.in-Ok.ensures.ok (inl (refused-why _ _ _ _ refused c.answer_by.ensures.told))
 
 pub returns-in-Ok-clause-noted : goal.returns-in-Ok-clause-noted
 returns-in-Ok-clause-noted g c =
     let E = g.E.Sink in
     let new = c.answer_by.new.faults in
-    let P : List ℕ → Type 0 = λ b. IsNoted (question_notes c.args.question.now c.args.settings.now c.args.outside.now b) (change E c.args.faults.now new) in
+    let P : List ℕ → Type 0 = λ b. IsNoted (question_notes c.args.question.now c.args.campaign.now.settings.now c.args.campaign.now.outside.now b) (change E c.args.faults.now new) in
     whole-map c.answer_by.result _ _ (λ h. read-whole _ _ _ P c.as_slice.ensures.value c.in-Ok.ensures.ok h) (whole-noted _ _ c.answer_by.result _ c.answer_by.ensures.told)
 
 pub returns-in-Err-clause-noted : goal.returns-in-Err-clause-noted
@@ -36,14 +36,14 @@ pub returns-in-Ok-clause-output : goal.returns-in-Ok-clause-output
 returns-in-Ok-clause-output g c =
     let W = g.W.Sink in
     let w = change W c.args.output.now c.answer_by.new.output in
-    answered-leaves c.args.question.now (c.args.settings.now, c.args.outside.now) c.as_slice.result.now w c.answer_by.result c.answer_by.ensures.end
+    answered-leaves c.args.question.now (c.args.campaign.now.settings.now, c.args.campaign.now.outside.now) c.as_slice.result.now w c.answer_by.result c.answer_by.ensures.end
 
 pub returns-in-Ok-clause-told : goal.returns-in-Ok-clause-told
-returns-in-Ok-clause-told g c = some-why c.args.question.now (Ok (c.args.settings.now, c.args.outside.now)) c.as_slice.result.now _ c.answer_by.result _ c.answer_by.ensures.told
+returns-in-Ok-clause-told g c = some-why c.args.question.now (Ok (c.args.campaign.now.settings.now, c.args.campaign.now.outside.now)) c.as_slice.result.now _ c.answer_by.result _ c.answer_by.ensures.told
 
 pub returns-in-Err-clause-end : goal.returns-in-Err-clause-end
 returns-in-Err-clause-end g c =
-    for-any _ _ (λ b. refused-question c.args.question.now (Ok (c.args.settings.now, c.args.outside.now)) b _ c.end_unreadable_answers.result _ _ c.end_unreadable_answers.ensures.end (refl, c.requires.output))
+    for-any _ _ (λ b. refused-question c.args.question.now (Ok (c.args.campaign.now.settings.now, c.args.campaign.now.outside.now)) b _ c.end_unreadable_answers.result _ _ c.end_unreadable_answers.ensures.end (refl, c.requires.output))
 
 pub returns-in-Err-clause-cause : goal.returns-in-Err-clause-cause
 returns-in-Err-clause-cause g c =

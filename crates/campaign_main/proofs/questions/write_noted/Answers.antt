@@ -6,7 +6,7 @@ use Rattle.campaign_main.proofs.questions.write_noted.Goals as goal
 
 pub returns-clause-text : goal.returns-clause-text
 returns-clause-text g c =
-    text-concluded c.args.question.now (c.args.settings.now, c.args.outside.now) c.args.answers.now _ _ _ _ _
+    text-concluded c.args.question.now (c.args.campaign.now.settings.now, c.args.campaign.now.outside.now) c.args.answers.now _ _ _ _ _
     c.in_ok-found.ensures (c.as_str-2.ensures.value ∙ c.in_ok-notes.ensures.ok) c.is_question_doubted-doubted.ensures c.concluded.ensures
 
 pub returns-clause-noted : goal.returns-clause-noted
@@ -18,20 +18,20 @@ returns-clause-noted g c =
 
 pub returns-in_err-notes-clause-text : goal.returns-in_err-notes-clause-text
 returns-in_err-notes-clause-text g c =
-    unnoted-up c.args.question.now (c.args.settings.now, c.args.outside.now) c.args.answers.now _ c.in_err-notes.field-0.0 _
+    unnoted-up c.args.question.now (c.args.campaign.now.settings.now, c.args.campaign.now.outside.now) c.args.answers.now _ c.in_err-notes.field-0.0 _
     c.from_residual.ensures.1 (refl, c.requires.output) c.in_err-notes.ensures.fault
 
 pub returns-in_err-notes-clause-noted : goal.returns-in_err-notes-clause-noted
 returns-in_err-notes-clause-noted g c =
-    up-notes c.args.question.now (c.args.settings.now, c.args.outside.now) c.args.answers.now _ c.in_err-notes.field-0.0 _
+    up-notes c.args.question.now (c.args.campaign.now.settings.now, c.args.campaign.now.outside.now) c.args.answers.now _ c.in_err-notes.field-0.0 _
     c.from_residual.ensures.1 (refl, c.requires.faults)
 
 pub returns-in_err-found-clause-text : goal.returns-in_err-found-clause-text
 returns-in_err-found-clause-text g c =
-    fault-up c.args.question.now (c.args.settings.now, c.args.outside.now) c.args.answers.now _ c.in_err-found.field-0.0 _
+    fault-up c.args.question.now (c.args.campaign.now.settings.now, c.args.campaign.now.outside.now) c.args.answers.now _ c.in_err-found.field-0.0 _
     c.from_residual-in_err-found.ensures.1 c.in_err-found.ensures
 
 pub returns-in_err-found-clause-noted : goal.returns-in_err-found-clause-noted
 returns-in_err-found-clause-noted g c =
-    up-notes c.args.question.now (c.args.settings.now, c.args.outside.now) c.args.answers.now _ c.in_err-found.field-0.0 _
+    up-notes c.args.question.now (c.args.campaign.now.settings.now, c.args.campaign.now.outside.now) c.args.answers.now _ c.in_err-found.field-0.0 _
     c.from_residual-in_err-found.ensures.1 (refl, c.requires.faults)

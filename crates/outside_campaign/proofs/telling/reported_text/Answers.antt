@@ -19,11 +19,11 @@ text_in-requires-clause-points c =
 pub text_in-requires-clause-few : goal.text_in-requires-clause-few
 text_in-requires-clause-few c =
     subst (λ (counts : List ℕ). length (sites_of counts) ≤ 65536) (sym c.requires.census)
-    (few_sites c.args.outside.now.points c.args.outside.now.hits c.args.settings.now.plans c.requires.few)
+    (few_sites c.args.campaign.now.outside.now.points c.args.campaign.now.outside.now.hits c.args.campaign.now.settings.now.plans c.requires.few)
 
 pub text_in-requires-clause-reached : goal.text_in-requires-clause-reached
 text_in-requires-clause-reached c =
-    subst (λ (growth : Option GrowthFacts). IfSome growth (λ (x : GrowthFacts). length x.reached ≡ length c.args.outside.now.points)) (sym c.requires.growth) tt
+    subst (λ (growth : Option GrowthFacts). IfSome growth (λ (x : GrowthFacts). length x.reached ≡ length c.args.campaign.now.outside.now.points)) (sym c.requires.growth) tt
 
 pub text_in-requires-clause-verdicts : goal.text_in-requires-clause-verdicts
 text_in-requires-clause-verdicts c = c.requires.each ∙ sym (ap (λ (s : ShownFacts). length s.plans) c.shown_of-shown.ensures)
