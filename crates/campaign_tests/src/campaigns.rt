@@ -1,7 +1,6 @@
-ghost use Rattle.std.specs.Prelude.{◌≤◌};
-
 use crate::meet::{Meet, Meeting};
 use crate::running::{reported, settings};
+use campaign_core::{Host, Subject};
 use std::alloc::Global;
 use std::process::Abort;
 use std::rt::Clock;
@@ -51,22 +50,28 @@ reduced meet::a=1*return;meet::b=1*return
 tests 3
 ";
 
-/// Runs a campaign of meetings. So many runs come, none of them waits in vain, and the report is this one.
+/// Runs a campaign of two workers whose runs meet, or of one that waits for nobody. None waits in vain, and the report is this one. How many runs
+/// came.
 fn meets<R: Threads + Wait + Clock + Sync + Abort>(
     rt: &R,
     alloc: Global,
     waits: bool,
-    workers: u32,
     pairs: bool,
     report: &str,
-) -> Result<u64, Fail>
-    requires some { 1 ≤ workers }
-    requires few { workers ≤ 64 }
-{
+) -> Result<u64, Fail> {
     let meeting = Meeting::new(waits);
-    let settings = settings(alloc, workers, pairs, Vec::new(alloc));
-    let target = Meet { rt };
-    let Ok((text, _)) = reported(rt, alloc, &FreeGate, &target, &meeting, &settings) else {
+    let workers = if waits { 2 } else { 1 };
+    let host = Host {
+        rt,
+        alloc,
+        gate: &FreeGate,
+    };
+    let subject = Subject {
+        target: &Meet { rt },
+        workload: &meeting,
+        settings: &settings(alloc, workers, pairs, Vec::new(alloc)),
+    };
+    let Ok((text, _)) = reported(&host, &subject) else {
         return Err(Fail::from("no report"));
     };
     assert_eq!(rt; text.as_slice(), report.as_bytes());
@@ -74,29 +79,18 @@ fn meets<R: Threads + Wait + Clock + Sync + Abort>(
     Ok(meeting.came.load(Ordering::SeqCst))
 }
 
-// Refuses, for the plans, the wrong bodies all_work_on_one_thread and every_worker_leaves_at_once: the first run that waits would wait in
-// vain.
+// Refuses the wrong bodies all_work_on_one_thread and every_worker_leaves_at_once: for the plans, since the first run that waits would wait in vain;
+// and, with probe_asked_under_the_lock, in the reduction, where two tests of one fault meet inside their runs.
 #[test]
-fn runs_meet_and_all_pass(rt: HostRuntime) -> Result<(), Fail> {
-    let came = meets(&rt, rt.alloc(), true, 2, false, ALL_PASS)?;
-    assert_eq!(rt; came, 4);
-    Ok(())
-}
-
-// Refuses, in the reduction, the wrong bodies all_work_on_one_thread, every_worker_leaves_at_once and probe_asked_under_the_lock: two tests
-// of one fault meet inside their runs.
-#[test]
-fn runs_meet_and_the_pair_fails(rt: HostRuntime) -> Result<(), Fail> {
-    let came = meets(&rt, rt.alloc(), true, 2, true, PAIR_FAILS)?;
-    assert_eq!(rt; came, 6);
-    Ok(())
-}
-
-#[test]
-fn one_worker_that_waits_for_nobody_writes_the_same(rt: HostRuntime) -> Result<(), Fail> {
-    let came = meets(&rt, rt.alloc(), false, 1, false, ALL_PASS)?;
-    assert_eq!(rt; came, 4);
-    let came = meets(&rt, rt.alloc(), false, 1, true, PAIR_FAILS)?;
-    assert_eq!(rt; came, 6);
+fn runs_meet_and_one_that_waits_for_nobody_writes_the_same(rt: HostRuntime) -> Result<(), Fail> {
+    for (waits, pairs, report, runs) in [
+        (true, false, ALL_PASS, 4),
+        (true, true, PAIR_FAILS, 6),
+        (false, false, ALL_PASS, 4),
+        (false, true, PAIR_FAILS, 6),
+    ] {
+        let came = meets(&rt, rt.alloc(), waits, pairs, report)?;
+        assert_eq!(rt; came, runs, "of {waits} {pairs}");
+    }
     Ok(())
 }

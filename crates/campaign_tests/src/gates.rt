@@ -1,5 +1,6 @@
 use crate::meet::{Meet, Meeting};
 use crate::running::{reported, settings};
+use campaign_core::{Host, Subject};
 use std::alloc::Global;
 use std::process::Abort;
 use std::rt::Clock;
@@ -80,10 +81,17 @@ fn meet_at_the_gate<R: Clock + Threads + Wait + Sync + Abort>(
         second,
         pair: Pair::new(),
     };
-    let target = Meet { rt };
-    let meeting = Meeting::new(false);
-    let settings = settings(alloc, 2, true, Vec::new(alloc));
-    let Ok((_, failure)) = reported(rt, alloc, &gate, &target, &meeting, &settings) else {
+    let host = Host {
+        rt,
+        alloc,
+        gate: &gate,
+    };
+    let subject = Subject {
+        target: &Meet { rt },
+        workload: &Meeting::new(false),
+        settings: &settings(alloc, 2, true, Vec::new(alloc)),
+    };
+    let Ok((_, failure)) = reported(&host, &subject) else {
         return Err(Fail::from("no report"));
     };
     assert_eq!(rt; failure, Some(7));
@@ -93,13 +101,13 @@ fn meet_at_the_gate<R: Clock + Threads + Wait + Sync + Abort>(
 
 // Refuses the wrong bodies all_work_on_one_thread and every_worker_leaves_at_once: the caller's thread arrives at no gate.
 #[test]
-fn two_plans_meet_at_the_gate(rt: HostRuntime) -> Result<(), Fail> {
-    meet_at_the_gate(&rt, rt.alloc(), Phase::Plans, 1, 2)
-}
-
-/// The requests of a reduction of two faults: none of them, and the first one ahead of its answer.
-// Refuses the wrong bodies all_work_on_one_thread and every_worker_leaves_at_once.
-#[test]
-fn two_requests_meet_at_the_gate(rt: HostRuntime) -> Result<(), Fail> {
-    meet_at_the_gate(&rt, rt.alloc(), Phase::Requests, 0, 1)
+fn two_meet_at_the_gate(rt: HostRuntime) -> Result<(), Fail> {
+    for (phase, first, second) in [
+        (Phase::Plans, 1, 2),
+        // the requests of a reduction of two faults: none of them, and the first one ahead of its answer
+        (Phase::Requests, 0, 1),
+    ] {
+        meet_at_the_gate(&rt, rt.alloc(), phase, first, second)?;
+    }
+    Ok(())
 }

@@ -11,8 +11,9 @@ pub fn read(alloc: Global, text: &str) -> Result<Settings, Fail> {
     Ok(Settings::read(alloc, text)?)
 }
 
-/// The settings have these numbers: seed, workers, most hits, storms, rate, and how many scenarios are listed.
-fn has_numbers(rt: &impl Abort, settings: &CampaignSettings, numbers: [u64; 6]) {
+/// The settings have these numbers: seed, workers, most hits, storms, rate, and how many scenarios are listed; and these flags: `pairs`, and
+/// `crash_states`.
+fn has_values(rt: &impl Abort, settings: &CampaignSettings, numbers: [u64; 6], flags: [bool; 2]) {
     let found = [
         settings.seed,
         u64::from(settings.workers),
@@ -22,16 +23,16 @@ fn has_numbers(rt: &impl Abort, settings: &CampaignSettings, numbers: [u64; 6]) 
         settings.scenarios.len() as u64,
     ];
     assert_eq!(rt; found, numbers);
+    assert_eq!(rt; [settings.pairs, settings.crash_states], flags);
 }
 
 #[test]
 fn values_if_missing(rt: HostRuntime) -> Result<(), Fail> {
     let text = "target = 'replace'\n[replace]\nold = 'old'\nreplacements = [['ne', 'w'], []]\n";
     let settings = read(rt.alloc(), text)?;
-    has_numbers(&rt, &settings.campaign, [0, 1, 1000, 0, 100, 0]);
-    assert!(rt; !settings.campaign.pairs);
-    assert_eq!(rt; settings.campaign.depth, None);
-    assert!(rt; !settings.campaign.crash_states);
+    let campaign = &settings.campaign;
+    has_values(&rt, campaign, [0, 1, 1000, 0, 100, 0], [false, false]);
+    assert_eq!(rt; campaign.depth, None);
     let Choice::Replace(ReplaceVariant::Sound, work) = &settings.choice else {
         return Err(Fail::from("another target"));
     };
@@ -45,13 +46,8 @@ fn values_that_are_given(rt: HostRuntime) -> Result<(), Fail> {
     let text =
         "target = 'commit'\nvariant = 'two_tries'\nseed = 9223372036854775807\nworkers = 3\nmax_hits = 4\npairs = true\nstorms = 5\nrate = 6\ncrash_states = true\nscenarios = ['a=off', '']\n[commit]\nparticipants = 2\ntransactions = [['yes', 'no']]\n";
     let settings = read(rt.alloc(), text)?;
-    has_numbers(
-        &rt,
-        &settings.campaign,
-        [9223372036854775807, 3, 4, 5, 6, 2],
-    );
-    assert!(rt; settings.campaign.pairs);
-    assert!(rt; settings.campaign.crash_states);
+    let numbers = [9223372036854775807, 3, 4, 5, 6, 2];
+    has_values(&rt, &settings.campaign, numbers, [true, true]);
     let Choice::Commit(CommitVariant::TwoTries, work) = &settings.choice else {
         return Err(Fail::from("another target"));
     };
@@ -94,45 +90,48 @@ fn a_component_takes_a_depth_without_hits(rt: HostRuntime) -> Result<(), Fail> {
     Ok(())
 }
 
+// Lines before the table of a component and at its end, and the line with which they are refused.
+const REFUSED: [(&str, &str, &str); 10] = [
+    ("", "", "settings: missing outside.hits"),
+    (
+        "depth = 2",
+        "hits = [0, 0, 0]",
+        "settings: out of range outside.hits",
+    ),
+    (
+        "depth = 2",
+        "hits = [0, 0]",
+        "settings: out of range outside.hits",
+    ),
+    (
+        "depth = 2",
+        "hits = 'none'",
+        "settings: out of range outside.hits",
+    ),
+    (
+        "depth = 2",
+        "hits = 1\nother = 1",
+        "settings: unknown key outside.other",
+    ),
+    (
+        "depth = 2\npairs = true",
+        "hits = 1",
+        "settings: out of range pairs",
+    ),
+    ("depth = 0", "hits = 1", "settings: out of range depth"),
+    ("depth = 65", "hits = 1", "settings: out of range depth"),
+    ("depth = '2'", "hits = 1", "settings: wrong type depth"),
+    (
+        "depth = 2\nscenarios = 1",
+        "hits = 1",
+        "settings: wrong type scenarios",
+    ),
+];
+
 #[test]
 fn hits_of_a_component_go_with_no_depth(rt: HostRuntime) -> Result<(), Fail> {
     let alloc = rt.alloc();
-    for (top, hits, line) in [
-        ("", "", "settings: missing outside.hits"),
-        (
-            "depth = 2",
-            "hits = [0, 0, 0]",
-            "settings: out of range outside.hits",
-        ),
-        (
-            "depth = 2",
-            "hits = [0, 0]",
-            "settings: out of range outside.hits",
-        ),
-        (
-            "depth = 2",
-            "hits = 'none'",
-            "settings: out of range outside.hits",
-        ),
-        (
-            "depth = 2",
-            "hits = 1\nother = 1",
-            "settings: unknown key outside.other",
-        ),
-        (
-            "depth = 2\npairs = true",
-            "hits = 1",
-            "settings: out of range pairs",
-        ),
-        ("depth = 0", "hits = 1", "settings: out of range depth"),
-        ("depth = 65", "hits = 1", "settings: out of range depth"),
-        ("depth = '2'", "hits = 1", "settings: wrong type depth"),
-        (
-            "depth = 2\nscenarios = 1",
-            "hits = 1",
-            "settings: wrong type scenarios",
-        ),
-    ] {
+    for (top, hits, line) in REFUSED {
         let text = outside_text(alloc, top, hits)?;
         refuses(&rt, alloc, Settings::read(alloc, text.as_str()), line)?;
     }

@@ -3,6 +3,7 @@ ghost use Rattle.std.specs.Prelude.{◌≤◌};
 
 use crate::running::{reported, settings};
 use crate::three_codes::ThreeCodes;
+use campaign_core::{Host, Subject};
 use std::alloc::Global;
 use std::process::Abort;
 use std::str;
@@ -43,14 +44,24 @@ fn counted_report<R: Threads + Wait + Sync + Abort>(
     let gate = Arrivals::new(alloc, PLANS)?;
     let mut settings = settings(alloc, workers, false, Vec::new(alloc));
     settings.storms = STORMS;
-    let Ok((text, failure)) = reported(rt, alloc, &gate, &ThreeCodes, &(), &settings) else {
+    let host = Host {
+        rt,
+        alloc,
+        gate: &gate,
+    };
+    let subject = Subject {
+        target: &ThreeCodes,
+        workload: &(),
+        settings: &settings,
+    };
+    let Ok((text, failure)) = reported(&host, &subject) else {
         return Err(Fail::from("no report"));
     };
     assert_eq!(rt; failure, Some(4));
     assert!(rt; gate.came_once(PLANS as usize));
-    assert_eq!(rt; gate.expected(), u64::from(PLANS));
-    assert_eq!(rt; gate.ended(), u64::from(PLANS));
-    assert_eq!(rt; gate.failing(), failing_in(text.as_slice()));
+    let told = [gate.expected(), gate.ended(), gate.failing()];
+    let plans = u64::from(PLANS);
+    assert_eq!(rt; told, [plans, plans, failing_in(text.as_slice())]);
     Ok(text)
 }
 

@@ -4,7 +4,7 @@ ghost use Rattle.std.specs.Prelude.{◌≡◌, ◌≤◌, length, IfOk};
 use crate::always_broken::AlwaysBroken;
 use crate::running::{reported, settings};
 use crate::three_codes::ThreeCodes;
-use campaign_core::{Subject, try_one};
+use campaign_core::{Host, Subject, try_one};
 use campaign_given::CampaignSettings;
 use scenario_grammar::{Scenario, parse};
 use std::alloc::Global;
@@ -15,16 +15,32 @@ use std::thread::Threads;
 use target_trait::{Out, Target, Verdict};
 use work_gate::FreeGate;
 
-/// The campaign over these settings has this report, whose first failure is this one.
+/// A target without a workload, and the settings of its campaign.
+fn subject<'a, T: Target<Workload = ()>>(
+    target: &'a T,
+    settings: &'a CampaignSettings,
+) -> Subject<'a, T> {
+    Subject {
+        target,
+        workload: &(),
+        settings,
+    }
+}
+
+/// The campaign has this report, whose first failure is this one.
 fn reports<T: Target<Workload = ()> + Send, H: Threads + Wait + Sync + Abort>(
     rt: &H,
     alloc: Global,
-    target: &T,
-    settings: &CampaignSettings,
+    subject: &Subject<'_, T>,
     first: u32,
     report: &str,
 ) -> Result<(), Fail> {
-    let Ok((text, found)) = reported(rt, alloc, &FreeGate, target, &(), settings) else {
+    let host = Host {
+        rt,
+        alloc,
+        gate: &FreeGate,
+    };
+    let Ok((text, found)) = reported(&host, subject) else {
         return Err(Fail::from("no report"));
     };
     assert_eq!(rt; text.as_slice(), report.as_bytes());
@@ -66,7 +82,8 @@ fn a_failure_without_faults_needs_no_test(rt: HostRuntime) -> Result<(), Fail> {
     let alloc = rt.alloc();
     for workers in [1, 2, 8, 64] {
         let settings = narrow(alloc, workers);
-        reports(&rt, alloc, &AlwaysBroken, &settings, 0, ALWAYS_BROKEN)?;
+        let subject = subject(&AlwaysBroken, &settings);
+        reports(&rt, alloc, &subject, 0, ALWAYS_BROKEN)?;
     }
     Ok(())
 }
@@ -116,7 +133,8 @@ fn each_code_has_its_finding(rt: HostRuntime) -> Result<(), Fail> {
     let alloc = rt.alloc();
     for workers in [1, 2, 8, 64] {
         let settings = settings(alloc, workers, true, Vec::new(alloc));
-        reports(&rt, alloc, &ThreeCodes, &settings, 4, THREE_FINDINGS)?;
+        let subject = subject(&ThreeCodes, &settings);
+        reports(&rt, alloc, &subject, 4, THREE_FINDINGS)?;
     }
     Ok(())
 }
@@ -172,7 +190,8 @@ fn a_finding_is_reduced_under_its_own_stream(rt: HostRuntime) -> Result<(), Fail
     let alloc = rt.alloc();
     for workers in [1, 2, 8, 64] {
         let settings = settings(alloc, workers, false, draws(alloc, 3)?);
-        reports(&rt, alloc, &ThreeCodes, &settings, 4, LAST_PLAN_FINDING)?;
+        let subject = subject(&ThreeCodes, &settings);
+        reports(&rt, alloc, &subject, 4, LAST_PLAN_FINDING)?;
     }
     Ok(())
 }
@@ -184,11 +203,7 @@ fn a_broken_target_is_found_by_one_try(rt: HostRuntime) -> Result<(), Fail> {
     let scenario = parse(alloc, "broken::point=return")?;
     let settings = settings(alloc, 1, false, Vec::new(alloc));
     let mut sink = Out::new(Vec::new(alloc));
-    let subject = Subject {
-        target: &AlwaysBroken,
-        workload: &(),
-        settings: &settings,
-    };
+    let subject = subject(&AlwaysBroken, &settings);
     let verdict = try_one(alloc, &subject, 0, &scenario, &mut sink);
     assert_eq!(rt; verdict, Ok(Verdict::Fail(0)));
     assert_eq!(rt;

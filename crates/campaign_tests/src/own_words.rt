@@ -1,7 +1,7 @@
 //! The words of a target that a program brings itself: what settings give of them, and with which line they are refused.
 
 use campaign_main::{
-    Exit, Out, OwnSettings, OwnValue, Settings, read_own_settings, refuse_own_words,
+    Exit, Out, OwnSettings, OwnValue, OwnWords, Settings, read_own_settings, refuse_own_words,
 };
 use std::alloc::Global;
 use std::process::Abort;
@@ -12,32 +12,48 @@ fn read(alloc: Global, text: &str) -> Result<OwnSettings, Fail> {
     Ok(Settings::read_worded(alloc, text)?)
 }
 
-#[test]
-fn words_that_are_given(rt: HostRuntime) -> Result<(), Fail> {
-    let text = "variant = 'early_ack'\nseed = 7\n[own]\nwhole = -3\nfile = 'a'\nstrict = true\n";
-    let settings = read(rt.alloc(), text)?;
-    assert_eq!(rt; settings.campaign.seed, 7);
-    let words = &settings.words;
-    assert_eq!(rt; words.variant(), Some("early_ack"));
-    assert!(rt; matches!(words.get("whole"), Some(OwnValue::Number(-3))));
-    assert!(rt; matches!(words.get("strict"), Some(OwnValue::Flag(true))));
-    let Some(OwnValue::Text(file)) = words.get("file") else {
-        return Err(Fail::from("no text"));
-    };
-    assert_eq!(rt; file.as_str(), "a");
-    assert!(rt; words.get("variant").is_none());
-    let mut names = Vec::new(rt.alloc());
+const WORDS: &str =
+    "variant = 'early_ack'\nseed = 7\n[own]\nwhole = -3\nfile = 'a'\nstrict = true\n";
+
+/// The names of the words of the table, in their order.
+fn names<'w>(alloc: Global, words: &'w OwnWords) -> Result<Vec<&'w str>, Fail> {
+    let mut names = Vec::new(alloc);
     for word in words.table() {
         names.push(word.name.as_str())?;
     }
+    Ok(names)
+}
+
+#[test]
+fn words_that_are_given(rt: HostRuntime) -> Result<(), Fail> {
+    let settings = read(rt.alloc(), WORDS)?;
+    assert_eq!(rt; settings.campaign.seed, 7);
+    assert!(rt; settings.words.variant() == Some("early_ack"));
+    let names = names(rt.alloc(), &settings.words)?;
     assert_eq!(rt; names.as_slice(), ["file", "strict", "whole"].as_slice());
+    Ok(())
+}
+
+/// Whether a value is this text.
+fn is_text(value: Option<&OwnValue>, wanted: &str) -> bool {
+    matches!(value, Some(OwnValue::Text(text)) if text.as_str() == wanted)
+}
+
+#[test]
+fn values_of_words_that_are_given(rt: HostRuntime) -> Result<(), Fail> {
+    let settings = read(rt.alloc(), WORDS)?;
+    let words = &settings.words;
+    assert!(rt; matches!(words.get("whole"), Some(OwnValue::Number(-3))));
+    assert!(rt; matches!(words.get("strict"), Some(OwnValue::Flag(true))));
+    assert!(rt; is_text(words.get("file"), "a"));
+    assert!(rt; words.get("variant").is_none());
     Ok(())
 }
 
 #[test]
 fn words_may_be_missing(rt: HostRuntime) -> Result<(), Fail> {
     let settings = read(rt.alloc(), "")?;
-    assert_eq!(rt; settings.words.variant(), None);
+    assert!(rt; settings.words.variant().is_none());
     assert!(rt; settings.words.table().is_empty());
     assert_eq!(rt; settings.campaign.max_hits, 1000);
     Ok(())

@@ -1,10 +1,9 @@
 //! Readers that give too much, too little at once, or fail.
 
 use crate::late_sync::{LATE_SYNC, LATE_SYNC_REPORT};
-use crate::streams::{Answered, Torn, answer};
-use campaign_main::{Exit, Form, LIMIT, Order, ReadFault, read_all};
+use crate::streams::{Answered, Torn, answer, has_ended, whole_run};
+use campaign_main::{Exit, LIMIT, ReadFault, read_all};
 use std::alloc::{AllocError, Global};
-use std::process::Abort;
 use std::sync::Wait;
 use std::test::Fail;
 use std::thread::Threads;
@@ -25,28 +24,17 @@ fn torn<H: Threads + Wait + Sync>(rt: &H, alloc: Global, bytes: &[u8], fails_at:
     answer(
         rt,
         alloc,
-        &Order::Run {
-            form: Form::Whole,
-            strict: false,
-            recheck: false,
-        },
+        &whole_run(),
         &mut reader,
         Narrow::new(alloc, 4096),
     )
-}
-
-/// The settings are refused with this line.
-fn is_refused(rt: &impl Abort, did: &Answered, line: &str) {
-    assert_eq!(rt; did.fault.as_slice(), line.as_bytes());
-    assert_eq!(rt; did.output.len(), 0);
-    assert_eq!(rt; did.exit, Exit::Refused);
 }
 
 #[test]
 fn refuses_what_cannot_be_read(rt: HostRuntime) {
     for fails_at in 1..=4 {
         let did = torn(&rt, rt.alloc(), b"\xff\xff\xff", fails_at);
-        is_refused(&rt, &did, "settings: not readable\n");
+        has_ended(&rt, &did, Exit::Refused, b"", b"settings: not readable\n");
     }
 }
 
@@ -56,15 +44,14 @@ fn reads_a_byte_past_the_limit_and_no_more(rt: HostRuntime) -> Result<(), Fail> 
     assert_eq!(rt; LIMIT, 1_048_576);
     let long = letters(rt.alloc(), LIMIT + 1)?;
     let did = torn(&rt, rt.alloc(), &long, 1_048_578);
-    is_refused(&rt, &did, "settings: too long\n");
+    has_ended(&rt, &did, Exit::Refused, b"", b"settings: too long\n");
     Ok(())
 }
 
 #[test]
 fn reads_on_after_short_reads(rt: HostRuntime) {
     let did = torn(&rt, rt.alloc(), LATE_SYNC.as_bytes(), 0);
-    assert_eq!(rt; did.exit, Exit::Found);
-    assert_eq!(rt; did.output.as_slice(), LATE_SYNC_REPORT.as_bytes());
+    has_ended(&rt, &did, Exit::Found, LATE_SYNC_REPORT.as_bytes(), b"");
 }
 
 /// How many bytes a text has that is read from so many.

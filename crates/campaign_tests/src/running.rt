@@ -31,23 +31,13 @@ pub fn settings(
 
 /// The report of a campaign, and its first failure.
 pub fn reported<T: Target + Send, G: Gate, R: Threads + Wait + Sync>(
-    rt: &R,
-    alloc: Global,
-    gate: &G,
-    target: &T,
-    workload: &T::Workload,
-    settings: &CampaignSettings,
+    host: &Host<'_, G, R>,
+    subject: &Subject<'_, T>,
 ) -> Result<(Vec<u8>, Option<u32>), CampaignFault>
 where
     T::Workload: Sync,
 {
-    let mut sink = Out::new(Vec::new(alloc));
-    let host = Host { rt, alloc, gate };
-    let subject = Subject {
-        target,
-        workload,
-        settings,
-    };
-    let ending = campaign(&host, &subject, &mut sink)?;
+    let mut sink = Out::new(Vec::new(host.alloc));
+    let ending = campaign(host, subject, &mut sink)?;
     Ok((sink.into_writer(), ending.first))
 }

@@ -1,9 +1,10 @@
 //! A reader that goes wrong, and what a command does with readers and writers.
 
-use campaign_main::{Exit, FreeGate, Host, Order, Out, Sink, perform};
+use campaign_main::{Exit, Form, FreeGate, Host, Order, Out, Sink, perform};
 use std::alloc::Global;
 use std::io;
 use std::io::Read;
+use std::process::Abort;
 use std::sync::Wait;
 use std::thread::Threads;
 use target_checks::Narrow;
@@ -38,6 +39,22 @@ pub struct Answered {
     pub output: Vec<u8>,
     pub has_failed: bool,
     pub fault: Vec<u8>,
+}
+
+/// The command has ended so, with this output and this line for a fault.
+pub fn has_ended(rt: &impl Abort, did: &Answered, exit: Exit, output: &[u8], fault: &[u8]) {
+    assert_eq!(rt; did.exit, exit);
+    assert_eq!(rt; did.output.as_slice(), output);
+    assert_eq!(rt; did.fault.as_slice(), fault);
+}
+
+/// The command that runs a campaign, and writes its whole report.
+pub fn whole_run() -> Order {
+    Order::Run {
+        form: Form::Whole,
+        strict: false,
+        recheck: false,
+    }
 }
 
 /// Performs a command over a reader and a writer.

@@ -1,8 +1,8 @@
 //! Writers that take few bytes at a time, and writers that fail.
 
 use crate::late_sync::{LATE_SYNC, LATE_SYNC_REPORT};
-use crate::streams::{Answered, answer};
-use campaign_main::{Exit, Form, FreeGate, Host, Order, Out, Which, perform, status};
+use crate::streams::{Answered, answer, has_ended, whole_run};
+use campaign_main::{Exit, FreeGate, Host, Order, Out, Which, perform, status};
 use std::alloc::Global;
 use std::process::Abort;
 use std::sync::Wait;
@@ -10,27 +10,22 @@ use std::test::Fail;
 use std::thread::Threads;
 use target_checks::{Narrow, Trouble};
 
-/// What a command comes to over a writer that takes so many bytes a write, and goes wrong at one of its writes.
-fn cut_off<H: Threads + Wait + Sync>(
+/// What a command comes to over this writer.
+fn written<H: Threads + Wait + Sync>(
     rt: &H,
     alloc: Global,
     order: &Order,
-    at_once: usize,
-    fails_at: u64,
-    trouble: Trouble,
+    writer: Narrow,
 ) -> Answered {
-    let writer = Narrow::failing(alloc, at_once, fails_at, trouble);
     answer(rt, alloc, order, &mut LATE_SYNC.as_bytes(), writer)
 }
 
 /// The output ends after this text, and the fault tells so.
 fn ends_after(rt: &impl Abort, alloc: Global, did: &Answered, text: &[u8]) -> Result<(), Fail> {
     let written = text.len();
-    assert_eq!(rt; did.exit, Exit::Write(written as u64));
     assert!(rt; did.has_failed);
-    assert_eq!(rt; did.output.as_slice(), text);
     let line = format!(in alloc; "write failed after {written} bytes\n")?;
-    assert_eq!(rt; did.fault.as_slice(), line.as_bytes());
+    has_ended(rt, did, Exit::Write(written as u64), text, line.as_bytes());
     Ok(())
 }
 
@@ -38,22 +33,13 @@ fn ends_after(rt: &impl Abort, alloc: Global, did: &Answered, text: &[u8]) -> Re
 #[test]
 fn tells_what_was_written(rt: HostRuntime) -> Result<(), Fail> {
     let text = LATE_SYNC_REPORT.as_bytes();
+    let order = whole_run();
     for trouble in [Trouble::Broken, Trouble::Interrupted, Trouble::TakesNothing] {
-        for written in 0..text.len() {
-            let fails_at = (written as u64).saturating_add(1);
-            let did = cut_off(
-                &rt,
-                rt.alloc(),
-                &Order::Run {
-                    form: Form::Whole,
-                    strict: false,
-                    recheck: false,
-                },
-                1,
-                fails_at,
-                trouble,
-            );
-            ends_after(&rt, rt.alloc(), &did, &text[..written])?;
+        for count in 0..text.len() {
+            let fails_at = (count as u64).saturating_add(1);
+            let writer = Narrow::failing(rt.alloc(), 1, fails_at, trouble);
+            let did = written(&rt, rt.alloc(), &order, writer);
+            ends_after(&rt, rt.alloc(), &did, &text[..count])?;
         }
     }
     Ok(())
@@ -63,14 +49,7 @@ fn tells_what_was_written(rt: HostRuntime) -> Result<(), Fail> {
 fn each_command_tells_what_was_written(rt: HostRuntime) -> Result<(), Fail> {
     let alloc = rt.alloc();
     let orders = [
-        (
-            Order::Run {
-                form: Form::Whole,
-                strict: false,
-                recheck: false,
-            },
-            "target rep",
-        ),
+        (whole_run(), "target rep"),
         (Order::Plans, "plan 0 non"),
         (
             Order::Try(Which::Scenario(String::new(alloc))),
@@ -82,7 +61,8 @@ fn each_command_tells_what_was_written(rt: HostRuntime) -> Result<(), Fail> {
         ),
     ];
     for (order, front) in &orders {
-        let did = cut_off(&rt, alloc, order, 10, 2, Trouble::Broken);
+        let writer = Narrow::failing(alloc, 10, 2, Trouble::Broken);
+        let did = written(&rt, alloc, order, writer);
         ends_after(&rt, alloc, &did, front.as_bytes())?;
     }
     Ok(())
@@ -91,22 +71,10 @@ fn each_command_tells_what_was_written(rt: HostRuntime) -> Result<(), Fail> {
 /// A writer of one byte a write gets the whole report.
 #[test]
 fn narrow_writer_gets_the_whole_report(rt: HostRuntime) {
-    let did = cut_off(
-        &rt,
-        rt.alloc(),
-        &Order::Run {
-            form: Form::Whole,
-            strict: false,
-            recheck: false,
-        },
-        1,
-        0,
-        Trouble::Broken,
-    );
-    assert_eq!(rt; did.exit, Exit::Found);
+    let writer = Narrow::new(rt.alloc(), 1);
+    let did = written(&rt, rt.alloc(), &whole_run(), writer);
     assert!(rt; !did.has_failed);
-    assert_eq!(rt; did.output.as_slice(), LATE_SYNC_REPORT.as_bytes());
-    assert_eq!(rt; did.fault.len(), 0);
+    has_ended(&rt, &did, Exit::Found, LATE_SYNC_REPORT.as_bytes(), b"");
 }
 
 /// The end of a command that is refused, where its line can't be written.
@@ -120,17 +88,7 @@ fn a_line_that_cannot_be_written_changes_no_end(rt: HostRuntime) {
         alloc: rt.alloc(),
         gate: &FreeGate,
     };
-    let exit = perform(
-        &host,
-        &Order::Run {
-            form: Form::Whole,
-            strict: false,
-            recheck: false,
-        },
-        &mut reader,
-        &mut output,
-        &mut faults,
-    );
+    let exit = perform(&host, &whole_run(), &mut reader, &mut output, &mut faults);
     assert_eq!(rt; exit, Exit::Refused);
 }
 

@@ -36,15 +36,15 @@ fn outcome(number: u32, put: Result<(), PutFault<'_, OneStep>>) -> &'static str 
     }
 }
 
-/// Puts the result of a plan, of which this is to come.
+/// Puts the result of the plan of this number, of which this is to come.
 fn put(
     rt: &impl Abort,
     alloc: Global,
     book: &mut Book,
     input: &RunInput<'_, OneStep>,
-    number: u32,
-    want: &str,
+    row: (u32, &str),
 ) -> Result<(), Fail> {
+    let (number, want) = row;
     let result = result(rt, alloc, input, number)?;
     assert_eq!(rt; outcome(number, book.put(result)), want);
     Ok(())
@@ -58,8 +58,8 @@ fn is_put_once(
     mut book: Book,
 ) -> Result<(), Fail> {
     assert_eq!(rt; longer.plans.len(), 19);
-    for (number, want) in [(3, "put"), (3, "twice"), (12, "stranger")] {
-        put(rt, alloc, &mut book, longer, number, want)?;
+    for row in [(3, "put"), (3, "twice"), (12, "stranger")] {
+        put(rt, alloc, &mut book, longer, row)?;
     }
     assert!(rt; !book.whole());
     has(rt, alloc, &book, &[Verdict::Pass])?;
@@ -83,7 +83,7 @@ fn fails_first_at_10(
 ) -> Result<(), Fail> {
     let mut book = book(rt, alloc, input)?;
     for number in (0..19).rev() {
-        put(rt, alloc, &mut book, input, number, "put")?;
+        put(rt, alloc, &mut book, input, (number, "put"))?;
     }
     assert!(rt; book.whole());
     tells(rt, alloc, &book, &[(10, REFUSED)])
@@ -97,8 +97,9 @@ fn ranges<'a>(
     stretches: &[(u32, u32)],
 ) -> Result<Vec<(u32, PlanRange<'a, OneStep>)>, Fail> {
     let mut list = Vec::new(alloc);
-    for (first, end) in stretches {
-        list.push((*first, range(rt, alloc, &mut OneStep, input, *first, *end)?))?;
+    for stretch in stretches {
+        let range = range(rt, alloc, &mut OneStep, input, *stretch)?;
+        list.push((stretch.0, range))?;
     }
     Ok(list)
 }
@@ -137,7 +138,7 @@ fn are_put_by_number(
     input: &RunInput<'_, OneStep>,
 ) -> Result<(), Fail> {
     let mut book = book(rt, alloc, input)?;
-    put(rt, alloc, &mut book, input, 3, "put")?;
+    put(rt, alloc, &mut book, input, (3, "put"))?;
     tells(rt, alloc, &book, &[(3, REFUSED)])?;
     put_others(rt, alloc, input, &mut book)?;
     tells(rt, alloc, &book, &[(1, REFUSED)])?;
@@ -155,7 +156,7 @@ fn is_taken_from_its_end(
     alloc: Global,
     input: &RunInput<'_, OneStep>,
 ) -> Result<(), Fail> {
-    let mut range = range(rt, alloc, &mut OneStep, input, 1, 3)?;
+    let mut range = range(rt, alloc, &mut OneStep, input, (1, 3))?;
     for want in [Some((2, Verdict::Pass)), Some((1, FAILS)), None] {
         let last = range.pop().map(|pair| (pair.number(), pair.verdict()));
         assert_eq!(rt; last, want);
@@ -173,7 +174,7 @@ fn are_put_in_the_first_places(
     book.put_known(vec![in alloc; Verdict::Pass, FAILS]?);
     assert!(rt; !book.whole());
     has(rt, alloc, &book, &[Verdict::Pass, FAILS])?;
-    put(rt, alloc, &mut book, input, 1, "twice")?;
+    put(rt, alloc, &mut book, input, (1, "twice"))?;
     book.put_known(vec![in alloc; FAILS, Verdict::Unresolved, FAILS, Verdict::Pass]?);
     assert!(rt; book.whole());
     has(rt, alloc, &book, &[Verdict::Pass, FAILS, FAILS])?;

@@ -79,7 +79,7 @@ fn book_with(
     book.put_known(Vec::from_slice(alloc, known)?);
     assert!(rt; known.len() <= 5 && input.plans.len() == 5);
     let mut target = Replace::new(alloc, Variant::IgnoreSync);
-    let range = range(rt, alloc, &mut target, input, known.len() as u32, 5)?;
+    let range = range(rt, alloc, &mut target, input, (known.len() as u32, 5))?;
     put_all(&mut book, vec![in alloc; vec![in alloc; (0, range)]?]?);
     Ok(book)
 }
@@ -92,8 +92,7 @@ fn books_have_each_alone(
 ) -> Result<(), Fail> {
     let alone = alone(alloc, input)?;
     assert_eq!(rt; alone.len(), 5);
-    assert_eq!(rt; alone[0], Verdict::Pass);
-    assert_eq!(rt; alone[1], Verdict::Fail(TORN));
+    assert!(rt; [alone[0], alone[1]] == [Verdict::Pass, Verdict::Fail(TORN)]);
     for known in 0..6 {
         let book = book_with(rt, alloc, input, &alone[..known])?;
         assert!(rt; book.whole());

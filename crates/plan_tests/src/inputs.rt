@@ -28,15 +28,15 @@ pub fn input<'a>(
     }
 }
 
-/// The range of the plans from a number on, before `end`, which the input has to have.
+/// The range of the plans from the first number on, before the second one, which the input has to have.
 pub fn range<'a, T: Target>(
     rt: &impl Abort,
     alloc: Global,
     target: &mut T,
     input: &'a RunInput<'a, T>,
-    first: u32,
-    end: u32,
+    stretch: (u32, u32),
 ) -> Result<PlanRange<'a, T>, Fail> {
+    let (first, end) = stretch;
     assert!(rt; first <= end && end as usize <= input.plans.len());
     let mut workspace = Workspace::new(alloc);
     Ok(PlanRange::run_over(alloc, target, &mut workspace, input, first, end)?)

@@ -106,29 +106,14 @@ fn said(
     Ok((letters, tell(&session)))
 }
 
-/// So many hits of a point are answered so, and take so many words.
-fn takes(
-    rt: &impl Abort,
-    alloc: Global,
-    point: u32,
-    count: u32,
-    letters: &str,
-    words: u64,
-) -> Result<(), Fail> {
-    let (said, told) = said(alloc, 0, 1000, point, count)?;
-    assert_eq!(rt; said.as_str(), letters);
-    assert_eq!(rt; told.words, words);
+#[test]
+fn a_used_up_term_makes_way_and_takes_no_word(rt: HostRuntime) -> Result<(), Fail> {
+    for (point, count, letters, words) in [(USED, 5, "GGRGG", 0), (SHARES, 3, "GGG", 3)] {
+        let (said, told) = said(rt.alloc(), 0, 1000, point, count)?;
+        assert_eq!(rt; said.as_str(), letters);
+        assert_eq!(rt; told.words, words, "at {letters}");
+    }
     Ok(())
-}
-
-#[test]
-fn a_used_up_term_makes_way_for_the_next(rt: HostRuntime) -> Result<(), Fail> {
-    takes(&rt, rt.alloc(), USED, 5, "GGRGG", 0)
-}
-
-#[test]
-fn a_used_up_term_takes_no_word(rt: HostRuntime) -> Result<(), Fail> {
-    takes(&rt, rt.alloc(), SHARES, 3, "GGG", 3)
 }
 
 #[test]

@@ -48,53 +48,48 @@ fn tidies(rt: &impl Abort, alloc: Global, scenario: &Scenario, want: &str) -> Re
     prints(rt, alloc, &tidy(alloc, scenario)?, want)
 }
 
-/// With these of its faults alone the scenario is printed as the one text, and as the other without what can't act.
-fn keeps(
-    rt: &impl Abort,
-    alloc: Global,
-    scenario: &Scenario,
-    set: &[u32],
-    want: &str,
-    want_tidied: &str,
-) -> Result<(), Fail> {
-    let kept = kept(alloc, scenario, set)?;
-    prints(rt, alloc, &kept, want)?;
-    tidies(rt, alloc, &kept, want_tidied)
+/// Faults; how the scenario with these of its faults alone is printed, and how it is printed without what can't act.
+type Kept = (&'static [u32], &'static str, &'static str);
+
+/// With some of its faults alone the scenario is printed so.
+fn keeps(rt: &impl Abort, alloc: Global, scenario: &Scenario, rows: &[Kept]) -> Result<(), Fail> {
+    for (set, want, want_tidied) in rows {
+        let kept = kept(alloc, scenario, set)?;
+        prints(rt, alloc, &kept, want)?;
+        tidies(rt, alloc, &kept, want_tidied)?;
+    }
+    Ok(())
 }
 
 #[test]
 fn built_scenarios_print(rt: HostRuntime) -> Result<(), Fail> {
     let built = one_panic(rt.alloc())?;
     assert_eq!(rt; built.len(), 1);
-    assert_eq!(rt; built.entry_of("a"), Some(0));
-    assert_eq!(rt; built.entry_of("b"), None);
+    for (name, entry) in [("a", Some(0)), ("b", None)] {
+        assert_eq!(rt; built.entry_of(name), entry);
+    }
     prints(&rt, rt.alloc(), &built, "a=panic")
 }
 
 #[test]
 fn all_faults_and_none(rt: HostRuntime) -> Result<(), Fail> {
+    const ROWS: [Kept; 2] = [(&[0], "a=panic", "a=panic"), (&[], "a=off", "")];
     let alloc = rt.alloc();
     let built = one_panic(alloc)?;
-    assert!(rt; is_whole(alloc, &built, &[0])?);
-    assert!(rt; !is_whole(alloc, &built, &[])?);
-    keeps(&rt, alloc, &built, &[0], "a=panic", "a=panic")?;
-    keeps(&rt, alloc, &built, &[], "a=off", "")
+    for (set, _, _) in ROWS {
+        assert!(rt; is_whole(alloc, &built, set)? == !set.is_empty());
+    }
+    keeps(&rt, alloc, &built, &ROWS)
 }
 
 #[test]
 fn kept_scenarios_print(rt: HostRuntime) -> Result<(), Fail> {
+    const ROWS: [Kept; 2] = [
+        (&[1], "p=20%2*off->1*panic", "p=20%2*off->1*panic"),
+        (&[], "p=20%2*off->1*off", "p=20%2*off"),
+    ];
     let alloc = rt.alloc();
-    let scenario = parse(alloc, "p=20%2*return->1*panic")?;
-    let second = "p=20%2*off->1*panic";
-    keeps(&rt, alloc, &scenario, &[1], second, second)?;
-    keeps(
-        &rt,
-        alloc,
-        &scenario,
-        &[],
-        "p=20%2*off->1*off",
-        "p=20%2*off",
-    )
+    keeps(&rt, alloc, &parse(alloc, "p=20%2*return->1*panic")?, &ROWS)
 }
 
 #[test]

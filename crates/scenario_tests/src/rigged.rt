@@ -15,7 +15,11 @@ const OPEN: u32 = 0;
 
 const WRITE: u32 = 1;
 
-fn rig(point: u32, hit: u32, kind: Kind) -> Rig {
+/// The point, the number of its hit, and what is done there.
+type Hit = (u32, u32, Kind);
+
+fn rig(place: Hit) -> Rig {
+    let (point, hit, kind) = place;
     Rig {
         site: Site { point, hit },
         kind,
@@ -49,64 +53,68 @@ fn under(alloc: Global, scenario: &str, point: u32) -> Result<String, Fail> {
     Ok(answers(alloc, &mut session, point, 4)?)
 }
 
-/// Four hits of each point are answered so, over these two rigged hits and under this scenario.
+/// Two rigged hits, the scenario that says the same, and what four hits of each point are answered.
+#[derive(Drop)]
+struct Rigged {
+    first: Hit,
+    second: Hit,
+    scenario: &'static str,
+    letters: [&'static str; 2],
+}
+
+/// The hits are answered so, over the rigged hits and under the scenario.
 fn both(
     rt: &impl Abort,
     alloc: Global,
     table: &mut FaultTable<'_>,
-    first: Rig,
-    second: Rig,
-    scenario: &str,
-    letters: [&str; 2],
+    row: &Rigged,
 ) -> Result<(), Fail> {
-    let rigs = [first, second];
+    let rigs = [rig(row.first), rig(row.second)];
     have_lawful_texts(&rigs);
     table.load(&POINTS, &rigs)?;
-    assert_eq!(rt; over(alloc, table, OPEN)?.as_str(), letters[0]);
-    assert_eq!(rt; over(alloc, table, WRITE)?.as_str(), letters[1]);
-    assert_eq!(rt; under(alloc, scenario, OPEN)?.as_str(), letters[0]);
-    assert_eq!(rt; under(alloc, scenario, WRITE)?.as_str(), letters[1]);
+    for (point, letters) in [(OPEN, row.letters[0]), (WRITE, row.letters[1])] {
+        assert_eq!(rt; over(alloc, table, point)?.as_str(), letters);
+        assert_eq!(rt; under(alloc, row.scenario, point)?.as_str(), letters);
+    }
     Ok(())
 }
 
 #[test]
 fn rigged_hits_are_answered_as_their_scenario_says(rt: HostRuntime) -> Result<(), Fail> {
     let mut table = FaultTable::new(rt.alloc());
-    both(
-        &rt,
-        rt.alloc(),
-        &mut table,
-        rig(OPEN, 2, Kind::OnceReturn(Argument::none())),
-        rig(WRITE, 3, Kind::OncePanic),
-        "open=1*off->1*return;write=2*off->1*panic",
-        ["GRGG", "GGH"],
-    )?;
-    both(
-        &rt,
-        rt.alloc(),
-        &mut table,
-        rig(WRITE, 1, Kind::OnceReturn(Argument::none())),
-        rig(WRITE, 3, Kind::OnwardReturn(Argument::none())),
-        "write=1*return->1*off->return",
-        ["GGGG", "RGRR"],
-    )?;
-    both(
-        &rt,
-        rt.alloc(),
-        &mut table,
-        rig(OPEN, 1, Kind::OnceReturn(argument("EIO"))),
-        rig(OPEN, 2, Kind::OnwardReturn(argument("DROP"))),
-        "open=1*return(EIO)->return(DROP)",
-        ["EDDD", "GGGG"],
-    )
+    let rows = [
+        Rigged {
+            first: (OPEN, 2, Kind::OnceReturn(Argument::none())),
+            second: (WRITE, 3, Kind::OncePanic),
+            scenario: "open=1*off->1*return;write=2*off->1*panic",
+            letters: ["GRGG", "GGH"],
+        },
+        Rigged {
+            first: (WRITE, 1, Kind::OnceReturn(Argument::none())),
+            second: (WRITE, 3, Kind::OnwardReturn(Argument::none())),
+            scenario: "write=1*return->1*off->return",
+            letters: ["GGGG", "RGRR"],
+        },
+        Rigged {
+            first: (OPEN, 1, Kind::OnceReturn(argument("EIO"))),
+            second: (OPEN, 2, Kind::OnwardReturn(argument("DROP"))),
+            scenario: "open=1*return(EIO)->return(DROP)",
+            letters: ["EDDD", "GGGG"],
+        },
+    ];
+    for row in &rows {
+        both(&rt, rt.alloc(), &mut table, row)?;
+    }
+    Ok(())
 }
 
 #[test]
 fn texts_of_more_than_32_bytes_are_refused(rt: HostRuntime) {
-    let longest = "a text that has just 32 bytes...";
-    assert!(rt; is_argument(longest));
-    assert!(rt; Argument::of(longest).is_some());
-    let longer = "a text that has just 33 bytes....";
-    assert!(rt; is_argument(longer));
-    assert!(rt; Argument::of(longer).is_none());
+    for (text, fits) in [
+        ("a text that has just 32 bytes...", true),
+        ("a text that has just 33 bytes....", false),
+    ] {
+        assert!(rt; is_argument(text));
+        assert!(rt; Argument::of(text).is_some() == fits, "{text}");
+    }
 }

@@ -30,8 +30,9 @@ fn is_return_of(task: &Task, wanted: &str) -> bool {
 fn entries_are_those_of_the_text(rt: HostRuntime) -> Result<(), Fail> {
     let scenario = parse(rt.alloc(), TEXT)?;
     assert_eq!(rt; scenario.len(), 2);
-    assert_eq!(rt; scenario.entry_of("b"), Some(1));
-    assert_eq!(rt; scenario.entry_of("c"), None);
+    for (name, entry) in [("b", Some(1)), ("c", None)] {
+        assert_eq!(rt; scenario.entry_of(name), entry);
+    }
     Ok(())
 }
 

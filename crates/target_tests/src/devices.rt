@@ -3,7 +3,6 @@
 use sim_device::{DeviceFault, FileDevice, RecordLog};
 use std::alloc::AllocError;
 use std::process::Abort;
-use std::test::Fail;
 
 const A: u32 = 0;
 
@@ -50,91 +49,116 @@ fn perform_all(device: &mut FileDevice, calls: &[Call<'_>]) -> Result<(), Device
     Ok(())
 }
 
-/// A call is refused for this fault.
-fn refuses(rt: &impl Abort, device: &mut FileDevice, call: Call<'_>, fault: DeviceFault) {
-    assert!(rt; perform(device, call) == Err(fault));
+/// What a name holds; nothing, where it is gone.
+type Contents<'c> = Option<&'c [u8]>;
+
+/// The name holds these contents, or it is gone.
+fn holds(rt: &impl Abort, device: &FileDevice, name: u32, contents: Contents<'_>, at: &str) {
+    assert_eq!(rt; device.exists(name), contents.is_some(), "{at}");
+    let want = contents.ok_or(DeviceFault::NotFound);
+    assert_eq!(rt; device.read(name), want, "{at}");
 }
 
-fn holds(rt: &impl Abort, device: &FileDevice, name: u32, bytes: &[u8]) {
-    assert!(rt; device.exists(name));
-    assert_eq!(rt; device.read(name), Ok(bytes));
+/// These calls are refused for this fault.
+fn refuses(rt: &impl Abort, device: &mut FileDevice, calls: &[Call<'_>], fault: DeviceFault) {
+    for call in calls {
+        assert!(rt; perform(device, *call) == Err(fault));
+    }
 }
 
-fn is_gone(rt: &impl Abort, device: &FileDevice, name: u32) {
-    assert!(rt; !device.exists(name));
-    assert!(rt; device.read(name) == Err(DeviceFault::NotFound));
-}
+/// Calls that are accepted, and what a name holds then.
+type Step = (&'static [Call<'static>], u32, Contents<'static>);
+
+// What is to be seen, and the steps on one device.
+const RUNS: [(&str, &[Step]); 5] = [
+    (
+        "unsynced contents are lost",
+        &[(
+            &[Create(A), Append(A, b"x"), SyncDir, PowerCut],
+            A,
+            Some(b""),
+        )],
+    ),
+    (
+        "an unsynced name is lost",
+        &[(&[Create(A), Sync(A), PowerCut], A, None)],
+    ),
+    (
+        "a synced file survives a later write",
+        &[
+            (
+                &[
+                    Create(A),
+                    Append(A, b"x"),
+                    Sync(A),
+                    SyncDir,
+                    Append(A, b"y"),
+                    Unlink(A),
+                    PowerCut,
+                ],
+                A,
+                Some(b"x"),
+            ),
+            (&[Append(A, b"z")], A, Some(b"xz")),
+        ],
+    ),
+    (
+        "a rename takes the name of another",
+        &[
+            (
+                &[Create(A), Append(A, b"x"), Create(B), Rename(A, B)],
+                B,
+                Some(b"x"),
+            ),
+            (&[], A, None),
+            (&[Rename(B, B)], B, Some(b"x")),
+        ],
+    ),
+    (
+        "a cleared device is new",
+        &[
+            (
+                &[Create(A), Append(A, b"x"), Sync(A), SyncDir, Clear],
+                A,
+                None,
+            ),
+            (&[PowerCut], A, None),
+            (&[Create(A)], A, Some(b"")),
+        ],
+    ),
+];
 
 #[test]
-fn unsynced_contents_are_lost(rt: HostRuntime) -> Result<(), DeviceFault> {
-    let mut device = FileDevice::new(rt.alloc());
-    perform_all(
-        &mut device,
-        &[Create(A), Append(A, b"x"), SyncDir, PowerCut],
-    )?;
-    holds(&rt, &device, A, b"");
+fn accepted_calls_have_their_effects(rt: HostRuntime) -> Result<(), DeviceFault> {
+    for (what, steps) in RUNS {
+        let mut device = FileDevice::new(rt.alloc());
+        for (calls, name, contents) in steps {
+            perform_all(&mut device, calls)?;
+            holds(&rt, &device, *name, *contents, what);
+        }
+    }
     Ok(())
 }
 
-#[test]
-fn unsynced_name_is_lost(rt: HostRuntime) -> Result<(), DeviceFault> {
-    let mut device = FileDevice::new(rt.alloc());
-    perform_all(&mut device, &[Create(A), Sync(A), PowerCut])?;
-    is_gone(&rt, &device, A);
-    Ok(())
-}
-
-/// The file `A` with these contents, which last.
-fn with_lasting(rt: &HostRuntime, bytes: &[u8]) -> Result<FileDevice, DeviceFault> {
-    let mut device = FileDevice::new(rt.alloc());
-    perform_all(
-        &mut device,
-        &[Create(A), Append(A, bytes), Sync(A), SyncDir],
-    )?;
-    Ok(device)
-}
-
-#[test]
-fn synced_file_survives_a_later_write(rt: HostRuntime) -> Result<(), DeviceFault> {
-    let mut device = with_lasting(&rt, b"x")?;
-    perform_all(&mut device, &[Append(A, b"y"), Unlink(A), PowerCut])?;
-    holds(&rt, &device, A, b"x");
-    perform(&mut device, Append(A, b"z"))?;
-    holds(&rt, &device, A, b"xz");
-    Ok(())
-}
+const OF_A_MISSING_NAME: [Call<'static>; 5] = [
+    Append(MISSING, b"y"),
+    Sync(MISSING),
+    Unlink(MISSING),
+    Rename(MISSING, A),
+    Link(MISSING, A),
+];
 
 #[test]
 fn refused_calls_change_nothing(rt: HostRuntime) -> Result<(), DeviceFault> {
-    let mut device = with_lasting(&rt, b"x")?;
-    refuses(&rt, &mut device, Create(A), DeviceFault::Exists);
-    for call in [
-        Append(MISSING, b"y"),
-        Sync(MISSING),
-        Unlink(MISSING),
-        Rename(MISSING, A),
-        Link(MISSING, A),
-    ] {
-        refuses(&rt, &mut device, call, DeviceFault::NotFound);
-    }
-    is_gone(&rt, &device, MISSING);
-    holds(&rt, &device, A, b"x");
-    perform(&mut device, PowerCut)?;
-    holds(&rt, &device, A, b"x");
-    Ok(())
-}
-
-#[test]
-fn rename_takes_the_name_of_another(rt: HostRuntime) -> Result<(), DeviceFault> {
     let mut device = FileDevice::new(rt.alloc());
-    perform_all(
-        &mut device,
-        &[Create(A), Append(A, b"x"), Create(B), Rename(A, B)],
-    )?;
-    holds(&rt, &device, B, b"x");
-    is_gone(&rt, &device, A);
-    perform(&mut device, Rename(B, B))?;
-    holds(&rt, &device, B, b"x");
+    let lasting = [Create(A), Append(A, b"x"), Sync(A), SyncDir];
+    perform_all(&mut device, &lasting)?;
+    refuses(&rt, &mut device, &[Create(A)], DeviceFault::Exists);
+    refuses(&rt, &mut device, &OF_A_MISSING_NAME, DeviceFault::NotFound);
+    holds(&rt, &device, MISSING, None, "now");
+    holds(&rt, &device, A, Some(b"x"), "now");
+    perform(&mut device, PowerCut)?;
+    holds(&rt, &device, A, Some(b"x"), "after the power cut");
     Ok(())
 }
 
@@ -142,26 +166,12 @@ fn rename_takes_the_name_of_another(rt: HostRuntime) -> Result<(), DeviceFault> 
 fn link_shares_the_file(rt: HostRuntime) -> Result<(), DeviceFault> {
     let mut device = FileDevice::new(rt.alloc());
     perform_all(&mut device, &[Create(A), Append(A, b"x")])?;
-    refuses(&rt, &mut device, Link(MISSING, A), DeviceFault::NotFound);
+    refuses(&rt, &mut device, &[Link(MISSING, A)], DeviceFault::NotFound);
     perform(&mut device, Create(B))?;
-    refuses(&rt, &mut device, Link(A, B), DeviceFault::Exists);
-    perform_all(
-        &mut device,
-        &[Unlink(B), Link(A, B), Append(A, b"y"), Unlink(A)],
-    )?;
-    holds(&rt, &device, B, b"xy");
-    Ok(())
-}
-
-#[test]
-fn cleared_device_is_new(rt: HostRuntime) -> Result<(), DeviceFault> {
-    let mut device = with_lasting(&rt, b"x")?;
-    perform(&mut device, Clear)?;
-    is_gone(&rt, &device, A);
-    perform(&mut device, PowerCut)?;
-    is_gone(&rt, &device, A);
-    perform(&mut device, Create(A))?;
-    holds(&rt, &device, A, b"");
+    refuses(&rt, &mut device, &[Link(A, B)], DeviceFault::Exists);
+    let shared = [Unlink(B), Link(A, B), Append(A, b"y"), Unlink(A)];
+    perform_all(&mut device, &shared)?;
+    holds(&rt, &device, B, Some(b"xy"), "the other name");
     Ok(())
 }
 
@@ -177,24 +187,24 @@ fn add(log: &mut RecordLog<u32>, records: &[(u32, bool)]) -> Result<(), AllocErr
     Ok(())
 }
 
-fn has(rt: &impl Abort, log: &RecordLog<u32>, records: &[u32]) {
-    assert_eq!(rt; log.records(), records);
-}
+// Records to add, as above; what the log has then, and what it has after a restart.
+const LOGGED: [(&[(u32, bool)], &[u32], &[u32]); 2] = [
+    (&[(1, false), (2, true), (3, false)], &[1, 2, 3], &[1, 2]),
+    (&[(4, false)], &[1, 2, 4], &[1, 2]),
+];
 
 #[test]
-fn restart_keeps_what_was_forced(rt: HostRuntime) -> Result<(), Fail> {
+fn restart_keeps_what_was_forced(rt: HostRuntime) -> Result<(), AllocError> {
     let mut log = RecordLog::new(rt.alloc());
-    add(&mut log, &[(1, false), (2, true), (3, false)])?;
-    has(&rt, &log, &[1, 2, 3]);
-    log.restart();
-    has(&rt, &log, &[1, 2]);
-    add(&mut log, &[(4, false)])?;
-    has(&rt, &log, &[1, 2, 4]);
-    log.restart();
-    has(&rt, &log, &[1, 2]);
+    for (records, now, kept) in LOGGED {
+        add(&mut log, records)?;
+        assert_eq!(rt; log.records(), now);
+        log.restart();
+        assert_eq!(rt; log.records(), kept);
+    }
     log.clear();
     log.restart();
-    has(&rt, &log, &[]);
+    assert!(rt; log.records().is_empty());
     Ok(())
 }
 

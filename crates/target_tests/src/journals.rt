@@ -1,5 +1,6 @@
 //! Runs of the journal, on two transactions, of two records and of one, and with power cuts that keep some of what is pending.
 
+use crate::runs::{Row, asks, comes_to};
 use journal_target::{Journal, LOST, Records, TORN, Transactions, Variant};
 use scenario_grammar::print;
 use scenario_values::Text;
@@ -14,8 +15,6 @@ const APPEND: u32 = 0;
 const COMMIT: u32 = 1;
 
 const SYNC: u32 = 2;
-
-const KEEP: u32 = 3;
 
 fn records(alloc: Global, texts: &[&str]) -> Result<Records, AllocError> {
     let mut records = Vec::new(alloc);
@@ -38,23 +37,6 @@ fn three(alloc: Global) -> Result<Transactions, AllocError> {
     transactions.push(records(alloc, &["d"])?)?;
     transactions.push(records(alloc, &["e", "f"])?)?;
     Ok(Transactions::new(transactions))
-}
-
-/// A run has this verdict, and asks these points.
-fn asks(
-    rt: &impl Abort,
-    alloc: Global,
-    variant: Variant,
-    scenario: &str,
-    verdict: Verdict,
-    asked: &[u32],
-) -> Result<(), Fail> {
-    let workload = two(alloc)?;
-    let mut journal = ByTable::new(Journal::new(alloc, variant));
-    let told = outcome_of(alloc, &mut journal, &workload, scenario, 1000)?;
-    assert_eq!(rt; told.verdict, verdict, "at {scenario}");
-    assert_eq!(rt; told.asked.as_slice(), asked, "at {scenario}");
-    Ok(())
 }
 
 const ALL: &[u32] = &[
@@ -118,8 +100,11 @@ const RUNS: [(Variant, &str, Verdict, &[u32]); 12] = [
 
 #[test]
 fn runs_have_their_verdicts(rt: HostRuntime) -> Result<(), Fail> {
+    let workload = two(rt.alloc())?;
     for (variant, scenario, verdict, asked) in RUNS {
-        asks(&rt, rt.alloc(), variant, scenario, verdict, asked)?;
+        let mut journal = ByTable::new(Journal::new(rt.alloc(), variant));
+        let told = outcome_of(rt.alloc(), &mut journal, &workload, scenario, 1000)?;
+        asks(&rt, &told, verdict, asked, scenario);
     }
     Ok(())
 }
@@ -143,73 +128,68 @@ fn fails_first(
 // What is pending is lost here, so that one sync for both is as good as two.
 #[test]
 fn single_faults_show_two_of_the_flaws(rt: HostRuntime) -> Result<(), Fail> {
-    fails_first(&rt, rt.alloc(), Variant::Sound, None)?;
-    fails_first(&rt, rt.alloc(), Variant::EarlyAck, Some(ONE_SYNC_ALONE))?;
-    fails_first(&rt, rt.alloc(), Variant::NoCommitRecord, Some(SECOND_FAILS))?;
-    fails_first(&rt, rt.alloc(), Variant::OneSync, None)
+    for (variant, want) in [
+        (Variant::Sound, None),
+        (Variant::EarlyAck, Some(ONE_SYNC_ALONE)),
+        (Variant::NoCommitRecord, Some(SECOND_FAILS)),
+        (Variant::OneSync, None),
+    ] {
+        fails_first(&rt, rt.alloc(), variant, want)?;
+    }
+    Ok(())
 }
 
-/// A run with its cut has this verdict, and the cut asks so often.
-fn comes_to(
+/// The run of a variant with its cut comes to this.
+fn with_its_cut(
     rt: &impl Abort,
     alloc: Global,
     variant: Variant,
     workload: &Transactions,
-    scenario: &str,
-    verdict: Verdict,
-) -> Result<usize, Fail> {
+    row: Row<'_>,
+) -> Result<(), Fail> {
     let mut journal = WithCut::new(ByTable::new(Journal::new(alloc, variant)));
-    let told = outcome_of(alloc, &mut journal, workload, scenario, 1000)?;
-    assert_eq!(rt; told.verdict, verdict, "at {scenario}");
-    Ok(told.asked.iter().filter(|point| **point == KEEP).count())
+    comes_to(rt, alloc, &mut journal, workload, row)?;
+    Ok(())
 }
 
 // Scenarios with what is pending at the end of their runs. First the two records and the commit record of the first transaction, where its only sync
 // halts; then the record and the commit record of the second one, where its only sync fails.
-const KEPT: [(&str, usize, Verdict); 8] = [
-    ("", 0, Verdict::Pass),
-    ("journal::sync=1*panic", 3, Verdict::Pass),
+const KEPT: [Row<'static>; 8] = [
+    ("", Verdict::Pass, 0),
+    ("journal::sync=1*panic", Verdict::Pass, 3),
     (
         "journal::sync=1*panic;power::keep=2*off->1*return",
-        3,
         Verdict::Fail(TORN),
+        3,
     ),
     (
         "journal::sync=1*panic;power::keep=1*off->2*return",
-        3,
         Verdict::Fail(TORN),
+        3,
     ),
     (
         "journal::sync=1*panic;power::keep=2*return",
-        3,
         Verdict::Pass,
+        3,
     ),
-    ("journal::sync=1*panic;power::keep=return", 3, Verdict::Pass),
+    ("journal::sync=1*panic;power::keep=return", Verdict::Pass, 3),
     (
         "journal::sync=1*off->1*return;power::keep=1*off->1*return",
-        2,
         Verdict::Fail(TORN),
+        2,
     ),
     (
         "journal::sync=1*off->1*return;power::keep=1*return",
-        2,
         Verdict::Pass,
+        2,
     ),
 ];
 
 #[test]
 fn one_sync_is_torn_where_the_commit_record_is_kept(rt: HostRuntime) -> Result<(), Fail> {
     let workload = two(rt.alloc())?;
-    for (scenario, pending, verdict) in KEPT {
-        let asked = comes_to(
-            &rt,
-            rt.alloc(),
-            Variant::OneSync,
-            &workload,
-            scenario,
-            verdict,
-        )?;
-        assert_eq!(&rt; asked, pending, "at {scenario}");
+    for row in KEPT {
+        with_its_cut(&rt, rt.alloc(), Variant::OneSync, &workload, row)?;
     }
     Ok(())
 }
@@ -246,15 +226,8 @@ fn the_sound_variant_survives_each_cut(rt: HostRuntime) -> Result<(), Fail> {
     for (faults, pending) in PENDING {
         for set in SETS {
             let scenario = format!(in rt.alloc(); "{faults};power::keep={set}")?;
-            let asked = comes_to(
-                &rt,
-                rt.alloc(),
-                Variant::Sound,
-                &workload,
-                &scenario,
-                Verdict::Pass,
-            )?;
-            assert_eq!(&rt; asked, pending, "at {scenario}");
+            let row = (scenario.as_str(), Verdict::Pass, pending);
+            with_its_cut(&rt, rt.alloc(), Variant::Sound, &workload, row)?;
         }
     }
     Ok(())
@@ -268,16 +241,8 @@ fn lost_bytes_commit_no_transaction(rt: HostRuntime) -> Result<(), Fail> {
     let shown = "journal::append=1*off->1*return;journal::append_commit=1*return;\
                  journal::sync=1*off->1*panic;power::keep=1*return->1*off->1*return";
     let workload = three(rt.alloc())?;
-    let asked = comes_to(
-        &rt,
-        rt.alloc(),
-        Variant::Sound,
-        &workload,
-        shown,
-        Verdict::Pass,
-    )?;
-    assert_eq!(&rt; asked, 3);
-    Ok(())
+    let row = (shown, Verdict::Pass, 3);
+    with_its_cut(&rt, rt.alloc(), Variant::Sound, &workload, row)
 }
 
 #[test]

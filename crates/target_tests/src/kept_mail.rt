@@ -1,6 +1,7 @@
 //! Deliveries whose power cut keeps some of what is pending. One message is delivered, in the chunks `He` and `llo`. Each row is a scenario with the
 //! verdict of its run, and with how often the cut asks: once for each pending write, in the order in which they were made.
 
+use crate::runs::{Row, comes_to};
 use chunked_text::Chunks;
 use maildir_target::{Maildir, Messages, TORN, Variant};
 use scenario_values::Text;
@@ -8,14 +9,11 @@ use std::alloc::{AllocError, Global};
 use std::process::Abort;
 use std::test::Fail;
 use target_checks::outcome_of;
-use target_trait::{Outcome, Verdict, WithCut};
+use target_trait::{Verdict, WithCut};
 
 const PASS: Verdict = Verdict::Pass;
 
 const TORN_MAIL: Verdict = Verdict::Fail(TORN);
-
-/// A scenario, the verdict of its run, and how often the cut asks.
-type Row = (&'static str, Verdict, usize);
 
 /// The message.
 fn one_message(alloc: Global) -> Result<Messages, AllocError> {
@@ -27,31 +25,18 @@ fn one_message(alloc: Global) -> Result<Messages, AllocError> {
     Ok(Messages::new(messages))
 }
 
-/// How often the cut asked.
-fn keeps_asked(told: &Outcome) -> usize {
-    let mut keeps: usize = 0;
-    for point in told.asked.as_slice() {
-        if *point == 7 {
-            keeps = keeps.saturating_add(1);
-        }
-    }
-    keeps
-}
-
-/// Runs with their cuts have these verdicts, and their cuts ask so often.
-fn come_to(rt: &impl Abort, alloc: Global, variant: Variant, rows: &[Row]) -> Result<(), Fail> {
+/// Runs of a variant with their cuts come to these.
+fn come_to(rt: &impl Abort, alloc: Global, variant: Variant, rows: &[Row<'_>]) -> Result<(), Fail> {
     let workload = one_message(alloc)?;
     let mut target = WithCut::new(Maildir::new(alloc, variant));
-    for (scenario, verdict, asked) in rows {
-        let told = outcome_of(alloc, &mut target, &workload, scenario, 1000)?;
-        assert_eq!(rt; told.verdict, *verdict, "at {scenario}");
-        assert_eq!(rt; keeps_asked(&told), *asked, "at {scenario}");
+    for row in rows {
+        comes_to(rt, alloc, &mut target, &workload, *row)?;
     }
     Ok(())
 }
 
 // The name under `tmp/`, the chunks, the name under `new/` and the end of that under `tmp/`. The chunks are synced before the link is made.
-const SOUND: [Row; 11] = [
+const SOUND: [Row<'static>; 11] = [
     ("power::keep=return", PASS, 0),
     ("maildir::sync_dir=1*return", PASS, 3),
     (
@@ -86,7 +71,7 @@ fn the_sound_delivery_survives_each_cut(rt: HostRuntime) -> Result<(), Fail> {
 }
 
 // The name under `new/` is the second pending write, before any chunk.
-const LINK_FIRST: [Row; 11] = [
+const LINK_FIRST: [Row<'static>; 11] = [
     ("power::keep=return", PASS, 0),
     ("maildir::write=1*panic", PASS, 2),
     ("maildir::write=1*panic;power::keep=1*return", PASS, 2),
@@ -121,7 +106,7 @@ fn link_first_is_torn_where_the_link_is_kept(rt: HostRuntime) -> Result<(), Fail
 }
 
 // The name under `new/` is the first pending write, and the chunks follow.
-const DELIVER_IN_NEW: [Row; 15] = [
+const DELIVER_IN_NEW: [Row<'static>; 15] = [
     ("power::keep=return", PASS, 0),
     ("maildir::write=1*panic", PASS, 1),
     ("maildir::write=1*panic;power::keep=1*return", TORN_MAIL, 1),
@@ -169,22 +154,27 @@ fn deliver_in_new_is_torn_where_the_name_is_kept(rt: HostRuntime) -> Result<(), 
     come_to(&rt, rt.alloc(), Variant::DeliverInNew, &DELIVER_IN_NEW)
 }
 
-// Of the seven points it asks no link, and an unlink to clean up alone.
+// Scenarios, and the points that are asked: of the seven no link, and an unlink to clean up alone.
+const POINTS: [(&str, &[u32]); 3] = [
+    ("", &[0, 1, 2, 2, 3, 6]),
+    (
+        "maildir::sync=1*return",
+        &[0, 1, 2, 2, 3, 5, 0, 1, 2, 2, 3, 6],
+    ),
+    (
+        "maildir::sync=1*return;maildir::unlink=1*return",
+        &[0, 1, 2, 2, 3, 5],
+    ),
+];
+
 #[test]
 fn deliver_in_new_links_nothing(rt: HostRuntime) -> Result<(), Fail> {
     let alloc = rt.alloc();
     let workload = one_message(alloc)?;
     let mut target = Maildir::new(alloc, Variant::DeliverInNew);
-    let told = outcome_of(alloc, &mut target, &workload, "", 1000)?;
-    assert_eq!(rt; told.asked.as_slice(), &[0, 1, 2, 2, 3, 6][..]);
-    let again = "maildir::sync=1*return";
-    let told = outcome_of(alloc, &mut target, &workload, again, 1000)?;
-    assert_eq!(rt;
-        told.asked.as_slice(),
-        &[0, 1, 2, 2, 3, 5, 0, 1, 2, 2, 3, 6][..]
-    );
-    let stuck = "maildir::sync=1*return;maildir::unlink=1*return";
-    let told = outcome_of(alloc, &mut target, &workload, stuck, 1000)?;
-    assert_eq!(rt; told.asked.as_slice(), &[0, 1, 2, 2, 3, 5][..]);
+    for (scenario, points) in POINTS {
+        let told = outcome_of(alloc, &mut target, &workload, scenario, 1000)?;
+        assert_eq!(rt; told.asked.as_slice(), points, "at {scenario}");
+    }
     Ok(())
 }

@@ -18,6 +18,8 @@ mod kept_records;
 mod kept_writes;
 #[cfg(test)]
 mod pending_calls;
+#[cfg(test)]
+mod runs;
 mod shelf;
 #[cfg(test)]
 mod sinks;

@@ -32,62 +32,68 @@ fn are(rt: &impl Abort, calls: &[String], lines: &[&str], scenario: &str) {
     }
 }
 
-/// A replacement of `old` by the chunks `ne` and `w` tells these.
-fn replacing_tells(
-    rt: &impl Abort,
-    alloc: Global,
-    variant: Replacing,
-    scenario: &str,
-    lines: &[&str],
-) -> Result<(), Fail> {
-    let workload = small_workload(alloc)?;
-    let faults = parse(alloc, scenario)?;
-    let mut target = Replace::new(alloc, variant);
-    let calls = target.pending_calls(alloc, &workload, &case_of(&faults))?;
-    are(rt, calls.as_slice(), lines, scenario);
-    Ok(())
-}
+/// The lines that a run tells.
+type Lines = &'static [&'static str];
 
-// A sync makes the chunks last, and that of the directory the names.
+const RENAMED: Lines = &[
+    "create tmp",
+    "append tmp 0",
+    "append tmp 2",
+    "rename tmp target",
+];
+
+// A variant and a scenario, and the lines. A sync makes the chunks last, and that of the directory the names. What the cut keeps or loses changes
+// no line.
+const REPLACED: [(Replacing, &str, Lines); 8] = [
+    (Replacing::Sound, "", &[]),
+    (
+        Replacing::Sound,
+        "replace::sync_dir=1*return",
+        &["create tmp", "rename tmp target"],
+    ),
+    (
+        Replacing::Sound,
+        "replace::write=1*return",
+        &["create tmp", "append tmp 0", "unlink tmp"],
+    ),
+    (
+        Replacing::Sound,
+        "replace::write=1*off->1*pause",
+        &["create tmp", "append tmp 0"],
+    ),
+    (
+        Replacing::RetryWrite,
+        "replace::write=1*return;replace::sync=1*panic",
+        &["create tmp", "append tmp 0", "append tmp 1", "append tmp 3"],
+    ),
+    (Replacing::RenameFirst, "replace::sync=1*return", RENAMED),
+    (
+        Replacing::RenameFirst,
+        "replace::sync=1*return;power::keep=3*off->1*return",
+        RENAMED,
+    ),
+    (
+        Replacing::InPlace,
+        "replace::sync=1*return",
+        &[
+            "unlink target",
+            "create target",
+            "append target 0",
+            "append target 2",
+        ],
+    ),
+];
+
 #[test]
 fn a_replacement_tells_its_writes(rt: HostRuntime) -> Result<(), Fail> {
     let alloc = rt.alloc();
-    let sound = Replacing::Sound;
-    replacing_tells(&rt, alloc, sound, "", &[])?;
-    let named = ["create tmp", "rename tmp target"];
-    replacing_tells(&rt, alloc, sound, "replace::sync_dir=1*return", &named)?;
-    let half = ["create tmp", "append tmp 0", "unlink tmp"];
-    replacing_tells(&rt, alloc, sound, "replace::write=1*return", &half)?;
-    let paused = ["create tmp", "append tmp 0"];
-    replacing_tells(&rt, alloc, sound, "replace::write=1*off->1*pause", &paused)?;
-    let again = ["create tmp", "append tmp 0", "append tmp 1", "append tmp 3"];
-    let retried = "replace::write=1*return;replace::sync=1*panic";
-    replacing_tells(&rt, alloc, Replacing::RetryWrite, retried, &again)?;
-    Ok(())
-}
-
-// What the cut keeps or loses changes no line.
-#[test]
-fn a_replacement_tells_the_names_that_it_changes(rt: HostRuntime) -> Result<(), Fail> {
-    let alloc = rt.alloc();
-    let renamed = [
-        "create tmp",
-        "append tmp 0",
-        "append tmp 2",
-        "rename tmp target",
-    ];
-    let first = Replacing::RenameFirst;
-    replacing_tells(&rt, alloc, first, "replace::sync=1*return", &renamed)?;
-    let kept = "replace::sync=1*return;power::keep=3*off->1*return";
-    replacing_tells(&rt, alloc, first, kept, &renamed)?;
-    let unlinked = [
-        "unlink target",
-        "create target",
-        "append target 0",
-        "append target 2",
-    ];
-    let in_place = Replacing::InPlace;
-    replacing_tells(&rt, alloc, in_place, "replace::sync=1*return", &unlinked)?;
+    let workload = small_workload(alloc)?;
+    for (variant, scenario, lines) in REPLACED {
+        let faults = parse(alloc, scenario)?;
+        let mut target = Replace::new(alloc, variant);
+        let calls = target.pending_calls(alloc, &workload, &case_of(&faults))?;
+        are(&rt, calls.as_slice(), lines, scenario);
+    }
     Ok(())
 }
 
@@ -112,57 +118,73 @@ fn two_letters(alloc: Global) -> Result<Messages, AllocError> {
     Ok(Messages::new(messages))
 }
 
-/// Deliveries tell these.
+/// Deliveries tell these lines.
 fn delivering_tells(
     rt: &impl Abort,
     alloc: Global,
-    variant: Delivering,
     workload: &Messages,
-    scenario: &str,
-    lines: &[&str],
+    rows: &[(Delivering, &str, Lines)],
 ) -> Result<(), Fail> {
-    let faults = parse(alloc, scenario)?;
-    let mut target = Maildir::new(alloc, variant);
-    let calls = target.pending_calls(alloc, workload, &case_of(&faults))?;
-    are(rt, calls.as_slice(), lines, scenario);
+    for (variant, scenario, lines) in rows {
+        let faults = parse(alloc, scenario)?;
+        let mut target = Maildir::new(alloc, *variant);
+        let calls = target.pending_calls(alloc, workload, &case_of(&faults))?;
+        are(rt, calls.as_slice(), lines, scenario);
+    }
     Ok(())
 }
 
-#[test]
-fn a_delivery_tells_its_writes(rt: HostRuntime) -> Result<(), Fail> {
-    let alloc = rt.alloc();
-    let sound = Delivering::Sound;
-    let one = one_letter(alloc)?;
-    let two = two_letters(alloc)?;
-    let written = ["create tmp/1.1", "append tmp/1.1 0", "append tmp/1.1 2"];
-    delivering_tells(&rt, alloc, sound, &one, "maildir::sync=1*panic", &written)?;
+const DELIVERED: [(Delivering, &str, Lines); 4] = [
+    (
+        Delivering::Sound,
+        "maildir::sync=1*panic",
+        &["create tmp/1.1", "append tmp/1.1 0", "append tmp/1.1 2"],
+    ),
     // of the first attempt half a chunk is left, and the second lasts
-    let half = ["append tmp/1.1 0"];
-    delivering_tells(&rt, alloc, sound, &one, "maildir::write=1*return", &half)?;
-    let twice = [
-        "create tmp/1.1",
-        "append tmp/1.1 0",
-        "append tmp/1.1 2",
-        "unlink tmp/1.1",
-        "create tmp/1.2",
-        "append tmp/1.2 0",
-        "append tmp/1.2 2",
-        "unlink tmp/1.2",
-    ];
-    delivering_tells(&rt, alloc, sound, &one, "maildir::sync=return", &twice)?;
-    let linked = [
+    (
+        Delivering::Sound,
+        "maildir::write=1*return",
+        &["append tmp/1.1 0"],
+    ),
+    (
+        Delivering::Sound,
+        "maildir::sync=return",
+        &[
+            "create tmp/1.1",
+            "append tmp/1.1 0",
+            "append tmp/1.1 2",
+            "unlink tmp/1.1",
+            "create tmp/1.2",
+            "append tmp/1.2 0",
+            "append tmp/1.2 2",
+            "unlink tmp/1.2",
+        ],
+    ),
+    (
+        Delivering::DeliverInNew,
+        "maildir::sync=1*return;maildir::unlink=1*return",
+        &["create new/1.1", "append new/1.1 0", "append new/1.1 2"],
+    ),
+];
+
+const DELIVERED_TWICE: [(Delivering, &str, Lines); 1] = [(
+    Delivering::Sound,
+    "maildir::sync_dir=return",
+    &[
         "create tmp/1.1",
         "link tmp/1.1 new/1.1",
         "unlink tmp/1.1",
         "create tmp/2.1",
         "link tmp/2.1 new/2.1",
         "unlink tmp/2.1",
-    ];
-    delivering_tells(&rt, alloc, sound, &two, "maildir::sync_dir=return", &linked)?;
-    let new = ["create new/1.1", "append new/1.1 0", "append new/1.1 2"];
-    let stuck = "maildir::sync=1*return;maildir::unlink=1*return";
-    delivering_tells(&rt, alloc, Delivering::DeliverInNew, &one, stuck, &new)?;
-    Ok(())
+    ],
+)];
+
+#[test]
+fn a_delivery_tells_its_writes(rt: HostRuntime) -> Result<(), Fail> {
+    let alloc = rt.alloc();
+    delivering_tells(&rt, alloc, &one_letter(alloc)?, &DELIVERED)?;
+    delivering_tells(&rt, alloc, &two_letters(alloc)?, &DELIVERED_TWICE)
 }
 
 /// The wishes of a transaction of two participants.
@@ -188,47 +210,58 @@ fn two_agreed(alloc: Global) -> Result<Transactions, AllocError> {
     Ok(Transactions::new(2, transactions))
 }
 
-/// Commits tell these.
+/// Commits tell these lines.
 fn committing_tells(
     rt: &impl Abort,
     alloc: Global,
-    variant: Committing,
     workload: &Transactions,
-    scenario: &str,
-    lines: &[&str],
+    rows: &[(Committing, &str, Lines)],
 ) -> Result<(), Fail> {
-    let faults = parse(alloc, scenario)?;
-    let mut target = Commit::new(alloc, variant);
-    let calls = target.pending_calls(alloc, workload, &case_of(&faults))?;
-    are(rt, calls.as_slice(), lines, scenario);
+    for (variant, scenario, lines) in rows {
+        let faults = parse(alloc, scenario)?;
+        let mut target = Commit::new(alloc, *variant);
+        let calls = target.pending_calls(alloc, workload, &case_of(&faults))?;
+        are(rt, calls.as_slice(), lines, scenario);
+    }
     Ok(())
 }
+
+const ENDED: Lines = &["append coordinator end 1"];
+
+const COMMITTED: [(Committing, &str, Lines); 3] = [
+    (Committing::Sound, "", ENDED),
+    (Committing::EndFirst, "commit::send_outcome=1*return", ENDED),
+    (
+        Committing::Sound,
+        "commit::force_commit=1*return",
+        &[
+            "append participant 1 abort 1",
+            "append participant 2 abort 1",
+        ],
+    ),
+];
+
+const COMMITTED_TWICE: [(Committing, &str, Lines); 2] = [
+    // the second transaction reaches the second participant alone
+    (
+        Committing::Sound,
+        "commit::send_prepare=2*off->1*return",
+        &["append coordinator end 1", "append participant 2 abort 2"],
+    ),
+    // the first participant is told neither outcome
+    (
+        Committing::LazyPrepare,
+        "commit::send_outcome=1*return->1*off->1*return",
+        &[
+            "append participant 1 prepare 1",
+            "append participant 1 prepare 2",
+        ],
+    ),
+];
 
 #[test]
 fn a_commit_tells_its_records(rt: HostRuntime) -> Result<(), Fail> {
     let alloc = rt.alloc();
-    let one = one_agreed(alloc)?;
-    let two = two_agreed(alloc)?;
-    let ended = ["append coordinator end 1"];
-    committing_tells(&rt, alloc, Committing::Sound, &one, "", &ended)?;
-    let untold = "commit::send_outcome=1*return";
-    committing_tells(&rt, alloc, Committing::EndFirst, &one, untold, &ended)?;
-    let aborts = [
-        "append participant 1 abort 1",
-        "append participant 2 abort 1",
-    ];
-    let undecided = "commit::force_commit=1*return";
-    committing_tells(&rt, alloc, Committing::Sound, &one, undecided, &aborts)?;
-    // the second transaction reaches the second participant alone
-    let both = ["append coordinator end 1", "append participant 2 abort 2"];
-    let unasked = "commit::send_prepare=2*off->1*return";
-    committing_tells(&rt, alloc, Committing::Sound, &two, unasked, &both)?;
-    // the first participant is told neither outcome
-    let lazy = [
-        "append participant 1 prepare 1",
-        "append participant 1 prepare 2",
-    ];
-    let unheard = "commit::send_outcome=1*return->1*off->1*return";
-    committing_tells(&rt, alloc, Committing::LazyPrepare, &two, unheard, &lazy)?;
-    Ok(())
+    committing_tells(&rt, alloc, &one_agreed(alloc)?, &COMMITTED)?;
+    committing_tells(&rt, alloc, &two_agreed(alloc)?, &COMMITTED_TWICE)
 }

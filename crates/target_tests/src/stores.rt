@@ -4,7 +4,6 @@
 use sim_device::{DeviceFault, File, FileDevice};
 use std::alloc::{AllocError, Global};
 use std::process::Abort;
-use std::test::Fail;
 
 const A: u32 = 3;
 
@@ -23,68 +22,99 @@ fn with_lasting(alloc: Global, bytes: &[u8]) -> Result<FileDevice, DeviceFault> 
 }
 
 /// The file `A` holds these bytes, and those where the power is cut.
-fn holds_then(rt: &impl Abort, device: &mut FileDevice, now: &[u8], cut: &[u8]) {
-    assert_eq!(rt; device.read(A), Ok(now));
+fn holds_then(rt: &impl Abort, device: &mut FileDevice, now: &[u8], cut: &[u8], what: &str) {
+    assert_eq!(rt; device.read(A), Ok(now), "{what}");
     device.power_cut();
-    assert_eq!(rt; device.read(A), Ok(cut));
+    assert_eq!(rt; device.read(A), Ok(cut), "{what}");
 }
 
-#[test]
-fn cut_bytes_come_back_until_the_sync(rt: HostRuntime) -> Result<(), DeviceFault> {
-    let mut device = with_lasting(rt.alloc(), b"abcd")?;
-    device.truncate(A, 1)?;
-    holds_then(&rt, &mut device, b"a", b"abcd");
-    device.truncate(A, 1)?;
-    device.sync(A)?;
-    holds_then(&rt, &mut device, b"a", b"a");
+/// A call that changes the file `A`.
+#[derive(Clone, Copy)]
+enum Call<'c> {
+    Append(&'c [u8]),
+    WriteAt(usize, &'c [u8]),
+    Truncate(usize),
+    Sync,
+}
+
+use Call::{Append, Sync, Truncate, WriteAt};
+
+fn perform(device: &mut FileDevice, calls: &[Call<'_>]) -> Result<(), DeviceFault> {
+    for call in calls {
+        match *call {
+            Append(bytes) => device.append(A, bytes)?,
+            WriteAt(place, bytes) => device.write_at(A, place, bytes)?,
+            Truncate(count) => device.truncate(A, count)?,
+            Sync => device.sync(A)?,
+        }
+    }
     Ok(())
 }
 
-#[test]
-fn appends_follow_a_cut(rt: HostRuntime) -> Result<(), DeviceFault> {
-    let mut device = with_lasting(rt.alloc(), b"abcd")?;
-    device.truncate(A, 2)?;
-    device.append(A, b"xyz")?;
-    holds_then(&rt, &mut device, b"abxyz", b"abcd");
-    device.truncate(A, 2)?;
-    device.append(A, b"xyz")?;
-    device.sync(A)?;
-    device.truncate(A, 0)?;
-    holds_then(&rt, &mut device, b"", b"abxyz");
-    Ok(())
-}
+/// Calls; what the file `A` holds then, and what it holds where the power is cut then.
+type Step = (&'static [Call<'static>], &'static [u8], &'static [u8]);
+
+// What is to be seen, what the file holds at first, and the steps, one after the other.
+const RUNS: [(&str, &[u8], [Step; 2]); 5] = [
+    (
+        "cut bytes come back until the sync",
+        b"abcd",
+        [
+            (&[Truncate(1)], b"a", b"abcd"),
+            (&[Truncate(1), Sync], b"a", b"a"),
+        ],
+    ),
+    (
+        "appends follow a cut",
+        b"abcd",
+        [
+            (&[Truncate(2), Append(b"xyz")], b"abxyz", b"abcd"),
+            (
+                &[Truncate(2), Append(b"xyz"), Sync, Truncate(0)],
+                b"",
+                b"abxyz",
+            ),
+        ],
+    ),
+    (
+        "a shorter file is not cut",
+        b"ab",
+        [
+            (&[Append(b"c"), Truncate(3)], b"abc", b"ab"),
+            (&[Truncate(9)], b"ab", b"ab"),
+        ],
+    ),
+    (
+        "bytes are written over others",
+        b"abcd",
+        [
+            (&[WriteAt(1, b"XY")], b"aXYd", b"abcd"),
+            (
+                &[WriteAt(1, b"XY"), Sync, WriteAt(3, b"Z!")],
+                b"aXYZ!",
+                b"aXYd",
+            ),
+        ],
+    ),
+    (
+        "a gap holds zeros",
+        b"ab",
+        [
+            (&[WriteAt(9, b""), WriteAt(4, b"z")], b"ab\0\0z", b"ab"),
+            (&[WriteAt(2, b"c")], b"abc", b"ab"),
+        ],
+    ),
+];
 
 #[test]
-fn a_shorter_file_is_not_cut(rt: HostRuntime) -> Result<(), DeviceFault> {
-    let mut device = with_lasting(rt.alloc(), b"ab")?;
-    device.append(A, b"c")?;
-    device.truncate(A, 3)?;
-    holds_then(&rt, &mut device, b"abc", b"ab");
-    device.truncate(A, 9)?;
-    holds_then(&rt, &mut device, b"ab", b"ab");
-    Ok(())
-}
-
-#[test]
-fn bytes_are_written_over_others(rt: HostRuntime) -> Result<(), DeviceFault> {
-    let mut device = with_lasting(rt.alloc(), b"abcd")?;
-    device.write_at(A, 1, b"XY")?;
-    holds_then(&rt, &mut device, b"aXYd", b"abcd");
-    device.write_at(A, 1, b"XY")?;
-    device.sync(A)?;
-    device.write_at(A, 3, b"Z!")?;
-    holds_then(&rt, &mut device, b"aXYZ!", b"aXYd");
-    Ok(())
-}
-
-#[test]
-fn a_gap_holds_zeros(rt: HostRuntime) -> Result<(), DeviceFault> {
-    let mut device = with_lasting(rt.alloc(), b"ab")?;
-    device.write_at(A, 9, b"")?;
-    device.write_at(A, 4, b"z")?;
-    holds_then(&rt, &mut device, b"ab\0\0z", b"ab");
-    device.write_at(A, 2, b"c")?;
-    holds_then(&rt, &mut device, b"abc", b"ab");
+fn contents_are_those_now_and_after_a_power_cut(rt: HostRuntime) -> Result<(), DeviceFault> {
+    for (what, lasting, steps) in RUNS {
+        let mut device = with_lasting(rt.alloc(), lasting)?;
+        for (calls, now, cut) in steps {
+            perform(&mut device, calls)?;
+            holds_then(&rt, &mut device, now, cut, what);
+        }
+    }
     Ok(())
 }
 
@@ -93,7 +123,7 @@ fn a_name_that_is_missing_is_refused(rt: HostRuntime) -> Result<(), DeviceFault>
     let mut device = with_lasting(rt.alloc(), b"ab")?;
     assert!(rt; device.truncate(B, 0) == Err(DeviceFault::NotFound));
     assert!(rt; device.write_at(B, 0, b"x") == Err(DeviceFault::NotFound));
-    holds_then(&rt, &mut device, b"ab", b"ab");
+    holds_then(&rt, &mut device, b"ab", b"ab", "the calls are refused");
     Ok(())
 }
 
@@ -108,6 +138,13 @@ fn names_of(alloc: Global, device: &FileDevice) -> Result<Vec<u32>, AllocError> 
     Ok(names)
 }
 
+/// From these places on, these names are the next ones.
+fn finds(rt: &impl Abort, device: &FileDevice, rows: &[(u32, Option<u32>)]) {
+    for (place, name) in rows {
+        assert_eq!(rt; device.next_name(*place), *name, "from {place} on");
+    }
+}
+
 #[test]
 fn names_are_found_in_their_order(rt: HostRuntime) -> Result<(), DeviceFault> {
     let mut device = with_lasting(rt.alloc(), b"ab")?;
@@ -117,34 +154,40 @@ fn names_are_found_in_their_order(rt: HostRuntime) -> Result<(), DeviceFault> {
         names_of(rt.alloc(), &device)?.as_slice(),
         [A, B, C].as_slice()
     );
-    assert_eq!(rt; device.next_name(0), Some(A));
-    assert_eq!(rt; device.next_name(A + 1), Some(B));
-    assert_eq!(rt; device.next_name(C + 1), None);
+    finds(
+        &rt,
+        &device,
+        &[(0, Some(A)), (A + 1, Some(B)), (C + 1, None)],
+    );
     device.unlink(A)?;
-    assert_eq!(rt; device.next_name(0), Some(B));
+    finds(&rt, &device, &[(0, Some(B))]);
     device.power_cut();
-    assert_eq!(rt; device.next_name(0), Some(A));
-    assert_eq!(rt; device.next_name(A + 1), None);
+    finds(&rt, &device, &[(0, Some(A)), (A + 1, None)]);
     Ok(())
 }
 
+/// The file holds these bytes.
+fn has(rt: &impl Abort, file: &File, bytes: &[u8]) {
+    assert_eq!(rt; file.read(), bytes);
+}
+
 #[test]
-fn a_file_by_itself_is_written_and_cut(rt: HostRuntime) -> Result<(), Fail> {
+fn a_file_by_itself_is_written_and_cut(rt: HostRuntime) -> Result<(), AllocError> {
     let mut file = File::new(rt.alloc());
     file.append(b"abcd")?;
     file.sync();
     file.write_at(3, b"XY")?;
-    assert_eq!(rt; file.read(), b"abcXY".as_slice());
+    has(&rt, &file, b"abcXY");
     file.truncate(1)?;
-    assert_eq!(rt; file.read(), b"a".as_slice());
+    has(&rt, &file, b"a");
     file.cut();
-    assert_eq!(rt; file.read(), b"abcd".as_slice());
+    has(&rt, &file, b"abcd");
     file.truncate(2)?;
     file.sync();
     file.cut();
-    assert_eq!(rt; file.read(), b"ab".as_slice());
+    has(&rt, &file, b"ab");
     file.clear();
     file.cut();
-    assert_eq!(rt; file.read(), b"".as_slice());
+    has(&rt, &file, b"");
     Ok(())
 }

@@ -1,5 +1,6 @@
 //! Runs of the transfer.
 
+use crate::runs::asks;
 use example_target::{Amount, Care, Transfer};
 use std::alloc::Global;
 use std::test::Fail;
@@ -17,49 +18,57 @@ fn transferred(alloc: Global, care: Care, scenario: &str, max_hits: u32) -> Resu
 fn asks_both_points_without_faults(rt: HostRuntime) -> Result<(), Fail> {
     for care in [Care::Careful, Care::Careless] {
         let told = transferred(rt.alloc(), care, "", 10)?;
-        assert_eq!(rt; told.verdict, Verdict::Pass);
-        assert_eq!(rt; told.asked.as_slice(), [0, 1].as_slice());
-        assert_eq!(rt; told.notes.len(), 0);
-        assert_eq!(rt; told.millis, 0);
-        assert_eq!(rt; told.words, 0);
+        asks(&rt, &told, Verdict::Pass, &[0, 1], "");
+        let rest = [told.notes.len() as u64, told.millis, told.words];
+        assert!(rt; rest == [0, 0, 0]);
     }
     Ok(())
 }
 
-#[test]
-fn a_refused_give_loses_what_isnt_put_back(rt: HostRuntime) -> Result<(), Fail> {
-    let scenario = "transfer::give=return";
-    let careful = transferred(rt.alloc(), Care::Careful, scenario, 10)?;
-    assert_eq!(rt; careful.verdict, Verdict::Pass);
-    let careless = transferred(rt.alloc(), Care::Careless, scenario, 10)?;
-    assert_eq!(rt; careless.verdict, Verdict::Fail(0));
-    assert_eq!(rt; careless.asked.as_slice(), [0, 1].as_slice());
-    Ok(())
-}
+// How the transfer goes about, a scenario, and how many hits are answered; the verdict, and the points that are asked.
+const RUNS: [(Care, &str, u32, Verdict, &[u32]); 7] = [
+    // a refused give loses what isn't put back
+    (
+        Care::Careful,
+        "transfer::give=return",
+        10,
+        Verdict::Pass,
+        &[0, 1],
+    ),
+    (
+        Care::Careless,
+        "transfer::give=return",
+        10,
+        Verdict::Fail(0),
+        &[0, 1],
+    ),
+    // a panic is judged, and a pause is not
+    (
+        Care::Careful,
+        "transfer::give=panic",
+        10,
+        Verdict::Fail(0),
+        &[0, 1],
+    ),
+    (
+        Care::Careful,
+        "transfer::give=pause",
+        10,
+        Verdict::Unresolved,
+        &[0, 1],
+    ),
+    // the hit past the limit isn't asked
+    (Care::Careful, "", 0, Verdict::Unresolved, &[]),
+    (Care::Careful, "", 1, Verdict::Unresolved, &[0]),
+    (Care::Careful, "", 2, Verdict::Pass, &[0, 1]),
+];
 
 #[test]
-fn a_panic_is_judged_and_a_pause_is_not(rt: HostRuntime) -> Result<(), Fail> {
-    let halted = "transfer::give=panic";
-    let told = transferred(rt.alloc(), Care::Careful, halted, 10)?;
-    assert_eq!(rt; told.verdict, Verdict::Fail(0));
-    assert_eq!(rt; told.asked.as_slice(), [0, 1].as_slice());
-    let paused = "transfer::give=pause";
-    let told = transferred(rt.alloc(), Care::Careful, paused, 10)?;
-    assert_eq!(rt; told.verdict, Verdict::Unresolved);
-    assert_eq!(rt; told.asked.as_slice(), [0, 1].as_slice());
-    Ok(())
-}
-
-#[test]
-fn the_hit_past_the_limit_isnt_asked(rt: HostRuntime) -> Result<(), Fail> {
-    let none = transferred(rt.alloc(), Care::Careful, "", 0)?;
-    assert_eq!(rt; none.verdict, Verdict::Unresolved);
-    assert_eq!(rt; none.asked.len(), 0);
-    let short = transferred(rt.alloc(), Care::Careful, "", 1)?;
-    assert_eq!(rt; short.verdict, Verdict::Unresolved);
-    assert_eq!(rt; short.asked.as_slice(), [0].as_slice());
-    let enough = transferred(rt.alloc(), Care::Careful, "", 2)?;
-    assert_eq!(rt; enough.verdict, Verdict::Pass);
+fn runs_have_their_verdicts(rt: HostRuntime) -> Result<(), Fail> {
+    for (care, scenario, max_hits, verdict, asked) in RUNS {
+        let told = transferred(rt.alloc(), care, scenario, max_hits)?;
+        asks(&rt, &told, verdict, asked, scenario);
+    }
     Ok(())
 }
 

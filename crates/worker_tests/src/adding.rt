@@ -85,6 +85,9 @@ pub fn finished<'a, R: Threads + Wait + Sync, G: Gate>(
     }
 }
 
+/// How many tickets a run has, and how many were performed over all runs by its end.
+pub type Tickets = (u32, u64);
+
 /// How many tickets the workers performed over all their runs.
 pub fn performed<J: Job>(workers: &[Worker<J>]) -> u64 {
     let mut all = 0u64;

@@ -1,6 +1,6 @@
 ghost use Rattle.std.specs.Prelude.{◌≤◌};
 
-use crate::plain_rows::{is_found, needs_both};
+use crate::plain_rows::{Found, OF_EIGHT, OF_THREE, is_found, needs_both};
 use ddmin_parallel::{Board, Core, Event, FaultSet, Probe, RequestFault, TestRequest};
 use std::alloc::{AllocError, Global};
 use std::process::Abort;
@@ -53,27 +53,23 @@ fn requests_of<P: Probe>(alloc: Global, probe: &mut P, core: &mut Core) -> Resul
 }
 
 /// A core hands out so many requests until it is finished, and has counted so many tests.
-fn has_requests(
-    rt: &impl Abort,
-    alloc: Global,
-    faults: u32,
-    culprits: [u32; 2],
-    requests: u64,
-    tests: u64,
-) -> Result<(), AllocError>
-    requires { faults ≤ 4096 }
+fn has_requests(rt: &impl Abort, alloc: Global, row: &Found) -> Result<(), AllocError>
+    requires { row.now.faults ≤ 4096 }
 {
-    let mut core = Core::start(alloc, faults);
-    let mut probe = needs_both(culprits[0], culprits[1]);
-    assert_eq!(rt; requests_of(alloc, &mut probe, &mut core)?, requests);
-    assert!(rt; is_end(&core, &culprits, tests));
+    let mut core = Core::start(alloc, row.faults);
+    let mut probe = needs_both(row.culprits[0], row.culprits[1]);
+    assert_eq!(rt;
+        requests_of(alloc, &mut probe, &mut core)?,
+        row.asked_by_core
+    );
+    assert!(rt; is_end(&core, row.kept, row.tests));
     Ok(())
 }
 
 #[test]
 fn requests_one_by_one(rt: HostRuntime) -> Result<(), AllocError> {
-    has_requests(&rt, rt.alloc(), 8, [2, 6], 17, 29)?;
-    has_requests(&rt, rt.alloc(), 3, [0, 2], 6, 10)
+    has_requests(&rt, rt.alloc(), &OF_EIGHT)?;
+    has_requests(&rt, rt.alloc(), &OF_THREE)
 }
 
 #[test]
@@ -326,8 +322,9 @@ fn sets_are_kept_as_runs(rt: HostRuntime) -> Result<(), AllocError> {
         let set = FaultSet::pack(rt.alloc(), faults)?;
         assert_eq!(&rt; set.runs(), runs);
         assert_eq!(&rt; set.faults(rt.alloc())?.as_slice(), faults);
-        assert!(&rt; set.is(&FaultSet::pack(rt.alloc(), faults)?));
-        assert!(&rt; !set.is(&FaultSet::pack(rt.alloc(), &[0, 2])?));
+        for (other, same) in [(faults, true), (&[0, 2], false)] {
+            assert!(&rt; set.is(&FaultSet::pack(rt.alloc(), other)?) == same);
+        }
     }
     Ok(())
 }

@@ -1,6 +1,6 @@
 //! What the workers of a run perform, and what they have performed over all their runs.
 
-use crate::adding::{Adder, adders, finished, have_performed, is_each_once};
+use crate::adding::{Adder, Tickets, adders, finished, have_performed, is_each_once};
 use std::alloc::Global;
 use std::process::Abort;
 use std::sync::Wait;
@@ -16,9 +16,9 @@ pub fn ran<'a, R: Abort + Threads + Wait + Sync>(
     alloc: Global,
     workers: Vec<Worker<Adder<'a>>>,
     calls: &AtomicU64,
-    count: u32,
-    performed: u64,
+    tickets: Tickets,
 ) -> Result<Vec<Worker<Adder<'a>>>, Fail> {
+    let (count, performed) = tickets;
     let done = finished(rt, alloc, &FreeGate, workers, count)?;
     assert_eq!(rt; done.answers.len(), 3);
     assert!(rt; is_each_once(alloc, &done.answers, count as usize)?);
@@ -32,8 +32,8 @@ fn three_runs_of_three_workers(rt: HostRuntime) -> Result<(), Fail> {
     let alloc = rt.alloc();
     let calls = AtomicU64::new(0);
     let mut workers = adders(alloc, &calls, 3, 0)?;
-    for (count, performed) in [(19, 19), (19, 38), (0, 38)] {
-        workers = ran(&rt, alloc, workers, &calls, count, performed)?;
+    for tickets in [(19, 19), (19, 38), (0, 38)] {
+        workers = ran(&rt, alloc, workers, &calls, tickets)?;
     }
     Ok(())
 }

@@ -43,33 +43,54 @@ fn is_by_core<P: Probe>(
     Ok(is_found(&reduce_by_core(alloc, probe, faults)?, kept, tests))
 }
 
-/// Two culprits, or one that is named twice, are found by the recursion, which asks for each test, and by a core, which asks so often.
-fn finds_two(
-    rt: &impl Abort,
-    alloc: Global,
-    culprits: [u32; 2],
-    faults: u32,
-    kept: &[u32],
-    tests: u64,
-    asked_by_core: u64,
-) -> Result<(), AllocError>
-    requires { faults ≤ 4096 }
+/// What is found of two culprits, or of one that is named twice.
+#[derive(Clone, Copy)]
+pub(crate) struct Found {
+    pub(crate) faults: u32,
+    pub(crate) culprits: [u32; 2],
+    pub(crate) kept: &'static [u32],
+    /// How many tests are counted. The recursion asks for each.
+    pub(crate) tests: u64,
+    /// How many tests a core asks for: each set once.
+    pub(crate) asked_by_core: u64,
+}
+
+/// Of the 29 tests 17 are of sets not met before.
+pub(crate) const OF_EIGHT: Found = Found {
+    faults: 8,
+    culprits: [2, 6],
+    kept: &[2, 6],
+    tests: 29,
+    asked_by_core: 17,
+};
+
+pub(crate) const OF_THREE: Found = Found {
+    faults: 3,
+    culprits: [0, 2],
+    kept: &[0, 2],
+    tests: 10,
+    asked_by_core: 6,
+};
+
+/// This is found by the recursion and by a core, which ask so often.
+fn finds(rt: &impl Abort, alloc: Global, row: &Found) -> Result<(), AllocError>
+    requires { row.now.faults ≤ 4096 }
 {
-    let mut probe = needs_both(culprits[0], culprits[1]);
-    assert!(rt; is_by_plain(alloc, &mut probe, faults, kept, tests)?);
-    assert_eq!(rt; probe.asked, tests);
-    let mut probe = needs_both(culprits[0], culprits[1]);
-    assert!(rt; is_by_core(alloc, &mut probe, faults, kept, tests)?);
-    assert_eq!(rt; probe.asked, asked_by_core);
+    let [first, second] = row.culprits;
+    let mut probe = needs_both(first, second);
+    assert!(rt; is_by_plain(alloc, &mut probe, row.faults, row.kept, row.tests)?);
+    assert_eq!(rt; probe.asked, row.tests);
+    let mut probe = needs_both(first, second);
+    assert!(rt; is_by_core(alloc, &mut probe, row.faults, row.kept, row.tests)?);
+    assert_eq!(rt; probe.asked, row.asked_by_core);
     Ok(())
 }
 
-/// By the core each set is asked once: of the 29 tests of eight faults 17 are of sets not met before.
 // Wrong body: core_runs_the_plain_recursion. What it finds is the same, so the questions are counted.
 #[test]
 fn two_culprits(rt: HostRuntime) -> Result<(), AllocError> {
-    finds_two(&rt, rt.alloc(), [2, 6], 8, &[2, 6], 29, 17)?;
-    finds_two(&rt, rt.alloc(), [0, 2], 3, &[0, 2], 10, 6)
+    finds(&rt, rt.alloc(), &OF_EIGHT)?;
+    finds(&rt, rt.alloc(), &OF_THREE)
 }
 
 /// The recursion and a core find this where every set fails.
@@ -109,5 +130,12 @@ fn a_test_that_is_not_monotone(rt: HostRuntime) -> Result<(), AllocError> {
 /// second. 2730 is 101010101010 in binary, so six times it is in the second.
 #[test]
 fn one_culprit_of_the_most_faults(rt: HostRuntime) -> Result<(), AllocError> {
-    finds_two(&rt, rt.alloc(), [2730, 2730], 4096, &[2730], 19, 19)
+    let row = Found {
+        faults: 4096,
+        culprits: [2730, 2730],
+        kept: &[2730],
+        tests: 19,
+        asked_by_core: 19,
+    };
+    finds(&rt, rt.alloc(), &row)
 }

@@ -16,7 +16,7 @@ use worker_pool::{Gathered, Worker};
 fn first_performs_refused(rt: HostRuntime) -> Result<(), Fail> {
     let calls = AtomicU64::new(0);
     let workers = adders(rt.alloc(), &calls, 3, 1)?;
-    let _workers = ran(&rt, rt.alloc(), workers, &calls, 19, 19)?;
+    let _workers = ran(&rt, rt.alloc(), workers, &calls, (19, 19))?;
     Ok(())
 }
 
@@ -58,6 +58,6 @@ fn a_refusal_loses_nothing(rt: HostRuntime) -> Result<(), Fail> {
     assert!(rt; before <= 19);
     have_performed(&rt, &workers, &calls, before);
     assert_eq!(rt; workers.len(), 3);
-    let _workers = ran(&rt, alloc, workers, &calls, 19, before + 19)?;
+    let _workers = ran(&rt, alloc, workers, &calls, (19, before + 19))?;
     Ok(())
 }

@@ -1,7 +1,7 @@
 //! Workers that run the plans of the small workload: the contents `old`, replaced by the chunks `ne` and `w`.
 ghost use Rattle.std.specs.Prelude.{◌^◌, ⊤};
 
-use crate::adding::{Setup, have_performed};
+use crate::adding::{Setup, Tickets, have_performed};
 use campaign_given::CampaignSettings;
 use campaign_plans::CampaignPlans;
 use file_replace::{Replace, Replacements, Variant};
@@ -132,9 +132,9 @@ fn ran<'a, R: Threads + Wait + Abort + Sync>(
     alloc: Global,
     workers: Vec<Worker<Runner<'a>>>,
     calls: &AtomicU64,
-    count: u32,
-    performed: u64,
+    tickets: Tickets,
 ) -> Result<Vec<Worker<Runner<'a>>>, Fail> {
+    let (count, performed) = tickets;
     let done = run(rt, alloc, workers, count)?;
     assert_eq!(rt; done.answers.len(), 3);
     assert!(rt; passes_each_once(&done.answers, count));
@@ -150,8 +150,8 @@ fn are_run<R: Threads + Wait + Abort + Sync>(
 ) -> Result<(), Fail> {
     let calls = AtomicU64::new(0);
     let mut workers = three_workers(alloc, input, &calls)?;
-    for (count, performed) in [(19, 19), (19, 38), (0, 38)] {
-        workers = ran(rt, alloc, workers, &calls, count, performed)?;
+    for tickets in [(19, 19), (19, 38), (0, 38)] {
+        workers = ran(rt, alloc, workers, &calls, tickets)?;
     }
     Ok(())
 }

@@ -4,7 +4,7 @@ ghost use Rattle.std.specs.List.{list_any};
 use crate::made::{Counts, Culprits};
 use crate::plain_rows::{is_found, needs_both};
 use crate::probes::has;
-use crate::workers::{Twin, reduced_by};
+use crate::workers::{Size, Twin, reduced_by};
 use ddmin_parallel::{Probe, Reduction, reduce_by_core, reduce_plain};
 use std::alloc::{AllocError, Global};
 use std::rt::Clock;
@@ -16,6 +16,12 @@ use std::time::Duration;
 use work_gate::{FreeGate, Gate, Phase};
 
 const TURNS: u32 = 10_000;
+
+/// Two workers, of eight faults.
+const TWO: Size = Size {
+    workers: 2,
+    faults: 8,
+};
 
 /// Two that wait for each other, each for so many turns of a millisecond at most, and what is left of each
 /// that was late.
@@ -85,7 +91,7 @@ fn two_requests_meet_at_the_gate(rt: HostRuntime) -> Result<(), AllocError> {
         rt: &rt,
         meeting: &meeting,
     };
-    let found = reduced_by(&rt, rt.alloc(), &gate, &needs_both(2, 6), 2, 8)?;
+    let found = reduced_by(&rt, rt.alloc(), &gate, &needs_both(2, 6), &TWO)?;
     assert!(&rt; is_found(&found, &[2, 6], 29));
     assert!(&rt; meeting.was_held());
     Ok(())
@@ -166,7 +172,7 @@ fn two_requests_meet_in_the_test(rt: HostRuntime) -> Result<(), AllocError> {
         meeting: &meeting,
         asked: asked.as_slice(),
     };
-    let found = reduced_by(&rt, rt.alloc(), &FreeGate, &probe, 2, 8)?;
+    let found = reduced_by(&rt, rt.alloc(), &FreeGate, &probe, &TWO)?;
     assert!(&rt; is_found(&found, &[2, 6], 29));
     assert!(&rt; meeting.was_held());
     assert!(&rt; are_at_most_one(asked.as_slice()));
@@ -205,10 +211,14 @@ impl Twin for Refuses {
 fn workers_that_leave(rt: HostRuntime) -> Result<(), AllocError> {
     let alloc = rt.alloc();
     let once = Refuses { refusals: 1 };
-    let found = reduced_by(&rt, alloc, &FreeGate, &once, 3, 8)?;
+    let three = Size {
+        workers: 3,
+        faults: 8,
+    };
+    let found = reduced_by(&rt, alloc, &FreeGate, &once, &three)?;
     assert!(&rt; is_found(&found, &[2, 6], 29));
     let always = Refuses { refusals: 1000 };
-    assert!(&rt; reduced_by(&rt, alloc, &FreeGate, &always, 3, 8).is_err());
+    assert!(&rt; reduced_by(&rt, alloc, &FreeGate, &always, &three).is_err());
     Ok(())
 }
 
@@ -223,7 +233,8 @@ fn is_by_workers<R: Threads + Wait + Sync, P: Twin>(
     requires { faults ≤ 4096 }
 {
     for workers in [1, 2, 8] {
-        let found = reduced_by(rt, alloc, &FreeGate, probe, workers, faults)?;
+        let size = Size { workers, faults };
+        let found = reduced_by(rt, alloc, &FreeGate, probe, &size)?;
         if !is_found(&found, plain.kept.as_slice(), plain.tests) {
             return Ok(false);
         }

@@ -25,19 +25,25 @@ fn workers_of<P: Twin>(alloc: Global, probe: &P, count: usize) -> Result<Vec<P>,
     Ok(workers)
 }
 
+/// How many workers reduce how many faults.
+#[derive(Clone, Copy)]
+pub struct Size {
+    pub workers: usize,
+    pub faults: u32,
+}
+
 /// Reduces the faults with so many twins of a probe.
 pub fn reduced_by<R: Threads + Wait + Sync, P: Twin, G: Gate>(
     rt: &R,
     alloc: Global,
     gate: &G,
     probe: &P,
-    count: usize,
-    faults: u32,
+    size: &Size,
 ) -> Result<Reduction, AllocError>
-    requires some { 0 < count }
-    requires few { faults ≤ 4096 }
-    ensures { IfOk result (λ r. r ≡ ddmin (P.answers probe.now) faults) }
+    requires some { 0 < size.now.workers }
+    requires few { size.now.faults ≤ 4096 }
+    ensures { IfOk result (λ r. r ≡ ddmin (P.answers probe.now) size.now.faults) }
 {
-    let workers = workers_of(alloc, probe, count)?;
-    reduce(rt, alloc, gate, workers, faults)
+    let workers = workers_of(alloc, probe, size.workers)?;
+    reduce(rt, alloc, gate, workers, size.faults)
 }
