@@ -66,6 +66,7 @@ fn transactions(
 }
 
 /// Plays a run up to where it is judged, from empty logs on.
+#[inline(always)]
 pub fn play_out(
     script: Script<'_>,
     progress: &mut Progress,

@@ -93,6 +93,7 @@ impl<'w> Progress<'w> {
     }
 
     /// Whether these contents are allowed.
+    #[inline(always)]
     pub fn allows(&self, bytes: &[u8]) -> bool
         ensures { result ≡ is_among bytes.now self.now.past.allowed }
     {

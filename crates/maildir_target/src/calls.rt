@@ -59,6 +59,7 @@ pub fn sync<D: Device>(delivery: &Delivery<'_>, device: &mut D)
 }
 
 /// The file is also under `new/`, where that name isn't there.
+#[inline(always)]
 pub fn link<D: Device>(delivery: &Delivery<'_>, device: &mut D) -> Result<(), AllocError>
     requires named { IsNamed delivery.now }
     requires from { is_none (entry_at (D.names device.old) (written_of_delivery delivery.now)).live ≡ false }
@@ -69,6 +70,7 @@ pub fn link<D: Device>(delivery: &Delivery<'_>, device: &mut D) -> Result<(), Al
 }
 
 /// The name that was written is gone.
+#[inline(always)]
 pub fn unlink<D: Device>(delivery: &Delivery<'_>, device: &mut D) -> Result<(), AllocError>
     requires named { IsNamed delivery.now }
     requires there { is_none (entry_at (D.names device.old) (written_of_delivery delivery.now)).live ≡ false }
