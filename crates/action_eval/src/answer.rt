@@ -1,5 +1,6 @@
 //! What hits are answered, and what the tasks of terms do.
 ghost use Rattle.std.specs.Prelude.{◌≡◌, ◌++◌, OnOk, OnErr};
+ghost use Rattle.scenario_values.specs.declared.term.Task.TheVariants as task;
 ghost use Rattle.action_eval.specs.Answers.{did, reply_of, reply_of_answer, millis_of, stop_of, notes_of_task};
 
 use scenario_values::{Task, Text};
@@ -36,37 +37,53 @@ pub struct Note {
     pub text: Option<Text>,
 }
 
-/// The answer where a task acts.
-pub fn answer_of(task: Option<&Task>) -> Answer<'_>
-    ensures { reply_of_answer result ≡ reply_of (did task.entry) }
+/// What a task that acts does to a run.
+#[derive(Clone, Copy, Debug)]
+pub struct Effect<'a> {
+    /// What the hit is answered.
+    pub answer: Answer<'a>,
+    /// What it stops, if anything.
+    pub stop: Option<Stop>,
+    /// The simulated milliseconds that it takes.
+    pub millis: u32,
+}
+
+/// What acts where a task does; without one, nothing.
+// One look at the task tells all three.
+pub fn effect_of(task: Option<&Task>) -> Effect<'_>
+    ensures answer { reply_of_answer result.answer ≡ reply_of (did task.entry) }
+    ensures stop { result.stop ≡ stop_of (did task.entry) }
+    ensures millis { result.millis ≡ millis_of (did task.entry) }
 {
-    match task {
-        Some(Task::Return(Some(text))) => Answer::Return(Some(text.as_str())),
-        Some(Task::Return(None)) => Answer::Return(None),
-        Some(Task::Panic(_) | Task::Pause) => Answer::Halt,
-        _ => Answer::Go,
+    let (answer, stop, millis) = match task {
+        Some(Task::Return(Some(text))) => (Answer::Return(Some(text.as_str())), None, 0),
+        Some(Task::Return(None)) => (Answer::Return(None), None, 0),
+        Some(Task::Panic(_)) => (Answer::Halt, Some(Stop::Panic), 0),
+        Some(Task::Pause) => (Answer::Halt, Some(Stop::Paused), 0),
+        Some(Task::Sleep(millis) | Task::Delay(millis)) => (Answer::Go, None, *millis),
+        _ => (Answer::Go, None, 0),
+    };
+    Effect {
+        answer,
+        stop,
+        millis,
     }
 }
 
-/// What stops where a task acts.
-pub fn stop_of(task: Option<&Task>) -> Option<Stop>
-    ensures { result ≡ stop_of (did task.entry) }
+/// Adds the note of a `print`.
+// Few tasks print: away from those that don't, the others need fewer registers.
+#[cold]
+#[inline(never)]
+fn push_print(notes: &mut Vec<Note>, point: u32, text: &Option<Text>) -> Result<(), AllocError>
+    ensures ok { OnOk result (notes.new.items ≡ notes.old.items ++ notes_of_task point (task.Print text.now)) }
+    ensures err { OnErr result (notes.new.items ≡ notes.old.items) }
 {
-    match task {
-        Some(Task::Panic(_)) => Some(Stop::Panic),
-        Some(Task::Pause) => Some(Stop::Paused),
-        _ => None,
-    }
-}
-
-/// The milliseconds where a task acts.
-pub fn millis_of(task: Option<&Task>) -> u32
-    ensures { result ≡ millis_of (did task.entry) }
-{
-    match task {
-        Some(Task::Sleep(millis) | Task::Delay(millis)) => *millis,
-        _ => 0,
-    }
+    let text = match text {
+        Some(text) => Some(text.try_clone()?),
+        None => None,
+    };
+    notes.push(Note { point, text })?;
+    Ok(())
 }
 
 /// Adds the note of a task that acts, if it leaves one.
@@ -74,12 +91,8 @@ pub fn push_note(notes: &mut Vec<Note>, point: u32, task: &Task) -> Result<(), A
     ensures ok { OnOk result (notes.new.items ≡ notes.old.items ++ notes_of_task point task.now) }
     ensures err { OnErr result (notes.new.items ≡ notes.old.items) }
 {
-    if let Task::Print(text) = task {
-        let text = match text {
-            Some(text) => Some(text.try_clone()?),
-            None => None,
-        };
-        notes.push(Note { point, text })?;
+    match task {
+        Task::Print(text) => push_print(notes, point, text),
+        _ => Ok(()),
     }
-    Ok(())
 }

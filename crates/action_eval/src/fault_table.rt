@@ -1,8 +1,8 @@
 //! Faults rigged for hits of points, laid out for a session.
-ghost use Rattle.std.specs.Prelude.{◌≡◌, ◌-◌, ◌∷◌, ◌++◌, [], ◌≤◌, ◌^◌, OnOk, OnErr, IfOk, length, map};
+ghost use Rattle.std.specs.Prelude.{◌≡◌, ◌-◌, ◌∷◌, ◌++◌, [], ◌<◌, ◌≤◌, ◌^◌, None, Some, OnOk, OnErr, IfOk, length, map, vec_len, vec_capacity};
 ghost use Rattle.action_eval.specs.Answers.{texts};
 ghost use Rattle.action_eval.specs.Catalogue.{IsCatalogue, HasDistinct};
-ghost use Rattle.action_eval.specs.RiggedScenario.{term_of, offs, terms_at, done_after, chain_from, rigged_scenario, CanBeRigged, rigged_as};
+ghost use Rattle.action_eval.specs.RiggedScenario.{full, term_of, text_of, offs, terms_at, done_after, chain_from, rigged_scenario, CanBeRigged, rigged_as};
 ghost use Rattle.action_eval.specs.inside.Laid.{joined, sizes_of, laid, AreSizes};
 ghost use Rattle.scenario_values.specs.Scenario.{IsScenario};
 ghost use Rattle.scenario_values.specs.declared.term.Task.TheVariants as task;
@@ -10,7 +10,6 @@ ghost use Rattle.std.specs.List.{slice_range};
 ghost use Rattle.action_eval.specs.inside.Layout.{IsLayout};
 ghost use Rattle.action_eval.specs.inside.Session.{terms_of};
 
-use crate::argument::Argument;
 use crate::counts::push_counts;
 use crate::found::{Found, Layout, Span, first_head};
 use crate::rig::{Kind, Rig};
@@ -19,33 +18,47 @@ use scenario_values::{Task, Term, Text};
 use std::alloc::{AllocError, Global};
 use std::marker::Model;
 
-/// The task of a return with this text, or none.
-fn return_of(alloc: Global, text: &Argument) -> Result<Task, AllocError>
-    ensures { IfOk result (λ what. what ≡ task.Return text.now) }
+/// How many hits the term of a rigged hit answers; without a count, each from then on.
+fn count_of(kind: &Kind) -> Option<u32>
+    ensures { result ≡ (term_of kind.now).count }
 {
-    match text.as_str() {
-        Some(text) => Ok(Task::Return(Some(Text::copy_of(alloc, text)?))),
-        None => Ok(Task::Return(None)),
+    match kind {
+        Kind::OnwardReturn(_) => None,
+        Kind::OnceReturn(_) | Kind::OncePanic => Some(1),
     }
 }
 
-/// The term of a rigged hit. An error means that memory was refused.
-fn term_of(alloc: Global, kind: &Kind) -> Result<Term, AllocError>
-    ensures { IfOk result (λ term. term ≡ term_of kind.now) }
+/// The term of a rigged hit without a text.
+fn plain_term(kind: &Kind) -> Term
+    requires { text_of kind.now ≡ None }
+    ensures { result ≡ term_of kind.now }
 {
-    let count = match kind {
-        Kind::OnwardReturn(_) => None,
-        Kind::OnceReturn(_) | Kind::OncePanic => Some(1),
-    };
     let task = match kind {
-        Kind::OnceReturn(text) | Kind::OnwardReturn(text) => return_of(alloc, text)?,
+        Kind::OnceReturn(_) | Kind::OnwardReturn(_) => Task::Return(None),
         Kind::OncePanic => Task::Panic(None),
     };
-    Ok(Term {
+    Term {
+        share: FULL_SHARE,
+        count: count_of(kind),
+        task,
+    }
+}
+
+/// Adds the term of a return with a text, for which there is room.
+// Few rigged hits have a text: the others are added without a place for one.
+#[cold]
+#[inline(never)]
+fn push_return(terms: &mut Vec<Term>, count: Option<u32>, text: &str) -> Result<(), AllocError>
+    requires { vec_len terms.old < vec_capacity terms.old }
+    ensures { OnOk result (terms.new.items ≡ terms.old.items ++ full count (task.Return (Some text.now)) ∷ []) }
+{
+    let text = Text::copy_of(*terms.allocator(), text)?;
+    terms.push_reserved(Term {
         share: FULL_SHARE,
         count,
-        task,
-    })
+        task: Task::Return(Some(text)),
+    });
+    Ok(())
 }
 
 /// Adds the terms of a rigged hit of this number and kind, after some hits of its point.
@@ -54,16 +67,19 @@ fn term_of(alloc: Global, kind: &Kind) -> Result<Term, AllocError>
 fn push_rigged(terms: &mut Vec<Term>, done: u32, hit: u32, kind: &Kind) -> Result<(), AllocError>
     ensures { OnOk result (terms.new.items ≡ terms.old.items ++ offs (hit - done - 1) ++ term_of kind.now ∷ []) }
 {
+    terms.reserve(2)?;
     let between = hit.saturating_sub(done).saturating_sub(1);
     if between > 0 {
-        terms.push(Term {
+        terms.push_reserved(Term {
             share: FULL_SHARE,
             count: Some(between),
             task: Task::Off,
-        })?;
+        });
     }
-    let term = term_of(*terms.allocator(), kind)?;
-    terms.push(term)?;
+    match kind.as_str() {
+        Some(text) => push_return(terms, count_of(kind), text)?,
+        None => terms.push_reserved(plain_term(kind)),
+    }
     Ok(())
 }
 
@@ -106,10 +122,11 @@ fn lay(
 {
     terms.clear();
     sizes.clear();
+    sizes.reserve(count as usize)?;
     for point in 0..count {
         let before = terms.len();
         push_chain(terms, point, rigs)?;
-        sizes.push(terms.len() - before)?;
+        sizes.push_reserved(terms.len() - before);
     }
     Ok(())
 }

@@ -4,7 +4,7 @@ ghost use Rattle.action_eval.specs.Answers.{texts, run_of, history_of, hit_by, d
 ghost use Rattle.action_eval.specs.inside.Session.{found_of, left_after};
 ghost use Rattle.action_eval.specs.inside.Replay.{chain_or_none, trial_by};
 
-use crate::answer::{Stop, stop_of};
+use crate::answer::{Stop, effect_of};
 use crate::counts::{fill_counts, spend};
 use crate::draws::Draws;
 use crate::found::{Found, chain_in, find};
@@ -57,7 +57,7 @@ impl<'a> Answered<'a> {
     pub fn stop(&self) -> Option<Stop>
         ensures { result ≡ stop_of self.now.did }
     {
-        stop_of(self.task)
+        effect_of(self.task).stop
     }
 
     /// Whether it was the term of this place, from 0, in the chain of this name that acted.

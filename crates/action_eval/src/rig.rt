@@ -1,5 +1,5 @@
 //! Hits that faults are planned at.
-ghost use Rattle.std.specs.Prelude.{◌≡◌};
+ghost use Rattle.std.specs.Prelude.{◌≡◌, option_map};
 ghost use Rattle.action_eval.specs.RiggedScenario.{text_of, HasLawfulText, HaveLawfulTexts};
 
 use crate::argument::Argument;
@@ -39,6 +39,16 @@ impl Kind {
         match self {
             Kind::OnceReturn(text) | Kind::OnwardReturn(text) => text,
             Kind::OncePanic => Argument::none(),
+        }
+    }
+
+    /// The text with which it fails, if with one.
+    pub(crate) fn as_str(&self) -> Option<&str>
+        ensures { option_map (λ text. text.now) result ≡ text_of self.now }
+    {
+        match self {
+            Kind::OnceReturn(text) | Kind::OnwardReturn(text) => text.as_str(),
+            Kind::OncePanic => None,
         }
     }
 

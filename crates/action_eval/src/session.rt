@@ -6,7 +6,7 @@ ghost use Rattle.std.specs.List.{slice_range};
 ghost use Rattle.action_eval.specs.inside.Session.{found_of, seen_in, left_counts, terms_of, IsRest, IsSpan};
 ghost use Rattle.action_eval.specs.inside.Layout.{faults_of, IsLayout};
 
-use crate::answer::{Answer, Note, Stop, answer_of, millis_of, push_note, stop_of};
+use crate::answer::{Answer, Note, Stop, effect_of, push_note};
 use crate::counts::{fill_counts, spend};
 use crate::draws::Draws;
 use crate::fault_table::FaultTable;
@@ -409,10 +409,11 @@ impl<'a> Session<'a> {
             ..span
         });
         self.heads[point as usize] = first_head(rest);
-        self.millis += u64::from(millis_of(task));
-        self.stopped = stop_of(task).or(self.stopped);
+        let effect = effect_of(task);
+        self.millis += u64::from(effect.millis);
+        self.stopped = effect.stop.or(self.stopped);
         self.answerable = answerable_after(self.stopped, self.answerable);
-        Ok(answer_of(task))
+        Ok(effect.answer)
     }
 
     /// Hits the point of this number in the catalogue while nothing comes of it, up to `most` times, and gives how many hits that were. Each

@@ -10,8 +10,9 @@ loop-point-preserved c =
     let grown = ap length c.in_ok-push_chain.ensures in
     record {
       terms = joined_next i c.args.count c.args.rigs.now c.loop-point.terms.items _ _ c.loop-point-test.true c.loop-point.invariant.terms c.in_ok-push_chain.ensures;
+      sizes_room = omega (arith, c.loop-point-test.true, c.loop-point.invariant.sizes_room, c.push_reserved.ensures.len, c.push_reserved.ensures.capacity);
       sizes =
-          sizes_next i c.args.count _ c.args.rigs.now c.loop-point.sizes.items _ _ c.loop-point-test.true c.loop-point.invariant.sizes c.in_ok-push.ensures.items
+          sizes_next i c.args.count _ c.args.rigs.now c.loop-point.sizes.items _ _ c.loop-point-test.true c.loop-point.invariant.sizes c.push_reserved.ensures.items
           (omega (arith, c.len.ensures, c.len-before.ensures, grown, length-append c.loop-point.terms.items chain, c.loop-point.terms.ok.0, c.push_chain.new.terms.ok.0));
     }
 

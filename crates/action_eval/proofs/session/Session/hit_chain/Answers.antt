@@ -73,7 +73,7 @@ overflow_add-self c =
     let k = c.self.invariant.0 in
     let room : length c.self.inside.hits.items < c.self.inside.max_hits = room_of _ _ c.self.view_is c.requires.room in
     let limit : c.self.inside.max_hits < 2 ^ 32 = limit_of _ _ c.self.view_is c.requires.limit in
-    omega (arith, room, limit, k.millis_are, k.few_millis, c.millis_of.ensures, c.from.ensures)
+    omega (arith, room, limit, k.millis_are, k.few_millis, c.effect_of-effect.ensures.millis, c.from.ensures)
 
 pub offset_bounds-deref-span : goal.offset_bounds-deref-span
 offset_bounds-deref-span c =
@@ -105,7 +105,7 @@ invariant_of-self-2 c =
     let found = finds_some _ c.args.point _ _ c.self.inside.draws _ _ _ k refl refl _ c.deref.ensures.value _ _ st.at c.try_terms-place.result (did c.task_at-task.result) c.try_terms-place.new.draws
     (tried_there c.deref.result.now c.args.span c.chain-chain.result.now c.self.inside.draws c.try_terms-place.result st.ends c.try_terms-place.ensures.place)
     (drawn_there c.deref.result.now c.args.span c.chain-chain.result.now c.self.inside.draws c.try_terms-place.new.draws st.ends c.try_terms-place.ensures.next) c.try_terms-place.ensures.within c.task_at-task.ensures in
-    let small : millis_of (did c.task_at-task.result) < 2 ^ 32 = omega (arith, c.millis_of.ensures) in
+    let small : millis_of (did c.task_at-task.result) < 2 ^ 32 = omega (arith, c.effect_of-effect.ensures.millis) in
     let rest : List Term × ℕ = (c.without_spent-rest.result.chain.now, c.without_spent-rest.result.start) in
     let span : Span = record { entry = c.args.span.entry; start = c.without_spent-rest.result.start; end = c.args.span.end } in
     let kept = keeps_hit _ c.args.point _ _ _ _ _ _ k (room_of _ _ c.self.view_is c.requires.room) _ (did c.task_at-task.result) _ found small _ k.found_is in
@@ -116,7 +116,7 @@ invariant_of-self-2 c =
     let kept_spans = keeps_found _ _ _ _ _ _ _ _ (sym set) kept_less in
     let heads = ap (λ (h : Head). slice_set c.self.inside.heads.items c.args.point h) c.first_head.ensures ∙ heads_with (map (seen_in s) spans) c.self.inside.heads.items c.args.point (Some rest) c.self.invariant.1 ∙ ap (map head_of) (sym set) in (
       keeps_same _ _ _ _ _ _ _ _ (record { seed = c.self.inside.draws.seed; stream = c.self.inside.draws.stream; taken = c.try_terms-place.new.draws.taken }) c.try_terms-place.new.draws _ _ _ _ _ _
-          (sym c.in_default.ensures.ok_hits) (sym c.spend.ensures) (drawn_on c.self.inside.draws c.try_terms-place.new.draws _ c.try_terms-place.ensures.next) (sym c.in_default.ensures.ok_notes) (omega (arith, c.millis_of.ensures, c.from.ensures)) (sym (c.or-self-inside.ensures ∙ ap (λ o. option_or o c.self.inside.stopped) c.stop_of.ensures)) kept_spans,
+          (sym c.in_default.ensures.ok_hits) (sym c.spend.ensures) (drawn_on c.self.inside.draws c.try_terms-place.new.draws _ c.try_terms-place.ensures.next) (sym c.in_default.ensures.ok_notes) (omega (arith, c.effect_of-effect.ensures.millis, c.from.ensures)) (sym (c.or-self-inside.ensures ∙ ap (λ o. option_or o c.self.inside.stopped) c.effect_of-effect.ensures.stop)) kept_spans,
       heads,
       spans_set s spans c.args.point (Some span) c.self.invariant.2 l.span,
       record { answerable_is = λ none. c.answerable_after-self-inside.ensures none ∙ c.self.invariant.3.answerable_is (none_after _ _ (sym c.or-self-inside.ensures ∙ none)); never_late = c.self.invariant.3.never_late },
@@ -130,7 +130,7 @@ returns-clause-answer c =
     (tried_there c.deref.result.now c.args.span c.chain-chain.result.now c.self.inside.draws c.try_terms-place.result st.ends c.try_terms-place.ensures.place)
     (drawn_there c.deref.result.now c.args.span c.chain-chain.result.now c.self.inside.draws c.try_terms-place.new.draws st.ends c.try_terms-place.ensures.next) c.try_terms-place.ensures.within c.task_at-task.ensures in
     let room : length c.self.inside.hits.items < c.self.inside.max_hits = room_of _ _ c.self.view_is c.requires.room in
-    c.answer_of.ensures ∙ reply_found _ _ _ _ _ found room ∙ ap (λ r. reply_to r c.args.point) c.self.view_is
+    c.effect_of-effect.ensures.answer ∙ reply_found _ _ _ _ _ found room ∙ ap (λ r. reply_to r c.args.point) c.self.view_is
 
 pub returns-clause-told : goal.returns-clause-told
 returns-clause-told c =
@@ -145,5 +145,5 @@ returns-clause-goes_on c = λ running.
     let before : Drawn = c.self.inside.draws in
     let after : Drawn = c.try_terms-place.new.draws in
     let run : Drawn → Run = λ d. record { given = given_of (faults_of c.self.inside.faults) (texts c.self.inside.catalogue.now) d.seed d.stream c.self.inside.max_hits; hits = c.keep.new.hits.items } in
-    subst (λ (d : Drawn). GoesOn (reply_of_answer c.answer_of.result) (run d)) (drawn_on before after _ c.try_terms-place.ensures.next)
+    subst (λ (d : Drawn). GoesOn (reply_of_answer c.effect_of-effect.result.answer) (run d)) (drawn_on before after _ c.try_terms-place.ensures.next)
     (goes_by _ _ c.args.point _ _ c.self.view_is running c.in_default.ensures.ok_hits (returns-clause-answer c))
