@@ -37,18 +37,18 @@ pub struct Note {
     pub text: Option<Text>,
 }
 
-/// What a task that acts does to a run.
+/// What a hit comes to where a task acts.
 #[derive(Clone, Copy, Debug)]
 pub struct Effect<'a> {
     /// What the hit is answered.
     pub answer: Answer<'a>,
     /// What it stops, if anything.
     pub stop: Option<Stop>,
-    /// The simulated milliseconds that it takes.
+    /// How many simulated milliseconds it takes.
     pub millis: u32,
 }
 
-/// What acts where a task does; without one, nothing.
+/// What a task does where it acts; without one, nothing.
 // One look at the task tells all three.
 pub fn effect_of(task: Option<&Task>) -> Effect<'_>
     ensures answer { reply_of_answer result.answer ≡ reply_of (did task.entry) }
@@ -71,7 +71,7 @@ pub fn effect_of(task: Option<&Task>) -> Effect<'_>
 }
 
 /// Adds the note of a `print`.
-// Few tasks print: away from those that don't, the others need fewer registers.
+// Few tasks print. That this is a call keeps what a copy of a text needs out of the way of all others.
 #[cold]
 #[inline(never)]
 fn push_print(notes: &mut Vec<Note>, point: u32, text: &Option<Text>) -> Result<(), AllocError>

@@ -292,13 +292,15 @@ impl<'a> Session<'a> {
         if self.hits.len() >= self.answerable as usize {
             return self.hit_closed(point);
         }
+        // Room is made at one place, as this code stands in the loops of all callers.
+        self.hits.reserve(1)?;
         match self.heads[point as usize] {
             Head::Nothing => {
-                self.hits.push(point)?;
+                self.hits.push_reserved(point);
                 Ok(Answer::Go)
             }
             Head::Off(at) if self.left[at] > 0 => {
-                self.hits.push(point)?;
+                self.hits.push_reserved(point);
                 self.left[at] -= 1;
                 Ok(Answer::Go)
             }
