@@ -1,9 +1,9 @@
 //! The decision, and the second phase: the participants are told of it.
 ghost use Rattle.std.specs.Prelude.{◌≡◌, ◌<◌, ◌≤◌, ◌+◌, OnOk, length, if◌then◌else◌};
-ghost use Rattle.commit_target.specs.Steps.{ForceCommit, ForceCommitAgain, SendCommit, SendAbort, Over, at_step, one_of, next_of};
-ghost use Rattle.commit_target.specs.Steps.{commit_to, abort_to, after_phase, after_no_commit, unacknowledged, aborted, committed, begun, end_unless};
+ghost use Rattle.commit_target.specs.Steps.{ForceCommit, ForceCommitAgain, SendCommit, SendAbort, at_step, one_of, next_of};
+ghost use Rattle.commit_target.specs.Steps.{abort_to, after_phase, after_no_commit, unacknowledged, aborted, committed, begun};
 ghost use Rattle.commit_target.specs.inside.Batches.{AddsAll, abort_write};
-ghost use Rattle.commit_target.specs.inside.Seen.{Leads, Stands, Due, Ended};
+ghost use Rattle.commit_target.specs.inside.Seen.{LeadsOn, LeadsTo, StandsBy, TellsNext};
 
 use crate::cut::{Cut, ask};
 use crate::logs::Logs;
@@ -30,13 +30,11 @@ fn force_commit(
     logs: &mut Logs,
     session: &mut Session<'_>,
 ) -> Result<bool, Cut>
-    requires { Stands script.variant script.workload.now session.old (at_step progress.now ForceCommit) logs.old }
+    requires { StandsBy script session.old (at_step progress.now ForceCommit) logs.old }
     ensures given { session.new.given ≡ session.old.given }
     ensures notes { logs.new.notes ≡ logs.old.notes }
-    ensures led { let variant = script.entry.variant in let workload = script.entry.workload in
-        Leads result (λ forced. Stands variant workload.now session.new
-        (if forced then committed progress.now else after_no_commit variant workload.now progress.now) logs.new)
-        (Ended variant workload.now session.new (at_step progress.now Over) logs.new) }
+    ensures led { LeadsTo result script.entry session.new progress.now logs.new
+        (λ forced. if forced then committed progress.now else after_no_commit script.entry.variant script.entry.workload.now progress.now) }
 {
     if !ask(session, Point::ForceCommit as u32)? {
         return Ok(false);
@@ -55,12 +53,10 @@ fn force_commit_again(
     logs: &mut Logs,
     session: &mut Session<'_>,
 ) -> Result<(), Cut>
-    requires { Stands script.variant script.workload.now session.old (at_step progress.now ForceCommitAgain) logs.old }
+    requires { StandsBy script session.old (at_step progress.now ForceCommitAgain) logs.old }
     ensures given { session.new.given ≡ session.old.given }
     ensures notes { logs.new.notes ≡ logs.old.notes }
-    ensures led { let variant = script.entry.variant in let workload = script.entry.workload in
-        Leads result (λ _. Stands variant workload.now session.new (committed progress.now) logs.new)
-        (Ended variant workload.now session.new (at_step progress.now Over) logs.new) }
+    ensures led { LeadsTo result script.entry session.new progress.now logs.new (λ _. committed progress.now) }
 {
     if !ask(session, Point::ForceCommit as u32)? {
         return Ok(());
@@ -76,14 +72,12 @@ pub fn commits(
     logs: &mut Logs,
     session: &mut Session<'_>,
 ) -> Result<bool, Cut>
-    requires { Stands script.variant script.workload.now session.old (at_step progress.old ForceCommit) logs.old }
+    requires { StandsBy script session.old (at_step progress.old ForceCommit) logs.old }
     ensures given { session.new.given ≡ session.old.given }
     ensures notes { logs.new.notes ≡ logs.old.notes }
     ensures begun { progress.new.begun ≡ progress.old.begun }
-    ensures led { let variant = script.entry.variant in let workload = script.entry.workload in
-        Leads result (λ commits. Stands variant workload.now session.new
-        (if commits then at_step progress.new (SendCommit 0) else aborted workload.now progress.new) logs.new)
-        (Ended variant workload.now session.new (at_step progress.new Over) logs.new) }
+    ensures led { LeadsTo result script.entry session.new progress.new logs.new
+        (λ commits. if commits then at_step progress.new (SendCommit 0) else aborted script.entry.workload.now progress.new) }
 {
     if !force_commit(script, progress, logs, session)? {
         match script.variant {
@@ -107,13 +101,11 @@ fn abort_to(
     logs: &mut Logs,
     session: &mut Session<'_>,
 ) -> Result<(), Cut>
-    requires { Stands script.variant script.workload.now session.old (at_step progress.now (SendAbort place)) logs.old }
+    requires { StandsBy script session.old (at_step progress.now (SendAbort place)) logs.old }
     ensures given { session.new.given ≡ session.old.given }
     ensures notes { logs.new.notes ≡ logs.old.notes }
-    ensures led { let variant = script.entry.variant in let workload = script.entry.workload in
-        Leads result (λ _. Stands variant workload.now session.new
-        (abort_to workload.now progress.now (next_of place (length progress.now.yes))) logs.new)
-        (Ended variant workload.now session.new (at_step progress.now Over) logs.new) }
+    ensures led { LeadsTo result script.entry session.new progress.now logs.new
+        (λ _. abort_to script.entry.workload.now progress.now (next_of place (length progress.now.yes))) }
 {
     if !ask(session, Point::SendOutcome as u32)? {
         return Ok(());
@@ -144,13 +136,12 @@ fn pass_aborts(
     logs: &mut Logs,
     session: &mut Session<'_>,
 ) -> Result<usize, Cut>
-    requires { Stands script.variant script.workload.now session.old (aborted script.workload.now progress.now) logs.old }
+    requires { StandsBy script session.old (aborted script.workload.now progress.now) logs.old }
     ensures given { session.new.given ≡ session.old.given }
     ensures notes { logs.new.notes ≡ logs.old.notes }
-    ensures led { let variant = script.entry.variant in let workload = script.entry.workload in
-        Leads result (λ n. (n ≤ length progress.now.yes)
-        × Stands variant workload.now session.new (abort_to workload.now progress.now (one_of n (length progress.now.yes))) logs.new)
-        (Ended variant workload.now session.new (at_step progress.now Over) logs.new) }
+    ensures led { LeadsOn result script.entry session.new progress.now logs.new
+        (λ n. (n ≤ length progress.now.yes)
+        × StandsBy script.entry session.new (abort_to script.entry.workload.now progress.now (one_of n (length progress.now.yes))) logs.new) }
 {
     let passed = session.pass(Point::SendOutcome as u32, progress.voters())?;
     abort_each(passed, progress, logs)?;
@@ -164,12 +155,10 @@ pub fn tell_abort(
     logs: &mut Logs,
     session: &mut Session<'_>,
 ) -> Result<(), Cut>
-    requires { Stands script.variant script.workload.now session.old (aborted script.workload.now progress.now) logs.old }
+    requires { StandsBy script session.old (aborted script.workload.now progress.now) logs.old }
     ensures given { session.new.given ≡ session.old.given }
     ensures notes { logs.new.notes ≡ logs.old.notes }
-    ensures led { let variant = script.entry.variant in let workload = script.entry.workload in
-        Leads result (λ _. Stands variant workload.now session.new (begun workload.now progress.now) logs.new)
-        (Ended variant workload.now session.new (at_step progress.now Over) logs.new) }
+    ensures led { LeadsTo result script.entry session.new progress.now logs.new (λ _. begun script.entry.workload.now progress.now) }
 {
     let passed = pass_aborts(script, progress, logs, session)?;
     for place in passed..progress.voters() {
@@ -186,14 +175,12 @@ fn commit_to(
     logs: &mut Logs,
     session: &mut Session<'_>,
 ) -> Result<bool, Cut>
-    requires { Stands script.variant script.workload.now session.old (at_step progress.now (SendCommit participant)) logs.old }
+    requires { StandsBy script session.old (at_step progress.now (SendCommit participant)) logs.old }
     ensures given { session.new.given ≡ session.old.given }
     ensures notes { logs.new.notes ≡ logs.old.notes }
-    ensures led { let variant = script.entry.variant in let workload = script.entry.workload in
-        Leads result (λ acknowledges.
-        let t = (if acknowledges then progress.now else unacknowledged progress.now) in let next = next_of participant workload.now.participants in
-        Due variant workload.now session.new (commit_to variant workload.now t next) (end_unless variant t t.acknowledged next) logs.new)
-        (Ended variant workload.now session.new (at_step progress.now Over) logs.new) }
+    ensures led { LeadsOn result script.entry session.new progress.now logs.new
+        (λ acknowledges. let told = (if acknowledges then progress.now else unacknowledged progress.now) in
+        TellsNext script.entry session.new told (next_of participant script.entry.workload.now.participants) logs.new) }
 {
     if !ask(session, Point::SendOutcome as u32)? {
         return Ok(false);
@@ -217,14 +204,12 @@ fn pass_commits(
     session: &mut Session<'_>,
 ) -> Result<usize, Cut>
     requires within { participant < script.workload.now.participants }
-    requires stands { Stands script.variant script.workload.now session.old (at_step progress.now (SendCommit participant)) logs.old }
+    requires stands { StandsBy script session.old (at_step progress.now (SendCommit participant)) logs.old }
     ensures given { session.new.given ≡ session.old.given }
     ensures notes { logs.new.notes ≡ logs.old.notes }
-    ensures led { let variant = script.entry.variant in let workload = script.entry.workload in
-        Leads result (λ n. let next = one_of (participant + n) workload.now.participants in (participant + n ≤ workload.now.participants)
-        × Due variant workload.now session.new (commit_to variant workload.now progress.now next)
-        (end_unless variant progress.now progress.now.acknowledged next) logs.new)
-        (Ended variant workload.now session.new (at_step progress.now Over) logs.new) }
+    ensures led { LeadsOn result script.entry session.new progress.now logs.new
+        (λ n. let all = script.entry.workload.now.participants in (participant + n ≤ all)
+        × TellsNext script.entry session.new progress.now (one_of (participant + n) all) logs.new) }
 {
     let left = script.workload.participants() - participant;
     let passed = session.pass_rounds(&ROUND, left)?;
@@ -243,15 +228,13 @@ fn some_commits(
 ) -> Result<usize, Cut>
     requires within { participant < script.workload.now.participants }
     requires fits { script.workload.now.participants ≤ usize.MAX }
-    requires stands { Stands script.variant script.workload.now session.old (at_step progress.old (SendCommit participant)) logs.old }
+    requires stands { StandsBy script session.old (at_step progress.old (SendCommit participant)) logs.old }
     ensures given { session.new.given ≡ session.old.given }
     ensures notes { logs.new.notes ≡ logs.old.notes }
     ensures begun { progress.new.begun ≡ progress.old.begun }
-    ensures led { let variant = script.entry.variant in let workload = script.entry.workload in
-        Leads result (λ n. let next = one_of n workload.now.participants in (participant < n) × (n ≤ workload.now.participants)
-        × Due variant workload.now session.new (commit_to variant workload.now progress.new next)
-        (end_unless variant progress.new progress.new.acknowledged next) logs.new)
-        (Ended variant workload.now session.new (at_step progress.new Over) logs.new) }
+    ensures led { LeadsOn result script.entry session.new progress.new logs.new
+        (λ n. let all = script.entry.workload.now.participants in (participant < n) × (n ≤ all)
+        × TellsNext script.entry session.new progress.new (one_of n all) logs.new) }
 {
     let passed = pass_commits(script, participant, progress, logs, session)?;
     if passed > 0 {
@@ -270,13 +253,12 @@ fn tell_all(
     logs: &mut Logs,
     session: &mut Session<'_>,
 ) -> Result<(), Cut>
-    requires { Stands script.variant script.workload.now session.old (at_step progress.old (SendCommit 0)) logs.old }
+    requires { StandsBy script session.old (at_step progress.old (SendCommit 0)) logs.old }
     ensures given { session.new.given ≡ session.old.given }
     ensures notes { logs.new.notes ≡ logs.old.notes }
     ensures begun { progress.new.begun ≡ progress.old.begun }
-    ensures led { let variant = script.entry.variant in let workload = script.entry.workload in
-        Leads result (λ _. Stands variant workload.now session.new (after_phase variant workload.now progress.new) logs.new)
-        (Ended variant workload.now session.new (at_step progress.new Over) logs.new) }
+    ensures led { LeadsTo result script.entry session.new progress.new logs.new
+        (λ _. after_phase script.entry.variant script.entry.workload.now progress.new) }
 {
     let all = script.workload.participants();
     let mut participant = 0;
@@ -296,13 +278,11 @@ pub fn tell_commit(
     logs: &mut Logs,
     session: &mut Session<'_>,
 ) -> Result<(), Cut>
-    requires { Stands script.variant script.workload.now session.old (at_step progress.old (SendCommit 0)) logs.old }
+    requires { StandsBy script session.old (at_step progress.old (SendCommit 0)) logs.old }
     ensures given { session.new.given ≡ session.old.given }
     ensures notes { logs.new.notes ≡ logs.old.notes }
     ensures begun { progress.new.begun ≡ progress.old.begun }
-    ensures led { let variant = script.entry.variant in let workload = script.entry.workload in
-        Leads result (λ _. Stands variant workload.now session.new (begun workload.now progress.new) logs.new)
-        (Ended variant workload.now session.new (at_step progress.new Over) logs.new) }
+    ensures led { LeadsTo result script.entry session.new progress.new logs.new (λ _. begun script.entry.workload.now progress.new) }
 {
     tell_all(script, progress, logs, session)?;
     if progress.gives_up(script.variant) {

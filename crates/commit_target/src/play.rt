@@ -7,7 +7,7 @@ ghost use Rattle.commit_target.specs.Words.{point_names};
 ghost use Rattle.commit_target.specs.Writes.{LogsStandFor};
 ghost use Rattle.commit_target.specs.Steps.{SendPrepare, Over, at_step, begun, asks_of};
 ghost use Rattle.commit_target.specs.Crash.{cut_of};
-ghost use Rattle.commit_target.specs.inside.Seen.{Leads, Stands, Ended};
+ghost use Rattle.commit_target.specs.inside.Seen.{LeadsOn, LeadsTo, StandsBy, EndedBy};
 
 use crate::cut::Cut;
 use crate::judge::{judge, judge_keeping};
@@ -26,13 +26,11 @@ fn transaction(
     logs: &mut Logs,
     session: &mut Session<'_>,
 ) -> Result<(), Cut>
-    requires { Stands script.variant script.workload.now session.old (at_step progress.old (SendPrepare 0)) logs.old }
+    requires { StandsBy script session.old (at_step progress.old (SendPrepare 0)) logs.old }
     ensures given { session.new.given ≡ session.old.given }
     ensures notes { logs.new.notes ≡ logs.old.notes }
     ensures begun { progress.new.begun ≡ progress.old.begun }
-    ensures led { let variant = script.entry.variant in let workload = script.entry.workload in
-        Leads result (λ _. Stands variant workload.now session.new (begun workload.now progress.new) logs.new)
-        (Ended variant workload.now session.new (at_step progress.new Over) logs.new) }
+    ensures led { LeadsTo result script.entry session.new progress.new logs.new (λ _. begun script.entry.workload.now progress.new) }
 {
     votes(script, progress, logs, session)?;
     if progress.voters() == script.workload.participants() {
@@ -51,12 +49,11 @@ fn transactions(
     session: &mut Session<'_>,
 ) -> Result<(), Cut>
     requires none { progress.old.begun ≡ 0 }
-    requires stands { Stands script.variant script.workload.now session.old (begun script.workload.now progress.old) logs.old }
+    requires stands { StandsBy script session.old (begun script.workload.now progress.old) logs.old }
     ensures given { session.new.given ≡ session.old.given }
     ensures notes { logs.new.notes ≡ logs.old.notes }
-    ensures led { let variant = script.entry.variant in let workload = script.entry.workload in
-        Leads result (λ _. Ended variant workload.now session.new (at_step progress.new Over) logs.new)
-        (Ended variant workload.now session.new (at_step progress.new Over) logs.new) }
+    ensures led { LeadsOn result script.entry session.new progress.new logs.new
+        (λ _. EndedBy script.entry session.new (at_step progress.new Over) logs.new) }
 {
     for _number in 0..script.workload.len() {
         progress.begin();
@@ -76,7 +73,7 @@ pub fn play_out(
     requires new { session.old ≡ start session.old.given }
     requires points { 7 ≤ length session.old.given.catalogue }
     requires empty { LogsStandFor script.workload.now.participants logs.old [] }
-    ensures ended { OnOk result (Ended script.entry.variant script.entry.workload.now session.new (at_step progress.new Over) logs.new) }
+    ensures ended { OnOk result (EndedBy script.entry session.new (at_step progress.new Over) logs.new) }
     ensures given { session.new.given ≡ session.old.given }
     ensures notes { logs.new.notes ≡ logs.old.notes }
 {
@@ -133,8 +130,8 @@ pub fn play_to_cut(
 ) -> Result<Judgement, AllocError>
     requires new { session.old ≡ start session.old.given }
     requires points { session.old.given.catalogue ≡ with_keep point_names }
-    ensures play { let variant = script.entry.variant in let workload = script.entry.workload in
-        IfOk result (IsCutPlay (asks_with (asks_of variant workload.now) (cut_of variant workload.now) 7) session.new) }
+    ensures play { let variant = script.entry.variant in let workload = script.entry.workload.now in
+        IfOk result (IsCutPlay (asks_with (asks_of variant workload) (cut_of variant workload) 7) session.new) }
     ensures given { session.new.given ≡ session.old.given }
 {
     logs.clear_to_note(script.workload.participants())?;

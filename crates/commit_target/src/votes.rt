@@ -2,11 +2,11 @@
 ghost use Rattle.std.specs.Prelude.{◌≡◌, ◌<◌, ◌≤◌, ◌+◌, OnOk};
 ghost use Rattle.commit_target.specs.declared.records.Kind.TheVariants.{Prepare};
 ghost use Rattle.commit_target.specs.declared.records.Party.TheVariants.{Participant};
-ghost use Rattle.commit_target.specs.Steps.{SendPrepare, ForcePrepare, SendVote, Over, at_step, one_of};
+ghost use Rattle.commit_target.specs.Steps.{SendPrepare, ForcePrepare, SendVote, at_step, one_of};
 ghost use Rattle.commit_target.specs.Steps.{prepare_to, vote_step, after_vote, decided, number, entry, prepare_write};
 ghost use Rattle.commit_target.specs.Work.{wish};
 ghost use Rattle.commit_target.specs.inside.Batches.{AddsAll, prepares, write_of};
-ghost use Rattle.commit_target.specs.inside.Seen.{Leads, Stands, Ended};
+ghost use Rattle.commit_target.specs.inside.Seen.{LeadsOn, LeadsTo, StandsBy};
 
 use crate::cut::{Cut, ask};
 use crate::logs::Logs;
@@ -35,12 +35,10 @@ fn prepare(
     logs: &mut Logs,
     session: &mut Session<'_>,
 ) -> Result<Vote, Cut>
-    requires { Stands script.variant script.workload.now session.old (at_step progress.now (ForcePrepare participant)) logs.old }
+    requires { StandsBy script session.old (at_step progress.now (ForcePrepare participant)) logs.old }
     ensures given { session.new.given ≡ session.old.given }
     ensures notes { logs.new.notes ≡ logs.old.notes }
-    ensures led { let variant = script.entry.variant in let workload = script.entry.workload in
-        Leads result (λ vote. Stands variant workload.now session.new (at_step progress.now (SendVote participant vote)) logs.new)
-        (Ended variant workload.now session.new (at_step progress.now Over) logs.new) }
+    ensures led { LeadsTo result script.entry session.new progress.now logs.new (λ vote. at_step progress.now (SendVote participant vote)) }
 {
     if !ask(session, Point::ForcePrepare as u32)? {
         return Ok(Vote::No);
@@ -57,13 +55,11 @@ fn choose(
     logs: &mut Logs,
     session: &mut Session<'_>,
 ) -> Result<Vote, Cut>
-    requires { Stands script.variant script.workload.now session.old
+    requires { StandsBy script session.old
         (at_step progress.now (vote_step (wish script.workload.now (number progress.now) participant) participant)) logs.old }
     ensures given { session.new.given ≡ session.old.given }
     ensures notes { logs.new.notes ≡ logs.old.notes }
-    ensures led { let variant = script.entry.variant in let workload = script.entry.workload in
-        Leads result (λ vote. Stands variant workload.now session.new (at_step progress.now (SendVote participant vote)) logs.new)
-        (Ended variant workload.now session.new (at_step progress.now Over) logs.new) }
+    ensures led { LeadsTo result script.entry session.new progress.now logs.new (λ vote. at_step progress.now (SendVote participant vote)) }
 {
     match script.workload.wish(progress.number(), participant) {
         Vote::Yes => prepare(script, participant, progress, logs, session),
@@ -79,13 +75,11 @@ fn vote(
     logs: &mut Logs,
     session: &mut Session<'_>,
 ) -> Result<(), Cut>
-    requires { Stands script.variant script.workload.now session.old (at_step progress.old (SendPrepare participant)) logs.old }
+    requires { StandsBy script session.old (at_step progress.old (SendPrepare participant)) logs.old }
     ensures given { session.new.given ≡ session.old.given }
     ensures notes { logs.new.notes ≡ logs.old.notes }
     ensures begun { progress.new.begun ≡ progress.old.begun }
-    ensures led { let variant = script.entry.variant in let workload = script.entry.workload in
-        Leads result (λ _. Stands variant workload.now session.new (after_vote workload.now progress.new participant) logs.new)
-        (Ended variant workload.now session.new (at_step progress.new Over) logs.new) }
+    ensures led { LeadsTo result script.entry session.new progress.new logs.new (λ _. after_vote script.entry.workload.now progress.new participant) }
 {
     if !ask(session, Point::SendPrepare as u32)? {
         return Ok(());
@@ -134,15 +128,13 @@ fn pass_votes(
 ) -> Result<usize, Cut>
     requires within { participant < script.workload.now.participants }
     requires fits { script.workload.now.participants ≤ usize.MAX }
-    requires stands { Stands script.variant script.workload.now session.old (at_step progress.old (SendPrepare participant)) logs.old }
+    requires stands { StandsBy script session.old (at_step progress.old (SendPrepare participant)) logs.old }
     ensures given { session.new.given ≡ session.old.given }
     ensures notes { logs.new.notes ≡ logs.old.notes }
     ensures begun { progress.new.begun ≡ progress.old.begun }
-    ensures led { let variant = script.entry.variant in let workload = script.entry.workload in
-        Leads result (λ n. (participant + n ≤ workload.now.participants)
-        × Stands variant workload.now session.new
-        (prepare_to workload.now progress.new (one_of (participant + n) workload.now.participants)) logs.new)
-        (Ended variant workload.now session.new (at_step progress.new Over) logs.new) }
+    ensures led { LeadsOn result script.entry session.new progress.new logs.new
+        (λ n. let workload = script.entry.workload.now in (participant + n ≤ workload.participants)
+        × StandsBy script.entry session.new (prepare_to workload progress.new (one_of (participant + n) workload.participants)) logs.new) }
 {
     let willing = script.workload.willing(progress.number(), participant);
     let passed = session.pass_rounds(&ROUND, willing)?;
@@ -161,14 +153,13 @@ fn some_votes(
 ) -> Result<usize, Cut>
     requires within { participant < script.workload.now.participants }
     requires fits { script.workload.now.participants ≤ usize.MAX }
-    requires stands { Stands script.variant script.workload.now session.old (at_step progress.old (SendPrepare participant)) logs.old }
+    requires stands { StandsBy script session.old (at_step progress.old (SendPrepare participant)) logs.old }
     ensures given { session.new.given ≡ session.old.given }
     ensures notes { logs.new.notes ≡ logs.old.notes }
     ensures begun { progress.new.begun ≡ progress.old.begun }
-    ensures led { let variant = script.entry.variant in let workload = script.entry.workload in
-        Leads result (λ next. (participant < next) × (next ≤ workload.now.participants)
-        × Stands variant workload.now session.new (prepare_to workload.now progress.new (one_of next workload.now.participants)) logs.new)
-        (Ended variant workload.now session.new (at_step progress.new Over) logs.new) }
+    ensures led { LeadsOn result script.entry session.new progress.new logs.new
+        (λ next. let workload = script.entry.workload.now in (participant < next) × (next ≤ workload.participants)
+        × StandsBy script.entry session.new (prepare_to workload progress.new (one_of next workload.participants)) logs.new) }
 {
     let passed = pass_votes(script, participant, progress, logs, session)?;
     if passed > 0 {
@@ -185,13 +176,11 @@ pub fn votes(
     logs: &mut Logs,
     session: &mut Session<'_>,
 ) -> Result<(), Cut>
-    requires { Stands script.variant script.workload.now session.old (at_step progress.old (SendPrepare 0)) logs.old }
+    requires { StandsBy script session.old (at_step progress.old (SendPrepare 0)) logs.old }
     ensures given { session.new.given ≡ session.old.given }
     ensures notes { logs.new.notes ≡ logs.old.notes }
     ensures begun { progress.new.begun ≡ progress.old.begun }
-    ensures led { let variant = script.entry.variant in let workload = script.entry.workload in
-        Leads result (λ _. Stands variant workload.now session.new (decided workload.now progress.new) logs.new)
-        (Ended variant workload.now session.new (at_step progress.new Over) logs.new) }
+    ensures led { LeadsTo result script.entry session.new progress.new logs.new (λ _. decided script.entry.workload.now progress.new) }
 {
     let all = script.workload.participants();
     let mut participant = 0;

@@ -6,13 +6,14 @@ use Rattle.action_eval.specs.Answers.{Run, stopped}
 use Rattle.target_trait.specs.Machine.{Reached}
 use Rattle.commit_target.specs.declared.cut.Cut.{Cut}
 use Rattle.commit_target.specs.declared.cut.Cut.TheVariants as cut
+use Rattle.commit_target.specs.declared.script.Script.{Script}
 use Rattle.commit_target.specs.declared.variant.Variant.{Variant}
 use Rattle.commit_target.specs.declared.records.Write.{Write}
 use Rattle.commit_target.specs.Words.{send_prepare_point, force_prepare_point, send_vote_point}
 use Rattle.commit_target.specs.Words.{send_outcome_point, force_outcome_point, send_ack_point}
 use Rattle.commit_target.specs.Work.{Work, wish}
 use Rattle.commit_target.specs.Writes.{Event, AllLogs, LogsStandFor}
-use Rattle.commit_target.specs.Steps.{abort_to, commit_to, end_unless, one_of, prepare_to, Tally, State, machine}
+use Rattle.commit_target.specs.Steps.{Over, at_step, abort_to, commit_to, end_unless, one_of, prepare_to, Tally, State, machine}
 use Rattle.commit_target.specs.Steps.{on_go, on_return, go_write, then_write, return_write, with_write}
 
 -- what is so where a run is over; where memory was refused, nothing is said
@@ -47,6 +48,28 @@ pub record Ended (v : Variant) (w : Work) (r : Run) (t : Tally) (logs : AllLogs)
   pub events : List Event
   pub reached : Reached (machine v w) r (record { tally = t; events = events })
   pub written : LogsStandFor w.participants logs events
+
+-- the same of a script
+abbrev pub DueBy : Script → Run → Tally → Option Write → AllLogs → Type 0
+DueBy s r t write logs = Due s.variant s.workload.now r t write logs
+
+abbrev pub StandsBy : Script → Run → Tally → AllLogs → Type 0
+StandsBy s r t logs = Stands s.variant s.workload.now r t logs
+
+abbrev pub EndedBy : Script → Run → Tally → AllLogs → Type 0
+EndedBy s r t logs = Ended s.variant s.workload.now r t logs
+
+-- the commit goes to this participant next; after the last, the coordinator has ended it, but for its record
+abbrev pub TellsNext : Script → Run → Tally → Option ℕ → AllLogs → Type 0
+TellsNext s r t next logs = DueBy s r (commit_to s.variant s.workload.now t next) (end_unless s.variant t t.acknowledged next) logs
+
+-- a part of a script leads on, or the run is over
+abbrev pub LeadsOn : {X : Type 0} → Result X Cut → Script → Run → Tally → AllLogs → (X → Type 0) → Type 0
+LeadsOn result s r t logs on = Leads result on (EndedBy s r (at_step t Over) logs)
+
+-- it leads to this tally, and the logs have come as far
+abbrev pub LeadsTo : {X : Type 0} → Result X Cut → Script → Run → Tally → AllLogs → (X → Tally) → Type 0
+LeadsTo result s r t logs next = LeadsOn result s r t logs (λ x. StandsBy s r (next x) logs)
 
 -- what an answer leads to: to go on, or that what was asked fails
 abbrev pub Answered : Variant → Work → Run → Tally → AllLogs → Bool → Type 0
