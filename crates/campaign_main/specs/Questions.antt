@@ -21,6 +21,7 @@ use Rattle.campaign_core.specs.Writes.{Change, IsUntouched}
 use Rattle.campaign_core.specs.declared.ending.CampaignFault.TheVariants as campaign
 use Rattle.command_words.specs.declared.words.Question.{Question}
 use Rattle.command_words.specs.declared.words.Question.TheVariants.{Asks, Report, Explain}
+use Rattle.outside_campaign.specs.declared.campaign.OutsideCampaign.{OutsideCampaign}
 use Rattle.outside_campaign.specs.declared.forms.Form.{Form}
 use Rattle.outside_campaign.specs.declared.forms.Form.TheVariants as forms
 use Rattle.outside_campaign.specs.declared.refusal.OutsideFault.TheVariants as outside
@@ -44,6 +45,9 @@ use Rattle.campaign_main.specs.FaultLines.{refusal_line, unreadable_answers_line
 -- the settings, and the component from outside that they describe
 abbrev pub Subject : Type 0
 Subject = Given × Description
+
+abbrev pub subject_in : OutsideCampaign → Subject
+subject_in campaign = (campaign.settings.now, campaign.outside.now)
 
 abbrev pub chosen_subject : Given → Choice → Result Subject Refusal
 chosen_subject given (choice.Replace variant work) = Err bundled_target

@@ -8,7 +8,7 @@ ghost use Rattle.answer_text.specs.Known.{verdicts_in};
 ghost use Rattle.answer_text.specs.Runs.{told_in};
 ghost use Rattle.campaign_main.specs.Commands.{outside_plans};
 ghost use Rattle.campaign_main.specs.QuestionNotes.{answer_strangers, answered_doubts, census_doubts, doubts_by, is_left_open, is_question_doubted, name_notes, question_notes, strangers_from, strict_doubts, unhit_line, unhit_lines, unhit_of, unmet_line, unmet_notes};
-ghost use Rattle.campaign_main.specs.Questions.{IsUnnoted, IsUnnotedTo};
+ghost use Rattle.campaign_main.specs.Questions.{IsUnnoted, IsUnnotedTo, subject_in};
 
 use crate::notes::{
     Doubts, Origin, draws_nothing, is_doubted, is_some_number, is_unhit, listed_on, write_doubts,
@@ -207,7 +207,7 @@ fn strict_by_census(
     answers: &[u8],
 ) -> Result<String, QuestionFault>
     ensures ok { IfOk result (λ lines. string_bytes lines ≡ census_doubts campaign.now.settings.now campaign.now.outside.now answers.now) }
-    ensures fault { IfErr result (IsUnnotedTo None (campaign.now.settings.now, campaign.now.outside.now) answers.now) }
+    ensures fault { IfErr result (IsUnnotedTo None (subject_in campaign.now) answers.now) }
 {
     let outside = campaign.outside;
     let known = read(
@@ -238,7 +238,7 @@ fn strict_by_runs(
     requires { depth ≤ 64 }
     ensures ok { IfOk result (λ lines. string_bytes lines
         ≡ strict_doubts (Some depth) campaign.now.settings.now campaign.now.outside.now answers.now) }
-    ensures fault { IfErr result (IsUnnotedTo (Some depth) (campaign.now.settings.now, campaign.now.outside.now) answers.now) }
+    ensures fault { IfErr result (IsUnnotedTo (Some depth) (subject_in campaign.now) answers.now) }
 {
     let read = ReadRuns::read(alloc, campaign.outside, answers)?;
     let runs = read.table(alloc);
@@ -253,7 +253,7 @@ fn strict_answered(
     answers: &[u8],
 ) -> Result<String, QuestionFault>
     ensures ok { IfOk result (λ lines. string_bytes lines ≡ answered_doubts true campaign.now.settings.now campaign.now.outside.now answers.now) }
-    ensures fault { IfErr result (IsUnnotedTo campaign.now.settings.now.depth (campaign.now.settings.now, campaign.now.outside.now) answers.now) }
+    ensures fault { IfErr result (IsUnnotedTo campaign.now.settings.now.depth (subject_in campaign.now) answers.now) }
 {
     let settings = campaign.settings;
     match settings.depth {
@@ -271,7 +271,7 @@ pub fn question_notes_on(
 ) -> Result<String, QuestionFault>
     ensures ok { IfOk result (λ lines. string_bytes lines
         ≡ question_notes question.now campaign.now.settings.now campaign.now.outside.now answers.now) }
-    ensures fault { IfErr result (IsUnnoted question.now (campaign.now.settings.now, campaign.now.outside.now) answers.now) }
+    ensures fault { IfErr result (IsUnnoted question.now (subject_in campaign.now) answers.now) }
 {
     let mut lines = name_notes_on(alloc, campaign, answers)?;
     if let Question::Report { strict: true, .. } = question {

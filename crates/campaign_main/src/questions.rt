@@ -3,7 +3,7 @@ ghost use Rattle.std.specs.Prelude.{◌≡◌, true, false, IfSome, Ok, Some};
 ghost use Rattle.campaign_core.specs.Writes.{change};
 ghost use Rattle.campaign_main.specs.Ends.{IsNoted, Leaves, OnWhole, TellsOf};
 ghost use Rattle.campaign_main.specs.QuestionNotes.{question_notes};
-ghost use Rattle.campaign_main.specs.Questions.{ComesToText, ConcludesText, EndsAnswered, EndsQuestion, IsNotAnswered, NotesQuestion, NotesText, TellsOfQuestion, TellsWhy, asked_part, chosen_subject, report_form, subject_of, text_subject};
+ghost use Rattle.campaign_main.specs.Questions.{ComesToText, ConcludesText, EndsAnswered, EndsQuestion, IsNotAnswered, NotesQuestion, NotesText, TellsOfQuestion, TellsWhy, asked_part, chosen_subject, report_form, subject_in, subject_of, text_subject};
 
 use crate::answer_notes::{is_question_doubted, question_notes_on};
 use crate::exit::{Conclusion, Exit, concluded, exit_of};
@@ -48,7 +48,7 @@ fn write_asked<W: Sink>(
     output: &mut W,
 ) -> Result<bool, QuestionFault>
     requires { W.has_failed output.old ≡ false }
-    ensures { ComesToText (Question.Asks part) (campaign.now.settings.now, campaign.now.outside.now) answers.now
+    ensures { ComesToText (Question.Asks part) (subject_in campaign.now) answers.now
         (change W.Sink output.old output.new) result }
 {
     write_asks(alloc, campaign, asked_part(part), answers, output)?;
@@ -82,7 +82,7 @@ fn write_reported<W: Sink>(
     output: &mut W,
 ) -> Result<bool, QuestionFault>
     requires { W.has_failed output.old ≡ false }
-    ensures { ComesToText (Question.Report shown false) (campaign.now.settings.now, campaign.now.outside.now) answers.now
+    ensures { ComesToText (Question.Report shown false) (subject_in campaign.now) answers.now
         (change W.Sink output.old output.new) result }
 {
     match report_form(shown) {
@@ -103,7 +103,7 @@ fn write_answer<W: Sink>(
     output: &mut W,
 ) -> Result<bool, QuestionFault>
     requires { W.has_failed output.old ≡ false }
-    ensures { ComesToText question.now (campaign.now.settings.now, campaign.now.outside.now) answers.now
+    ensures { ComesToText question.now (subject_in campaign.now) answers.now
         (change W.Sink output.old output.new) result }
 {
     match question {
@@ -126,9 +126,9 @@ fn write_noted<W: Sink, E: Sink>(
 ) -> Result<Conclusion, QuestionFault>
     requires output { W.has_failed output.old ≡ false }
     requires faults { E.has_failed faults.old ≡ false }
-    ensures text { ConcludesText question.now (campaign.now.settings.now, campaign.now.outside.now) answers.now
+    ensures text { ConcludesText question.now (subject_in campaign.now) answers.now
         (change W.Sink output.old output.new) result }
-    ensures noted { NotesText question.now (campaign.now.settings.now, campaign.now.outside.now) answers.now
+    ensures noted { NotesText question.now (subject_in campaign.now) answers.now
         (change E.Sink faults.old faults.new) result }
 {
     let notes = question_notes_on(alloc, question, campaign, answers)?;
@@ -149,11 +149,11 @@ fn answer_by<W: Sink, E: Sink>(
 ) -> Exit
     requires output { W.has_failed output.old ≡ false }
     requires faults { E.has_failed faults.old ≡ false }
-    ensures end { EndsAnswered question.now (campaign.now.settings.now, campaign.now.outside.now) answers.now result
+    ensures end { EndsAnswered question.now (subject_in campaign.now) answers.now result
         (change W.Sink output.old output.new) }
     ensures told { TellsOf
         (IsNoted (question_notes question.now campaign.now.settings.now campaign.now.outside.now answers.now) (change E.Sink faults.old faults.new))
-        (TellsWhy question.now (Ok (campaign.now.settings.now, campaign.now.outside.now)) answers.now (change E.Sink faults.old faults.new))
+        (TellsWhy question.now (Ok (subject_in campaign.now)) answers.now (change E.Sink faults.old faults.new))
         result (change E.Sink faults.old faults.new) }
 {
     match write_noted(alloc, question, campaign, answers, output, faults) {
@@ -174,13 +174,13 @@ fn answer_on<A: Read, W: Sink, E: Sink>(
     requires output { W.has_failed output.old ≡ false }
     requires faults { E.has_failed faults.old ≡ false }
     ensures end { IfSome (A.remaining answers.old)
-        (λ bytes. EndsAnswered question.now (campaign.now.settings.now, campaign.now.outside.now) bytes result
+        (λ bytes. EndsAnswered question.now (subject_in campaign.now) bytes result
         (change W.Sink output.old output.new)) }
     ensures noted { OnWhole result (IfSome (A.remaining answers.old)
         (λ bytes. IsNoted (question_notes question.now campaign.now.settings.now campaign.now.outside.now bytes)
         (change E.Sink faults.old faults.new))) }
     ensures cause { result ≡ Exit.Refused → IfSome (A.remaining answers.old)
-        (λ bytes. IsNotAnswered question.now (Ok (campaign.now.settings.now, campaign.now.outside.now)) bytes (change E.Sink faults.old faults.new)) }
+        (λ bytes. IsNotAnswered question.now (Ok (subject_in campaign.now)) bytes (change E.Sink faults.old faults.new)) }
     ensures output { Leaves result (change W.Sink output.old output.new) }
     ensures told { TellsOfQuestion result (change E.Sink faults.old faults.new) }
 {
