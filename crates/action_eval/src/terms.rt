@@ -29,11 +29,10 @@ pub fn try_terms(terms: &[Term], left: &[u32], draws: &mut Draws) -> Option<usiz
 {
     let mut unseen = 0;
     for (place, term) in terms.iter().enumerate() {
-        if left[place] == 0 && term.count.is_some() {
-            continue;
-        }
-        if term.share == 0 {
-            unseen += 1;
+        let is_spent = left[place] == 0 && term.count.is_some();
+        // Terms are passed over at one place: from two the compiler would make a loop within the loop.
+        if is_spent || term.share == 0 {
+            unseen += u64::from(!is_spent);
             continue;
         }
         draws.skip(unseen);
