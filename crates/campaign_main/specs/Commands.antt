@@ -85,7 +85,7 @@ of_few_plans plans text = if nat_lt most_plans (length plans) then Err too_many_
 
 -- what a page tells beside the campaign
 abbrev pub page_notes : NotesFacts
-page_notes = record { version = codes "0.2.0"; command = codes "paklour page FILE" }
+page_notes = record { version = codes "0.3.0"; command = codes "paklour page FILE" }
 
 -- the report of a form
 abbrev pub report_in : Form → Campaign → List ℕ

@@ -14,7 +14,7 @@ use std::error::Error;
 use std::fmt;
 
 /// The version of the program, as `paklour --version` writes it.
-pub const VERSION: &str = "0.2.0";
+pub const VERSION: &str = "0.3.0";
 
 /// Which scenario a command takes.
 #[derive(Debug, Drop)]
