@@ -5,6 +5,7 @@
         tmpfile FOLDER (it has no name)
      write TEXT, pwrite TEXT, writev TEXT TEXT, pwritev TEXT TEXT, pwritev2 TEXT (synced by itself), fill N (so many bytes)
      read N, pread N, readv N N, preadv N N, preadv2 N
+     writev_nowhere, readv_nowhere: with a list of parts that isn't there
      fsync, fdatasync, sync_file_range, sync, syncfs, ftruncate N, truncate NAME N, fallocate MODE PLACE N, posix_fallocate N
      copy NAME N, sendfile NAME N: so many bytes of that file into the open one
      rename FROM TO, exchange ONE OTHER, link FROM TO, name NAME (gives the open file a name), unlink NAME, remove NAME
@@ -16,9 +17,8 @@
         TEXT,
      sendmmsg TEXT, recvmsg N
      child: a child does the steps that follow, up to `parent`, while this process waits
-     start PROGRAM, start_clean PROGRAM: starts that program, with the environment or without one, and waits
-     start_by CALL PROGRAM: the same by that call, as execlp or posix_spawn
      splice TEXT, aio_write TEXT, aio_fsync
+     direct NAME TEXT: makes that file of that text past the C library, as a program in Go calls the system
      threads N: so many threads write a byte each; answers how many of them failed
      end N, quit N (the same by _Exit): ends at once with that status
      forget: closes each descriptor above 2, also those that it doesn't know
@@ -28,7 +28,6 @@
 #include <errno.h>
 #include <fcntl.h>
 #include <pthread.h>
-#include <spawn.h>
 #include <stdarg.h>
 #include <stdbool.h>
 #include <stdio.h>
@@ -38,6 +37,7 @@
 #include <sys/sendfile.h>
 #include <sys/socket.h>
 #include <sys/stat.h>
+#include <sys/syscall.h>
 #include <sys/uio.h>
 #include <sys/un.h>
 #include <sys/wait.h>
@@ -108,6 +108,9 @@ static long do_readv(char **with) {
 static long do_preadv(char **with) {
     return preadv(file, (struct iovec[]){{bytes, number(with[0])}, {bytes + 2048, number(with[1])}}, 2, 0);
 }
+static const struct iovec *volatile nowhere;
+static long do_writev_nowhere(char **with) { return (void)with, writev(file, nowhere, 1); }
+static long do_readv_nowhere(char **with) { return (void)with, readv(file, nowhere, 1); }
 static long do_preadv2(char **with) { return preadv2(file, (struct iovec[]){{bytes, number(with[0])}}, 1, 0, 0); }
 
 static long do_fsync(char **with) { return (void)with, fsync(file); }
@@ -240,56 +243,30 @@ static long do_recvmsg(char **with) {
 
 /* ---- programs and threads */
 
-static long started(char *program, char **environment) {
-    int status = 0;
-    pid_t made = fork();
-    if (made == 0) {
-        execve(program, (char *[]){program, NULL}, environment);
-        _exit(127);
-    }
-    return made < 0 || waitpid(made, &status, 0) < 0 ? -1 : WEXITSTATUS(status);
-}
-static long do_start(char **with) { return started(with[0], environ); }
-static long do_start_clean(char **with) { return started(with[0], (char *[]){NULL}); }
-
-static void start_here(const char *call, char *program) {
-    char *words[] = {program, NULL};
-    if (!strcmp(call, "execv")) execv(program, words);
-    if (!strcmp(call, "execvp")) execvp(program, words);
-    if (!strcmp(call, "execvpe")) execvpe(program, words, environ);
-    if (!strcmp(call, "execl")) execl(program, program, NULL);
-    if (!strcmp(call, "execlp")) execlp(program, program, NULL);
-    if (!strcmp(call, "execle")) execle(program, program, NULL, environ);
-    if (!strcmp(call, "fexecve")) fexecve(open(program, O_RDONLY), words, environ);
-    _exit(127);
-}
-static long do_start_by(char **with) {
-    int status = 0, error = 0;
-    pid_t made = 0;
-    char *words[] = {with[1], NULL};
-    if (!strcmp(with[0], "posix_spawn")) error = posix_spawn(&made, with[1], NULL, NULL, words, environ);
-    else if (!strcmp(with[0], "posix_spawnp")) error = posix_spawnp(&made, with[1], NULL, NULL, words, environ);
-    else if (!(made = fork())) start_here(with[0], with[1]);
-    return error || waitpid(made, &status, 0) < 0 ? -1 : WEXITSTATUS(status);
-}
-
 static long do_splice(char **with) {
     int pipes[2];
     if (pipe(pipes) || write(pipes[1], with[0], strlen(with[0])) < 0) return -1;
     return splice(pipes[0], NULL, file, NULL, strlen(with[0]), 0);
 }
+static long ended(struct aiocb *what) {
+    while ((errno = aio_error(what)) == EINPROGRESS) usleep(1000);
+    return aio_return(what);
+}
 static long do_aio_write(char **with) {
     struct aiocb what = {.aio_fildes = file, .aio_buf = with[0], .aio_nbytes = strlen(with[0])};
     if (aio_write(&what)) return -1;
-    while (aio_error(&what) == EINPROGRESS) usleep(1000);
-    return aio_return(&what);
+    return ended(&what);
 }
 static long do_aio_fsync(char **with) {
     struct aiocb what = {.aio_fildes = file};
     (void)with;
     if (aio_fsync(O_SYNC, &what)) return -1;
-    while (aio_error(&what) == EINPROGRESS) usleep(1000);
-    return aio_return(&what);
+    return ended(&what);
+}
+static long do_direct(char **with) {
+    file = (int)syscall(SYS_openat, AT_FDCWD, with[0], O_WRONLY | O_CREAT | O_TRUNC, 0644);
+    long written = file < 0 ? -1 : syscall(SYS_write, file, with[1], strlen(with[1]));
+    return written < 0 || syscall(SYS_fsync, file) || syscall(SYS_close, file) ? -1 : written;
 }
 static long do_end(char **with) { _exit(atoi(with[0])); }
 static long do_quit(char **with) { _Exit(atoi(with[0])); }
@@ -336,9 +313,9 @@ static const struct step {
     STEP(stream, 2), STEP(reopened, 1), STEP(moved, 1), STEP(print, 1), STEP(gets, 1), STEP(flush, 0), STEP(stream_sync, 0),
     STEP(close_stream, 0), STEP(dprint, 1), STEP(vdprint, 1), STEP(map, 1), STEP(store, 2), STEP(msync, 2), STEP(remap, 1),
     STEP(unmap, 0), STEP(pair, 0), STEP(listen, 1), STEP(connect, 1), STEP(accept, 0), STEP(send, 1), STEP(recv, 1),
-    STEP(tell, 1), STEP(hear, 1), STEP(sendmsg, 1), STEP(sendmmsg, 1), STEP(recvmsg, 1), STEP(start, 1), STEP(start_clean, 1),
-    STEP(start_by, 2), STEP(splice, 1), STEP(aio_write, 1), STEP(aio_fsync, 0), STEP(end, 1), STEP(quit, 1), STEP(forget, 0),
-    STEP(cover, 1), STEP(threads, 1),
+    STEP(tell, 1), STEP(hear, 1), STEP(sendmsg, 1), STEP(sendmmsg, 1), STEP(recvmsg, 1), STEP(splice, 1),
+    STEP(aio_write, 1), STEP(aio_fsync, 0), STEP(end, 1), STEP(quit, 1), STEP(forget, 0), STEP(cover, 1), STEP(threads, 1),
+    STEP(direct, 2), STEP(writev_nowhere, 0), STEP(readv_nowhere, 0),
 };
 
 static const struct step *step_of(const char *name) {

@@ -1,10 +1,10 @@
 #define _GNU_SOURCE
 #include "book.h"
 
-#include "../shim/raw.h"
+#include "../run/whole.h"
 
-#include <dirent.h>
 #include <errno.h>
+#include <fcntl.h>
 #include <stdio.h>
 #include <stdlib.h>
 #include <sys/stat.h>
@@ -35,78 +35,95 @@ bool read_key(const char *text, struct key *key) {
     return true;
 }
 
-struct key key_of(const char *path) {
+/* ---- a folder's names */
+
+static struct key key_of(int folder, const char *name) {
     struct file_facts facts;
-    must(facts_of(AT_FDCWD, path, AT_SYMLINK_NOFOLLOW, &facts), path);
+    must(facts_of(folder, name, AT_SYMLINK_NOFOLLOW | AT_EMPTY_PATH, &facts), name);
     return facts.key;
 }
 
-/* ---- a folder's names */
-
-static void write_name(FILE *out, const char *path, const char *name) {
+static void write_name(FILE *out, int folder, const char *name, const struct key *key) {
     char text[KEY_TEXT], target[PATH_MAX];
-    struct key key = key_of(path);
-    char kind = S_ISDIR(key.mode) ? 'd' : S_ISREG(key.mode) ? 'c' : S_ISLNK(key.mode) ? 'l' : 0;
+    char kind = S_ISDIR(key->mode) ? 'd' : S_ISREG(key->mode) ? 'c' : S_ISLNK(key->mode) ? 'l' : 0;
     if (!kind) return; /* a socket or a device */
-    write_key(text, &key);
-    fprintf(out, "%c %o %s %s%c", kind, key.mode & 07777, text, name, 0);
+    write_key(text, key);
+    fprintf(out, "%c %o %s %s%c", kind, key->mode & 07777, text, name, 0);
     if (kind != 'l') return;
-    ssize_t end = readlink(path, target, sizeof target - 1);
-    must(end >= 0, path);
+    ssize_t end = readlinkat(folder, name, target, sizeof target - 1);
+    must(end >= 0, name);
     target[end] = 0;
     fprintf(out, "%s%c", target, 0);
 }
 
-static void note_folder(const char *path, FILE *out, const char *book);
-
 /* ---- a file's contents */
 
-static void note_contents(const char *path, const char *name) {
+static void note_contents(int folder, const char *name, int note) {
     char bytes[65536];
     ssize_t length;
-    int in = open(path, O_RDONLY | O_NOFOLLOW | O_CLOEXEC), out = open(name, O_WRONLY | O_CREAT | O_TRUNC | O_CLOEXEC, 0600);
-    must(in >= 0 && out >= 0, path);
-    while ((length = read(in, bytes, sizeof bytes)) > 0) must(raw_write(out, bytes, (size_t)length), name);
-    must(!length && !close(out), path);
+    int in = openat(folder, name, O_RDONLY | O_NOFOLLOW | O_CLOEXEC);
+    must(in >= 0, name);
+    while ((length = read(in, bytes, sizeof bytes)) > 0) must(write_whole(note, bytes, (size_t)length), name);
+    must(!length && !close(note), name);
     close(in);
 }
 
 /* ---- a tree */
 
-static void note_tree(const char *path, const char *book) {
-    char text[KEY_TEXT], folder[LONG_PATH], name[LONG_PATH];
-    struct key key = key_of(path);
-    if (!S_ISDIR(key.mode) && !S_ISREG(key.mode)) return;
-    write_key(text, &key);
-    joined(folder, book, S_ISDIR(key.mode) ? "d" : "c");
-    joined(name, folder, text);
-    if (!access(name, F_OK)) return; /* another name of a file that is noted */
-    if (!S_ISDIR(key.mode)) return note_contents(path, name);
-    FILE *out = fopen(name, "we");
-    must(out, name);
-    note_folder(path, out, book);
-    must(!fclose(out), name);
+/* No part of the functions that go down a tree, which would need its memory for each folder on the way. */
+__attribute__((noinline)) int open_note(const char *book, char kind, const struct key *key, int flags) {
+    char folder[LONG_PATH], path[LONG_PATH], text[KEY_TEXT];
+    write_key(text, key);
+    joined(folder, book, (char[]){kind, 0});
+    joined(path, folder, text);
+    return open(path, flags | O_CLOEXEC, 0600);
 }
 
-static void note_folder(const char *path, FILE *out, const char *book) {
-    char below[LONG_PATH];
-    DIR *folder = opendir(path);
-    must(folder, path);
-    for (struct dirent *entry; (entry = readdir(folder));) {
-        if (!strcmp(entry->d_name, ".") || !strcmp(entry->d_name, "..")) continue;
-        joined(below, path, entry->d_name);
-        write_name(out, below, entry->d_name);
-        note_tree(below, book);
+struct noting {
+    const char *book;
+    const struct tree *tree;
+};
+
+static void note_file(const struct noting *noting, int folder, const char *name, const struct key *key) {
+    int note = open_note(noting->book, 'c', key, O_WRONLY | O_CREAT | O_EXCL);
+    if (note < 0 && errno == EEXIST) return; /* another name of a file that is noted */
+    must(note >= 0, noting->book);
+    note_contents(folder, name, note);
+}
+
+static void note_folder(const struct noting *noting, int above, const char *name) {
+    DIR *names = names_below(noting->tree, above, name);
+    struct key key = key_of(dirfd(names), "");
+    int note = open_note(noting->book, 'd', &key, O_WRONLY | O_CREAT | O_EXCL);
+    must(note >= 0, noting->book);
+    FILE *out = fdopen(note, "w");
+    must(out, noting->book);
+    for (const char *below; (below = next_name(names));) {
+        key = key_of(dirfd(names), below);
+        write_name(out, dirfd(names), below, &key);
+        if (S_ISDIR(key.mode)) note_folder(noting, dirfd(names), below);
+        if (S_ISREG(key.mode)) note_file(noting, dirfd(names), below, &key);
     }
-    closedir(folder);
+    must(!fclose(out), noting->book);
+    closedir(names);
 }
 
-void make_book(const char *book, const char *root) {
+void make_book(const char *book, const struct tree *tree) {
     char folder[LONG_PATH];
+    take_book_away(book);
     must(!mkdir(book, 0700), book);
     for (const char *kind = "cd"; *kind; kind++) {
         joined(folder, book, (char[]){*kind, 0});
         must(!mkdir(folder, 0700), folder);
     }
-    note_tree(root, book);
+    note_folder(&(struct noting){book, tree}, tree->folder, ".");
+}
+
+void take_book_away(const char *book) {
+    struct tree old;
+    if (access(book, F_OK)) return;
+    open_tree(&old, book);
+    empty_tree(&old);
+    close(old.folder);
+    must(!rmdir(book), book);
 }

@@ -6,8 +6,7 @@
 #ifndef BOOK_H
 #define BOOK_H
 
-#include "../shim/notes.h"
-#include "../shim/run.h"
+#include "tree.h"
 
 enum { KEY_TEXT = 64 };
 
@@ -19,10 +18,11 @@ void joined(char *to, const char *folder, const char *name);
 void write_key(char *text, const struct key *key);
 bool read_key(const char *text, struct key *key);
 
-/* The key of a file or folder by its path, itself and not where it leads. */
-struct key key_of(const char *path);
+/* Opens what a book has of a file's contents, `c`, or of a folder's names, `d`; or answers -1. */
+int open_note(const char *book, char kind, const struct key *key, int flags);
 
-/* Notes the tree under `root` in a folder that isn't there. */
-void make_book(const char *book, const char *root);
+/* Notes the tree in a folder, in place of one that an earlier command left. */
+void make_book(const char *book, const struct tree *tree);
+void take_book_away(const char *book);
 
 #endif

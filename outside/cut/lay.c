@@ -1,21 +1,17 @@
 #define _GNU_SOURCE
 #include "lay.h"
 
-#include "../shim/raw.h"
-
 #include <errno.h>
+#include <fcntl.h>
 #include <stdio.h>
 #include <stdlib.h>
 #include <sys/stat.h>
+#include <unistd.h>
 
 /* ---- contents */
 
-static bool open_noted(const char *book, const struct file *file, int *in) {
-    char kind[LONG_PATH], path[LONG_PATH], text[KEY_TEXT];
-    write_key(text, &file->key);
-    joined(kind, book, "c");
-    joined(path, kind, text);
-    *in = open(path, O_RDONLY | O_CLOEXEC);
+bool open_noted(const char *book, const struct file *file, int *in) {
+    *in = open_note(book, 'c', &file->key, O_RDONLY);
     return *in >= 0;
 }
 
@@ -72,8 +68,8 @@ static void apply(const struct replay *replay, const struct change *change, int 
     else write_bytes(out, replay->notes + change->bytes, change->at, length, path);
 }
 
-/* What was there as the run began, then the changes in their order: an earlier one that is kept is under a later one. */
-static void write_contents(const struct replay *replay, const struct file *file, bool all, int out, const char *path) {
+/* An earlier one that is kept is under a later one. */
+void write_contents(const struct replay *replay, const struct file *file, bool all, int out, const char *path) {
     int in;
     if (open_noted(replay->base, file, &in)) {
         copy(in, out, 0, UINT64_MAX, path);
@@ -85,108 +81,57 @@ static void write_contents(const struct replay *replay, const struct file *file,
 
 /* ---- files and folders */
 
-static void lay_file(struct replay *replay, enum contents contents, struct file *file, const char *path) {
-    int in, out = open(path, O_RDWR | O_CREAT | O_EXCL | O_CLOEXEC, 0600);
-    must(out >= 0, path);
-    if (contents == AS_THEY_ARE && open_noted(replay->live, file, &in)) {
-        copy(in, out, 0, UINT64_MAX, path);
+struct laying {
+    struct replay *replay;
+    enum contents contents;
+    const struct tree *tree;
+    char path[LONG_PATH]; /* below the root, of what is laid now */
+};
+
+static void lay_file(const struct laying *laying, struct file *file, int folder, const char *name) {
+    const struct replay *replay = laying->replay;
+    int in, out = openat(folder, name, O_RDWR | O_CREAT | O_EXCL | O_NOFOLLOW | O_CLOEXEC, 0600);
+    must(out >= 0, laying->path);
+    if (laying->contents == AS_THEY_ARE && open_noted(replay->live, file, &in)) {
+        copy(in, out, 0, UINT64_MAX, laying->path);
         close(in);
     } else {
-        write_contents(replay, file, contents == AS_THEY_ARE, out, path);
+        write_contents(replay, file, laying->contents == AS_THEY_ARE, out, laying->path);
     }
-    must(!fchmod(out, file->key.mode & 07777) && !close(out), path);
-    file->laid = strdup(path);
+    must(!fchmod(out, file->key.mode & 07777) && !close(out), laying->path);
+    file->laid = strdup(laying->path);
 }
 
-static void lay_folder(struct replay *replay, enum contents contents, struct file *folder, const char *path);
+static void lay_folder(struct laying *laying, struct file *folder, int at);
 
-static void lay_name(struct replay *replay, enum contents contents, struct file *file, const char *path) {
+static void lay_name(struct laying *laying, struct file *file, int folder, const char *name) {
+    const char *path = laying->path;
     if (S_ISLNK(file->key.mode)) {
-        must(!symlink(file->target, path), path);
+        must(!symlinkat(file->target, folder, name), path);
     } else if (!S_ISDIR(file->key.mode)) {
-        if (file->laid) must(!link(file->laid, path), path);
-        else lay_file(replay, contents, file, path);
+        if (file->laid) must(!linkat(laying->tree->folder, file->laid, folder, name, 0), path);
+        else lay_file(laying, file, folder, name);
     } else if (!file->being_laid) { /* else a folder that two moves, half lasting, put below itself */
-        must(!mkdir(path, 0700), path);
-        lay_folder(replay, contents, file, path);
-        must(!chmod(path, file->key.mode & 07777), path);
+        must(!mkdirat(folder, name, 0700), path);
+        int below = open_below(laying->tree, folder, name);
+        lay_folder(laying, file, below);
+        must(!fchmod(below, file->key.mode & 07777) && !close(below), path);
     }
 }
 
-static void lay_folder(struct replay *replay, enum contents contents, struct file *folder, const char *path) {
-    char below[LONG_PATH];
+static void lay_folder(struct laying *laying, struct file *folder, int at) {
+    size_t length = strlen(laying->path);
     folder->being_laid = true;
     for (struct name *name = folder->names; name; name = name->next_in_folder) {
         if (!name->file) continue;
-        joined(below, path, name->text);
-        lay_name(replay, contents, name->file, below);
+        int more = snprintf(laying->path + length, LONG_PATH - length, "/%s", name->text);
+        if ((size_t)more >= LONG_PATH - length) refuse(laying->path, "too long a path");
+        lay_name(laying, name->file, at, name->text);
+        laying->path[length] = 0;
     }
     folder->being_laid = false;
 }
 
-void lay(struct replay *replay, enum contents contents, const char *root) { lay_folder(replay, contents, replay->root, root); }
-
-/* ---- what wasn't seen */
-
-static bool same_bytes(int one, int other) {
-    char first[16384], second[16384];
-    for (off_t at = 0;;) {
-        ssize_t length = pread(one, first, sizeof first, at), beside = pread(other, second, sizeof second, at);
-        if (length != beside || length < 0 || memcmp(first, second, (size_t)length)) return false;
-        if (!length) return true;
-        at += length;
-    }
-}
-
-/* Whether a file's changes, all of them, give what it held at the cut. */
-static bool is_explained(struct replay *replay, const struct file *file) {
-    char path[LONG_PATH];
-    int live, base, out;
-    bool same = true;
-    if (!S_ISREG(file->key.mode) || !open_noted(replay->live, file, &live)) return true;
-    if (!file->first) {
-        same = open_noted(replay->base, file, &base) ? same_bytes(base, live) : !lseek(live, 0, SEEK_END);
-        if (base >= 0) close(base);
-    } else {
-        joined(path, replay->run, "explained");
-        out = open(path, O_RDWR | O_CREAT | O_TRUNC | O_CLOEXEC, 0600);
-        must(out >= 0, path);
-        write_contents(replay, file, true, out, path);
-        same = same_bytes(out, live);
-        must(!unlink(path) && !close(out), path);
-    }
-    close(live);
-    return same;
-}
-
-enum { MOST_TOLD = 5 };
-
-struct told {
-    int count;
-    char text[MOST_TOLD * (NAME_MAX + 8)];
-};
-
-static void tell(struct told *told, const char *name) {
-    if (++told->count > MOST_TOLD) return;
-    if (told->count > 1) strcat(told->text, ", ");
-    strncat(told->text, name, NAME_MAX);
-}
-
-/* The names that the changes give, beside those that were there. */
-static void tell_names(struct replay *replay, struct told *told) {
-    for (size_t i = 0; i < HASHES; i++)
-        for (struct name *name = replay->names[i]; name; name = name->next_of_hash) name->by_changes = name->file;
-    names_of_book(replay, replay->live);
-    for (size_t i = 0; i < HASHES; i++)
-        for (struct name *name = replay->names[i]; name; name = name->next_of_hash)
-            if (name->file != name->by_changes || (name->file && !is_explained(replay, name->file))) tell(told, name->text);
-}
-
-void tell_unseen(struct replay *replay) {
-    struct told told = {0};
-    names_of_changes(replay, true);
-    tell_names(replay, &told);
-    if (!told.count) return;
-    const char *others = told.count > MOST_TOLD ? ", and others" : "";
-    fprintf(stderr, "powercut: changed, and the shim didn't see how: %s%s\n", told.text, others);
+void lay(struct replay *replay, enum contents contents, const struct tree *tree) {
+    lay_folder(&(struct laying){replay, contents, tree, "."}, replay->root, tree->folder);
 }

@@ -8,10 +8,13 @@
    changes. */
 enum contents { LASTING, AS_THEY_ARE };
 
-/* Lays the files of the replay's names under that folder, which is empty. */
-void lay(struct replay *replay, enum contents contents, const char *root);
+/* Lays the files of the replay's names in that tree, which is empty. */
+void lay(struct replay *replay, enum contents contents, const struct tree *tree);
 
-/* Tells the files that aren't, at the cut, what the notes say: something changed them unseen. */
-void tell_unseen(struct replay *replay);
+/* Opens what a book has of a file's contents; false where it has nothing. */
+bool open_noted(const char *book, const struct file *file, int *in);
+
+/* Writes what was there as the run began, then the changes in their order: those that last or are kept, or all. */
+void write_contents(const struct replay *replay, const struct file *file, bool all, int out, const char *path);
 
 #endif

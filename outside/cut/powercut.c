@@ -1,4 +1,5 @@
 /* powercut begin RUN [ROOT]       makes the folder of a run: state, trace and, where ROOT is given, notes of what is there
+   powercut expect RUN NAME..      the script itself changes what has these names under ROOT; a folder's stands for all in it
    powercut pending RUN            which changes don't last by now: number, kind, names, bytes
    powercut cut RUN ROOT [STATE]   lays the files under ROOT as a power cut leaves them
    powercut recover RUN ROOT [STATE]   the same, and the run goes on
@@ -18,27 +19,38 @@
    The hits of power::keep stand in the trace behind the others, hit k for change k of `pending`; a pause there ends the command
    with 97, and nothing is laid. After `recover` what was laid is what is there, all of it lasts, and hits are numbered on.
 
-   A run in which no process loaded the library, or that was seen to call nothing while it started what can't load it, is refused,
-   with 2 as all that is refused. */
+   A run in which nothing ran under the supervisor, or nothing under ROOT was called, is refused,
+   with 2 as all that is refused, and before anything is changed. So is one in which files changed that neither the notes explain nor
+   the script named, as by stores into a mapping of a process that was killed; and a ROOT that isn't the folder of `begin`, or below
+   which something is mounted. Where the supervisor was killed between a change and its note, the change is told and not refused. */
 #define _GNU_SOURCE
 #include "lay.h"
-
-#include "../shim/raw.h"
+#include "unseen.h"
 
 #include <errno.h>
-#include <ftw.h>
+#include <fcntl.h>
+#include <stddef.h>
 #include <stdio.h>
 #include <stdlib.h>
 #include <sys/mman.h>
 #include <sys/stat.h>
+#include <unistd.h>
 
 /* ---- begin */
+
+/* Counters take room as they are used, the rest now: where the disk is full, a store into a mapping ends a process by a signal. */
+static void make_room(int file, const char *name) {
+    must(!ftruncate(file, sizeof(struct state)), name);
+    errno = posix_fallocate(file, 0, offsetof(struct state, counters));
+    must(!errno, name);
+}
 
 static struct state *map_state(const char *run, int flags) {
     char name[LONG_PATH];
     joined(name, run, "state");
     int file = open(name, O_RDWR | O_CLOEXEC | flags, 0600);
-    must(file >= 0 && (!(flags & O_CREAT) || !ftruncate(file, sizeof(struct state))), name);
+    must(file >= 0, name);
+    if (flags & O_CREAT) make_room(file, name);
     struct stat told;
     must(!fstat(file, &told), name);
     if (told.st_size != sizeof(struct state)) refuse(run, "not a run's folder");
@@ -48,7 +60,7 @@ static struct state *map_state(const char *run, int flags) {
     return state;
 }
 
-static void make_state(const char *run) {
+static struct state *make_state(const char *run) {
     pthread_mutexattr_t between;
     struct state *state = map_state(run, O_CREAT | O_EXCL);
     pthread_mutexattr_init(&between);
@@ -56,6 +68,7 @@ static void make_state(const char *run) {
     pthread_mutexattr_setrobust(&between, PTHREAD_MUTEX_ROBUST);
     pthread_mutex_init(&state->mutex, &between);
     state->block = 4096;
+    return state;
 }
 
 static void make_empty(const char *run, const char *name) {
@@ -71,43 +84,47 @@ static bool is_under(const char *path, const char *folder) {
     return !strncmp(path, folder, length) && (path[length] == '/' || !path[length] || length == 1);
 }
 
-static void real_folder(const char *name, char *path) {
-    struct stat told;
-    must(realpath(name, path) && !stat(path, &told), name);
-    if (!S_ISDIR(told.st_mode)) refuse(name, "not a folder");
-}
-
 static void begin(const char *run, const char *root) {
     char path[LONG_PATH], real_root[PATH_MAX], real_run[PATH_MAX];
+    struct tree tree;
+    if (root) open_tree(&tree, root);
+    if (root) check_tree(&tree);
     must(!mkdir(run, 0700), run);
-    make_state(run);
+    struct state *state = make_state(run);
     make_empty(run, "trace");
     if (!root) return;
-    real_folder(root, real_root);
-    real_folder(run, real_run);
+    must(realpath(root, real_root), root);
+    must(realpath(run, real_run), run);
     if (is_under(real_run, real_root)) refuse(run, "a run's folder can't be under ROOT");
     joined(path, run, "root");
     must(!symlink(real_root, path), path);
+    state->root = tree.identity;
     joined(path, run, "kept");
-    make_book(path, real_root);
+    make_book(path, &tree);
     make_empty(run, "changes");
 }
 
 /* ---- the run that is cut */
 
-/* Only the folder that `begin` noted is ever emptied. */
-static void check_root(const char *run, const char *root, char *real_root) {
-    char path[LONG_PATH], noted[PATH_MAX] = "";
+/* The state of a run that can be cut. */
+static struct state *state_with_root(const char *run) {
+    char path[LONG_PATH], noted[1];
     joined(path, run, "root");
-    if (readlink(path, noted, sizeof noted - 1) < 0) refuse(run, "no folder of a run that noted a root");
-    real_folder(root, real_root);
-    if (strcmp(noted, real_root)) refuse(root, "not the folder that begin noted");
+    if (readlink(path, noted, sizeof noted) < 0) refuse(run, "no folder of a run that noted a root");
+    return map_state(run, 0);
+}
+
+/* Only the folder that `begin` noted is ever emptied. */
+static void open_root(struct tree *tree, const struct state *state, const char *root) {
+    open_tree(tree, root);
+    if (!same_identity(&tree->identity, &state->root)) refuse(root, "not the folder that begin noted");
+    check_tree(tree);
 }
 
 /* A verdict over a run that nothing watched would be about nothing. A program that only starts others isn't what is tested. */
 static void check_loaded(const struct state *state) {
     if (!state->loaded)
-        refuse("no process of the run loaded the shim", "LD_PRELOAD leads to no faults.so, or the program can't load it");
+        refuse("nothing ran under the supervisor", "outside/out/faults wasn't started with this FAULTS_RUN, or ended before its command began");
     if (state->others && state->number == state->started) refuse("no call was seen", state->unseen_text[0]);
 }
 
@@ -120,45 +137,32 @@ static uint64_t length_of_trace(const char *run) {
 }
 
 /* The first cut finds the run as its programs left it, and later ones go by that. */
-static bool find_cut(struct state *state, const char *run) {
+static void find_cut(struct state *state, const char *run) {
     lock_state(state);
-    bool is_first = !state->cut.done;
-    if (is_first) {
+    if (!state->cut.done) {
         state->cut.noted = state->noted;
         state->cut.number = state->number;
         state->cut.trace = length_of_trace(run);
-        state->cut.done = 1;
     }
     pthread_mutex_unlock(&state->mutex);
-    return is_first;
 }
 
-/* The notes of what is there are whole or aren't there. */
-static void note_live(const char *run, const char *root) {
-    char live[LONG_PATH], part[LONG_PATH];
-    joined(live, run, "live");
-    if (!access(live, F_OK)) return;
-    joined(part, run, "live.part");
-    make_book(part, root);
-    must(!rename(part, live), live);
-}
-
-/* What the library knew, where no process told it; and what the notes don't explain. */
-static void tell_what_was_missed(struct state *state, struct replay *replay) {
+/* What is there, what the supervisor knew that it missed, where it didn't tell that, and what the notes don't explain. */
+static void look_at_what_is_there(struct state *state, struct replay *replay, const struct tree *tree) {
+    make_book(replay->live, tree);
     for (; state->unseen_told < state->unseen; state->unseen_told++)
         fprintf(stderr, "powercut: not seen: %s\n", state->unseen_text[state->unseen_told]);
-    tell_unseen(replay);
+    check_unseen(replay, state);
+    state->cut.done = 1;
 }
 
 /* ---- the cut asks */
 
 static void trace_keep(FILE *trace, uint64_t number, uint64_t which, const struct term *term, const struct change *change) {
-    static char answer[4 * MOST_BYTES + 64], names[4 * LONG_PATH];
+    static char answer[4 * MOST_BYTES + 64];
     *written_answer(answer, term) = 0;
-    *escaped(names, change->shown) = 0;
-    fprintf(trace, "%llu\t%s\t%llu\t%s\t%s\t-\t-\t%-20s\n",
-            (unsigned long long)number, point_names[KEEP], (unsigned long long)which,
-            answer, names, "-");
+    fprintf(trace, "%llu\t%s\t%llu\t%s\t%s\t-\t-\t%-20s\n", (unsigned long long)number, point_names[KEEP],
+            (unsigned long long)which, answer, change->shown, "-");
 }
 
 /* Asks for each pending change; a return keeps it. Answers how many it asked. A pause stops the run, and nothing is laid. */
@@ -206,25 +210,13 @@ static uint64_t ask_all(const struct state *state, struct replay *replay, const 
 
 /* ---- what a cut leaves */
 
-static int take_away(const char *path, const struct stat *told, int kind, struct FTW *at) {
-    (void)told, (void)kind;
-    return at->level == 0 ? 0 : remove(path);
-}
-
-/* So that what can't be read or written is taken away too. */
-static int make_open(const char *path, const struct stat *told, int kind, struct FTW *at) {
-    (void)at;
-    return (kind == FTW_D || kind == FTW_DNR) && (told->st_mode & 0700) != 0700 ? chmod(path, told->st_mode | 0700) : 0;
-}
-
-static void lay_state(struct replay *replay, const char *name, const char *root) {
+static void lay_state(struct replay *replay, const char *name, const struct tree *tree) {
     bool live_names = !strcmp(name, "live") || !strcmp(name, "names");
     bool live_contents = !strcmp(name, "live") || !strcmp(name, "contents");
-    must(!nftw(root, make_open, 16, FTW_PHYS), root);
-    must(!nftw(root, take_away, 16, FTW_DEPTH | FTW_PHYS), root);
+    empty_tree(tree);
     names_of_book(replay, replay->live); /* for the modes */
     if (!live_names) names_of_changes(replay, false);
-    lay(replay, live_contents ? AS_THEY_ARE : LASTING, root);
+    lay(replay, live_contents ? AS_THEY_ARE : LASTING, tree);
 }
 
 static void check_state(const char *name, const char *scenario) {
@@ -236,22 +228,18 @@ static void check_state(const char *name, const char *scenario) {
 }
 
 /* What was laid is what is there now, and all of it lasts. */
-static void go_on(struct state *state, const char *run, const char *root, uint64_t asked, const struct counter *counter) {
-    char kept[LONG_PATH], old[LONG_PATH], live[LONG_PATH];
-    joined(kept, run, "kept");
-    joined(live, run, "live");
-    joined(old, run, "old");
-    for (const char **folder = (const char *[]){kept, live, NULL}; *folder; folder++) {
-        must(!rename(*folder, old) && !nftw(old, take_away, 16, FTW_DEPTH | FTW_PHYS) && !rmdir(old), *folder);
-    }
-    make_book(kept, root);
-    joined(old, run, "changes"); /* a new file, since a process may have the old one in memory */
-    must(!unlink(old), old);
-    make_empty(run, "changes");
+static void go_on(struct state *state, const struct replay *replay, const struct tree *tree, uint64_t asked,
+    const struct counter *counter) {
+    char changes[LONG_PATH];
+    take_book_away(replay->live);
+    make_book(replay->base, tree);
+    joined(changes, replay->run, "changes"); /* a new file, since a process may have the old one in memory */
+    must(!unlink(changes), changes);
+    make_empty(replay->run, "changes");
     *counter_named(state, point_names[KEEP]) = *counter;
     state->noted = 0;
     state->number = state->started = state->cut.number + asked;
-    state->ended = state->loaded = state->others = state->unseen = state->unseen_told = 0;
+    state->ended = state->loaded = state->others = state->torn = state->unseen = state->unseen_told = 0;
     memset(&state->cut, 0, sizeof state->cut);
     memset(state->later, 0, sizeof state->later);
 }
@@ -259,22 +247,26 @@ static void go_on(struct state *state, const char *run, const char *root, uint64
 static void cut(const char *run, const char *root, const char *name, const char *scenario, bool goes_on) {
     static struct replay replay;
     static struct counter counter;
-    char real_root[PATH_MAX];
+    struct tree tree;
     check_state(name, scenario);
-    check_root(run, root, real_root);
-    struct state *state = map_state(run, 0);
+    struct state *state = state_with_root(run);
+    open_root(&tree, state, root);
     check_loaded(state);
-    bool is_first = find_cut(state, run);
+    find_cut(state, run);
     read_run(&replay, run, state, state->cut.noted);
-    note_live(run, real_root);
-    if (is_first) tell_what_was_missed(state, &replay);
+    if (!state->cut.done) look_at_what_is_there(state, &replay, &tree);
     counter = *counter_named(state, point_names[KEEP]);
     uint64_t asked = scenario ? ask_all(state, &replay, run, scenario, &counter) : 0;
-    lay_state(&replay, scenario ? "lasting" : name, real_root);
-    if (goes_on) go_on(state, run, real_root, asked, &counter);
+    lay_state(&replay, scenario ? "lasting" : name, &tree);
+    if (goes_on) go_on(state, &replay, &tree, asked, &counter);
 }
 
-/* ---- pending */
+/* ---- expect and pending */
+
+static void expect(const char *run, char **names, int count) {
+    state_with_root(run);
+    expect_names(run, names, count);
+}
 
 static const char *kind_of(const struct change *change) {
     static const char *const kinds[KINDS] = {
@@ -289,13 +281,11 @@ static const char *kind_of(const struct change *change) {
 
 static void tell_pending(const char *run) {
     static struct replay replay;
-    struct state *state = map_state(run, 0);
+    struct state *state = state_with_root(run);
     read_run(&replay, run, state, state->cut.done ? state->cut.noted : state->noted);
     for (size_t i = 0; i < replay.pending_count; i++) {
         const struct change *change = replay.changes[replay.pending[i]];
-        static char names[4 * LONG_PATH];
-        *escaped(names, change->shown) = 0;
-        printf("%zu\t%s\t%s\t", i + 1, kind_of(change), names);
+        printf("%zu\t%s\t%s\t", i + 1, kind_of(change), change->shown);
         if (change->kind == RESIZED) printf("to %llu\n", (unsigned long long)change->at);
         else if (is_contents(change))
             printf("%llu at %llu\n", (unsigned long long)change->length, (unsigned long long)change->at);
@@ -307,12 +297,16 @@ int main(int count, char **words) {
     const char *what = count > 1 ? words[1] : "";
     bool cuts = !strcmp(what, "cut") || !strcmp(what, "recover");
     umask(0);
+    raise_limit_of_descriptors();
     if (!strcmp(what, "begin") && (count == 3 || count == 4)) begin(words[2], count == 4 ? words[3] : NULL);
+    else if (!strcmp(what, "expect") && count > 3) expect(words[2], words + 3, count - 3);
     else if (!strcmp(what, "pending") && count == 3) tell_pending(words[2]);
     else if (cuts && count == 6 && !strcmp(words[4], "keep")) cut(words[2], words[3], "lasting", words[5], what[0] == 'r');
     else if (cuts && (count == 4 || count == 5)) cut(words[2], words[3], count == 5 ? words[4] : "lasting", NULL, what[0] == 'r');
-    else refuse("usage", "powercut begin RUN [ROOT] | pending RUN | cut|recover RUN ROOT [lasting|live|names|contents|keep SCENARIO]\n"
+    else refuse("usage", "powercut begin RUN [ROOT] | expect RUN NAME.. | pending RUN |\n"
+        "                cut|recover RUN ROOT [lasting|live|names|contents|keep SCENARIO]\n"
         "  begin     makes RUN, the folder of a run; what is under ROOT now lasts\n"
+        "  expect    the script itself changes what has these names under ROOT; a folder's stands for all that is in it\n"
         "  pending   which changes don't last by now: number, kind, names, bytes\n"
         "  cut       empties ROOT and lays there what a power cut leaves: names and contents as they last, or as they are, or what lasts\n"
         "            and the pending changes for which power::keep of the scenario answers return\n"

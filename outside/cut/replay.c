@@ -73,13 +73,12 @@ static void read_name(struct replay *replay, FILE *note, const char *line, struc
 }
 
 static void read_folder(struct replay *replay, struct file *folder, const char *book, bool is_base) {
-    char kind[LONG_PATH], path[LONG_PATH], text[KEY_TEXT], *line = NULL;
+    char *line = NULL;
     size_t size = 0;
-    write_key(text, &folder->key);
-    joined(kind, book, "d");
-    joined(path, kind, text);
-    FILE *note = fopen(path, "re");
-    if (!note) return;
+    int names = open_note(book, 'd', &folder->key, O_RDONLY);
+    if (names < 0) return;
+    FILE *note = fdopen(names, "r");
+    must(note, book);
     while (getdelim(&line, &size, 0, note) > 0) read_name(replay, note, line, folder, book, is_base);
     free(line);
     fclose(note);
@@ -92,7 +91,7 @@ void names_of_book(struct replay *replay, const char *book) {
 
 /* ---- the path of a change, for a look */
 
-static char *path_of(const struct file *folder, const char *name) {
+char *path_of(const struct file *folder, const char *name) {
     char path[LONG_PATH], longer[LONG_PATH];
     snprintf(path, sizeof path, "%s", name);
     for (int depth = 0; folder && folder->known_name && depth < 100; depth++, folder = folder->known_folder) {
@@ -102,10 +101,22 @@ static char *path_of(const struct file *folder, const char *name) {
     return strdup(path);
 }
 
+char *shown_text(const char *text) {
+    char *shown = made(4 * strlen(text) + 1);
+    *escaped(shown, text) = 0;
+    return shown;
+}
+
+static char *shown_path(const struct file *folder, const char *name) {
+    char *path = path_of(folder, name), *shown = shown_text(path);
+    free(path);
+    return shown;
+}
+
 static char *shown_names(const struct change *change) {
-    char *first = path_of(change->folder, change->name), *both = NULL;
+    char *first = shown_path(change->folder, change->name), *both = NULL;
     if (change->kind != RENAMED && change->kind != EXCHANGED) return first;
-    char *second = path_of(change->other_folder, change->other_name);
+    char *second = shown_path(change->other_folder, change->other_name);
     must(asprintf(&both, "%s -> %s", first, second) > 0, "memory");
     return both;
 }
@@ -175,6 +186,25 @@ static void dirty_again(struct replay *replay, const struct file *file, uint64_t
 
 /* ---- the notes, one by one */
 
+/* A note, which may begin at any byte, and what follows it. */
+struct record {
+    struct note note;
+    uint64_t at;
+    const char *name, *other_name, *bytes;
+};
+
+static struct record record_at(const struct replay *replay, uint64_t at) {
+    struct record record = {.at = at};
+    uint64_t left = replay->noted - at;
+    if (left < sizeof record.note) refuse(replay->run, "bad notes");
+    memcpy(&record.note, replay->notes + at, sizeof record.note);
+    if (record.note.size < sizeof record.note || record.note.size > left) refuse(replay->run, "bad notes");
+    record.name = replay->notes + at + sizeof record.note;
+    record.other_name = record.name + record.note.name;
+    record.bytes = record.other_name + record.note.other_name;
+    return record;
+}
+
 static struct change *add_change(struct replay *replay, const struct change *from) {
     struct change *change = made(sizeof *change);
     *change = *from;
@@ -193,7 +223,7 @@ static void add_part(struct replay *replay, struct change part, uint64_t at, uin
     part.bytes += at - part.at;
     part.at = at;
     part.length = length;
-    part.shown = path_of(part.file->known_folder, part.file->known_name ? part.file->known_name : "(no name)");
+    part.shown = shown_path(part.file->known_folder, part.file->known_name ? part.file->known_name : "(no name)");
     struct change *change = add_change(replay, &part);
     if (part.file->last) part.file->last->next_of_file = change;
     else part.file->first = change;
@@ -201,10 +231,11 @@ static void add_part(struct replay *replay, struct change part, uint64_t at, uin
 }
 
 /* A long write is a change for each of its blocks. Where a sync failed for good, the system's blocks are told apart too. */
-static void add_contents(struct replay *replay, const struct note *note, const char *bytes) {
+static void add_contents(struct replay *replay, const struct record *record) {
+    const struct note *note = &record->note;
     struct change whole = {
-        .kind = note->kind, .file = file_of(replay, &note->file), .noted = (uint64_t)((const char *)note - replay->notes),
-        .at = note->at, .length = note->length, .bytes = (uint64_t)(bytes - replay->notes), .later = note->flags & LATER,
+        .kind = note->kind, .file = file_of(replay, &note->file), .noted = record->at,
+        .at = note->at, .length = note->length, .bytes = (uint64_t)(record->bytes - replay->notes), .later = note->flags & LATER,
     };
     uint64_t end = note->at + note->length, at = note->at;
     if (note->kind == RESIZED) whole.length = 0;
@@ -220,11 +251,11 @@ static void add_contents(struct replay *replay, const struct note *note, const c
     }
 }
 
-static void add_copy(struct replay *replay, const struct note *note, const char *bytes) {
-    struct file *file = file_of(replay, &note->file);
+static void add_copy(struct replay *replay, const struct record *record) {
+    struct file *file = file_of(replay, &record->note.file);
     struct late_copy *copy = made(sizeof *copy);
-    *copy = (struct late_copy){.noted = (uint64_t)((const char *)note - replay->notes), .at = note->at, .length = note->length,
-                               .bytes = (uint64_t)(bytes - replay->notes), .next = file->copies};
+    *copy = (struct late_copy){.noted = record->at, .at = record->note.at, .length = record->note.length,
+                               .bytes = (uint64_t)(record->bytes - replay->notes), .next = file->copies};
     file->copies = copy;
 }
 
@@ -233,11 +264,12 @@ static void set_known(struct file *file, struct file *folder, const char *name) 
     file->known_name = name;
 }
 
-static void add_names(struct replay *replay, const struct note *note, const char *name, const char *other_name) {
+static void add_names(struct replay *replay, const struct record *record) {
+    const struct note *note = &record->note;
+    const char *name = record->name, *other_name = record->other_name;
     struct file *file = file_of(replay, &note->file), *folder = file_of(replay, &note->folder);
     bool has_two = note->kind == RENAMED || note->kind == EXCHANGED;
-    struct change change = {.kind = note->kind, .file = file, .folder = folder, .name = name,
-                            .noted = (uint64_t)((const char *)note - replay->notes)};
+    struct change change = {.kind = note->kind, .file = file, .folder = folder, .name = name, .noted = record->at};
     file->key.mode = note->file.mode;
     if (has_two) {
         change.other_folder = file_of(replay, &note->other_folder);
@@ -252,23 +284,15 @@ static void add_names(struct replay *replay, const struct note *note, const char
     add_change(replay, &change);
 }
 
-static void read_note(struct replay *replay, const struct note *note) {
-    const char *name = (const char *)(note + 1), *other_name = name + note->name, *bytes = other_name + note->other_name;
-    switch ((enum kind)note->kind) {
-    case CREATED: case LINKED: case UNLINKED: case RENAMED: case EXCHANGED: return add_names(replay, note, name, other_name);
-    case WRITTEN: case STORED: case CLEARED: case RESIZED: return add_contents(replay, note, bytes);
-    case COPIED: return add_copy(replay, note, bytes);
-    case SYNCED: case SYNCED_RANGE: case SYNCED_ALL: return sync_changes(replay, note);
-    case SYNC_FAILED: return lose_changes(replay, note);
+static void read_record(struct replay *replay, const struct record *record) {
+    switch ((enum kind)record->note.kind) {
+    case CREATED: case LINKED: case UNLINKED: case RENAMED: case EXCHANGED: return add_names(replay, record);
+    case WRITTEN: case STORED: case CLEARED: case RESIZED: return add_contents(replay, record);
+    case COPIED: return add_copy(replay, record);
+    case SYNCED: case SYNCED_RANGE: case SYNCED_ALL: return sync_changes(replay, &record->note);
+    case SYNC_FAILED: return lose_changes(replay, &record->note);
     default: refuse(replay->run, "bad notes");
     }
-}
-
-static const struct note *note_at(const struct replay *replay, uint64_t at) {
-    const struct note *note = (const struct note *)(replay->notes + at);
-    uint64_t left = replay->noted - at;
-    if (left < sizeof *note || note->size < sizeof *note || note->size > left) refuse(replay->run, "bad notes");
-    return note;
 }
 
 static void map_notes(struct replay *replay) {
@@ -284,23 +308,20 @@ static void map_notes(struct replay *replay) {
 }
 
 void read_run(struct replay *replay, const char *run, const struct state *state, uint64_t noted) {
-    char root_link[LONG_PATH], root[PATH_MAX];
-    joined(root_link, run, "root");
-    ssize_t length = readlink(root_link, root, sizeof root - 1);
-    if (length < 0) refuse(run, "no folder of a run that noted a root");
-    root[length] = 0;
     *replay = (struct replay){.noted = noted, .block = state->block, .sync_names = state->sync_names};
     snprintf(replay->run, sizeof replay->run, "%s", run);
     joined(replay->base, run, "kept");
     joined(replay->live, run, "live");
-    struct key key = key_of(root);
-    replay->root = file_of(replay, &key);
+    replay->root = file_of(replay, &state->root.key);
     replay->root->in_base = true;
     read_folder(replay, replay->root, replay->base, true);
     map_notes(replay);
-    for (uint64_t at = 0; at < noted; at += note_at(replay, at)->size)
-        replay->forgets |= note_at(replay, at)->kind == SYNC_FAILED;
-    for (uint64_t at = 0; at < noted; at += note_at(replay, at)->size) read_note(replay, note_at(replay, at));
+    for (uint64_t at = 0; at < noted; at += record_at(replay, at).note.size)
+        replay->forgets |= record_at(replay, at).note.kind == SYNC_FAILED;
+    for (uint64_t at = 0; at < noted; at += record_at(replay, at).note.size) {
+        struct record record = record_at(replay, at);
+        read_record(replay, &record);
+    }
 }
 
 /* ---- names as changes leave them */

@@ -27,7 +27,7 @@ struct change {
     bool lasts, other_lasts; /* a change in two folders lasts in each by itself */
     bool lost;              /* the system takes these blocks for clean */
     bool kept;              /* by this cut */
-    char *shown;            /* its names, for a look */
+    char *shown;            /* its names, as shown_text has them */
     struct change *next_of_file;
 };
 
@@ -78,5 +78,11 @@ void names_of_changes(struct replay *replay, bool all);
 void names_of_book(struct replay *replay, const char *book);
 
 struct file *file_of(struct replay *replay, const struct key *key);
+
+/* The path under the root of a name in a folder. */
+char *path_of(const struct file *folder, const char *name);
+
+/* A text as a line may hold it: control bytes and backslashes as `\\ooo`. */
+char *shown_text(const char *text);
 
 #endif

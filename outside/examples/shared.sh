@@ -3,7 +3,7 @@
 #   STATES        the states after a power cut that are judged: lasting names contents live. keep is what the scenario says of
 #                 power::keep; keep:N what lasts, and change N of those that are pending; each is what lasts with none of them, with each
 #                 alone, and with all
-#   FAULTS_SYNC   names: a sync of a file makes its name last too; and the library's other variables
+#   FAULTS_SYNC   names: a sync of a file makes its name last too; and the supervisor's other variables
 #   TRACE         a file that takes the run's trace
 #   HITS          where it is set, as outside/loop does with a depth, the line ends with a tab and the run's hits in order, as `census --hits` tells them
 #   SHOW          where it is set, what the program said, and each verdict's state, on standard error
@@ -16,7 +16,7 @@ hits=
 leave() { rm -rf "$here"; }
 
 # What the examples stand on is built by one command.
-for built in faults.so powercut; do
+for built in faults powercut; do
     [ -e "$outside/out/$built" ] || { echo "try.sh: not built: make -C $outside" >&2; exit 2; }
 done
 
@@ -47,10 +47,10 @@ traced() {
 # met: a fault that was never met wasn't tried
 met() { [ "$scenario" = none ] || cut -f 4 "$here/run/trace" | grep -qvx go || verdict unresolved; }
 
-# ended: after the program's run, before anything is judged. Where the library wasn't loaded or no call was seen, and the scenario could be
-# read, the power cut tells that it wasn't loaded, or not in which program.
+# ended: after the program's run, before anything is judged. Where no call was seen, and the scenario could be read, the power cut tells that
+# nothing ran under the supervisor, or what did.
 ended() {
-    if { [ ! -s "$here/run/loaded" ] || [ ! -s "$here/run/trace" ]; } && ! grep -q '^faults: scenario: ' "$here/errors"; then
+    if [ ! -s "$here/run/trace" ] && ! grep -q '^faults: scenario: ' "$here/errors"; then
         "$outside/out/powercut" cut "$here/run" "$here/data" live && echo 'try.sh: no call on a file was seen' >&2
         exit 2
     fi

@@ -4,7 +4,7 @@
 #define _GNU_SOURCE
 #include "points.h"
 
-#include "../shim/run.h"
+#include "../run/run.h"
 
 #include <errno.h>
 #include <fcntl.h>
@@ -15,7 +15,9 @@
 #include <stdlib.h>
 #include <string.h>
 #include <sys/file.h>
+#include <sys/mman.h>
 #include <sys/stat.h>
+#include <sys/uio.h>
 #include <time.h>
 #include <unistd.h>
 
@@ -35,23 +37,54 @@ static uint64_t number; /* hits so far */
 static char trace_name[2 * PATH_MAX];
 static off_t seen; /* bytes of the trace that are counted */
 static pthread_mutex_t mutex = PTHREAD_MUTEX_INITIALIZER;
+static sigset_t signals; /* under the mutex: those of the thread that holds it */
 
+/* A hit may be that of a signal handler, which may have interrupted any function of the C library: so none is called here that
+   takes memory or a lock. */
 static _Noreturn void refuse(const char *what, const char *why) {
-    dprintf(2, "points: %s: %s\n", what, why);
+    const char *words[] = {"points: ", what, ": ", why, "\n"};
+    struct iovec parts[5];
+    for (int i = 0; i < 5; i++) parts[i] = (struct iovec){(void *)words[i], strlen(words[i])};
+    writev(2, parts, 5);
     _exit(REFUSED);
 }
 
-static void *room(void *before, size_t bytes) {
-    void *made = realloc(before, bytes);
-    if (!made) refuse("no memory", strerror(ENOMEM));
-    return made;
+/* Memory of the client's own, which is kept. */
+static void *room(size_t bytes) {
+    enum { AT_ONCE = 1 << 16 };
+    static char *left;
+    static size_t length;
+    bytes = (bytes + 15) / 16 * 16;
+    if (bytes > length) {
+        length = bytes > AT_ONCE ? bytes : AT_ONCE;
+        left = mmap(NULL, length, PROT_READ | PROT_WRITE, MAP_PRIVATE | MAP_ANONYMOUS, -1, 0);
+        if (left == MAP_FAILED) refuse("no memory", strerrordesc_np(ENOMEM));
+    }
+    left += bytes;
+    length -= bytes;
+    return left - bytes;
+}
+
+/* Signals wait, since a handler may hit a point too. */
+static void hold(void) {
+    sigset_t all, before;
+    sigfillset(&all);
+    pthread_sigmask(SIG_BLOCK, &all, &before);
+    pthread_mutex_lock(&mutex);
+    signals = before;
+}
+
+static void let_go(void) {
+    sigset_t before = signals;
+    pthread_mutex_unlock(&mutex);
+    pthread_sigmask(SIG_SETMASK, &before, NULL);
 }
 
 static struct named *named(const char *name, size_t length) {
     struct named *found = names;
     while (found && (strncmp(found->name, name, length) || found->name[length])) found = found->next;
     if (found) return found;
-    found = room(NULL, sizeof *found + length + 1);
+    found = room(sizeof *found + length + 1);
     *found = (struct named){.next = names};
     memcpy(found->name, name, length);
     found->name[length] = 0;
@@ -62,7 +95,7 @@ static struct named *named(const char *name, size_t length) {
 
 static struct chain *chain_of_name(const char *name) {
     struct named *its = named(name, strlen(name));
-    if (!its->chain) its->chain = room(NULL, sizeof *its->chain);
+    if (!its->chain) its->chain = room(sizeof *its->chain);
     return its->chain;
 }
 
@@ -80,7 +113,7 @@ static const struct chain *first_share(unsigned *term) {
 }
 
 static void take_scenario(const char *text) {
-    char *own = strcpy(room(NULL, strlen(text) + 1), text), where[64];
+    char *own = strcpy(room(strlen(text) + 1), text), where[64];
     scenario.own = chain_of_name;
     bool is_read = read_scenario(&scenario, own);
     const struct chain *first = is_read ? first_share(&scenario.bad.term) : NULL;
@@ -93,22 +126,26 @@ static void take_scenario(const char *text) {
 /* The whole path, since a program may change its folder. */
 static void take_trace(const char *name) {
     char folder[PATH_MAX];
-    if (*name != '/' && !getcwd(folder, sizeof folder)) refuse("no trace", strerror(errno));
+    if (*name != '/' && !getcwd(folder, sizeof folder)) refuse("no trace", strerrordesc_np(errno));
     int length = snprintf(trace_name, sizeof trace_name, "%s%s%s", *name == '/' ? "" : folder, *name == '/' ? "" : "/", name);
-    if (length >= (int)sizeof trace_name) refuse("no trace", strerror(ENAMETOOLONG));
+    if (length >= (int)sizeof trace_name) refuse("no trace", strerrordesc_np(ENAMETOOLONG));
     int file = open(trace_name, O_RDWR | O_APPEND | O_CREAT | O_CLOEXEC, 0666);
-    if (file < 0) refuse("no trace", strerror(errno));
+    if (file < 0) refuse("no trace", strerrordesc_np(errno));
     close(file);
 }
 
-/* Before `main`, so that nothing is done under a scenario that can't be read. */
+/* Before `main`, so that nothing is done under a scenario that can't be read. A child of a program with threads has one of them: so no
+   other is within a hit as it is made. */
 __attribute__((constructor)) static void begin(void) {
     const char *text = getenv("FAILPOINTS"), *trace = getenv("POINTS_TRACE");
+    if (pthread_atfork(hold, let_go, let_go)) refuse("no memory", strerrordesc_np(ENOMEM));
     if (text && strcmp(text, "none")) take_scenario(text);
     if (trace && *trace) take_trace(trace);
 }
 
 /* ---- the trace: number of the hit, point, which hit of the point, answer, and a column that says nothing */
+
+static char lines[4 * MOST_BYTES + MOST_NAME + 256]; /* under the mutex: those that are read, then the one that is written */
 
 static bool begins(const char *text, const char *with) { return !strncmp(text, with, strlen(with)); }
 
@@ -123,34 +160,35 @@ static void count_line(const char *line) {
     named(point + 1, (size_t)(hit - point - 1))->hits++;
 }
 
-static void count_new_lines(int file) {
-    struct stat found;
-    if (fstat(file, &found)) refuse("no trace", strerror(errno));
-    if (found.st_size < seen) refuse("no trace", "it was cut short");
-    size_t length = (size_t)(found.st_size - seen), had = 0;
-    if (!length) return;
-    char *text = room(NULL, length + 1);
-    while (had < length) {
-        ssize_t got = pread(file, text + had, length - had, seen + (off_t)had);
-        if (got <= 0 && errno != EINTR) refuse("no trace", strerror(errno));
-        if (got > 0) had += (size_t)got;
-    }
-    text[length] = 0;
-    if (text[length - 1] != '\n') refuse("no trace", "its last line has no end");
-    for (char *line = text, *end; (end = strchr(line, '\n')); line = end + 1) {
+/* Counts the whole lines among those bytes; answers how many bytes these have. */
+static size_t count_lines(char *text, size_t length) {
+    char *line = text, *end;
+    for (; (end = memchr(line, '\n', (size_t)(text + length - line))); line = end + 1) {
         *end = 0;
         count_line(line);
     }
-    free(text);
-    seen = found.st_size;
+    return (size_t)(line - text);
+}
+
+static void count_new_lines(int file) {
+    struct stat found;
+    if (fstat(file, &found)) refuse("no trace", strerrordesc_np(errno));
+    if (found.st_size < seen) refuse("no trace", "it was cut short");
+    while (seen < found.st_size) {
+        ssize_t got = pread(file, lines, sizeof lines, seen);
+        if (got < 0 && errno == EINTR) continue;
+        if (got <= 0) refuse("no trace", got ? strerrordesc_np(errno) : "it was cut short");
+        size_t counted = count_lines(lines, (size_t)got);
+        if (!counted) refuse("no trace", "its last line has no end");
+        seen += (off_t)counted;
+    }
 }
 
 static void write_line(int file, const struct named *point, const struct term *term) {
-    static char line[4 * MOST_BYTES + MOST_NAME + 256]; /* under the mutex */
-    char *end = line + sprintf(line, "%llu\t%s\t%llu\t", (unsigned long long)number, point->name, (unsigned long long)point->hits);
+    char *end = lines + sprintf(lines, "%llu\t%s\t%llu\t", (unsigned long long)number, point->name, (unsigned long long)point->hits);
     end = stpcpy(written_answer(end, term), "\t-\n");
-    if (write(file, line, (size_t)(end - line)) != end - line) refuse("no trace", strerror(errno));
-    seen += end - line;
+    if (write(file, lines, (size_t)(end - lines)) != end - lines) refuse("no trace", strerrordesc_np(errno));
+    seen += end - lines;
 }
 
 /* ---- a hit */
@@ -169,9 +207,9 @@ static const struct term *term_at(const struct chain *chain, uint64_t hit) {
 /* The file is opened for each hit: a program may close every descriptor that it doesn't know. */
 static const struct term *hit_traced(struct named *point) {
     int file = open(trace_name, O_RDWR | O_APPEND | O_CLOEXEC);
-    if (file < 0) refuse("no trace", strerror(errno));
+    if (file < 0) refuse("no trace", strerrordesc_np(errno));
     while (flock(file, LOCK_EX))
-        if (errno != EINTR) refuse("no trace", strerror(errno));
+        if (errno != EINTR) refuse("no trace", strerrordesc_np(errno));
     count_new_lines(file);
     number++;
     const struct term *term = term_at(point->chain, ++point->hits);
@@ -182,7 +220,7 @@ static const struct term *hit_traced(struct named *point) {
 
 static void check_name(const char *name) {
     size_t length = strlen(name);
-    bool is_lawful = length > 0 && length <= MOST_NAME && !begins(name, "libc::") && name[0] != ' ' && name[length - 1] != ' ';
+    bool is_lawful = length > 0 && length <= MOST_NAME && !begins(name, "sys::") && name[0] != ' ' && name[length - 1] != ' ';
     for (const char *byte = name; *byte; byte++)
         if ((unsigned char)*byte < ' ' || *byte == 127 || *byte == ';' || *byte == '=') is_lawful = false;
     if (!is_lawful) refuse("no name of a point", name);
@@ -204,18 +242,13 @@ static const char *act(const struct term *term) {
     }
 }
 
-/* Signals wait, since a handler may hit a point too. */
 const char *points_hit(const char *name) {
-    sigset_t all, before;
     int error = errno;
     check_name(name);
-    sigfillset(&all);
-    pthread_sigmask(SIG_BLOCK, &all, &before);
-    pthread_mutex_lock(&mutex);
+    hold();
     struct named *point = named(name, strlen(name));
     const struct term *term = *trace_name ? hit_traced(point) : term_at(point->chain, ++point->hits);
-    pthread_mutex_unlock(&mutex);
-    pthread_sigmask(SIG_SETMASK, &before, NULL);
+    let_go();
     const char *answer = act(term);
     errno = error;
     return answer;

@@ -7,7 +7,7 @@
 
    FAILPOINTS     the scenario, or `none`
    POINTS_TRACE   a file that takes the trace, made new for each run. Processes that name the same file share the counts, also
-                  between languages; without one each counts for itself. As a line of the library's: number of the hit, point, which hit
+                  between languages; without one each counts for itself. As a line of the supervisor's: number of the hit, point, which hit
                   of that point, what was answered, and any word, with tabs between. outside/census reads it. In try.sh:
 
        FAILPOINTS=$1 POINTS_TRACE=$run/points timeout -s KILL 10 ./store > "$run/said"
@@ -17,10 +17,11 @@
    Tasks:         off, yield: it goes on. return, return(x): it fails, with the argument x. panic, pause: the program ends at once with 99,
                   or 97, and each other process with that trace at its next point. sleep, delay: it goes on after so many milliseconds.
                   print: it goes on; the trace has the argument.
+   A handler of a signal may hit points, and so may a child of a program with threads.
    Refused:       a scenario that can't be read, before `main` (in Python, as the module is imported): status 98, and a line, as
                   `points: scenario: UnknownTask entry 1 term 1`, by Paklour's kinds and places; a share strictly between nothing and
                   the whole is NoShares. So are a trace that can't be written, and a point without a lawful name: one to 200 bytes,
-                  no `;`, no `=`, no control byte, no blank at an end, and not `libc::..`, which are the library's.
+                  no `;`, no `=`, no control byte, no blank at an end, and not `sys::..`, which are the supervisor's.
 
    Rust and Go have clients of their own. fail-rs: its feature `failpoints`, and a FailScenario::setup() at the beginning of `main`. It
    reads no `none`, writes no trace, and its panic ends a thread alone: let a panic abort the program, and judge that status (134) as 99.

@@ -57,22 +57,22 @@ leaves 'a new file of an old name' 'old= ' 'old= ' 'old=new ' 'old=new '
 try none rename sub way folder . fsync
 is 'a folder under another name' 'old=0123456789 way/ way/in=inside ' "$(left lasting)"
 
-try 'libc::fsync=1*return' open old write ab fsync
+try 'sys::fsync=1*return' open old write ab fsync
 is 'a sync that failed keeps nothing' 'old=0123456789 ' "$(left lasting | sed 's|sub/.*||')"
-try 'libc::fsync=1*return' open old write ab fsync fsync
+try 'sys::fsync=1*return' open old write ab fsync fsync
 is 'a second one keeps all' 'old=ab23456789 ' "$(left lasting | sed 's|sub/.*||')"
 FAULTS_FSYNC=once
 export FAULTS_FSYNC
-try 'libc::fsync=1*return' open old write ab fsync fsync
+try 'sys::fsync=1*return' open old write ab fsync fsync
 is 'with once, what the failed one lost stays lost' 'old=0123456789 ' "$(left lasting | sed 's|sub/.*||')"
-try 'libc::fsync=1*return' open old write ab fsync write c fsync
+try 'sys::fsync=1*return' open old write ab fsync write c fsync
 is 'with once, a block written again is kept' 'old=abc3456789 ' "$(left lasting | sed 's|sub/.*||')"
 FAULTS_FSYNC=twice
 try none open old
 is 'FAULTS_FSYNC is once' '98 faults: FAULTS_FSYNC is once or isn'"'"'t set: twice' "$status $faults"
 unset FAULTS_FSYNC
 
-try 'libc::fsync=1*off->panic' create a write b fsync folder . fsync
+try 'sys::fsync=1*off->panic' create a write b fsync folder . fsync
 is 'a panic at the sync of the folder' '99 old=0123456789 ' "$status $(left lasting | sed 's|sub/.*||')"
 try none child create a write b fsync folder . fsync parent
 is 'what a child synced lasts' 'a=b old=0123456789 ' "$(left lasting | sed 's|sub/.*||')"
@@ -88,17 +88,6 @@ left lasting > /dev/null
 rm "$here/data/old"
 is 'a look at one state changes no other' 'old=ab23456789 ' "$(left lasting | sed 's|sub/.*||')"
 
-# A sync that fails by itself, not by the scenario.
-if command -v strace > "$here/said" && strace -o "$here/calls" true 2> "$here/faults"; then
-    new
-    said=$(cd "$here/data" && strace -qq -o "$here/calls" -e trace=fsync -e inject=fsync:error=EIO:when=1 \
-        env LD_PRELOAD="$outside/out/faults.so" FAULTS_ROOT="$here/data" FAULTS_RUN="$here/run" \
-        "$outside/out/component" open old write ab fsync | paste -s -d ,)
-    is 'a sync that fails by itself keeps nothing' 'open 0,write 2,fsync EIO old=0123456789 ' "$said $(left lasting | sed 's|sub/.*||')"
-else
-    echo 'skipped a sync that fails by itself: no strace'
-fi
-
 # What is refused, with nothing changed.
 try none open old
 mkdir -p "$here/other"
@@ -110,7 +99,7 @@ is 'begin under the root' "powercut: $here/data/run: a run's folder can't be und
 is 'begin of a file' "powercut: $here/data/old: not a folder" "$(out/powercut begin "$here/file" "$here/data/old" 2>&1)"
 rm -rf "$here/run"
 out/powercut begin "$here/run"
-go 'libc::open=1*return' open old open old
+go 'sys::open=1*return' open old open old
 is 'a run without a power cut' 'open EIO,open 0' "$said"
 is 'and none can be cut' "powercut: $here/run: no folder of a run that noted a root" "$(out/powercut cut "$here/run" "$here/data" 2>&1)"
 out/powercut > "$here/said" 2>&1

@@ -10,7 +10,7 @@ words = [word for word in sys.argv[1:] if word != "--report"]
 depth, command = int(words[0]), words[1]
 kinds = {"power::keep": ["return"], **{word.split("=")[0]: word.split("=")[1].split(",") for word in words[2:]}}
 catalogue = "open read write fsync ftruncate rename link unlink mkdir rmdir symlink".split()
-order = ["libc::" + name for name in catalogue] + ["power::keep"]
+order = ["sys::" + name for name in catalogue] + ["power::keep"]
 trace = os.path.join(tempfile.mkdtemp(), "trace")
 runs = {}
 

@@ -158,21 +158,21 @@ unset FAULTS_SYNC
 # A failed sync whose blocks the system takes for clean.
 FAULTS_FSYNC=once
 export FAULTS_FSYNC
-try 'libc::fsync=1*return' open old write ab fsync pwrite ab fsync
+try 'sys::fsync=1*return' open old write ab fsync pwrite ab fsync
 is 'with once, a block written again with the same bytes is kept' 'old=ab23456789 ' "$(kept none)"
-try 'libc::fsync=1*return' create a write bc fsync folder . fsync create a write bc fsync
+try 'sys::fsync=1*return' create a write bc fsync folder . fsync create a write bc fsync
 is 'with once, a file that is cut short and written again is kept' 'a=bc old=0123456789 ' "$(kept none)"
-try 'libc::fsync=1*return' create a fill 8192 fsync folder . fsync open a fsync pwrite z fsync
+try 'sys::fsync=1*return' create a fill 8192 fsync folder . fsync open a fsync pwrite z fsync
 is 'with once, the other blocks stay lost' '1 write a 4096 at 4096' "$(pending)"
 unset FAULTS_FSYNC
 
 # The cut's own hits.
-try 'libc::write=1*off->1*return' create a write b write c
-left keep 'libc::write=1*off->1*return;power::keep=1*off->1*return' > "$here/said"
-is 'its hits are in the trace' '1 libc::open 1 go a,2 libc::write 1 go a,3 libc::write 2 return a,4 power::keep 1 go a,5 power::keep 2 return a' \
+try 'sys::write=1*off->1*return' create a write b write c
+left keep 'sys::write=1*off->1*return;power::keep=1*off->1*return' > "$here/said"
+is 'its hits are in the trace' '1 sys::open 1 go a,2 sys::write 1 go a,3 sys::write 2 return a,4 power::keep 1 go a,5 power::keep 2 return a' \
     "$(cut -f 1-5 "$here/run/trace" | tr '\t' ' ' | paste -s -d ,)"
 left keep power::keep=return > "$here/said"
-is 'a cut in turn asks anew' 'libc::open go,libc::write go,libc::write return,power::keep return,power::keep return' \
+is 'a cut in turn asks anew' 'sys::open go,sys::write go,sys::write return,power::keep return,power::keep return' \
     "$(cut -f 2,4 "$here/run/trace" | tr '\t' ' ' | paste -s -d ,)"
 for task in off panic print 'sleep(1)' yield 'return(EIO)'; do
     [ "${task%(*}" = return ] && expected='a=b old=0123456789 ' || expected='old=0123456789 '
@@ -184,23 +184,5 @@ is 'a scenario that cannot be read' 'powercut: scenario: UnknownTask entry 1 ter
 is 'nor one with shares' 'powercut: scenario: NoShares entry 1 term 1 2' "$( (left keep 'power::keep=50%return' 2>&1 || echo $?) | paste -s -d ' ')"
 try none create a write b
 left keep none > "$here/said"
-is 'the census has them last' 'points = ["libc::open", "libc::write", "power::keep"]
+is 'the census has them last' 'points = ["sys::open", "sys::write", "power::keep"]
 hits = [1, 1, 2]' "$(./census "$here/run/trace")"
-
-# What is written while a sync runs isn't promised by it.
-if command -v strace > "$here/said" && strace -o "$here/calls" -e inject=fsync:delay_enter=1 true 2> "$here/faults"; then
-    new
-    (cd "$here/data" && strace -qq -o "$here/calls" -e trace=fsync -e inject=fsync:delay_enter=600000 \
-        env LD_PRELOAD="$outside/out/faults.so" FAULTS_ROOT="$here/data" FAULTS_RUN="$here/run" "$component" open old write ab fsync) \
-        > "$here/slow" &
-    for _ in $(seq 100); do
-        grep -q libc::fsync "$here/run/trace" && break
-        sleep 0.02
-    done
-    sleep 0.1
-    go none open old pwrite z
-    wait
-    is 'a write while a sync runs' '1 write old 1 at 0:old=ab23456789 ' "$(pending):$(kept none)"
-else
-    echo 'skipped a write while a sync runs: no strace that delays'
-fi

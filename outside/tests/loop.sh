@@ -8,6 +8,8 @@ brief= strict=
 [ "$2" != --strict ] || { strict=yes; set -- "$1" "$3"; }
 cat > "$0.in"
 [ -z "${REFUSES-}" ] || { [ "$1" = asks ] && { echo 'settings: unknown key what' >&2; exit 2; }; }
+[ "$1" != asks ] || ! line=$(grep -n -m 1 bad "$0.in") || { echo "answers: line ${line%%:*}: unknown verdict" >&2; exit 2; }
+[ "$1" != asks ] || ! line=$(grep -n -m 1 power::keep "$0.in") || { echo "answers: line ${line%%:*}: unknown point" >&2; exit 2; }
 [ -z "${NOTE-}" ] || [ "$brief" ] || echo "$NOTE" >&2
 case $1 in
 asks) cut -f 2 "$0.in" | grep -vxF -f - "$2" | grep -v depth | head -n "${ROUND:-3}" ;;
@@ -54,6 +56,8 @@ head -n 4 "$here/answers" > "$here/part" && mv "$here/part" "$here/answers"
 is 'and on where it was stopped' "$all" "$(loop answers 2> "$here/faults")"
 is 'with each asked once' 7 "$(wc -l < "$here/answers")"
 rm "$here/answers"
+is 'a script may be named by an option' "$all" "$(PATH="$here/bin:$PATH" ./loop --script "$here/bin/answers" "$here/list" "$here/answers" 2> "$here/faults")"
+rm "$here/answers"
 options=--strict NOTE='a note'
 export NOTE
 strict=$(loop answers 2> "$here/faults")
@@ -82,9 +86,46 @@ is 'a run that takes too long' 'a=off b=print( x ) none' \
     "$(PATH="$here/bin:$PATH" ./loop --seconds 1 "$here/three" "$here/answers" "$here/bin/hangs" 2> "$here/told")"
 is 'is unresolved' '3 unresolved' "$(cut -f 1 "$here/answers" | sort | uniq -c | sed 's/^ *//')"
 is 'and told' 'loop: ended after 1 seconds: a=off' "$(LC_ALL=C sort "$here/told" | head -n 1)"
-# going: which of the children of `hangs` are running; one that has ended may still be listed
-going() { for pid in "$here"/bin/hangs.*.pid; do grep -hs '^State:.[^ZX]' "/proc/$(cat "$pid")/status"; done; }
+# running PROGRAM: which processes that it noted are; one that has ended may still be listed
+running() { for pid in "$here/bin/$1".*.pid; do grep -hs '^State:.[^ZX]' "/proc/$(cat "$pid")/status"; done 2> "$here/ended"; }
+going() { running hangs; }
 is 'and its children are ended' '3 ' "$(ls "$here"/bin/hangs.*.pid | wc -l) $(going)"
+rm "$here/answers" "$here"/bin/hangs.*.pid
+
+# What has a session of its own is ended too, and so is what a run leaves that ends in time, which is told.
+printf '%s\n' '#!/bin/sh' 'setsid sleep 30 & echo $! > "$0.$1.pid"; sleep 30' > "$here/bin/flees"
+printf '%s\n' '#!/bin/sh' 'setsid sleep 30 & echo $! > "$0.$1.pid"; printf "pass\t%s\n" "$1"' > "$here/bin/leaves"
+# As a server that is told to end, and isn't waited for.
+printf '%s\n' '#!/bin/sh' 'sleep 30 & kill $!; printf "pass\t%s\n" "$1"' > "$here/bin/leaves_ending"
+chmod +x "$here"/bin/*
+PATH="$here/bin:$PATH" ./loop --seconds 1 "$here/three" "$here/answers" "$here/bin/flees" > "$here/said" 2> "$here/told"
+is 'what has a session of its own is ended' '3 3 unresolved ' "$(ls "$here"/bin/flees.*.pid | wc -l) $(cut -f 1 "$here/answers" | sort | uniq -c | sed 's/^ *//') $(running flees)"
+rm "$here/answers"
+PATH="$here/bin:$PATH" ./loop "$here/three" "$here/answers" "$here/bin/leaves" > "$here/said" 2> "$here/told"
+is 'and what a run leaves' '3 3 pass ' "$(ls "$here"/bin/leaves.*.pid | wc -l) $(cut -f 1 "$here/answers" | sort | uniq -c | sed 's/^ *//') $(running leaves)"
+is 'which is told' 'within: ended what was left running: sleep: a=off' "$(LC_ALL=C sort "$here/told" | head -n 1)"
+rm "$here/answers"
+PATH="$here/bin:$PATH" ./loop "$here/three" "$here/answers" "$here/bin/leaves_ending" > "$here/said" 2> "$here/told"
+is 'but not what ends by itself' '3 ' "$(wc -l < "$here/answers") $(cat "$here/told")"
+rm "$here/answers"
+
+# within WORD..: the status of the program that each try is run by, and what it writes
+within() { out/within "$@" > "$here/said" 2>&1; echo "$? $(paste -s -d ' ' "$here/said")"; }
+is 'it has the status of its command' '3 a b' "$(within 9 99 sh -c 'echo a b; exit 3')"
+is 'or the signal' '137 ' "$(within 9 99 sh -c 'kill -KILL $$')"
+is 'or that the time was up' '124 ' "$(within 1 99 sh -c 'trap "" TERM; sleep 30')"
+is 'so many bytes are passed on' '141 y y' "$(within 9 4 yes)"
+is 'what isn'\''t taken ends the command' '125 within: standard output: No space left on device' \
+    "$(out/within 9 999999999 yes 2> "$here/said" > /dev/full; echo "$? $(cat "$here/said")")"
+is 'what can'\''t be run' '127 within: none: No such file or directory' "$(within 9 99 none)"
+is 'or its output is none of its business' '0 a' "$(within 9 - echo a)"
+is 'nor its own words' '125 within: 9s: Invalid argument' "$(within 9s 99 true)"
+
+# Without that program, as on other machines, `timeout` ends what stayed in its group.
+mkdir "$here/unbuilt" && cp -R loop harness "$here/unbuilt"
+PATH="$here/bin:$PATH" "$here/unbuilt/loop" --seconds 1 "$here/three" "$here/answers" "$here/bin/hangs" > "$here/said" 2> "$here/told"
+is 'where it is not built' '3 unresolved ' "$(cut -f 1 "$here/answers" | sort | uniq -c | sed 's/^ *//') $(going)"
+is 'which is told too' "loop: not built: $here/unbuilt/out/within (make -C outside): what a run leaves running lives on" "$(head -n 1 "$here/told")"
 rm "$here/answers" "$here"/bin/hangs.*.pid
 
 # stopped NAME SIGNAL GROUP OPTION..: a loop of two runs at once that gets the signal, with its group where GROUP is `-`: its status, how many
@@ -95,7 +136,7 @@ stopped() {
     group=$3
     shift 3
     # A signal that whoever runs the tests ignores, as nohup does, could not be trapped.
-    PATH="$here/bin:$PATH" env --default-signal=HUP,INT,TERM setsid ./loop -j 2 "$@" "$here/three" "$here/answers" "$here/bin/hangs" > "$here/told" 2>&1 &
+    TMPDIR=$here PATH="$here/bin:$PATH" env --default-signal=HUP,INT,TERM setsid ./loop -j 2 "$@" "$here/three" "$here/answers" "$here/bin/hangs" > "$here/told" 2>&1 &
     stopped=$!
     tries=0
     until [ "$(cat "$here"/bin/hangs.*.pid 2> "$here/said" | wc -l)" -eq 2 ] || [ "$tries" -ge 300 ]; do sleep 0.1; tries=$((tries + 1)); done
@@ -104,16 +145,18 @@ stopped() {
     ended=$?
     tries=0
     while [ -n "$(going)" ] && [ "$tries" -lt 50 ]; do sleep 0.1; tries=$((tries + 1)); done
-    is "$name" '2 2 0 ' "$ended $(ls "$here"/bin/hangs.*.pid | wc -l) $(wc -l < "$here/answers") $(going)"
+    [ "$signal" = KILL ] && expected=137 || expected=2
+    is "$name" "$expected 2 0 " "$ended $(ls "$here"/bin/hangs.*.pid | wc -l) $(wc -l < "$here/answers") $(going)"
     rm "$here/answers" "$here"/bin/hangs.*.pid
 }
 stopped 'a loop that is stopped, as by Ctrl-C, ends what is running' TERM -
 stopped 'and so where the loop alone gets the signal' TERM ''
 stopped 'or loses its terminal' HUP ''
+stopped 'or is killed, which it cannot see' KILL ''
 
-# Killed, it can end nothing; but nothing more is begun.
+# Killed, it begins nothing more either.
 printf '%s\n' '#!/bin/sh' 'echo "$1" >> "$0.begun"; sleep 2; printf "pass\t%s\n" "$1"' > "$here/bin/lasts" && chmod +x "$here/bin/lasts"
-PATH="$here/bin:$PATH" ROUND=7 ./loop -j 2 "$here/list" "$here/answers" "$here/bin/lasts" > "$here/told" 2>&1 &
+TMPDIR=$here PATH="$here/bin:$PATH" ROUND=7 ./loop -j 2 "$here/list" "$here/answers" "$here/bin/lasts" > "$here/told" 2>&1 &
 killed=$!
 tries=0
 until [ "$(cat "$here/bin/lasts.begun" 2> "$here/said" | wc -l)" -eq 2 ] || [ "$tries" -ge 300 ]; do sleep 0.1; tries=$((tries + 1)); done
@@ -122,6 +165,74 @@ kill -KILL "$killed"
 sleep 4
 is 'after a loop that was killed no run is begun' 2 "$(wc -l < "$here/bin/lasts.begun")"
 rm -f "$here/answers"
+
+# Two loops over the same answers.
+PATH="$here/bin:$PATH" ./loop "$here/list" "$here/answers" "$here/bin/hangs" > "$here/said" 2>&1 &
+first=$!
+tries=0
+until [ -n "$(going)" ] || [ "$tries" -ge 300 ]; do sleep 0.1; tries=$((tries + 1)); done
+options=--brief
+loop answers > "$here/said" 2>&1
+is 'a second loop over the same answers' "2 loop: another loop writes to $here/answers" "$? $(cat "$here/said")"
+unset options
+kill "$first"
+{ wait "$first"; } 2> "$here/said"
+is 'but not once the first has ended' "$all" "$(loop answers 2> "$here/faults")"
+rm "$here/answers" "$here"/bin/hangs.*.pid
+
+# The first answer that can't be read ends the loop, and so does one that is too long or doesn't end.
+cat > "$here/bin/misspells" <<'END'
+#!/bin/sh
+# Is wrong at the second of seven, and slow from there on.
+echo "$1" >> "$0.begun"
+case $(wc -l < "$0.begun") in
+1) printf 'pass\t%s\n' "$1" ;;
+2) sleep 2; printf 'bad\t%s\n' "$1" ;;
+*) sleep 5; printf 'pass\t%s\n' "$1" ;;
+esac
+END
+# 1048576 bytes with the end of the line, and one more
+cat > "$here/bin/answers_much" <<'END'
+#!/bin/sh
+printf 'pass\t%s\t' "$1"
+head -c $((1048576 + ${MORE:-0} - 7 - ${#1})) /dev/zero | tr '\0' x
+echo
+END
+printf '%s\n' '#!/bin/sh' 'yes x | tr -d "\n"' > "$here/bin/answers_on"
+printf '%s\n' '#!/bin/sh' 'printf "pass\t%s" "$1"' > "$here/bin/ends_no_line"
+chmod +x "$here"/bin/*
+PATH="$here/bin:$PATH" ROUND=7 ./loop -j 1 "$here/list" "$here/answers" "$here/bin/misspells" > "$here/said" 2>&1
+is 'an answer that cannot be read' '2 answers: line 2: unknown verdict' "$? $(cat "$here/said")"
+is 'ends the loop before the round does' yes "$([ "$(wc -l < "$here/answers")" -lt 7 ] && echo yes)"
+printf '%s\n' '#!/bin/sh' 'printf "pass\t%s\tb;2*power::keep;b\n" "$1"' > "$here/bin/keeps"
+chmod +x "$here/bin/keeps"
+rm -f "$here/answers"
+printf '%s\n' 'depth = 1 # "b"' none > "$here/named"
+is 'a point that the settings lack is named' "answers: line 1: unknown point,loop: line 1 hits power::keep: add it to the points of $here/named" \
+    "$(PATH="$here/bin:$PATH" ./loop "$here/named" "$here/answers" "$here/bin/keeps" 2>&1 | paste -s -d ,)"
+rm "$here/answers"
+echo none > "$here/one"
+PATH="$here/bin:$PATH" ./loop "$here/one" "$here/answers" "$here/bin/answers_much" > "$here/said" 2>&1
+is 'an answer of 1048576 bytes' '0 1048576' "$? $(wc -c < "$here/answers")"
+rm "$here/answers"
+PATH="$here/bin:$PATH" MORE=1 ./loop "$here/one" "$here/answers" "$here/bin/answers_much" > "$here/said" 2>&1
+is 'is the longest' '2 0 loop: an answer with more than 1048576 bytes: none' "$? $(wc -c < "$here/answers") $(cat "$here/said")"
+rm "$here/answers"
+PATH="$here/bin:$PATH" timeout 30 ./loop --seconds 20 "$here/one" "$here/answers" "$here/bin/answers_on" > "$here/said" 2>&1
+is 'and one that goes on is cut' '2 0 loop: an answer with more than 1048576 bytes: none' "$? $(wc -c < "$here/answers") $(cat "$here/said")"
+rm "$here/answers"
+PATH="$here/bin:$PATH" ./loop "$here/one" "$here/answers" "$here/bin/ends_no_line" > "$here/said" 2>&1
+is 'an answer without its end' '2 0 loop: an answer with no end of its line: none' "$? $(wc -c < "$here/answers") $(cat "$here/said")"
+rm -f "$here/answers"
+
+# No room: a file may have 512 bytes, so of the answers of 406 the first fits.
+long=$(head -c 400 /dev/zero | tr '\0' x)
+printf '%s\n' "1$long" "2$long" "3$long" "4$long" > "$here/wide"
+(trap '' XFSZ; ulimit -f 1; PATH="$here/bin:$PATH" exec ./loop -j 1 "$here/wide" "$here/answers" "$here/bin/answers") > "$here/said" 2>&1
+is 'where nothing more can be written the loop ends' "2 loop: an answer can't be written to $here/answers" "$? $(grep '^loop: ' "$here/said")"
+is 'and what was torn is taken back' "pass	1$long" "$(cat "$here/answers")"
+is 'so that it can go on' "1$long 2$long 3$long 4$long" "$(PATH="$here/bin:$PATH" ./loop "$here/wide" "$here/answers" "$here/bin/answers" 2>&1)"
+rm "$here/answers"
 
 # What fails is run once more.
 loop fails > "$here/said" 2>&1
@@ -172,7 +283,7 @@ rm "$here/answers"
 PATH="$here/bin:$PATH" ./loop --hits --seconds 1 "$here/three" "$here/answers" "$here/bin/hangs" > "$here/said" 2> "$here/told"
 is 'and then a run that was ended tells none' 'unresolved	a=off' "$(grep 'a=off' "$here/answers")"
 rm "$here/answers" "$here"/bin/hangs.*.pid
-for line in 'depth = 2' '  "depth"	=2'; do
+for line in 'depth = 2' '  "depth"	=2' "'depth' = 1"; do
     { cat "$here/three"; echo "$line"; } > "$here/deep"
     PATH="$here/bin:$PATH" ./loop "$here/deep" "$here/answers" "$here/bin/tells_hits" > "$here/said" 2>&1
     is "with $line they are" yes "$(cut -f 3 "$here/answers" | sort -u)"
@@ -189,6 +300,14 @@ rm "$here/answers"
 printf '%s\n' d=off e=off 'depth = 2' > "$here/deep"
 PATH="$here/bin:$PATH" ./loop "$here/deep" "$here/answers" "$here/bin/drifts" > "$here/said" 2> "$here/told"
 is 'a second run with other hits is told' '5 loop: other hits: 2*a, then a: e=off' "$? $(cat "$here/told")"
+rm "$here/answers"
+
+# No control byte of an answer is shown.
+printf '%s\n' '#!/bin/sh' 'mkdir "$0.once" 2> "$0.said" && printf "fail lost of all\t%s\n" "$1" || printf "pass\033[2J\t%s\n" "$1"' > "$here/bin/colours"
+chmod +x "$here/bin/colours"
+echo e=off > "$here/one"
+PATH="$here/bin:$PATH" ./loop "$here/one" "$here/answers" "$here/bin/colours" > "$here/said" 2> "$here/told"
+is 'an answer is shown without its control bytes' '5 loop: told otherwise: fail lost of all, then pass\x1b[2J: e=off' "$? $(cat "$here/told")"
 rm "$here/answers"
 
 # Lines that no single write takes stay whole.

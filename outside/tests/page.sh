@@ -16,24 +16,23 @@ chmod +x "$here/page/try.sh"
 gcc -o "$here/page/save" "$here/page/save.c"
 
 # tried PAKLOUR SCENARIO: what the page's try.sh writes there, what it tells, and its status
-tried() { (cd "$here/page" && PAKLOUR=$1 ./try.sh "$2" 2>&1; echo "$?") | tr '\t' ' ' | grep -v '^ERROR: ld.so' | paste -s -d , ; }
+tried() { (cd "$here/page" && PAKLOUR=$1 ./try.sh "$2" 2>&1; echo "$?") | tr '\t' ' ' | paste -s -d , ; }
 
-clean='2*libc::open;libc::write;libc::fsync;libc::rename;libc::fsync'
-is 'the page with the shim' "pass none $clean,0" "$(tried "$outside/.." none)"
-is 'its flaw' "fail lost libc::fsync=1*return $clean,0" "$(tried "$outside/.." 'libc::fsync=1*return')"
-is 'a run that it ends tells its hits up to there' 'unresolved libc::write=pause 2*libc::open;libc::write,0' "$(tried "$outside/.." 'libc::write=pause')"
+clean='2*sys::open;sys::write;sys::fsync;sys::rename;sys::fsync'
+is 'the page' "pass none $clean,0" "$(tried "$outside/.." none)"
+is 'its flaw, whose cut asks for the contents' "fail lost sys::fsync=1*return $clean;power::keep,0" "$(tried "$outside/.." 'sys::fsync=1*return')"
+is 'a run that it ends tells its hits up to there' 'unresolved sys::write=pause 2*sys::open;sys::write;power::keep,0' "$(tried "$outside/.." 'sys::write=pause')"
 mkdir "$here/hasty" && printf '#!/bin/sh\nshift 3\nexec %s -s KILL 1 "$@"\n' "$(command -v timeout)" > "$here/hasty/timeout" && chmod +x "$here/hasty/timeout"
-is 'one that is killed too' 'unresolved libc::write=sleep(20000) 2*libc::open;libc::write,0' \
-    "$(PATH="$here/hasty:$PATH" tried "$outside/.." 'libc::write=sleep(20000)' | sed 's/^Killed,//')"
-is 'without PAKLOUR it ends with 2' 2 "$(tried '' 'libc::fsync=1*return' | sed 's/.*,//')"
-is 'with a wrong path too' 2 "$(tried "$here/none" 'libc::fsync=1*return' | sed 's/.*,//')"
+is 'one that is killed too' 'unresolved sys::write=sleep(20000) 2*sys::open;sys::write;power::keep,0' \
+    "$(PATH="$here/hasty:$PATH" tried "$outside/.." 'sys::write=sleep(20000)' | sed 's/^Killed,//')"
+is 'without PAKLOUR it ends with 2' 2 "$(tried '' 'sys::fsync=1*return' | sed 's/.*,//')"
+is 'with a wrong path too' 2 "$(tried "$here/none" 'sys::fsync=1*return' | sed 's/.*,//')"
 mkdir -p "$here/half/outside/out" && cp out/powercut "$here/half/outside/out"
-is 'and where the library is not built' "powercut: no process of the run loaded the shim: LD_PRELOAD leads to no faults.so, or the program can't load it,2" \
-    "$(tried "$here/half" 'libc::fsync=1*return')"
+is 'and where the supervisor is not built' "powercut: nothing ran under the supervisor: outside/out/faults wasn't started with this FAULTS_RUN, or ended before its command began,2" \
+    "$(tried "$here/half" 'sys::fsync=1*return' | sed 's/^timeout: [^,]*,//')"
 printf '%s\n' '#!/bin/sh' 'exec env -i "${0%/*}/saves" "$@"' > "$here/page/clears" && mv "$here/page/save" "$here/page/saves"
 mv "$here/page/clears" "$here/page/save" && chmod +x "$here/page/save"
-is 'and a program that clears its environment' "powercut: no call was seen: a program without the library in its environment: $here/page/saves,2" \
-    "$(tried "$outside/.." 'libc::fsync=1*return' | sed 's/^faults: not seen:[^,]*,//')"
-is 'the trace of a run without faults, as the page has it' '5 libc::rename 1 go note' \
+is 'and a program that clears its environment' "fail lost sys::fsync=1*return $clean;power::keep,0" "$(tried "$outside/.." 'sys::fsync=1*return')"
+is 'the trace of a run without faults, as the page has it' '5 sys::rename 1 go note' \
     "$(mv "$here/page/saves" "$here/page/save"; TRACE=$here/trace tried "$outside/.." none > "$here/said"; cut -f 1-5 "$here/trace" | sed -n 5p | tr '\t' ' ')"
-is 'and its hits in order' '2*libc::open;libc::write;libc::fsync;libc::rename;libc::fsync' "$(./census --hits "$here/trace")"
+is 'and its hits in order' '2*sys::open;sys::write;sys::fsync;sys::rename;sys::fsync' "$(./census --hits "$here/trace")"

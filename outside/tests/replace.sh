@@ -2,7 +2,7 @@
 # replacement with the same workload. Sourced by `test`. tests/grown.py works the lists out anew, from the traces of its own runs; what the bundled
 # target has was worked out by hand, by the protocol.
 #
-# The C program opens the folder first, and to the C library the sync of the file and of the folder are one point. So level 1 has two plans more,
+# The C program opens the folder first, and to the system the sync of the file and of the folder are one call. So level 1 has two plans more,
 # which fail before anything is done and have no children, and each later number is two higher. A Return of the bundled target leaves half a
 # chunk, as HALF does here.
 #
@@ -43,7 +43,7 @@ verdicts() {
 
 for flaw in sound late_sync ignore_sync retry_write; do
     is "replace $flaw, its list and its runs" "$(list_of $flaw)" "$(FLAW=$flaw tests/grown.py --report 2 examples/replace/try.sh)"
-    is "replace $flaw, half a chunk" "$(listed $flaw)" "$(verdicts $flaw 'libc::write=1*return(HALF)' 'libc::write=1*off->1*return(HALF)')"
+    is "replace $flaw, half a chunk" "$(listed $flaw)" "$(verdicts $flaw 'sys::write=1*return(HALF)' 'sys::write=1*off->1*return(HALF)')"
 done
 # With crash states, by examples/replace/keep.toml; those reports are in brief.
 for flaw in rename_first in_place; do
@@ -52,34 +52,34 @@ for flaw in rename_first in_place; do
 done
 
 # The bundled target's other worked rows: old contents that are empty, and what each run asks.
-is 'replace ignore_sync with no old contents' 'fail stale	libc::fsync=1*return' \
-    "$(OLD='' FLAW=ignore_sync examples/replace/try.sh 'libc::fsync=1*return')"
-asked() { cut -f 2 "$here/trace" | sed 's/libc:://' | paste -s -d ' '; }
-TRACE=$here/trace examples/replace/try.sh 'libc::fsync=1*return' > "$here/said"
+is 'replace ignore_sync with no old contents' 'fail stale	sys::fsync=1*return' \
+    "$(OLD='' FLAW=ignore_sync examples/replace/try.sh 'sys::fsync=1*return')"
+asked() { cut -f 2 "$here/trace" | sed 's/sys:://' | paste -s -d ' '; }
+TRACE=$here/trace examples/replace/try.sh 'sys::fsync=1*return' > "$here/said"
 is 'replace sound, a sync that fails: what is asked' 'open open write write fsync unlink' "$(asked)"
-TRACE=$here/trace FLAW=retry_write examples/replace/try.sh 'libc::write=1*return(HALF)' > "$here/said"
+TRACE=$here/trace FLAW=retry_write examples/replace/try.sh 'sys::write=1*return(HALF)' > "$here/said"
 is 'replace retry_write: what is asked' 'open open write write write fsync rename fsync' "$(asked)"
-REPLACEMENTS='ne w , fir st' TRACE=$here/trace examples/replace/try.sh 'libc::write=1*return;libc::unlink=1*return' > "$here/said"
+REPLACEMENTS='ne w , fir st' TRACE=$here/trace examples/replace/try.sh 'sys::write=1*return;sys::unlink=1*return' > "$here/said"
 is 'replace twice, what was left is cleared' 'open open write unlink unlink open write write fsync rename fsync' "$(asked)"
-is 'and passes' 'pass	libc::write=1*return;libc::unlink=1*return' "$(cat "$here/said")"
+is 'and passes' 'pass	sys::write=1*return;sys::unlink=1*return' "$(cat "$here/said")"
 TRACE=$here/trace examples/replace/try.sh none > "$here/said"
-is 'the census of replace' 'points = ["libc::open", "libc::write", "libc::fsync", "libc::rename"],hits = [2, 2, 2, 1]' "$(./census "$here/trace" | paste -s -d ,)"
-is 'and its hits in order' '2*libc::open;2*libc::write;libc::fsync;libc::rename;libc::fsync' "$(./census --hits "$here/trace")"
-is 'replace, with its hits' 'pass	none	2*libc::open;2*libc::write;libc::fsync;libc::rename;libc::fsync' "$(HITS=yes examples/replace/try.sh none)"
-keep='libc::fsync=1*return;power::keep=3*off->1*return'
-is 'and those of the cut' "fail torn	$keep	2*libc::open;2*libc::write;libc::rename;libc::fsync;4*power::keep" \
+is 'the census of replace' 'points = ["sys::open", "sys::write", "sys::fsync", "sys::rename"],hits = [2, 2, 2, 1]' "$(./census "$here/trace" | paste -s -d ,)"
+is 'and its hits in order' '2*sys::open;2*sys::write;sys::fsync;sys::rename;sys::fsync' "$(./census --hits "$here/trace")"
+is 'replace, with its hits' 'pass	none	2*sys::open;2*sys::write;sys::fsync;sys::rename;sys::fsync' "$(HITS=yes examples/replace/try.sh none)"
+keep='sys::fsync=1*return;power::keep=3*off->1*return'
+is 'and those of the cut' "fail torn	$keep	2*sys::open;2*sys::write;sys::rename;sys::fsync;4*power::keep" \
     "$(HITS=yes STATES=keep FLAW=rename_first examples/replace/try.sh "$keep")"
-is 'replace, the scenario in FAILPOINTS' 'fail torn	libc::fsync=1*return' \
-    "$(FAILPOINTS='libc::fsync=1*return' FLAW=ignore_sync examples/replace/try.sh)"
-is 'replace under a pause is unresolved' 'unresolved	libc::write=pause' "$(examples/replace/try.sh 'libc::write=pause')"
-is 'replace under a refused scenario is unresolved' 'unresolved	libc::write=retrun' "$(examples/replace/try.sh 'libc::write=retrun' 2> "$here/faults")"
+is 'replace, the scenario in FAILPOINTS' 'fail torn	sys::fsync=1*return' \
+    "$(FAILPOINTS='sys::fsync=1*return' FLAW=ignore_sync examples/replace/try.sh)"
+is 'replace under a pause is unresolved' 'unresolved	sys::write=pause' "$(examples/replace/try.sh 'sys::write=pause')"
+is 'replace under a refused scenario is unresolved' 'unresolved	sys::write=retrun' "$(examples/replace/try.sh 'sys::write=retrun' 2> "$here/faults")"
 
 # What has no plan of its own.
-is 'replace retry_write, two halves in turn' 'pass,pass,fail torn' "$(verdicts retry_write 'libc::write=2*return(HALF)' \
-    'libc::write=return(HALF)' 'libc::write=1*return(HALF)->1*off->1*return(HALF)')"
+is 'replace retry_write, two halves in turn' 'pass,pass,fail torn' "$(verdicts retry_write 'sys::write=2*return(HALF)' \
+    'sys::write=return(HALF)' 'sys::write=1*return(HALF)->1*off->1*return(HALF)')"
 
 # States that the bundled device doesn't have: the new name may last before the folder is synced, the contents may not.
-is 'replace late_sync, names before contents' 'fail torn	libc::fsync=1*return' \
-    "$(STATES='lasting names' FLAW=late_sync examples/replace/try.sh 'libc::fsync=1*return')"
+is 'replace late_sync, names before contents' 'fail torn	sys::fsync=1*return' \
+    "$(STATES='lasting names' FLAW=late_sync examples/replace/try.sh 'sys::fsync=1*return')"
 is 'replace sound in every state' pass,pass,pass,pass,pass "$(export STATES='lasting names contents live' && verdicts sound \
-    none libc::write=1*return 'libc::fsync=1*return' 'libc::fsync=1*off->1*return' 'libc::fsync=1*off->1*panic')"
+    none sys::write=1*return 'sys::fsync=1*return' 'sys::fsync=1*off->1*return' 'sys::fsync=1*off->1*panic')"

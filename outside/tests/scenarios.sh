@@ -6,17 +6,17 @@ acts() {
     is "$1" 'create 0,write 1,write EIO,write 1' "$said"
 }
 acts 'blanks round names and terms' " 
- libc::write	= 1*off ->
+ sys::write	= 1*off ->
 1*return ;"
-acts 'blank pieces' ';; libc::write=1*off->1*return; ;'
-acts 'leading zeros' 'libc::write=0100.0000%01*off->100%0001*return'
-acts 'more than the whole share' 'libc::write=250%1*off->99999999999999999999%1*return'
-acts 'a share of nothing' 'libc::write=0%panic->1*off->0.0000%3*return(ENOSPC)->1*return'
-acts 'a name again takes its last chain' 'libc::write=panic;libc::open=off;libc::write=1*off->1*return'
-acts 'names of others' 'store::flush=20.5%3*return(x(y))->panic;libc::write=1*off->1*return;libc::write =off;a->b=off; libc::write=1*off->1*return'
-acts 'arguments that are dropped' 'libc::write=1*off(x)->1*return(EIO)'
-try 'libc::wirte=panic' create a write b
-is 'an unknown name of this library never acts' 'create 0,write 1 faults: never acts: libc::wirte' "$said $faults"
+acts 'blank pieces' ';; sys::write=1*off->1*return; ;'
+acts 'leading zeros' 'sys::write=0100.0000%01*off->100%0001*return'
+acts 'more than the whole share' 'sys::write=250%1*off->99999999999999999999%1*return'
+acts 'a share of nothing' 'sys::write=0%panic->1*off->0.0000%3*return(ENOSPC)->1*return'
+acts 'a name again takes its last chain' 'sys::write=panic;sys::open=off;sys::write=1*off->1*return'
+acts 'names of others' 'store::flush=20.5%3*return(x(y))->panic;sys::write=1*off->1*return;sys::write =off;a->b=off; sys::write=1*off->1*return'
+acts 'arguments that are dropped' 'sys::write=1*off(x)->1*return(EIO)'
+try 'sys::wirte=panic' create a write b
+is 'an unknown name of the supervisor never acts' 'create 0,write 1 faults: never acts: sys::wirte' "$said $faults"
 try '' create a
 is 'an empty text' 'create 0 0' "$said $status"
 try none create a
@@ -27,10 +27,10 @@ refused() {
     try "$1" create a
     is "refused: $2" "98  faults: scenario: $2" "$status $said $faults"
 }
-refused 'libc::open' 'NoAction entry 1 term 0'
+refused 'sys::open' 'NoAction entry 1 term 0'
 refused ';b' 'NoAction entry 2 term 0'
 refused '=off' 'NoName entry 1 term 0'
-refused 'libc::open=return(x' 'Parentheses entry 1 term 1'
+refused 'sys::open=return(x' 'Parentheses entry 1 term 1'
 refused 'a=off;b=off->panic(x)y' 'Parentheses entry 2 term 2'
 refused 'a=3*20%off' 'BadPercent entry 1 term 1'
 refused 'a=.5%off' 'BadPercent entry 1 term 1'
@@ -49,9 +49,9 @@ refused 'a=sleep' 'BadMillis entry 1 term 1'
 refused 'a=off;;a=delay(1000000001)' 'BadMillis entry 3 term 1'
 refused 'a=sleep()' 'BadMillis entry 1 term 1'
 refused 'a=sleep;b' 'BadMillis entry 1 term 1'
-refused 'libc::open=off;libc::write=1*off->20%return' 'NoShares entry 2 term 2'
-refused 'libc::open=return(EWHAT)' 'UnknownError entry 1 term 1'
-refused 'libc::fsync=1*off->return(HALF)' 'UnknownError entry 1 term 2'
+refused 'sys::open=off;sys::write=1*off->20%return' 'NoShares entry 2 term 2'
+refused 'sys::open=return(EWHAT)' 'UnknownError entry 1 term 1'
+refused 'sys::fsync=1*off->return(HALF)' 'UnknownError entry 1 term 2'
 
 # repeated COUNT TEXT
 repeated() { awk -v count="$1" -v text="$2" 'BEGIN { while (count-- > 0) printf "%s", text }'; }
@@ -68,7 +68,7 @@ try "a=off$(repeated 65531 ' ')" create a
 is '65536 bytes' 'create 0 0' "$said $status"
 
 # The variables beside FAILPOINTS.
-bare() { (cd "$here/data" && env LD_PRELOAD="$outside/out/faults.so" "$@" "$outside/out/component" create a) 2>&1; }
+bare() { (cd "$here/data" && env "$@" "$supervisor" "$component" create a) 2>&1; }
 is 'no FAULTS_ROOT' "faults: isn't set: FAULTS_ROOT" "$(bare)"
 is 'no FAULTS_RUN' "faults: isn't set: FAULTS_RUN" "$(bare FAULTS_ROOT="$here/data")"
 is 'FAULTS_RUN of no run' "faults: FAULTS_RUN isn't a run's folder: $here/data" "$(bare FAULTS_ROOT="$here/data" FAULTS_RUN="$here/data")"
@@ -82,49 +82,71 @@ is 'but it may have another name' 'create 0' "$(ln -s "$here/data" "$here/way" &
 
 # The census.
 try none mkdir b create a write b write c fsync rename a sub/b folder . fsync
-is 'a census' 'points = ["libc::open", "libc::write", "libc::fsync", "libc::rename", "libc::mkdir"]
+is 'a census' 'points = ["sys::open", "sys::write", "sys::fsync", "sys::rename", "sys::mkdir"]
 hits = [2, 2, 2, 1, 1]' "$(./census "$here/run/trace")"
-try 'libc::write=1*off->1*return(ENOSPC)' create a write b write c
+try 'sys::write=1*off->1*return(ENOSPC)' create a write b write c
 ./census "$here/run/trace" > "$here/said" 2>&1
 is 'no census of a run with faults' '2 census: line 3 has a fault: return(ENOSPC)' "$? $(cat "$here/said")"
 printf '' > "$here/nothing"
 is 'no census of nothing' 'census: nothing was hit' "$(./census "$here/nothing" 2>&1)"
-printf '1\tstore::flush\t1\tgo\tx\n2\tlibc::read\t1\tgo\tx\n3\tstore::flush\t2\tgo\tx\n' > "$here/mixed"
-is 'points of others come last' 'points = ["libc::read", "store::flush"]
+printf '1\tstore::flush\t1\tgo\tx\n2\tsys::read\t1\tgo\tx\n3\tstore::flush\t2\tgo\tx\n' > "$here/mixed"
+is 'points of others come last' 'points = ["sys::read", "store::flush"]
 hits = [1, 2]' "$(./census "$here/mixed")"
 
-# With a depth a fault may lead to any point of the library, and then to those of the trace.
-files='"libc::open", "libc::read", "libc::write", "libc::fsync", "libc::ftruncate", "libc::rename", "libc::link", "libc::unlink", "libc::mkdir"'
-files="$files, \"libc::rmdir\", \"libc::symlink\""
+# With a depth a fault may lead to any point of the supervisor, and then to those of the trace.
+files='"sys::open", "sys::read", "sys::write", "sys::fsync", "sys::truncate", "sys::rename", "sys::link", "sys::unlink", "sys::mkdir"'
+files="$files, \"sys::rmdir\", \"sys::symlink\""
 is 'the points of settings with a depth' "points = [$files, \"store::flush\"]" "$(./census --points "$here/mixed")"
-is 'with those of sockets' "points = [$files, \"libc::connect\", \"libc::accept\", \"libc::send\", \"libc::recv\", \"store::flush\"]" \
+is 'with those of sockets' "points = [$files, \"sys::connect\", \"sys::accept\", \"sys::send\", \"sys::recv\", \"store::flush\"]" \
     "$(FAULTS_SOCKETS=1 ./census --points "$here/mixed")"
-printf '1\tlibc::write\t1\tgo\tx\n2\tpower::keep\t1\tgo\tx\n3\tb\t1\tgo\tx\n' > "$here/cut"
+printf '1\tsys::write\t1\tgo\tx\n2\tpower::keep\t1\tgo\tx\n3\tb\t1\tgo\tx\n' > "$here/cut"
 is 'and what a power cut asks last' "points = [$files, \"b\", \"power::keep\"]" "$(./census --points "$here/cut")"
+
+printf '1\tsys::write\t1\tgo\tx\t1\t-\t2\n2\tb\t1\tgo\tx\n' > "$here/sound"
+is 'or would ask of another run' "points = [$files, \"b\", \"power::keep\"]" "$(./census --points "$here/sound")"
+is 'but not of the one without a depth' 'points = ["sys::write", "b"]' "$(./census "$here/sound" | head -n 1)"
+
+# Names that a client takes: a text of TOML has `"` and `\` behind a `\`. What no settings have, or hits would say otherwise, is refused.
+printf '1\ta", "b\t1\tgo\tx\n2\tx\\y\t1\tgo\tx\n3\t2x*\t1\tgo\tx\n' > "$here/named"
+is 'a name with quotes is one point' 'points = ["a\", \"b", "x\\y", "2x*"]' "$(./census "$here/named" | head -n 1)"
+is 'and behind those of the supervisor' "points = [$files, \"a\\\", \\\"b\", \"x\\\\y\", \"2x*\"]" "$(./census --points "$here/named")"
+is 'in hits it stands as it is' 'a", "b;x\y;2x*' "$(./census --hits "$here/named")"
+printf '1\tsys::write@a"b\t1\tgo\tx\t1\t-\t2\n' > "$here/named"
+is 'and in a table' '"sys::write@a\"b" = ["return", "return(ENOSPC)", "return(HALF)", "panic"]' "$(./census --kinds "$here/named" | tail -n 1)"
+long=$(head -c 201 /dev/zero | tr '\0' x)
+for name in 'a;b' 'a=b' '2*b' '30*' '' ' a' 'a ' "$long"; do
+    printf '1\tb\t1\tgo\tx\n2\t%s\t1\tgo\tx\n' "$name" > "$here/named"
+    for option in '' --points --kinds --hits; do
+        ./census $option "$here/named" > "$here/said" 2>&1
+        is "no census $option of '$name'" "2 census: line 2 has a point that no settings or answers can name: $name" "$? $(cat "$here/said")"
+    done
+done
+printf '1\ta\033[2J\t1\tgo\tx\n' > "$here/named"
+is 'no control byte is shown' 'census: line 1 has a point that no settings or answers can name: a\u001B[2J' "$(./census --hits "$here/named" 2>&1)"
 
 # What is tried at the points of a trace.
 try none mkdir b create a write b write c fsync rename a sub/b folder . fsync
-is 'kinds where calls take room' "points = [$files]
+is 'kinds where calls take room' "points = [$files, \"power::keep\"]
 
 [outside.kinds]
-\"libc::open\" = [\"return\", \"return(ENOSPC)\", \"panic\"]
-\"libc::write\" = [\"return\", \"return(ENOSPC)\", \"return(HALF)\", \"panic\"]
-\"libc::rename\" = [\"return\", \"return(ENOSPC)\", \"panic\"]
-\"libc::mkdir\" = [\"return\", \"return(ENOSPC)\", \"panic\"]" "$(./census --kinds "$here/run/trace")"
-printf '1\tlibc::open@a\t1\tgo\ta\t1\tO_RDONLY\t3\n2\tlibc::read@a\t1\tgo\ta\t1\t-\t3\n3\tlibc::open@b\t1\tgo\tb\t1\tO_WRONLY|O_CREAT\t3\n' > "$here/by_file"
-printf '4\tlibc::symlink@c\t1\tgo\tc\t1\t-\t0\n5\tlibc::link@d\t1\tgo\td\t1\t-\t0\n6\tlibc::ftruncate@b\t1\tgo\tb\t1\t-\t0\n' >> "$here/by_file"
-is 'by file, and opens where one may make it' '"libc::open@b" = ["return", "return(ENOSPC)", "panic"]
-"libc::symlink@c" = ["return", "return(ENOSPC)", "panic"]
-"libc::link@d" = ["return", "return(ENOSPC)", "panic"]
-"libc::ftruncate@b" = ["return", "return(ENOSPC)", "panic"]' "$(./census --kinds "$here/by_file" | sed '1,/^.outside.kinds.$/d')"
-printf '1\tlibc::connect\t1\tgo\tx\n2\tlibc::send\t1\tgo\tx\n3\tlibc::recv\t1\tgo\tx\n4\twrite\t1\tgo\tx\n' > "$here/messages"
-is 'of messages' "points = [$files, \"libc::connect\", \"libc::accept\", \"libc::send\", \"libc::recv\", \"write\"]
+\"sys::open\" = [\"return\", \"return(ENOSPC)\", \"panic\"]
+\"sys::write\" = [\"return\", \"return(ENOSPC)\", \"return(HALF)\", \"panic\"]
+\"sys::rename\" = [\"return\", \"return(ENOSPC)\", \"panic\"]
+\"sys::mkdir\" = [\"return\", \"return(ENOSPC)\", \"panic\"]" "$(./census --kinds "$here/run/trace")"
+printf '1\tsys::open@a\t1\tgo\ta\t1\tO_RDONLY\t3\n2\tsys::read@a\t1\tgo\ta\t1\t-\t3\n3\tsys::open@b\t1\tgo\tb\t1\tO_WRONLY|O_CREAT\t3\n' > "$here/by_file"
+printf '4\tsys::symlink@c\t1\tgo\tc\t1\t-\t0\n5\tsys::link@d\t1\tgo\td\t1\t-\t0\n6\tsys::truncate@b\t1\tgo\tb\t1\t-\t0\n' >> "$here/by_file"
+is 'by file, and opens where one may make it' '"sys::open@b" = ["return", "return(ENOSPC)", "panic"]
+"sys::symlink@c" = ["return", "return(ENOSPC)", "panic"]
+"sys::link@d" = ["return", "return(ENOSPC)", "panic"]
+"sys::truncate@b" = ["return", "return(ENOSPC)", "panic"]' "$(./census --kinds "$here/by_file" | sed '1,/^.outside.kinds.$/d')"
+printf '1\tsys::connect\t1\tgo\tx\n2\tsys::send\t1\tgo\tx\n3\tsys::recv\t1\tgo\tx\n4\twrite\t1\tgo\tx\n' > "$here/messages"
+is 'of messages' "points = [$files, \"sys::connect\", \"sys::accept\", \"sys::send\", \"sys::recv\", \"write\"]
 
 [outside.kinds]
-\"libc::send\" = [\"return\", \"return(HALF)\", \"return(DROP)\", \"panic\"]
-\"libc::recv\" = [\"return\", \"return(HALF)\", \"panic\"]" "$(FAULTS_SOCKETS=1 ./census --kinds "$here/messages")"
+\"sys::send\" = [\"return\", \"return(HALF)\", \"return(DROP)\", \"panic\"]
+\"sys::recv\" = [\"return\", \"return(HALF)\", \"panic\"]" "$(FAULTS_SOCKETS=1 ./census --kinds "$here/messages")"
 is 'no table where nothing is in it' "points = [$files, \"store::flush\"]" "$(./census --kinds "$here/mixed")"
-try 'libc::write=1*off->1*return(ENOSPC)' create a write b write c
+try 'sys::write=1*off->1*return(ENOSPC)' create a write b write c
 is 'no kinds of a run with faults' 'census: line 3 has a fault: return(ENOSPC)' "$(./census --kinds "$here/run/trace" 2>&1)"
 
 # The hits of a run, as an answer tells them.

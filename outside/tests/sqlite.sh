@@ -20,7 +20,7 @@ same_census() {
     esac
 }
 
-# counted TRACE: each point with its hits, in the library's order
+# counted TRACE: each point with its hits, in the supervisor's order
 counted() {
     ./census "$1" | tr -d '",[]' | cut -d ' ' -f 3- | awk 'NR == 1 { split($0, names, " "); next } { for (i = 1; i <= NF; i++) print names[i], $i }'
 }
@@ -34,18 +34,18 @@ else
     database 'EXTRA without faults' none pass SYNC=EXTRA
     database 'WAL without faults' none pass JOURNAL=WAL
     database 'FULL, a crash alone' none pass STATES=live
-    database 'FULL, a crash alone, while it writes' 'libc::write=9*off->1*panic' pass STATES=live
-    database 'EXTRA, the folder cannot be opened' 'libc::open=3*off->1*return' 'fail lost' SYNC=EXTRA
-    database 'EXTRA, the sync of the folder fails' 'libc::fsync=1*off->1*return' pass SYNC=EXTRA
-    database 'EXTRA, dies while it writes pages' 'libc::write=9*off->1*panic' pass SYNC=EXTRA
-    database 'EXTRA, that folder cannot be opened while the journal is made' 'libc::open=2*off->1*return' pass SYNC=EXTRA
-    database 'EXTRA, both' 'libc::open=2*off->1*return;libc::write=9*off->1*panic' 'fail corrupt' SYNC=EXTRA
-    database 'EXTRA, both, by the sync' 'libc::fsync=1*off->1*return;libc::write=9*off->1*panic' 'fail corrupt' SYNC=EXTRA
-    database 'EXTRA, a fault that is not met' 'libc::mkdir=1*return' unresolved SYNC=EXTRA
+    database 'FULL, a crash alone, while it writes' 'sys::write=9*off->1*panic' pass STATES=live
+    database 'EXTRA, the folder cannot be opened' 'sys::open=3*off->1*return' 'fail lost' SYNC=EXTRA
+    database 'EXTRA, the sync of the folder fails' 'sys::fsync=1*off->1*return' pass SYNC=EXTRA
+    database 'EXTRA, dies while it writes pages' 'sys::write=9*off->1*panic' pass SYNC=EXTRA
+    database 'EXTRA, that folder cannot be opened while the journal is made' 'sys::open=2*off->1*return' pass SYNC=EXTRA
+    database 'EXTRA, both' 'sys::open=2*off->1*return;sys::write=9*off->1*panic' 'fail corrupt' SYNC=EXTRA
+    database 'EXTRA, both, by the sync' 'sys::fsync=1*off->1*return;sys::write=9*off->1*panic' 'fail corrupt' SYNC=EXTRA
+    database 'EXTRA, a fault that is not met' 'sys::mkdir=1*return' unresolved SYNC=EXTRA
 
     # The third field, written out, is the trace's second column; what the cut asks stands in both.
     for states in live keep each; do
-        HITS=yes SYNC=EXTRA STATES=$states TRACE=$here/trace examples/sqlite/try.sh 'libc::open=2*off->return;power::keep=1*return' > "$here/told"
+        HITS=yes SYNC=EXTRA STATES=$states TRACE=$here/trace examples/sqlite/try.sh 'sys::open=2*off->return;power::keep=1*return' > "$here/told"
         is "sqlite EXTRA, with its hits, $states" "$(cut -f 2 "$here/trace")" \
             "$(cut -f 3 "$here/told" | tr ';' '\n' | awk -F '*' '{ for (n = NF > 1 ? $1 : 1; n > 0; n--) print $NF }')"
         [ $states = keep ] && asks=2 || asks=0
@@ -53,33 +53,33 @@ else
     done
     # Any part of what is pending: the plans of one fault, three of which fail, the first in none of the four states. The
     # journal's name lasts and its removal doesn't, as the folder was never opened for its sync.
-    first='libc::open=2*off->return'
+    first='sys::open=2*off->return'
     SYNC=EXTRA TRACE=$here/trace examples/sqlite/try.sh none > "$here/said"
     ./census "$here/trace" > "$here/extra.toml"
     is 'sqlite EXTRA, one fault, each pending change' "fail lost $first
-fail lost libc::open=3*off->1*return
-fail lost libc::open=3*off->return" \
+fail lost sys::open=3*off->1*return
+fail lost sys::open=3*off->return" \
         "$(tests/plans.py "$here/extra.toml" | SYNC=EXTRA STATES=each xargs -d '\n' -n 1 examples/sqlite/try.sh |
             tr '\t' ' ' | grep -v '^pass')"
     database 'EXTRA, the first new one, in the four states' "$first" pass SYNC=EXTRA
     database 'EXTRA, the first new one, by the change that it keeps' "$first;power::keep=1*return" 'fail lost' SYNC=EXTRA STATES=keep
     database 'EXTRA, the first new one, nothing kept' "$first" pass SYNC=EXTRA STATES=keep
     # Of two faults there are more; some of them.
-    for plan in 'libc::open=2*off->1*return->1*return' 'libc::open=3*off->1*return;libc::fsync=1*off->1*return' \
-        'libc::open=3*off->1*return;libc::fsync=4*off->1*return' 'libc::open=3*off->1*return;libc::fsync=4*off->1*panic'; do
+    for plan in 'sys::open=2*off->1*return->1*return' 'sys::open=3*off->1*return;sys::fsync=1*off->1*return' \
+        'sys::open=3*off->1*return;sys::fsync=4*off->1*return' 'sys::open=3*off->1*return;sys::fsync=4*off->1*panic'; do
         database "EXTRA, a pair" "$plan" 'fail lost' SYNC=EXTRA STATES=each
     done
-    for plan in 'libc::open=2*off->1*return;libc::write=9*off->1*panic' 'libc::open=2*off->1*return;libc::write=10*off->1*panic' \
-        'libc::open=2*off->1*return;libc::write=11*off->1*panic' 'libc::open=2*off->1*return;libc::fsync=2*off->1*panic' \
-        'libc::fsync=1*off->1*return->1*off->1*panic'; do
+    for plan in 'sys::open=2*off->1*return;sys::write=9*off->1*panic' 'sys::open=2*off->1*return;sys::write=10*off->1*panic' \
+        'sys::open=2*off->1*return;sys::write=11*off->1*panic' 'sys::open=2*off->1*return;sys::fsync=2*off->1*panic' \
+        'sys::fsync=1*off->1*return->1*off->1*panic'; do
         database "EXTRA, a pair" "$plan" 'fail corrupt' SYNC=EXTRA STATES=each
     done
     # With a model in which a sync of a file makes its name last the journal can't be lost.
-    database 'EXTRA, dies while it writes pages, names by syncs of files' 'libc::open=2*off->1*return;libc::write=9*off->1*panic' pass \
+    database 'EXTRA, dies while it writes pages, names by syncs of files' 'sys::open=2*off->1*return;sys::write=9*off->1*panic' pass \
         SYNC=EXTRA STATES=each FAULTS_SYNC=names
 
     # Recovery under faults: it dies while it writes pages, and the roll-back that follows dies as well, or its write fails.
-    database 'EXTRA, dies, and dies in recovery' 'libc::write=9*off->1*panic->1*off->1*panic;power::keep=return' pass \
+    database 'EXTRA, dies, and dies in recovery' 'sys::write=9*off->1*panic->1*off->1*panic;power::keep=return' pass \
         SYNC=EXTRA STATES=keep RECOVER=yes
-    database 'EXTRA, dies, and a write of recovery fails' 'libc::write=9*off->1*panic->1*off->1*return' pass SYNC=EXTRA STATES=keep RECOVER=yes
+    database 'EXTRA, dies, and a write of recovery fails' 'sys::write=9*off->1*panic->1*off->1*return' pass SYNC=EXTRA STATES=keep RECOVER=yes
 fi

@@ -6,7 +6,7 @@
 #   ORDER    which file is opened first after the cut: a b
 # corrupt: the integrity check finds something. half: one file has the transaction and the other doesn't. lost: a transaction that was
 # acknowledged, or what was there before, isn't there. crashed: a signal.
-# Found in SQLite 3.40.1 (docs/FOUND.md): `libc::open=6*off->return`. With EXTRA SQLite opens the folder and syncs it once the journal is deleted. If
+# Found in SQLite 3.40.1 (docs/FOUND.md): `sys::open=6*off->return`. With EXTRA SQLite opens the folder and syncs it once the journal is deleted. If
 # it can't be opened nobody is told: the commit is acknowledged, and after a power cut the journal may be there again and roll it back. Over two files one such
 # failure passes, since the folder is synced again; it takes all from one on. ../sqlite/try.sh shows the same by strace alone.
 outside=$(cd "$(dirname "$0")/../.." && pwd) || exit 2

@@ -4,7 +4,7 @@ commit.py judge FOLDER < what it wrote: what recovery makes of the logs: ok, spl
 (the client was told `done`, and none commits) or phantom (it was told `aborted`, and all commit).
 
 Messages are points of its own (`commit::send_..`): one that fails is lost. What is lost comes as an empty line, in place of a wait.
-Logs are files, so their writes and syncs are points of the library of faults. FLAW:
+Logs are files, so their writes and syncs are points of the supervisor. FLAW:
   sound            where it isn't set
   lazy_prepare     a prepare record is written, and not synced before the vote
   early_end        the coordinator forgets a transaction whatever was acknowledged

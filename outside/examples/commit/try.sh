@@ -1,6 +1,6 @@
 #!/bin/sh
 # try.sh [SCENARIO]: two-phase commit by three processes (commit.py) under that scenario or the one in FAILPOINTS, which names messages
-# (`commit::send_..`, by the Python client of outside/points) and calls on the logs (`libc::..`, by the library of faults); then the
+# (`commit::send_..`, by the Python client of outside/points) and calls on the logs (`sys::..`, by the supervisor); then the
 # power is cut, and what recovery makes of it written: a line `VERDICT<TAB>SCENARIO`. By the environment, beside what ../shared.sh says:
 #   FLAW           sound, lazy_prepare, early_end or abort_on_doubt
 #   TRANSACTIONS   how many, one after the other: 1
@@ -8,7 +8,7 @@
 # Found, of FLAW.report (docs/FOUND.md): the sound one passes all 69 plans. lazy_prepare (the vote goes out before the record is synced) loses or
 # splits at most faults after the decision. early_end (the coordinator forgets before all acknowledge) splits where one outcome is lost. abort_on_doubt takes
 # a commit record whose sync failed for one that isn't there: no single fault shows it, and
-# `libc::fsync=2*off->1*return;commit::send_outcome=1*return` splits.
+# `sys::fsync=2*off->1*return;commit::send_outcome=1*return` splits.
 outside=$(cd "$(dirname "$0")/../.." && pwd) || exit 2
 scenario=${1-${FAILPOINTS-none}}
 . "$outside/examples/shared.sh"

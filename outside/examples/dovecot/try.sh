@@ -1,8 +1,7 @@
 #!/bin/sh
 # try.sh [SCENARIO]: dovecot-lda delivers two messages to a maildir, each by a process of its own, under that scenario or the one in
 # FAILPOINTS; then the power is cut, and what became of the messages written: a line `VERDICT<TAB>SCENARIO`. ../mail.sh has the
-# verdicts, ../shared.sh the variables. dovecot-lda refuses to deliver as root, so as root this file runs as nobody; and it cleans
-# its environment, so its settings name what the library of faults needs.
+# verdicts, ../shared.sh the variables. dovecot-lda refuses to deliver as root, so as root this file runs as nobody.
 # Found in dovecot-lda 2.3.19: no fault loses, tears or doubles an accepted message, in any of the four states. It syncs the message, renames it into `new`,
 # syncs that folder, and answers 75 where something fails, so the sender tries again.
 outside=$(cd "$(dirname "$0")/../.." && pwd) || exit 2
@@ -26,7 +25,6 @@ log_path = /dev/stderr
 postmaster_address = postmaster@example.org
 mail_fsync = ${FSYNC:-optimized}
 ssl = no
-import_environment = HOME USER ${IMPORT-LD_PRELOAD FAULTS_ROOT FAULTS_RUN FAILPOINTS FAULTS_SYNC FAULTS_FSYNC FAULTS_BLOCK FAULTS_POINTS}
 END
 
 # one NUMBER [WORD]: delivers that message, with the word before the program

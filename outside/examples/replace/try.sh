@@ -8,15 +8,15 @@
 #   TRACE          a file that takes the run's trace
 #   HITS           where it is set, as outside/loop does with a depth, the line ends with a tab and the run's hits in order, as `census --hits` tells them
 # With STATES=keep a campaign grows over what a cut may keep (../../tests/grown.py): two faults deep FLAW=rename_first has 4 causes, the first
-# `libc::fsync=1*return;power::keep=3*off->1*return` (the name, and none of its bytes), FLAW=in_place 23, the first
-# `libc::open=1*off->1*return;power::keep=1*return` (the old name is gone). In `lasting` both pass every plan.
+# `sys::fsync=1*return;power::keep=3*off->1*return` (the name, and none of its bytes), FLAW=in_place 23, the first
+# `sys::open=1*off->1*return;power::keep=1*return` (the old name is gone). In `lasting` both pass every plan.
 outside=$(cd "$(dirname "$0")/../.." && pwd) || exit 2
 scenario=${1-${FAILPOINTS-none}}
 OLD=${OLD-old}
 REPLACEMENTS=${REPLACEMENTS-ne w}
 set -f
 
-for built in faults.so powercut replace; do
+for built in faults powercut replace; do
     [ -e "$outside/out/$built" ] || { echo "try.sh: not built: make -C $outside" >&2; exit 2; }
 done
 
@@ -27,8 +27,8 @@ mkdir "$here/data" && printf %s "$OLD" > "$here/data/target" || exit 2
 "$outside/out/powercut" begin "$here/run" "$here/data" || exit 2
 
 # The lists of chunks are words of the program.
-(cd "$here/data" && LD_PRELOAD="$outside/out/faults.so" FAULTS_ROOT="$here/data" FAULTS_RUN="$here/run" FAILPOINTS="$scenario" \
-    timeout -s KILL 20 "$outside/out/replace" "${FLAW:-sound}" $REPLACEMENTS) > "$here/said"
+(cd "$here/data" && FAULTS_ROOT="$here/data" FAULTS_RUN="$here/run" FAILPOINTS="$scenario" \
+    timeout -s KILL 20 "$outside/out/faults" "$outside/out/replace" "${FLAW:-sound}" $REPLACEMENTS) > "$here/said"
 status=$?
 
 verdict() {

@@ -16,7 +16,7 @@
 # Found in SQLite 3.40.1, one transaction, in the four states (docs/FOUND.md). Plans of one fault:
 #     full.toml with STATES=live    all pass: a crash of the program alone does no harm
 #     full.toml                     the run without faults is lost already: the folder isn't synced after the journal is deleted, as SQLite documents
-#     extra.toml with SYNC=EXTRA    `libc::open=3*off->1*return` is lost: the folder that is to be synced can't be opened, and nobody is told. The commit is
+#     extra.toml with SYNC=EXTRA    `sys::open=3*off->1*return` is lost: the folder that is to be synced can't be opened, and nobody is told. The commit is
 #                                   acknowledged, and after a power cut the journal may be there again and roll it back
 #     wal.toml with JOURNAL=WAL     all pass
 # By strace alone, in an empty folder:
@@ -25,15 +25,15 @@
 #         sqlite3 db "PRAGMA synchronous=EXTRA; INSERT INTO t VALUES(1); SELECT 'done'"
 #     cat calls                     # one sync of the folder, one open that failed; `done` all the same
 # Three faults deep, as extra.toml has it, EXTRA has 1,119 plans, and no run has room for a fourth: 896 pass, 222 are corrupt and 1 is lost. The first that is
-# corrupt is `libc::open=2*off->1*return;libc::write=9*off->1*panic`: the folder can't be opened for its sync after the journal is made. SQLite goes on, and dies
-# while it writes pages: the pages last, the journal's name doesn't. With `libc::fsync=1*off->1*return` in place of the open it is the same. Of the 217 causes 7
+# corrupt is `sys::open=2*off->1*return;sys::write=9*off->1*panic`: the folder can't be opened for its sync after the journal is made. SQLite goes on, and dies
+# while it writes pages: the pages last, the journal's name doesn't. With `sys::fsync=1*off->1*return` in place of the open it is the same. Of the 217 causes 7
 # have one fault or two; in 210 SQLite fails while it rolls back, 204 times at a call that its run without faults doesn't have.
-# `libc::open=2*off->return` passes in the four states and fails with STATES=each: pending at its end are `1 create db-journal` and
+# `sys::open=2*off->return` passes in the four states and fails with STATES=each: pending at its end are `1 create db-journal` and
 # `2 unlink db-journal`, and if the name lasts and its removal doesn't (`;power::keep=1*return`, STATES=keep), the journal is hot when the database is
 # opened again, and the transaction that was acknowledged is rolled back.
 # With RECOVER=yes STATES=keep a scenario's faults go on in recovery: of 150 plans of one fault 3 are lost, all by a folder that can't be opened for its sync,
-# in the second transaction also: `libc::open=7*off->1*return`. Two faults deep it is 5,877 plans and 49 causes, all lost, and each with an open that fails.
-# In `libc::write=9*off->1*panic->1*off->1*return` SQLite dies at its tenth write, and the second write of the roll-back fails; it passes, as the next one
+# in the second transaction also: `sys::open=7*off->1*return`. Two faults deep it is 5,877 plans and 49 causes, all lost, and each with an open that fails.
+# In `sys::write=9*off->1*panic->1*off->1*return` SQLite dies at its tenth write, and the second write of the roll-back fails; it passes, as the next one
 # rolls back again.
 outside=$(cd "$(dirname "$0")/../.." && pwd) || exit 2
 scenario=${1-${FAILPOINTS-none}}
@@ -41,7 +41,7 @@ JOURNAL=${JOURNAL:-DELETE}
 SYNC=${SYNC:-FULL}
 TRANSACTIONS=${TRANSACTIONS:-1}
 
-for built in faults.so powercut; do
+for built in faults powercut; do
     [ -e "$outside/out/$built" ] || { echo "try.sh: not built: make -C $outside" >&2; exit 2; }
 done
 
@@ -70,8 +70,8 @@ workload() {
 # since the shell looks into a file that is named by its path before SQLite does, by a stream.
 runs() {
     workload "$1" "$2" > "$here/workload"
-    (cd "$here/data" && LD_PRELOAD="$outside/out/faults.so" FAULTS_ROOT="$here/data" FAULTS_RUN="$here/run" FAILPOINTS="$scenario" \
-        timeout -s KILL 20 stdbuf -oL sqlite3 -batch -bail "file://$database" < "$here/workload") >> "$here/said" 2>> "$here/errors"
+    (cd "$here/data" && FAULTS_ROOT="$here/data" FAULTS_RUN="$here/run" FAILPOINTS="$scenario" \
+        timeout -s KILL 20 "$outside/out/faults" stdbuf -oL sqlite3 -batch -bail "file://$database" < "$here/workload") >> "$here/said" 2>> "$here/errors"
     status=$?
     traced
     # 0 and 1 are SQLite's own, 99 is a panic of the scenario. All else tells nothing of the database.

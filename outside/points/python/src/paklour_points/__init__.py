@@ -8,8 +8,11 @@
 The scenario is read as the module is imported; one that can't be read ends the program with 98. outside/points/points.h has the
 tasks, the variables and what is refused.
 """
+import _thread
 import fcntl
 import os
+import queue
+import signal
 import threading
 import time
 
@@ -19,6 +22,7 @@ __all__ = ["hit"]
 
 PAUSED, REFUSED, PANICKED = 97, 98, 99
 MOST_NAME = 200
+_SIGNALS = [number for number in signal.valid_signals() if number not in (signal.SIGKILL, signal.SIGSTOP)]
 
 
 def _refuse(what, why):
@@ -41,6 +45,32 @@ def _written_answer(term):
     return b"%s(%s)" % (term.task.encode(), _escaped(term.argument))
 
 
+class _Counts:
+    """What the first `seen` bytes of the trace tell; without a trace, the hits of this process. It is never changed, so what a
+    signal's handler or a fork comes upon is whole."""
+
+    def __init__(self, number=0, hits=None, seen=0):
+        self.number, self.hits, self.seen = number, hits or {}, seen
+
+    def after(self, points, length=0):
+        hits = dict(self.hits)
+        for point in points:
+            hits[point] = hits.get(point, 0) + 1
+        return _Counts(self.number + len(points), hits, self.seen + length)
+
+
+def _point_of(line):
+    """The point of a line that any process of the run has written."""
+    columns = line.split(b"\t")
+    if len(columns) < 4:
+        _refuse("no line of a trace", os.fsdecode(line))
+    if columns[3].startswith(b"panic"):
+        os._exit(PANICKED)
+    if columns[3].startswith(b"pause"):
+        os._exit(PAUSED)
+    return os.fsdecode(columns[1])
+
+
 class _Points:
     """The points of a process. A trace is all that the processes of a run share: which hit of a point is next is counted
     from its lines, under a lock, and a line that says panic or pause ends each process at its next hit."""
@@ -50,11 +80,18 @@ class _Points:
             self.chains = read_scenario("" if text == "none" else text)
         except Refusal as refusal:
             _refuse("scenario", refusal)
-        self.mutex = threading.Lock()
-        self.hits, self.number, self.seen = {}, 0, 0
+        self.mutex, self.file, self.counts = threading.Lock(), None, _Counts()
         self.trace = os.path.abspath(trace) if trace else None
         if self.trace:
             os.close(self._opened())
+        os.register_at_fork(after_in_child=self._begin_child)
+
+    def _begin_child(self):
+        """Whoever held the lock isn't in the child."""
+        self.mutex = threading.Lock()
+        if self.file is not None:
+            os.close(self.file)
+            self.file = None
 
     def _opened(self):
         try:
@@ -62,63 +99,74 @@ class _Points:
         except OSError as error:
             _refuse("no trace", error.strerror)
 
-    def _count_line(self, line):
-        columns = line.split(b"\t")
-        if len(columns) < 4:
-            _refuse("no line of a trace", os.fsdecode(line))
-        if columns[3].startswith(b"panic"):
-            os._exit(PANICKED)
-        if columns[3].startswith(b"pause"):
-            os._exit(PAUSED)
-        self._count(os.fsdecode(columns[1]))
-
-    def _count(self, point):
-        self.number += 1
-        self.hits[point] = self.hits.get(point, 0) + 1
-
-    def _count_new_lines(self, file):
-        size = os.fstat(file).st_size
-        if size < self.seen:
+    def _counts_by_now(self):
+        counts = self.counts
+        size = os.fstat(self.file).st_size
+        if size < counts.seen:
             _refuse("no trace", "it was cut short")
         text = b""
-        while len(text) < size - self.seen:
-            text += os.pread(file, size - self.seen - len(text), self.seen + len(text))
+        while len(text) < size - counts.seen:
+            text += os.pread(self.file, size - counts.seen - len(text), counts.seen + len(text))
         if text and not text.endswith(b"\n"):
             _refuse("no trace", "its last line has no end")
-        for line in text.split(b"\n")[:-1]:
-            self._count_line(line)
-        self.seen = size
+        return counts.after([_point_of(line) for line in text.split(b"\n")[:-1]], len(text))
 
-    def _write_line(self, file, point, term):
-        line = b"%d\t%s\t%d\t%s\t-\n" % (self.number, os.fsencode(point), self.hits[point], _written_answer(term))
-        if os.write(file, line) != len(line):
+    def _write_line(self, counts, point, term):
+        line = b"%d\t%s\t%d\t%s\t-\n" % (counts.number, os.fsencode(point), counts.hits[point], _written_answer(term))
+        if os.write(self.file, line) != len(line):
             _refuse("no trace", "a line was cut off")
-        self.seen += len(line)
 
-    def _next_term(self, point):
-        """The file is opened for each hit: a program may close every descriptor that it doesn't know."""
-        file = self._opened() if self.trace else None
+    def _traced_term(self, point):
+        """The file is opened for each hit: a program may close every descriptor that it doesn't know. Its lock is let go by itself,
+        since a child that was made meanwhile has the file too."""
+        self.file = self._opened()
         try:
-            if file is not None:
-                fcntl.flock(file, fcntl.LOCK_EX)
-                self._count_new_lines(file)
-            self._count(point)
-            term = term_at(self.chains.get(point, ()), self.hits[point])
-            if file is not None:
-                self._write_line(file, point, term)
+            fcntl.flock(self.file, fcntl.LOCK_EX)
+            self.counts = self._counts_by_now()
+            counts = self.counts.after([point])
+            term = self._term(counts, point)
+            self._write_line(counts, point, term)
+            fcntl.flock(self.file, fcntl.LOCK_UN)
             return term
         except OSError as error:
             _refuse("no trace", error.strerror)
         finally:
-            if file is not None:
-                os.close(file)
+            file, self.file = self.file, None
+            os.close(file)
+
+    def _term(self, counts, point):
+        return term_at(self.chains.get(point, ()), counts.hits[point])
+
+    def _next_term(self, point):
+        with self.mutex:
+            if self.trace:
+                return self._traced_term(point)
+            self.counts = self.counts.after([point])
+            return self._term(self.counts, point)
+
+    def _next_term_aside(self, point):
+        """The same in a thread of its own. A signal's handler runs in the main thread, which waits here, and may hit points too."""
+        told = queue.SimpleQueue()
+        try:
+            _thread.start_new_thread(lambda: told.put(self._next_term(point)), ())
+        except RuntimeError:  # the interpreter is ending, or has no room for a thread
+            return self._next_term(point)
+        return told.get()
 
     def hit(self, point):
         if not _is_lawful(point):
             _refuse("no name of a point", point)
-        with self.mutex:
-            term = self._next_term(point)
-        return _act(term)
+        return _act(self._next_term_aside(point) if _may_be_interrupted() else self._next_term(point))
+
+
+def _is_own(handler):
+    return callable(handler) and handler is not signal.default_int_handler
+
+
+def _may_be_interrupted():
+    """Whether this thread runs the handlers of signals, and the program has any of its own."""
+    is_main = threading.get_ident() == threading.main_thread().ident
+    return is_main and any(_is_own(signal.getsignal(number)) for number in _SIGNALS)
 
 
 def _is_lawful(point):
@@ -126,7 +174,7 @@ def _is_lawful(point):
     return (
         0 < len(text) <= MOST_NAME
         and text == text.strip(b" ")
-        and not text.startswith(b"libc::")
+        and not text.startswith(b"sys::")
         and not any(byte < 32 or byte == 127 or byte in b";=" for byte in text)
     )
 

@@ -1,0 +1,70 @@
+"""Asks what is to be tried, has it tried, keeps the answers, and asks again, until nothing is asked."""
+
+import time
+from collections import deque
+from collections.abc import Callable, Iterable
+from typing import Protocol
+
+from .answers import Answers, Stopped
+from .paklour import Paklour
+from .shown import show
+
+TELLS_EVERY = 10  # seconds
+
+
+class Engine(Protocol):
+    """Who tries."""
+
+    name: str
+
+    def try_all(self, scenarios: list[str]) -> Iterable[str]:
+        """An answer after the other, as they come."""
+
+    def end(self) -> None:
+        """Ends all that runs."""
+
+
+class Campaign:
+    def __init__(self, paklour: Paklour, answers: Answers, engine: Engine, shows_progress: bool):
+        self.paklour = paklour
+        self.answers = answers
+        self.engine = engine
+        self.shows_progress = shows_progress
+        self.waiting = 0
+        self.came: deque[float] = deque(maxlen=32)  # when the last answers did
+        self.told = time.monotonic()
+
+    def time_left(self) -> str:
+        if len(self.came) < 2:
+            return "unknown"
+        left = int((self.came[-1] - self.came[0]) / (len(self.came) - 1) * self.waiting)
+        return f"{left // 3600}:{left // 60 % 60:02d}:{left % 60:02d}"
+
+    def tell(self) -> None:
+        if self.shows_progress:
+            show(f"loop: answered {self.answers.count}, asked {self.waiting}, failing {self.answers.failing}, time left {self.time_left()}")
+        self.told = time.monotonic()
+
+    def keep(self, answer: str) -> None:
+        self.answers.keep(answer)
+        self.came.append(time.monotonic())
+        self.waiting -= 1
+        if self.came[-1] - self.told >= TELLS_EVERY:
+            self.tell()
+        self.paklour.look()
+
+    def grow(self, after: Callable[[str], None] = lambda answer: None) -> None:
+        """Tries what is asked until nothing is; each answer that was kept is handed on."""
+        before: list[str] = []
+        while asked := self.paklour.asks():
+            if asked == before:
+                raise Stopped(f"{self.engine.name} answers nothing that is asked")
+            before, self.waiting, known = asked, len(asked), self.answers.count
+            self.tell()
+            for answer in self.engine.try_all(asked):
+                self.keep(answer)
+                after(answer)
+            if self.answers.count == known:
+                raise Stopped(f"no answer came from {self.engine.name}, asked first: {asked[0]}")
+        self.waiting = 0
+        self.tell()

@@ -1,0 +1,137 @@
+"""The command `loop`: its words, and its end."""
+
+import os
+import shlex
+import signal
+import sys
+from pathlib import Path
+
+from . import definition, programs, script
+from .answers import DIFFERS, Answers, Stopped
+from .campaign import Campaign
+from .paklour import Paklour
+from .processes import WITHIN, Processes
+from .run import Runner
+from .settings import Settings
+from .shown import show
+from .watching import watched
+from .whole import FORMS, Asked, Whole, decider_of
+from .words import Usage, bytes_of, shows_progress, split, usage_of, whole_number
+from .work import Note, Work
+
+WITH_VALUE = {"-j", "--seconds", "--engine", "--script", "--depth", "--try", "--into", "--room", "--bytes", "--failures", "--settings"}
+FLAGS = {"--brief", "--strict", "--progress", "--recheck", "--no-recheck", "--hits", "-x", "--every-run", "--kinds", "--no-kinds", "--whole",
+    "--junit", "--json"}
+
+
+def on_signal(number: int, frame: object) -> None:
+    raise Stopped("")
+
+
+def tell_unbuilt() -> None:
+    if not os.access(WITHIN, os.X_OK):
+        show(f"loop: not built: {WITHIN} (make -C outside): what a run leaves running lives on")
+
+
+def script_words(options: dict[str, str], rest: list[str]) -> tuple[str, str, str, list[str]]:
+    """SETTINGS ANSWERS TRY, and GNU parallel's own words; `--script TRY` may stand before."""
+    given, behind = (rest[:rest.index("--")], rest[rest.index("--") + 1:]) if "--" in rest else (rest, [])
+    if "--script" in options:
+        given = [*given, options["--script"]]
+    if len(given) != 3 or (behind and options.get("--engine") != "parallel"):
+        raise Usage
+    return given[0], given[1], given[2], behind
+
+
+def run_script(options: dict[str, str], rest: list[str], processes: Processes) -> int:
+    settings, kept, name, behind = script_words(options, rest)
+    jobs = whole_number(options.get("-j", os.environ.get("PROCESSES") or "4"))
+    seconds = whole_number(options.get("--seconds", "300"))
+    if options.get("--engine", "xargs") not in ("xargs", "parallel"):
+        raise Usage
+    tell_unbuilt()
+    answers = Answers(kept)
+    paklour = Paklour(settings, answers)
+    hits = "told" if paklour.has_depth() else "asked" if "--hits" in options else "untold"
+    if options.get("--engine") == "parallel":
+        tries = script.Parallel(name, seconds, jobs, hits, options=behind)
+    else:
+        tries = script.Here(name, seconds, jobs, hits, processes=processes)
+    campaign = Campaign(paklour, answers, tries, shows_progress(options))
+    try:
+        campaign.grow()
+        return script_report(options, campaign, tries)
+    finally:
+        tries.end()
+
+
+def script_report(options: dict[str, str], campaign: Campaign, tries: script.Tries) -> int:
+    """Writes the report, and runs what fails once more."""
+    paklour = campaign.paklour
+    status, report = paklour.report(*(["--strict"] if "--strict" in options else []))
+    sys.stdout.buffer.write(paklour.report("--brief", tells=False)[1] if "--brief" in options else report)
+    sys.stdout.buffer.flush()
+    if status != 1 or "--no-recheck" in options:
+        return status
+    return status if script.recheck(paklour, tries, report, campaign.shows_progress) else DIFFERS
+
+
+def asked_of(loop: str, options: dict[str, str], path: str) -> Asked:
+    failures = 1 if "-x" in options else whole_number(options["--failures"]) if "--failures" in options else None
+    words = [loop, path, *(["--into", options["--into"]] if "--into" in options else [])]
+    return Asked(shlex.join(words), whole_number(options.get("-j", os.environ.get("PROCESSES") or "4")), shows_progress(options),
+        "--whole" not in options, "--strict" in options, [form for form in FORMS if form in options], failures)
+
+
+def run_harness(loop: str, options: dict[str, str], path: str, processes: Processes) -> int:
+    """Has the files beside the harness, or in the folder that is named."""
+    programs.check_built()
+    harness = definition.read(path)
+    folder = Path(options.get("--into", harness.folder))
+    folder.mkdir(exist_ok=True)
+    asked = asked_of(loop, options, path)
+    answers = Answers(str(folder / "answers"))
+    answers.cut_torn()
+    note = None if "--try" in options else Note(folder / "campaign.json", harness.digest(), answers.count)
+    settings = Settings(harness, folder, answers, options.get("--settings"), depth_of(options), kinds_of(options))
+    work = Work(note)
+    try:
+        runner = Runner(harness, work, processes, whole_number(options.get("--seconds", "60")), bytes_of(options.get("--bytes", "1G")))
+        decider = decider_of(runner, settings, bytes_of(options.get("--room", "1G")), "--every-run" in options)
+        runner.prepare()
+        if "--try" in options:
+            return watched(decider, options["--try"])
+        return Whole(harness, settings, decider, answers, asked).run()
+    finally:
+        processes.end()
+        work.end()
+
+
+def depth_of(options: dict[str, str]) -> int | None:
+    return whole_number(options["--depth"]) if "--depth" in options else None
+
+
+def kinds_of(options: dict[str, str]) -> bool | None:
+    return True if "--kinds" in options else False if "--no-kinds" in options else None
+
+
+def main(loop: str, words: list[str]) -> int:
+    processes = Processes()
+    for number in (signal.SIGHUP, signal.SIGINT, signal.SIGTERM):
+        signal.signal(number, on_signal)
+    try:
+        options, rest = split(words, WITH_VALUE, FLAGS)
+        if len(rest) == 1 and "--script" not in options:
+            return run_harness(loop, options, rest[0], processes)
+        return run_script(options, rest, processes)
+    except Usage:
+        sys.stderr.write(usage_of(loop) + "\n")
+        return 2
+    except Stopped as stopped:
+        if stopped.line:
+            show(f"loop: {stopped.line}")
+        return stopped.status
+    finally:
+        for number in (signal.SIGHUP, signal.SIGINT, signal.SIGTERM):
+            signal.signal(number, signal.SIG_IGN)
+        processes.end()

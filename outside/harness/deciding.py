@@ -1,0 +1,196 @@
+"""What becomes of each scenario that is asked: by a run, or by what follows from one that was made.
+
+A run that ends by a panic is another's up to there. What the power cut keeps is another cut of the same run. So the run with the other faults
+is made once, and the rest is laid out from its notes. One in twenty of what follows is run and judged all the same, and has to come out alike."""
+
+import hashlib
+import shutil
+import threading
+from pathlib import Path
+
+from . import programs, tree
+from .answers import DIFFERS, Stopped
+from .definition import ALL_STATES, Harness
+from .judging import PASS, UNRESOLVED, Judge, Judgement, LooksUp
+from .outcome import Outcome
+from .records import Key, Records, key_of, lasting_faults
+from .run import Record, Runner
+from .scenario import Scenario, Unreadable, hits_text, keeping, scenario_of
+
+ONE_IN = 20  # of what follows is tried
+NAMES = {"create", "mkdir", "symlink", "link", "unlink", "rmdir", "rename", "exchange"}
+
+
+class Differs(Exception):
+    """What followed isn't what a run says."""
+
+    def __init__(self, followed: Outcome, tried: Outcome):
+        super().__init__(followed.scenario)
+        self.followed = followed
+        self.tried = tried
+
+
+def is_tried(scenario: str) -> bool:
+    """The same ones each time."""
+    return int.from_bytes(hashlib.sha256(scenario.encode("utf-8", "surrogateescape")).digest()[:8], "big") % ONE_IN == 0
+
+
+class Decider:
+    def __init__(self, runner: Runner, records: Records, keeps: bool, depth: int, every_run: bool):
+        self.runner = runner
+        self.harness: Harness = runner.harness
+        self.judge = Judge(runner)
+        self.records = records
+        self.keeps = keeps  # whether the scenario says what a power cut keeps
+        self.depth = depth  # a run with so many faults has no others that follow
+        self.every_run = every_run
+        self.tried = 0
+        self.followed = 0
+        self.made_bases: set[Key] = set()
+        self.lock = threading.Lock()
+
+    def base_of(self, text: str) -> tuple[Key, int] | None:
+        """The known run from which this one follows."""
+        try:
+            scenario = Scenario(text)
+            return None if self.every_run or scenario.is_endless() else self.records.base_of(scenario)
+        except Unreadable:
+            return None
+
+    def make_base(self, text: str) -> None:
+        """After a stop nothing is known of the runs before: the one from which this scenario's should follow is made, once."""
+        try:
+            scenario = Scenario(text)
+            key = lasting_faults(scenario)
+        except Unreadable:
+            return
+        with self.lock:
+            is_new = not self.every_run and not scenario.is_endless() and key != set(scenario.faults()) and key not in self.made_bases
+            self.made_bases.add(key)
+        if is_new:
+            record = self.runner.make(scenario_of(key))
+            self.keep(key_of(programs.trace(record.run)), record)
+
+    def decide(self, text: str) -> Outcome:
+        base = self.base_of(text)
+        if base is None:
+            self.make_base(text)
+            base = self.base_of(text)
+        outcome = self.follow(text, *base) if base else None
+        if outcome is None:
+            outcome = self.run(text, LooksUp.NONE if self.every_run else LooksUp.ALL)
+        if outcome.follows:
+            with self.lock:
+                self.followed += 1
+            if is_tried(text):
+                self.try_out(outcome)
+        return outcome
+
+    def try_out(self, followed: Outcome) -> Outcome:
+        """Runs and judges it, whatever is known of it."""
+        with self.lock:
+            self.tried += 1
+        tried = self.run(followed.scenario, LooksUp.NONE)
+        if (tried.verdict, tried.hits) != (followed.verdict, followed.hits):
+            raise Differs(followed, tried)
+        return tried
+
+    def run(self, text: str, looks_up: LooksUp) -> Outcome:
+        record = self.runner.make(text)
+        outcome = self.finish(record, len(record.points) + 1, text, looks_up)
+        outcome.follows = outcome.judgement.is_known
+        self.keep(key_of(programs.trace(record.run)[:len(record.points)]), record)
+        return outcome
+
+    def keep(self, key: Key, record: Record) -> None:
+        ends = any(fault.answer.startswith("panic") for fault in key)
+        if record.why or ends or len(key) >= self.depth or self.every_run:
+            tree.remove(record.folder)
+        else:
+            self.records.give(key, record)
+
+    def follow(self, text: str, key: Key, hit: int) -> Outcome | None:
+        """Lays it out from the run that it follows from, which is made again where it wasn't kept; None where that run doesn't tell."""
+        record = self.records.take(key) or self.made_again(key)
+        outcome = None if record.why else self.finish(record, hit, text, LooksUp.ALL)
+        if outcome:
+            outcome.follows = True
+        self.keep(key, record)
+        return outcome
+
+    def made_again(self, key: Key) -> Record:
+        record = self.runner.make(scenario_of(key))
+        before = self.records.points[key]
+        if record.points != before and not record.why:
+            raise Stopped(f"other hits: {hits_text(before)}, then {hits_text(record.points)}: {record.scenario}", DIFFERS)
+        return record
+
+    # ---- from the end of a run to its judgement
+
+    def finish(self, record: Record, hit: int, text: str, looks_up: LooksUp) -> Outcome | None:
+        """Cuts the power of a run at that hit, goes on where the harness has an `again`, and judges what is left."""
+        if record.why:
+            return Outcome(text, Judgement(UNRESOLVED, record.why), programs.trace(record.run))
+        run, said = record.run, record.said()
+        is_end = hit == len(record.points) + 1
+        if "again" in self.harness.steps or not is_end:
+            if not record.is_cut:
+                programs.cut(record.run, record.data)
+            run = record.folder / "rewound"
+            shutil.rmtree(run, ignore_errors=True)
+            length = programs.rewind(record.run, run, hit, text)
+            if length is None:
+                return None
+            said = said if length < 0 else said[:length]
+        record.is_cut = True
+        if "again" in self.harness.steps:
+            return self.go_on(record, run, text, said, looks_up)
+        return self.cut_and_judge(record.folder, run, text, said, looks_up, lays_states=is_end)
+
+    def go_on(self, record: Record, run: Path, text: str, said: bytes, looks_up: LooksUp) -> Outcome:
+        """Recovery under the same scenario, from what the power cut left."""
+        more = record.folder / "said_again"
+        more.unlink(missing_ok=True)
+        state = ["keep", text] if self.keeps else ["lasting"]
+        pending = programs.pending(run) if "power::" in text else []
+        if not programs.cut(run, record.data, *state, goes_on=True):
+            return Outcome(text, Judgement(UNRESOLVED, "the scenario pauses"), programs.trace(run))
+        _, why = self.runner.under("again", run, record.folder, text, more)
+        if why:
+            return Outcome(text, Judgement(UNRESOLVED, why), programs.trace(run))
+        outcome = self.cut_and_judge(record.folder, run, text, said + more.read_bytes(), looks_up, lays_states=True)
+        outcome.pending = pending + outcome.pending
+        return outcome
+
+    def cut_and_judge(self, folder: Path, run: Path, text: str, said: bytes, looks_up: LooksUp, lays_states: bool) -> Outcome:
+        """Judges each state that a power cut may leave, up to the first that breaks a promise."""
+        trace = programs.trace(run)
+        judgements = []
+        for state in self.states(run, text, lays_states):
+            if not programs.cut(run, folder / "data", *state):
+                return Outcome(text, Judgement(UNRESOLVED, "the scenario pauses"), programs.trace(run))
+            if self.keeps:
+                trace = programs.trace(run)
+            judgements.append(self.judge.judge(folder, said, looks_up))
+            if judgements[-1].verdict != PASS:
+                break
+        judgement = judgements[-1]
+        is_known = all(each.is_known for each in judgements)
+        outcome = Outcome(text, Judgement(judgement.verdict, judgement.why, is_known), trace)
+        if outcome.verdict.startswith("fail"):
+            outcome.pending = programs.pending(run)
+        return outcome
+
+    def states(self, run: Path, text: str, lays_states: bool) -> list[list[str]]:
+        """Words for the cut, of states that differ by what they keep of what is pending. Of a run that goes on elsewhere what is there isn't
+        known as it is, but all changes are."""
+        if self.keeps:
+            return [["keep", text]]
+        changes = programs.pending(run)
+        names = [int(change[0]) for change in changes if change[1] in NAMES]
+        contents = [int(change[0]) for change in changes if change[1] not in NAMES]
+        kept = {"lasting": [], "names": names, "contents": contents, "live": sorted(names + contents)}
+        differing: dict[str, str] = {}
+        for state in self.harness.states or ALL_STATES:
+            differing.setdefault(keeping(kept[state]), state)
+        return [[state] if lays_states else ["keep", scenario] for scenario, state in differing.items()]

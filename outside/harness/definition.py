@@ -1,0 +1,92 @@
+"""A harness: how a program is prepared, run, run again after a power cut, and judged. A folder with up to four programs of these names, or a
+file of Python, which defines them as functions or commands."""
+
+import hashlib
+import json
+import os
+import subprocess
+import sys
+from dataclasses import dataclass, field
+from pathlib import Path
+
+from .answers import Stopped
+from .step import STEPS
+
+STEP = Path(__file__).resolve().with_name("step.py")
+PYTHON_FILE = "harness.py"
+ALL_STATES = ("lasting", "names", "contents", "live")
+VARIABLES = ("FAULTS_SYNC", "FAULTS_BLOCK", "FAULTS_FSYNC", "FAULTS_POINTS", "FAULTS_SOCKETS")
+
+
+@dataclass
+class Harness:
+    name: str
+    folder: Path
+    files: list[Path]  # whose bytes it consists of
+    steps: dict[str, list[str]]
+    functions: frozenset[str] = frozenset()  # the steps that are functions of Python
+    variables: dict[str, str] = field(default_factory=dict)  # of the environment of its programs
+    states: tuple[str, ...] = ()  # those that are judged where no power::keep is among the points; else what the scenario keeps
+    order: str = "settled"
+    pins: bool = True
+
+    def digest(self) -> str:
+        """Of all on which an answer depends here, but for the program itself."""
+        whole = hashlib.sha256()
+        for path in self.files:
+            whole.update(path.name.encode() + b"\0" + path.read_bytes() + b"\0")
+        named = {name: os.environ[name] for name in VARIABLES if name in os.environ}
+        whole.update(json.dumps([named | self.variables, self.states, self.order, self.pins], sort_keys=True).encode())
+        return whole.hexdigest()
+
+
+def read(path: str) -> Harness:
+    place = Path(path).resolve()
+    if place.is_dir() and (place / PYTHON_FILE).exists():
+        harness = read_file(place / PYTHON_FILE, place.name)
+    elif place.is_dir():
+        harness = read_folder(place)
+    elif place.exists():
+        harness = read_file(place, place.stem if place.name != PYTHON_FILE else place.parent.name)
+    else:
+        raise Stopped(f"{path}: no such harness")
+    for needed in ("run", "judge"):
+        if needed not in harness.steps:
+            raise Stopped(f"{path}: a harness without `{needed}` says nothing")
+    return harness
+
+
+def read_folder(place: Path) -> Harness:
+    files = [place / name for name in STEPS if (place / name).exists()]
+    for file in files:
+        if not os.access(file, os.X_OK):
+            raise Stopped(f"{file} can't be run: chmod +x")
+    return Harness(place.name, place, files, {file.name: [str(file)] for file in files})
+
+
+def read_file(file: Path, name: str) -> Harness:
+    done = subprocess.run([sys.executable, str(STEP), str(file)], capture_output=True, check=False)
+    if done.returncode:
+        raise Stopped(f"{file}: {done.stderr.decode('utf-8', 'surrogateescape').strip() or 'it ends with ' + str(done.returncode)}")
+    told = json.loads(done.stdout.splitlines()[-1])
+    steps = {step: words_of(file, step, told[step]) for step in STEPS if step in told}
+    functions = frozenset(step for step in steps if told[step] is None)
+    harness = Harness(name, file.parent, [file], steps, functions, told.get("environment", {}), tuple(told.get("states", ())),
+        told.get("order", "settled"), told.get("pin", True))
+    if unknown := set(harness.states) - set(ALL_STATES):
+        raise Stopped(f"{file}: no such state: {', '.join(sorted(unknown))}")
+    if harness.order not in ("settled", "next", "arrival"):
+        raise Stopped(f"{file}: no such order: {harness.order}")
+    return harness
+
+
+def words_of(file: Path, step: str, command: str | list[str] | None) -> list[str]:
+    """A function runs in a Python of its own, a text by the shell; the path of a program is that from the harness's folder."""
+    if command is None:
+        return [sys.executable, str(STEP), str(file), step]
+    if isinstance(command, str):
+        return ["sh", "-c", command]
+    words = [str(word) for word in command]
+    if "/" in words[0]:
+        words[0] = str(file.parent / words[0])
+    return words

@@ -1,0 +1,69 @@
+"""What a power cut left, judged by the harness. The same promises over the same state are judged once."""
+
+import hashlib
+import threading
+from dataclasses import dataclass
+from enum import Enum
+from pathlib import Path
+
+from . import tree
+from .run import Runner, last_line
+
+PASS, UNRESOLVED = "pass", "unresolved"
+MOST_CODE = 200  # bytes, as settings have it
+
+
+@dataclass(frozen=True)
+class Judgement:
+    verdict: str
+    why: str = ""  # of an unresolved one
+    is_known: bool = False  # from another run
+
+
+class LooksUp(Enum):
+    """Which judgements are taken from others of the same state."""
+
+    NONE = "none"
+    PASSES = "those that pass"
+    ALL = "all"
+
+
+class Judge:
+    def __init__(self, runner: Runner):
+        self.runner = runner
+        self.known: dict[bytes, Judgement] = {}
+        self.count = 0
+        self.lock = threading.Lock()
+
+    def judge(self, folder: Path, said: bytes, looks_up: LooksUp) -> Judgement:
+        """Judges the data of a run's folder, or says what is known of its like."""
+        key = hashlib.sha256(said).digest() + tree.digest(folder / "data")
+        known = self.known.get(key) if looks_up != LooksUp.NONE else None
+        if known and (looks_up == LooksUp.ALL or known.verdict == PASS):
+            return known
+        judgement = self.ask(folder, said)
+        with self.lock:
+            self.count += 1
+            self.known.setdefault(key, Judgement(judgement.verdict, judgement.why, is_known=True))
+        return judgement
+
+    def ask(self, folder: Path, said: bytes) -> Judgement:
+        promises, output = folder / "promises", folder / "judged"
+        promises.write_bytes(said)
+        output.unlink(missing_ok=True)
+        output.touch()
+        status, why = self.runner.judged(folder, output, SAID=str(promises))
+        if why:
+            return Judgement(UNRESOLVED, f"judge: {why}")
+        if status == 0:
+            return Judgement(PASS)
+        if status == 1:
+            return Judgement(f"fail {code_of(output)}")
+        return Judgement(UNRESOLVED, f"judge ended with {status}: {last_line(folder / 'errors')}")
+
+
+def code_of(output: Path) -> str:
+    """Its first line, as a code of settings: without control characters, of so many bytes at most."""
+    first = output.read_bytes().split(b"\n", 1)[0].strip()[:MOST_CODE].decode("utf-8", "ignore")
+    printable = "".join(letter if letter.isprintable() else "?" for letter in first)
+    return " ".join(printable.split()) or "broken"

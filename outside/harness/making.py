@@ -1,0 +1,143 @@
+"""The command `new`: writes a harness for a program that is there."""
+
+import os
+import shlex
+import shutil
+import subprocess
+import sys
+import tempfile
+from pathlib import Path
+
+from . import tree
+from .words import Usage, usage_of
+
+PREPARE = """#!/bin/sh
+# Fills the data's folder, in which it is started: what is there when it ends lasts. From an empty folder a folder that is never synced is
+# found too; from a store that has some keys, what happens to old ones. Have a harness for each.
+"""
+
+RUN = """#!/bin/sh
+# Is run under faults, in the data's folder. Each line that it writes is a promise: what it says has been done.
+{command} || exit
+echo done
+"""
+
+JUDGE = """#!/bin/sh
+# Is run over what a power cut left, in its folder; the file "$SAID" has the promises. It ends with 0 where they are kept, and with 1 where one is
+# broken: its first line is a code for that. Anything else says nothing.
+grep -qx done "$SAID" || exit 0 # nothing was promised
+diff -r "$HARNESS/expected" . >&2 && exit 0 # what a run without faults left
+echo lost
+exit 1
+"""
+
+SERVER_RUN = """#!/bin/sh
+# Is run under faults, in the data's folder. Each line that it writes is a promise: what it says has been done.
+: > "$TMPDIR/output" # what an earlier start said is not this one's
+setsid {command} >> "$TMPDIR/output" 2>&1 &
+server=$!
+until grep -qF {line} "$TMPDIR/output"; do
+    kill -0 "$server" 2> "$TMPDIR/ended" || exit 1
+    sleep 0.05
+done
+# Here it is asked for what has to last, and what it acknowledged is said, as
+#     redis-cli -s socket set key value && echo 'set key'
+echo started
+kill -s KILL -- "-$server" # with its children; an orderly end hides what wasn't synced
+wait
+exit 0
+"""
+
+SERVER_JUDGE = """#!/bin/sh
+# Is run over what a power cut left, in its folder; the file "$SAID" has the promises. It ends with 0 where they are kept, and with 1 where one is
+# broken: its first line is a code for that. Anything else says nothing. This one looks whether the server starts again.
+: > "$TMPDIR/output" # what an earlier start said is not this one's
+setsid {command} >> "$TMPDIR/output" 2>&1 &
+server=$!
+until grep -qF {line} "$TMPDIR/output"; do
+    kill -0 "$server" 2> "$TMPDIR/ended" || {{ echo unopenable; exit 1; }}
+    sleep 0.05
+done
+# Here it is asked for each promise of "$SAID", and one that is broken ends it: echo lost; exit 1
+kill -s KILL -- "-$server"
+exit 0
+"""
+
+MAIL_RUN = """#!/bin/sh
+# Is run under faults, in the data's folder. Each line that it writes is a promise: what it says has been done.
+{command} < "$HARNESS/message" || exit
+echo delivered
+"""
+
+MAIL_JUDGE = """#!/bin/sh
+# Is run over what a power cut left, in its folder; the file "$SAID" has the promises. It ends with 0 where they are kept, and with 1 where one is
+# broken: its first line is a code for that. Anything else says nothing.
+grep -qx delivered "$SAID" || exit 0 # whoever sent it has it still
+grep -rqxF 'This line is the last.' . && exit 0
+grep -rqxF 'This line is the first.' . && { echo torn; exit 1; }
+echo lost
+exit 1
+"""
+
+MESSAGE = """From: sender@example.org
+To: receiver@example.org
+Subject: A message
+Message-ID: <1@example.org>
+
+This line is the first.
+This line is the last.
+"""
+
+
+def write(path: Path, text: str) -> None:
+    path.write_text(text)
+    path.chmod(0o755)
+
+
+def expect(folder: Path) -> None:
+    """Keeps what a run without faults leaves; without one there is nothing to judge by."""
+    with tempfile.TemporaryDirectory() as place:
+        data = Path(place) / "data"
+        data.mkdir()
+        environment = os.environ | {"HARNESS": str(folder), "TMPDIR": place}
+        done = subprocess.run([folder / "run"], cwd=data, env=environment, stdout=subprocess.PIPE, check=False)
+        if done.returncode:
+            sys.exit(f"new: the command ends with {done.returncode} in an empty folder: let prepare fill it, and run's words be right")
+        tree.copy(str(data), str(folder / "expected"))
+
+
+def words_of(loop: str, words: list[str]) -> tuple[str, str, Path, str]:
+    """Which form, the line of a server, the folder, the command."""
+    form, line = "command", ""
+    if words[:1] == ["--server"]:
+        form, line, words = "server", *words[1:2], words[2:]
+    elif words[:1] == ["--mail"]:
+        form, words = "mail", words[1:]
+    if len(words) < 2 or words[0].startswith("-"):
+        raise Usage
+    if not (program := shutil.which(words[1])):
+        sys.exit(f"new: no such program: {words[1]}")
+    command = [os.path.abspath(program) if "/" in words[1] else words[1], *words[2:]]
+    return form, line, Path(words[0]).resolve(), shlex.join(command)
+
+
+def main(loop: str, words: list[str]) -> int:
+    try:
+        form, line, folder, command = words_of(loop, words)
+    except (Usage, ValueError):
+        sys.stderr.write(usage_of(loop) + "\n")
+        return 2
+    try:
+        folder.mkdir()
+    except FileExistsError:
+        sys.exit(f"new: {folder} is there")
+    run, judge = {"command": (RUN, JUDGE), "server": (SERVER_RUN, SERVER_JUDGE), "mail": (MAIL_RUN, MAIL_JUDGE)}[form]
+    write(folder / "prepare", PREPARE)
+    write(folder / "run", run.format(command=command, line=shlex.quote(line)))
+    write(folder / "judge", judge.format(command=command, line=shlex.quote(line)) if form == "server" else judge)
+    if form == "mail":
+        (folder / "message").write_text(MESSAGE)
+    if form == "command":
+        expect(folder)
+    print(f"{os.path.join(os.path.dirname(loop), 'loop')} {shlex.quote(str(folder))}")
+    return 0

@@ -1,0 +1,88 @@
+"""The program that asks and reports: `paklour` of the PATH. It starts nothing; it knows a campaign by its answers."""
+
+import re
+import subprocess
+import time
+from pathlib import Path
+
+from .answers import Answers, Stopped
+from .shown import show, show_once
+
+
+class Paklour:
+    def __init__(self, settings: str, answers: Answers, look_share: int = 20):
+        self.settings = settings
+        self.answers = answers
+        self.look_share = look_share
+        self.ask_again = 0.0  # from when on another look at the answers takes no larger share of the time
+
+    def has_depth(self) -> bool:
+        text = Path(self.settings).read_text("utf-8", "surrogateescape")
+        return re.search(r"^[ \t]*[\"']?depth[\"']?[ \t]*=", text, re.M) is not None
+
+    def call(self, *words: str) -> subprocess.CompletedProcess:
+        try:
+            return subprocess.run(["paklour", *words, self.settings], input=self.answers.text(), capture_output=True, check=False)
+        except FileNotFoundError as error:
+            raise Stopped("paklour is not on the PATH") from error
+
+    def tell_notes(self, done: subprocess.CompletedProcess) -> None:
+        """What it told, though each call says it again."""
+        show_once(done.stderr.decode("utf-8", "surrogateescape"))
+
+    def asks(self) -> list[str]:
+        """What is still to be tried. Settings or answers that can't be read end the campaign."""
+        begun = time.monotonic()
+        done = self.call("asks")
+        self.tell_notes(done)
+        if done.returncode:
+            self.name_unknown_points(done.stderr.decode("utf-8", "surrogateescape"))
+            raise Stopped("", done.returncode)
+        ended = time.monotonic()
+        self.ask_again = ended + (self.look_share - 1) * (ended - begun)
+        return done.stdout.decode("utf-8", "surrogateescape").splitlines()
+
+    def look(self) -> None:
+        """Whether the answers can be read so far, where that doesn't take too much time."""
+        if time.monotonic() >= self.ask_again:
+            self.asks()
+
+    def name_unknown_points(self, told: str) -> None:
+        """Names the points that a refused answer has hit and the settings don't have."""
+        found = re.search(r"^answers: line (\d+): unknown point$", told, re.M)
+        if not found:
+            return
+        fields = self.answers.lines()[int(found[1]) - 1].split("\t")
+        settings = Path(self.settings).read_text("utf-8", "surrogateescape")
+        hits = fields[2].split(";") if len(fields) > 2 else []
+        for point in sorted({re.sub(r"^\d+\*", "", hit) for hit in hits}):
+            if f'"{point}"' not in settings:
+                show(f"loop: line {found[1]} hits {point}: add it to the points of {self.settings}")
+
+    def report(self, *options: str, tells: bool = True) -> tuple[int, bytes]:
+        done = self.call("report", *options)
+        if tells:
+            self.tell_notes(done)
+        return done.returncode, done.stdout
+
+
+def failing_plans(report: bytes, brief: bytes) -> list[tuple[str, str]]:
+    """What fails by the report, plans and what they are reduced to: verdict and scenario, each once. The brief report has the scenarios, and
+    the whole one says where the name of a code ends."""
+    begins = {}
+    for line in report.decode("utf-8", "surrogateescape").splitlines():
+        found = re.match(r"verdict (\S+) fail ", line)
+        if found:
+            begins[found[1]] = line
+    failing, first = [], ""
+    for line in brief.decode("utf-8", "surrogateescape").splitlines():
+        kind, _, rest = line.partition(" ")
+        number = rest.partition(" ")[0]
+        if kind == "verdict" and line.startswith(begins.get(number, "\n") + " "):
+            verdict = begins[number]
+            failing.append((verdict[len(f"verdict {number} "):], line[len(verdict) + 1:]))
+        elif kind == "first":
+            first = "fail " + rest[len(number) + 1:]
+        elif kind == "reduced":
+            failing.append((first, rest))
+    return list(dict.fromkeys(failing))

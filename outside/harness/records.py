@@ -1,0 +1,84 @@
+"""Runs that were made, kept as long as there is room: from each of them others follow."""
+
+import threading
+from collections import OrderedDict
+
+from . import tree
+from .run import Record
+from .scenario import POWER, Fault, Scenario
+
+Key = frozenset[Fault]
+
+
+def key_of(record_trace: list[list[str]]) -> Key:
+    """The faults that acted."""
+    return frozenset(Fault(hit[1], int(hit[2]), hit[3]) for hit in record_trace if hit[3] != "go")
+
+
+class Records:
+    def __init__(self, room: int):
+        self.room = room
+        self.taken = 0
+        self.lock = threading.Lock()
+        self.points: dict[Key, list[str]] = {}  # what such a run hits
+        self.kept: OrderedDict[Key, list[tuple[Record, int]]] = OrderedDict()
+
+    def take(self, key: Key) -> Record | None:
+        """One that nobody else has meanwhile."""
+        with self.lock:
+            if not self.kept.get(key):
+                return None
+            record, size = self.kept[key].pop()
+            self.taken -= size
+            return record
+
+    def give(self, key: Key, record: Record) -> None:
+        """Keeps it; the ones that weren't used for longest go where there is no room."""
+        size = tree.size(record.folder)
+        gone = []
+        with self.lock:
+            self.points.setdefault(key, record.points)
+            self.kept.setdefault(key, []).append((record, size))
+            self.kept.move_to_end(key)
+            self.taken += size
+            while self.taken > self.room and self.kept:
+                _, oldest = self.kept.popitem(last=False)
+                gone += oldest
+                self.taken -= sum(taken for _, taken in oldest)
+        for record, _ in gone:
+            tree.remove(record.folder)
+
+    def base_of(self, scenario: Scenario) -> tuple[Key, int] | None:
+        """The known run from which the scenario's follows, and the hit at which it ends that run: the one behind the last where it doesn't."""
+        with self.lock:
+            known = sorted((key for key in subsets(lasting_faults(scenario)) if key in self.points), key=len, reverse=True)
+        for key in known:
+            hit = place_in(self.points[key], key, scenario)
+            if hit is not None:
+                return key, hit
+        return None
+
+
+def lasting_faults(scenario: Scenario) -> Key:
+    """Those that neither end the run nor say what a power cut keeps."""
+    return frozenset(fault for fault in scenario.faults() if not fault.point.startswith(POWER) and not fault.answer.startswith("panic"))
+
+
+def subsets(faults: Key) -> list[Key]:
+    found = [frozenset()]
+    for fault in faults:
+        found += [one | {fault} for one in found]
+    return found
+
+
+def place_in(points: list[str], key: Key, scenario: Scenario) -> int | None:
+    """Where the scenario ends a run that went so; None where it does otherwise before."""
+    acted = {(fault.point, fault.hit): fault.answer for fault in key}
+    counts: dict[str, int] = {}
+    for number, (point, answer) in enumerate(zip(points, scenario.answers(points)), 1):
+        counts[point] = counts.get(point, 0) + 1
+        was = acted.get((point, counts[point]), "go")
+        if answer == was:
+            continue
+        return number if answer.startswith("panic") and was == "go" else None
+    return len(points) + 1

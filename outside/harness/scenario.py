@@ -1,0 +1,126 @@
+"""Scenarios, as `paklour asks` writes them: which hit of which point is answered with what."""
+
+import re
+from collections import Counter
+from collections.abc import Iterable
+from dataclasses import dataclass
+
+TERM = re.compile(r"(?:(\d+)\*)?([a-z]+)(?:\((.*)\))?", re.S)
+POWER = "power::"
+
+
+class Unreadable(Exception):
+    """A scenario of which this can't tell what it does, as one with shares."""
+
+
+@dataclass(frozen=True)
+class Term:
+    count: int | None  # how often it acts; None for always
+    task: str
+    argument: str | None
+
+    @property
+    def answer(self) -> str:
+        return self.task if self.argument is None else f"{self.task}({self.argument})"
+
+
+@dataclass(frozen=True)
+class Fault:
+    """The answer to one hit: of that point, counted from 1."""
+
+    point: str
+    hit: int
+    answer: str
+
+
+def read_term(text: str) -> Term:
+    found = TERM.fullmatch(text.strip())
+    if not found:
+        raise Unreadable(text)
+    return Term(int(found[1]) if found[1] else None, found[2], found[3])
+
+
+class Scenario:
+    def __init__(self, text: str):
+        self.text = text
+        self.chains: dict[str, list[Term]] = {}
+        for piece in text.split(";") if text != "none" else []:
+            name, _, chain = piece.partition("=")
+            self.chains[name.strip()] = [read_term(term) for term in chain.split("->")]
+
+    def faults(self) -> list[Fault]:
+        """All of its faults, where each acts so many times."""
+        return [fault for name, chain in self.chains.items() for fault in faults_of(name, chain)]
+
+    def is_endless(self) -> bool:
+        """Whether a fault of the run itself acts from then on."""
+        return any(term.count is None and term.task != "off"
+            for name, chain in self.chains.items() if not name.startswith(POWER) for term in chain)
+
+    def answers(self, points: Iterable[str]) -> list[str]:
+        """What it answers to these hits, in order: `go`, or its task."""
+        used = {name: [0] * len(chain) for name, chain in self.chains.items()}
+        return [acting(self.chains[point], used[point]) if point in used else "go" for point in points]
+
+
+def faults_of(name: str, chain: list[Term]) -> list[Fault]:
+    faults, hit = [], 0
+    for term in chain:
+        if term.count is None:
+            if term.task != "off":
+                raise Unreadable(name)
+            break
+        if term.task != "off":
+            faults += [Fault(name, hit + each + 1, term.answer) for each in range(term.count)]
+        hit += term.count
+    return faults
+
+
+def acting(chain: list[Term], used: list[int]) -> str:
+    """The first term that isn't used up."""
+    for number, term in enumerate(chain):
+        if term.count is None or used[number] < term.count:
+            used[number] += 1
+            return "go" if term.task == "off" else term.answer
+    return "go"
+
+
+def scenario_of(faults: Iterable[Fault]) -> str:
+    """The text of these faults, each at one hit."""
+    by_point: dict[str, list[Fault]] = {}
+    for fault in sorted(faults, key=lambda fault: (fault.point, fault.hit)):
+        by_point.setdefault(fault.point, []).append(fault)
+    pieces = []
+    for point, acts in by_point.items():
+        terms, at = [], 0
+        for fault in acts:
+            terms += [f"{fault.hit - at - 1}*off"] * (fault.hit > at + 1) + [f"1*{fault.answer}"]
+            at = fault.hit
+        pieces.append(f"{point}={'->'.join(terms)}")
+    return ";".join(pieces) or "none"
+
+
+def keeping(numbers: Iterable[int]) -> str:
+    """The scenario that keeps these of the pending changes, and no other."""
+    return scenario_of(Fault("power::keep", number, "return") for number in numbers)
+
+
+def hits_text(points: list[str]) -> str:
+    """Hits as an answer tells them: in order, n of one point in a row as `n*POINT`."""
+    stretches: list[list] = []
+    for point in points:
+        if stretches and stretches[-1][0] == point:
+            stretches[-1][1] += 1
+        else:
+            stretches.append([point, 1])
+    return ";".join(f"{count}*{point}" if count > 1 else point for point, count in stretches)
+
+
+def numbered(points: Iterable[str]) -> list[tuple[str, int]]:
+    """Each hit with its number among those of its point."""
+    counts: Counter[str] = Counter()
+    pairs = []
+    for point in points:
+        counts[point] += 1
+        pairs.append((point, counts[point]))
+    return pairs

@@ -1,0 +1,78 @@
+"""The settings of a harness: its own, or those that are made where it has none."""
+
+import json
+import re
+import tomllib
+from pathlib import Path
+
+from .answers import Answers, Stopped
+from .definition import Harness
+from .shown import show
+
+MADE = "# Made by outside/loop. Without this line they are yours, and stay as they are."
+FILES = ["open", "read", "write", "fsync", "truncate", "rename", "link", "unlink", "mkdir", "rmdir", "symlink"]
+POINTS = [f"sys::{name}" for name in FILES] + ["power::keep", "power::tear"]
+OWN_POINTS = re.compile(r"(sys|libc|power|order)::")
+KNOWN_POINTS = re.compile(r"sys::(" + "|".join([*FILES, "connect", "accept", "send", "recv"]) + r")(@.*)?|power::keep|power::tear|order::next", re.S)
+WRITES = ["return", "return(ENOSPC)", "return(HALF)", "panic"]
+
+
+def made_text(label: str, codes: list[str], depth: int, has_kinds: bool) -> str:
+    lines = [MADE, 'target = "outside"', f"depth = {depth}", "", "[outside]", f"label = {json.dumps(label)}", f"codes = {json.dumps(codes)}",
+        f"points = {json.dumps(POINTS)}"]
+    if has_kinds:
+        lines += ["", "[outside.kinds]", f'"sys::write" = {json.dumps(WRITES)}']
+    return "\n".join(lines) + "\n"
+
+
+class Settings:
+    """`codes` of made ones are those that were found so far, in order of the alphabet: so that a campaign that was stopped ends as another."""
+
+    def __init__(self, harness: Harness, folder: Path, answers: Answers, named: str | None, depth: int | None, kinds: bool | None):
+        self.path = Path(named) if named else harness.folder / "settings.toml"
+        self.is_made = not named and not self.path.exists() or self.path.read_text("utf-8").startswith(MADE)
+        if self.is_made:
+            self.path = folder / "settings.toml"
+        elif depth or kinds is not None:
+            raise Stopped(f"{self.path} are settings of your own: change the depth and the kinds there")
+        if self.is_made:
+            self.depth = depth or 1
+            self.has_kinds = self.depth == 1 if kinds is None else kinds
+            self.label = f"{harness.name}, settings made"
+            self.codes = sorted({code_of(line) for line in answers.lines() if line.startswith("fail ")})
+            self.write()
+            self.show()
+        self.table = tomllib.loads(self.path.read_text("utf-8"))
+        self.points = self.table.get("outside", {}).get("points", [])
+        self.depth = self.table.get("depth", 0)
+        if not self.is_made:
+            self.codes = self.table.get("outside", {}).get("codes", [])
+
+    def show(self) -> None:
+        kinds = ", full disks and half writes" if self.has_kinds else ""
+        show(f"loop: settings made, {self.path}: depth {self.depth}, all points of files, what a power cut keeps{kinds}; codes as they are found")
+
+    def write(self) -> None:
+        new = self.path.with_suffix(".new")
+        new.write_text(made_text(self.label, self.codes or ["lost"], self.depth, self.has_kinds), "utf-8")
+        new.rename(self.path)
+
+    def take_code(self, answer: str) -> None:
+        """Before an answer is kept: settings have its code."""
+        if not answer.startswith("fail ") or (code := code_of(answer)) in self.codes:
+            return
+        if not self.is_made:
+            raise Stopped(f"judge says {code}: add it to the codes of {self.path}")
+        self.codes = sorted([*self.codes, code])
+        self.write()
+
+    def keeps(self) -> bool:
+        return "power::keep" in self.points
+
+    def unknown_points(self) -> list[str]:
+        """Those that have a prefix of these tools, and that no program ever hits."""
+        return [point for point in self.points if OWN_POINTS.match(point) and not KNOWN_POINTS.fullmatch(point)]
+
+
+def code_of(answer: str) -> str:
+    return answer.split("\t")[0].removeprefix("fail ")

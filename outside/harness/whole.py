@@ -1,0 +1,199 @@
+"""A campaign of a harness, whole: its files, its lines for a person, its end."""
+
+import math
+import shlex
+import sys
+from collections import Counter
+from collections.abc import Iterator
+from dataclasses import dataclass
+from pathlib import Path
+
+from .answers import DIFFERS, Answers, Stopped
+from .campaign import Campaign
+from .deciding import Decider, Differs
+from .definition import Harness
+from .judging import UNRESOLVED
+from .outcome import Outcome
+from .paklour import Paklour
+from .records import Records
+from .run import Runner
+from .settings import Settings
+from .shown import show
+from .telling import failure, group_of
+from .workers import Workers
+
+LOOK_SHARE = 200  # answers of the loop's own can be read; whether runs do the same, the next round sees too
+FORMS = {"--page": "page.html", "--junit": "junit.xml", "--json": "report.json"}
+TRUST = """loop: where only a name is pending, the program trusts its file system with names: FAULTS_SYNC=names in the environment of the loop lets a
+loop: file's own sync make its name last, as ext4, XFS and Btrfs do by default"""
+
+
+@dataclass
+class Asked:
+    """What the words of the command line ask."""
+
+    words: str  # of the command and the harness, for `again:`
+    jobs: int
+    shows_progress: bool
+    brief: bool
+    strict: bool
+    forms: list[str]
+    failures: int | None  # after how many it stops
+
+
+class Enough(Exception):
+    """As many failures as were asked for; or the first, where the run without faults has it."""
+
+
+class Whole:
+    """The engine of the campaign, too: it hands on what the workers decide, and tells it."""
+
+    name = "the harness"
+
+    def __init__(self, harness: Harness, settings: Settings, decider: Decider, answers: Answers, asked: Asked):
+        self.harness = harness
+        self.settings = settings
+        self.decider = decider
+        self.answers = answers
+        self.asked = asked
+        self.folder = Path(answers.path).parent
+        self.paklour = Paklour(str(settings.path), answers, LOOK_SHARE)
+        self.workers = Workers(decider, asked.jobs)
+        self.failed = 0
+        self.last_failing = ""
+        self.unresolved: Counter[str] = Counter()
+        self.has_told_size = answers.count > 0
+
+    # ---- as an engine
+
+    def try_all(self, asked: list[str]) -> Iterator[str]:
+        self.tell_size(asked)
+        for outcome in self.workers.decided(asked):
+            answer = outcome.answer()
+            self.settings.take_code(answer)
+            yield answer
+            self.tell(outcome)
+
+    def end(self) -> None:
+        self.workers.end()
+
+    # ---- lines for a person
+
+    def tell_size(self, asked: list[str]) -> None:
+        """How many runs the settings make, once their first round is known."""
+        if asked == ["none"] or self.has_told_size:
+            return
+        self.has_told_size = True
+        hits = len(asked) // 2
+        more = sum(2 * math.comb(hits, faults) for faults in range(2, self.settings.depth + 1))
+        show(f"loop: {len(asked)} plans with one fault" + (f", and to depth {self.settings.depth} perhaps {more} more" if more else ""))
+
+    def tell(self, outcome: Outcome) -> None:
+        if outcome.verdict == UNRESOLVED:
+            why = outcome.judgement.why
+            self.unresolved[why] += 1
+            if self.unresolved[why] == 1:
+                show(f"unresolved: {why}: {outcome.scenario}")
+            if outcome.scenario == "none":
+                raise Stopped("the run without faults says nothing")
+        if not outcome.verdict.startswith("fail"):
+            return
+        self.failed += 1
+        self.last_failing = outcome.scenario
+        show(failure(outcome))
+        if outcome.scenario == "none":
+            for change in outcome.pending:
+                show(f"pending: {' '.join(change)}")
+            show(TRUST)
+            raise Enough
+        if self.asked.failures and self.failed >= self.asked.failures:
+            raise Enough
+
+    def tell_again(self, scenario: str) -> None:
+        show(f"again: {self.asked.words} --try {shlex.quote(scenario)}")
+
+    # ---- the campaign
+
+    def run(self) -> int:
+        campaign = Campaign(self.paklour, self.answers, self, self.asked.shows_progress)
+        for point in self.settings.unknown_points():
+            raise Stopped(f"{self.settings.path}: no program hits {point}")
+        try:
+            campaign.grow()
+            return self.report()
+        except Enough:
+            self.tell_again(self.last_failing)
+            self.tell_counts()
+            return 1
+        except Differs as found:
+            self.tell_difference(found.followed.verdict, found.tried, found.followed.hits)
+            return DIFFERS
+
+    def report(self) -> int:
+        status, report = self.paklour.report(*["--strict"] * self.asked.strict)
+        brief = self.paklour.report("--brief", tells=False)[1]
+        (self.folder / "report").write_bytes(report)
+        for form in ["--page", *self.asked.forms]:
+            (self.folder / FORMS[form]).write_bytes(self.paklour.report(form, tells=False)[1])
+        sys.stdout.buffer.write(brief if self.asked.brief else report)
+        sys.stdout.buffer.flush()
+        for point in never_reached(report):
+            show(f"loop: no run reaches {point}")
+        is_same = self.confirm(findings(report, self.settings.codes))
+        self.tell_counts()
+        return status if is_same else DIFFERS
+
+    def tell_counts(self) -> None:
+        runs, judgements, decider = self.decider.runner.count, self.decider.judge.count, self.decider
+        show(f"loop: {runs} runs and {judgements} judgements; {decider.followed} plans by what follows, {decider.tried} of them tried")
+
+    def confirm(self, scenarios: list[str]) -> bool:
+        """Runs each finding and cause once more, and the run without faults, which passed long ago; tells what the causes have in common.
+        Whether all did the same."""
+        verdicts = {fields[1]: fields for fields in (line.split("\t") for line in self.answers.lines())}
+        groups: Counter[str] = Counter()
+        is_same = True
+        for outcome in self.workers.run_again(["none", *scenarios]):
+            verdict, _, hits = verdicts[outcome.scenario][:3]
+            if (outcome.verdict, outcome.hits) != (verdict, hits):
+                self.tell_difference(verdict, outcome, hits)
+                is_same = False
+            elif outcome.scenario != "none":
+                groups[group_of(outcome)] += 1
+        for group, count in groups.most_common():
+            show(f"{count} of: {group}")
+        if scenarios:
+            self.tell_again(scenarios[0])
+        return is_same
+
+    def tell_difference(self, verdict: str, tried: Outcome, hits: str) -> None:
+        if verdict != tried.verdict:
+            show(f"loop: told otherwise: {verdict}, then {tried.verdict}: {tried.scenario}")
+        else:
+            show(f"loop: other hits: {hits}, then {tried.hits}: {tried.scenario}")
+        show("loop: the program, or its judge, doesn't do the same each time; --every-run takes nothing from another run")
+
+
+def never_reached(report: bytes) -> list[str]:
+    """Points of one's own: of those of the system each program has but some."""
+    lines = report.decode("utf-8", "surrogateescape").splitlines()
+    points = [line.split(" ") for line in lines if line.startswith("reached ") and line.endswith(" 0")]
+    return [" ".join(words[1:-1]) for words in points if not words[1].startswith(("sys::", "power::", "order::"))]
+
+
+def findings(report: bytes, codes: list[str]) -> list[str]:
+    """The scenarios of the first failure, of what it is reduced to, and of the causes, each once."""
+    found = []
+    for line in report.decode("utf-8", "surrogateescape").splitlines():
+        kind, _, rest = line.partition(" ")
+        if kind in ("scenario", "reduced"):
+            found.append(rest)
+        elif kind == "cause":
+            rest = rest.partition(" ")[2]
+            code = max((code for code in codes if rest.startswith(code + " ")), key=len)
+            found.append(rest[len(code) + 1:])
+    return list(dict.fromkeys(found))
+
+
+def decider_of(runner: Runner, settings: Settings, room: int, every_run: bool) -> Decider:
+    return Decider(runner, Records(room), settings.keeps(), settings.depth or 64, every_run)

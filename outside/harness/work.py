@@ -1,0 +1,69 @@
+"""The folder in which runs are laid out, each in one of its own. It goes with the campaign; what a killed one left, the next one takes away."""
+
+import itertools
+import json
+import os
+import tempfile
+import threading
+import time
+from pathlib import Path
+
+from . import tree
+from .answers import Stopped
+
+PREFIX = "paklour-"
+TRIES = 20  # to take it away
+
+
+def temporary() -> str:
+    """In memory, where the system has that: with the syncs of a disk runs take several times as long."""
+    if "TMPDIR" not in os.environ and os.access("/dev/shm", os.W_OK):
+        return "/dev/shm"
+    return tempfile.gettempdir()
+
+
+class Note:
+    """Whose the answers beside it are, and where their runs are laid out."""
+
+    def __init__(self, path: Path, digest: str, answered: int):
+        self.path = path
+        self.digest = digest
+        known = json.loads(path.read_text()) if path.exists() else {}
+        if answered and known.get("harness") != digest:
+            raise Stopped(f"{path.parent}/answers are those of another harness: take them away, and begin anew")
+        left = Path(known.get("work", ""))
+        if left.name.startswith(PREFIX) and left.is_dir():
+            tree.remove(str(left))
+
+    def write(self, **more: str) -> None:
+        new = self.path.with_suffix(".new")
+        new.write_text(json.dumps({"harness": self.digest} | more) + "\n")
+        new.rename(self.path)
+
+
+class Work:
+    def __init__(self, note: Note | None):
+        self.note = note
+        self.folder = Path(tempfile.mkdtemp(prefix=PREFIX, dir=temporary()))
+        if note:
+            note.write(work=str(self.folder))
+        self.numbers = itertools.count(1)
+        self.lock = threading.Lock()
+
+    def new(self) -> Path:
+        """A folder for a run. The paths of all of them have one length."""
+        with self.lock:
+            folder = self.folder / f"{next(self.numbers):08d}"
+        folder.mkdir()
+        return folder
+
+    def end(self) -> None:
+        """Takes the folder away, though a thread may be about to lay out a run in it. What stays is noted, for the next campaign."""
+        for _ in range(TRIES):
+            try:
+                tree.remove(str(self.folder))
+                break
+            except OSError:
+                time.sleep(0.1)
+        if self.note and not self.folder.exists():
+            self.note.write()

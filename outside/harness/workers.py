@@ -1,0 +1,70 @@
+"""Some threads that decide scenarios side by side. What follows from one run goes to one of them."""
+
+import queue
+import threading
+from collections.abc import Callable, Iterator
+
+from .deciding import Decider
+from .judging import LooksUp
+from .outcome import Outcome
+from .processes import Ended
+
+Unit = list[str]
+Task = tuple[Unit, Callable[[str], Outcome], queue.SimpleQueue]
+
+
+class Workers:
+    """The threads last as long as this program, since what a thread starts by `within` ends with it."""
+
+    def __init__(self, decider: Decider, jobs: int):
+        self.decider = decider
+        self.jobs = jobs
+        self.todo: queue.SimpleQueue[Task] = queue.SimpleQueue()
+        for _ in range(jobs):
+            threading.Thread(target=self.work, daemon=True).start()
+
+    def units(self, asked: list[str]) -> list[Unit]:
+        """One for each run that is to be made, one for all that follows from the same run; the longest first, and none too long."""
+        alone, following = [], {}
+        for text in asked:
+            base = self.decider.base_of(text)
+            if base:
+                following.setdefault(base[0], []).append(text)
+            else:
+                alone.append([text])
+        most = -(-len(asked) // self.jobs)
+        units = [unit[at:at + most] for unit in following.values() for at in range(0, len(unit), most)]
+        return sorted(units, key=len, reverse=True) + alone
+
+    def work(self) -> None:
+        while True:
+            unit, decide, done = self.todo.get()
+            for text in unit:
+                try:
+                    done.put(decide(text))
+                except Ended:
+                    return
+                except Exception as error:  # noqa: BLE001 - whoever waits for the outcome has to see it
+                    done.put(error)
+                    return
+
+    def side_by_side(self, units: list[Unit], decide: Callable[[str], Outcome]) -> Iterator[Outcome]:
+        """The outcomes, as they come."""
+        done: queue.SimpleQueue = queue.SimpleQueue()
+        for unit in units:
+            self.todo.put((unit, decide, done))
+        for _ in range(sum(map(len, units))):
+            outcome = done.get()
+            if isinstance(outcome, Exception):
+                raise outcome
+            yield outcome
+
+    def decided(self, asked: list[str]) -> Iterator[Outcome]:
+        return self.side_by_side(self.units(asked), self.decider.decide)
+
+    def run_again(self, scenarios: list[str]) -> Iterator[Outcome]:
+        """Each by a run of its own; what breaks a promise is judged again, and the run without faults."""
+        def run(text: str) -> Outcome:
+            return self.decider.run(text, LooksUp.NONE if text == "none" else LooksUp.PASSES)
+
+        return self.side_by_side([[text] for text in scenarios], run)

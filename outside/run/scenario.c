@@ -1,0 +1,259 @@
+#define _GNU_SOURCE
+#include "scenario.h"
+
+#include <errno.h>
+#include <stddef.h>
+#include <stdio.h>
+#include <string.h>
+
+#define OWN "sys::"
+
+const char *const point_names[POINTS] = {
+    OWN "open",  OWN "read",  OWN "write",   OWN "fsync",   OWN "truncate", OWN "rename", OWN "link", OWN "unlink",
+    OWN "mkdir", OWN "rmdir", OWN "symlink", OWN "connect", OWN "accept",   OWN "send",   OWN "recv", "power::keep", "order::next",
+};
+const char *const task_names[TASKS] = {"off", "return", "sleep", "panic", "print", "pause", "yield", "delay"};
+
+static const char prefix[] = OWN;
+
+/* What a return may name. */
+static const struct {
+    const char *name;
+    int number;
+} errors[] = {
+    {"EIO", EIO},               {"ENOSPC", ENOSPC},         {"EDQUOT", EDQUOT},           {"EACCES", EACCES},
+    {"EPERM", EPERM},           {"EROFS", EROFS},           {"EINTR", EINTR},             {"EAGAIN", EAGAIN},
+    {"EBUSY", EBUSY},           {"EEXIST", EEXIST},         {"EFBIG", EFBIG},             {"EMFILE", EMFILE},
+    {"ENFILE", ENFILE},         {"ENOENT", ENOENT},         {"ENOMEM", ENOMEM},           {"ESTALE", ESTALE},
+    {"EXDEV", EXDEV},           {"ECONNRESET", ECONNRESET}, {"ECONNREFUSED", ECONNREFUSED}, {"ECONNABORTED", ECONNABORTED},
+    {"EPIPE", EPIPE},           {"ETIMEDOUT", ETIMEDOUT},   {"ENOTCONN", ENOTCONN},       {"EHOSTUNREACH", EHOSTUNREACH},
+};
+
+static bool refuse(struct scenario *scenario, const char *kind, unsigned term) {
+    scenario->bad = (struct bad){kind, scenario->piece, term};
+    return false;
+}
+
+static bool is_blank(char byte) { return byte == ' ' || byte == '\t' || byte == '\r' || byte == '\n'; }
+
+static char *trimmed(char *text) {
+    while (is_blank(*text)) text++;
+    char *end = text + strlen(text);
+    while (end > text && is_blank(end[-1])) end--;
+    *end = 0;
+    return text;
+}
+
+/* One or more digits and nothing else, of any length; their value, or `most` and one where it is more than `most`. */
+static bool read_digits(const char *text, uint64_t most, uint64_t *value) {
+    *value = 0;
+    if (!*text) return false;
+    for (; *text; text++) {
+        if (*text < '0' || *text > '9') return false;
+        *value = *value * 10 + (uint64_t)(*text - '0');
+        if (*value > most) *value = most + 1;
+    }
+    return true;
+}
+
+/* Digits, or digits, a point and one to four digits: percent, in millionths of the whole. */
+static bool read_share(char *text, uint32_t *share) {
+    char *point = strchr(text, '.');
+    uint64_t whole, decimals = 0;
+    if (point) {
+        *point++ = 0;
+        size_t length = strlen(point);
+        if (length > 4 || !read_digits(point, 9999, &decimals)) return false;
+        for (; length < 4; length++) decimals *= 10;
+    }
+    if (!read_digits(text, 100, &whole)) return false;
+    *share = whole >= 100 ? WHOLE_SHARE : (uint32_t)(whole * 10000 + decimals);
+    return true;
+}
+
+/* The task's argument, by the task's rule: dropped, kept, or milliseconds. */
+static bool read_argument(struct term *term, const char *argument) {
+    uint64_t millis;
+    switch (term->task) {
+    case RETURN: case PANIC: case PRINT:
+        term->argument = argument;
+        return true;
+    case SLEEP: case DELAY:
+        if (!argument || !read_digits(argument, MOST_MILLIS, &millis) || millis > MOST_MILLIS) return false;
+        term->millis = (uint32_t)millis;
+        return true;
+    default:
+        return true;
+    }
+}
+
+static bool read_task(struct term *term, const char *text) {
+    for (int task = 0; task < TASKS; task++)
+        if (!strcmp(text, task_names[task])) {
+            term->task = task;
+            return true;
+        }
+    return false;
+}
+
+/* The kind of what is wrong with a term, or null. */
+static const char *read_head(struct term *term, char *text) {
+    char *argument = strchr(text, '('), *mark;
+    uint64_t count;
+    if (argument) {
+        char *last = text + strlen(text) - 1;
+        if (*last != ')') return "Parentheses";
+        *last = *argument++ = 0;
+    }
+    if ((mark = strchr(text, '%'))) {
+        *mark = 0;
+        if (!read_share(text, &term->share)) return "BadPercent";
+        text = mark + 1;
+    }
+    if ((mark = strchr(text, '*'))) {
+        *mark = 0;
+        if (!read_digits(text, UINT32_MAX, &count) || count > UINT32_MAX) return "BadCount";
+        term->counted = true;
+        term->count = (uint32_t)count;
+        text = mark + 1;
+    }
+    if (!read_task(term, text)) return "UnknownTask";
+    return read_argument(term, argument) ? NULL : "BadMillis";
+}
+
+static bool read_term(struct scenario *scenario, struct chain *chain, char *text) {
+    unsigned number = chain->length + 1;
+    if (chain->length == MOST_TERMS) return refuse(scenario, "TooMany", number);
+    struct term term = {.share = WHOLE_SHARE};
+    const char *kind = read_head(&term, text);
+    if (kind) return refuse(scenario, kind, number);
+    if (term.task != OFF && ++scenario->faults > MOST_FAULTS) return refuse(scenario, "TooMany", number);
+    chain->terms[chain->length++] = term;
+    return true;
+}
+
+/* The point of a name: the call, and where points are named by file, an at sign and the file. */
+static enum point point_of(const struct scenario *scenario, const char *name) {
+    size_t length = strcspn(name, "@");
+    if (!strcmp(name, point_names[KEEP])) return KEEP;
+    if (!strcmp(name, point_names[NEXT])) return NEXT;
+    if (strncmp(name, prefix, sizeof prefix - 1)) return POINTS;
+    if (scenario->by_file != (name[length] == '@')) return POINTS;
+    for (int point = 0; point < KEEP; point++)
+        if (!strncmp(name, point_names[point], length) && !point_names[point][length]) return point;
+    return POINTS;
+}
+
+const struct chain *chain_named(const struct scenario *scenario, const char *name) {
+    for (unsigned i = 0; i < scenario->length; i++)
+        if (!strcmp(scenario->chains[i].name, name)) return &scenario->chains[i];
+    return NULL;
+}
+
+static struct chain *chain_of(struct scenario *scenario, const char *name) {
+    if (scenario->own) return scenario->own(name);
+    enum point point = point_of(scenario, name);
+    if (point == POINTS) {
+        if (!strncmp(name, prefix, sizeof prefix - 1)) scenario->stranger = name;
+        return &scenario->other;
+    }
+    struct chain *chain = (struct chain *)chain_named(scenario, name);
+    if (!chain) chain = &scenario->chains[scenario->length++];
+    chain->name = name;
+    chain->point = point;
+    return chain;
+}
+
+static bool read_piece(struct scenario *scenario, char *piece) {
+    if (++scenario->entries > MOST_ENTRIES) return refuse(scenario, "TooMany", 0);
+    char *rest = strchr(piece, '=');
+    if (!rest) return refuse(scenario, "NoAction", 0);
+    *rest++ = 0;
+    char *name = trimmed(piece);
+    if (!*name) return refuse(scenario, "NoName", 0);
+    struct chain *chain = chain_of(scenario, name);
+    chain->entry = scenario->piece;
+    chain->length = 0; /* a name that comes again takes its last chain */
+    while (rest) {
+        char *text = rest, *arrow = strstr(rest, "->");
+        rest = arrow ? arrow + 2 : NULL;
+        if (arrow) *arrow = 0;
+        if (!read_term(scenario, chain, trimmed(text))) return false;
+    }
+    return true;
+}
+
+static bool moves_bytes(enum point point) { return point == READ || point == WRITE || point == SEND || point == RECV; }
+
+/* The error of a return at a point, false where there is none of that name or no half of the point's work. Without a name it
+   is that of a broken disk or line. A cut and an order take each return as it is. */
+static bool find_error(struct term *term, enum point point) {
+    const char *name = term->argument ? term->argument : "";
+    if (point >= KEEP) return true;
+    if (!strcmp(name, "HALF")) return moves_bytes(point);
+    if (!strcmp(name, "DROP")) {
+        term->error = DROPPED;
+        return point == SEND;
+    }
+    if (!*name) name = point >= CONNECT ? "ECONNRESET" : "EIO";
+    for (size_t i = 0; i < sizeof errors / sizeof *errors; i++)
+        if (!strcmp(name, errors[i].name)) {
+            term->error = errors[i].number;
+            return true;
+        }
+    return false;
+}
+
+/* What the grammar takes and can't be done here, told before anything runs. Who would draw the words of a share is the
+   component, and not the same ones again. */
+static bool can_do(struct scenario *scenario) {
+    for (unsigned number = 0; number < scenario->length; number++)
+        for (unsigned i = 0; i < scenario->chains[number].length; i++) {
+            struct chain *chain = &scenario->chains[number];
+            struct term *term = &chain->terms[i];
+            scenario->piece = chain->entry;
+            if (term->share > 0 && term->share < WHOLE_SHARE) return refuse(scenario, "NoShares", i + 1);
+            if (term->task == RETURN && !find_error(term, chain->point)) return refuse(scenario, "UnknownError", i + 1);
+        }
+    return true;
+}
+
+bool read_scenario(struct scenario *scenario, char *text) {
+    if (strlen(text) > MOST_BYTES) return refuse(scenario, "TooLong", 0);
+    for (char *piece; (piece = strsep(&text, ";"));) {
+        scenario->piece++;
+        piece = trimmed(piece);
+        if (*piece && !read_piece(scenario, piece)) return false;
+    }
+    return can_do(scenario);
+}
+
+const struct term *acting_term(const struct chain *chain, uint64_t *used) {
+    for (unsigned i = 0; chain && i < chain->length; i++) {
+        const struct term *term = &chain->terms[i];
+        if (term->share == 0 || (term->counted && used[i] >= term->count)) continue;
+        used[i]++;
+        return term;
+    }
+    return NULL;
+}
+
+char *escaped(char *to, const char *text) {
+    for (; *text; text++) {
+        unsigned char byte = (unsigned char)*text;
+        if (byte >= ' ' && byte != 127 && byte != '\\') *to++ = *text;
+        else to += sprintf(to, "\\%03o", byte);
+    }
+    return to;
+}
+
+char *written_answer(char *to, const struct term *term) {
+    if (!term || term->task == OFF || term->task == YIELD) return stpcpy(to, "go");
+    to = stpcpy(to, task_names[term->task]);
+    if (term->task == SLEEP || term->task == DELAY) return to + sprintf(to, "(%u)", term->millis);
+    if (!term->argument) return to;
+    *to++ = '(';
+    to = escaped(to, term->argument);
+    *to++ = ')';
+    return to;
+}

@@ -1,0 +1,142 @@
+/* Reads and writes of files, done by the supervisor with the thread's own descriptor: so what they come to is known. */
+#define _GNU_SOURCE
+#include "parts.h"
+#include "pin.h"
+#include "streams.h"
+
+#include <errno.h>
+#include <signal.h>
+#include <sys/resource.h>
+
+enum { MOST_AT_ONCE = 16 << 20 };
+
+/* ---- where */
+
+/* A place of the call, or -1 for where the file is; false for one that the system refuses. */
+static bool read_place(const struct call *call, off_t *at) {
+    *at = call->row->at ? (off_t)argument(call, call->row->at) : -1;
+    return !call->row->at || *at >= 0 || (*at == -1 && call->row->flags);
+}
+
+static int flags_of(const struct call *call) { return (int)argument(call, call->row->flags); }
+
+/* ---- writes */
+
+struct writing {
+    struct call *call;
+    const struct opened *opened;
+    struct file_facts file; /* as it is by now */
+    off_t at;
+    bool appends, syncs;
+};
+
+/* How many bytes the thread's limit leaves at that place. */
+static size_t room_in_limit(const struct call *call, uint64_t place, size_t length) {
+    struct rlimit limit;
+    if (!has_limits()) return length;
+    if (prlimit(call->thread->process, RLIMIT_FSIZE, NULL, &limit) || limit.rlim_cur == RLIM_INFINITY) return length;
+    if (place >= limit.rlim_cur) return 0;
+    return length < limit.rlim_cur - place ? length : limit.rlim_cur - place;
+}
+
+static long write_noted(struct writing *writing, char *bytes, size_t length) {
+    char link[LINK_LENGTH];
+    int file = writing->opened->file, flags = flags_of(writing->call);
+    const struct key *key = &writing->file.key;
+    off_t here = writing->at >= 0 ? writing->at : lseek(file, 0, SEEK_CUR);
+    uint64_t place = writing->appends ? writing->file.length : (uint64_t)here;
+    size_t fits = room_in_limit(writing->call, place, length);
+    if (length && !fits) {
+        syscall(SYS_tgkill, writing->call->thread->process, writing->call->thread->number, SIGXFSZ);
+        return -EFBIG;
+    }
+    if (is_kept) copy_later(key, link_of(file, link), place, place + fits);
+    struct iovec part = {bytes, fits};
+    long result = result_of(pwritev2(file, &part, 1, writing->at, flags));
+    if (result <= 0) return result;
+    if (is_kept) {
+        bool later = may_come_later(&writing->file, place, (uint64_t)result);
+        note_bytes(WRITTEN, key, place, later ? NULL : &part, 1, (uint64_t)result);
+        if (writing->syncs) note_sync(SYNCED_RANGE, key, state->noted, place, (uint64_t)result);
+    }
+    mapped_was_written(key, place, bytes, (uint64_t)result);
+    if (place + (uint64_t)result > writing->file.length) writing->file.length = place + (uint64_t)result;
+    if (writing->at >= 0) writing->at += result;
+    return result;
+}
+
+static long write_parts(struct writing *writing, const struct parts *parts, size_t length) {
+    size_t done = 0;
+    do {
+        size_t some = length - done < MOST_AT_ONCE ? length - done : MOST_AT_ONCE;
+        char *bytes = room_for(parts, some);
+        size_t got = some ? gather(writing->call, parts, done, some, bytes) : 0;
+        if (some && !got) return done ? (long)done : -EFAULT;
+        long result = write_noted(writing, bytes, got);
+        if (result < 0) return done ? (long)done : result;
+        done += (size_t)result;
+        if ((size_t)result < some) break;
+    } while (done < length);
+    return (long)done;
+}
+
+static void write_file(struct call *call, const struct opened *opened, const struct parts *parts, size_t length) {
+    struct writing writing = {.call = call, .opened = opened, .file = opened->facts.file};
+    int flags = flags_of(call);
+    if (!read_place(call, &writing.at)) return finish(call, -EINVAL);
+    writing.appends = opened->flags & O_APPEND || flags & RWF_APPEND;
+    writing.syncs = opened->flags & O_DSYNC || flags & (RWF_DSYNC | RWF_SYNC);
+    finish(call, write_parts(&writing, parts, length));
+}
+
+void serve_write(struct call *call) {
+    struct opened opened;
+    struct parts parts;
+    if (!open_of(call, call->row->file, &opened)) return serve_stream(call, &opened, SEND);
+    if (!S_ISREG(opened.facts.file.key.mode) && !S_ISDIR(opened.facts.file.key.mode)) return serve_stream(call, &opened, WRITE);
+    int error = parts_of(call, &parts);
+    enum answer answer = hit(call, WRITE, opened.path, NULL);
+    if (answer == FAIL || answer == NOT_YET) return;
+    if (error) return finish(call, error);
+    write_file(call, &opened, &parts, answer == HALF ? parts.length / 2 : parts.length);
+}
+
+/* ---- reads */
+
+static long read_some(const struct call *call, const struct opened *opened, char *bytes, size_t length, off_t at) {
+    struct iovec part = {bytes, length};
+    return result_of(preadv2(opened->file, &part, 1, at, flags_of(call)));
+}
+
+static long read_file(struct call *call, const struct opened *opened, const struct parts *parts, size_t length) {
+    size_t done = 0;
+    off_t at;
+    if (!read_place(call, &at)) return -EINVAL;
+    do {
+        size_t some = length - done < MOST_AT_ONCE ? length - done : MOST_AT_ONCE;
+        char *bytes = room_for(parts, some);
+        long got = read_some(call, opened, bytes, some, at < 0 ? at : at + (off_t)done);
+        if (got < 0) return done ? (long)done : got;
+        size_t given = got ? scatter(call, parts, done, (size_t)got, bytes) : 0;
+        if (given < (size_t)got && at < 0) lseek(opened->file, (off_t)given - got, SEEK_CUR);
+        done += given;
+        if (given < (size_t)got) return done ? (long)done : -EFAULT;
+        if ((size_t)got < some) break;
+    } while (done < length);
+    return (long)done;
+}
+
+void serve_read(struct call *call) {
+    struct opened opened;
+    struct parts parts;
+    if (!open_of(call, call->row->file, &opened)) {
+        if (!serve_random_read(call, &opened)) serve_stream(call, &opened, RECV);
+        return;
+    }
+    if (!S_ISREG(opened.facts.file.key.mode) && !S_ISDIR(opened.facts.file.key.mode)) return serve_stream(call, &opened, READ);
+    int error = parts_of(call, &parts);
+    enum answer answer = hit(call, READ, opened.path, NULL);
+    if (answer == FAIL || answer == NOT_YET) return;
+    if (error) return finish(call, error);
+    finish(call, read_file(call, &opened, &parts, answer == HALF ? parts.length / 2 : parts.length));
+}

@@ -1,0 +1,145 @@
+/* Copies inside the system, from one descriptor to another: a write of the one file, or a read of the other. */
+#define _GNU_SOURCE
+#include "streams.h"
+
+#include <errno.h>
+#include <linux/fs.h>
+#include <poll.h>
+#include <sys/ioctl.h>
+#include <sys/sendfile.h>
+
+struct copy {
+    struct opened in, out;
+    bool reads, writes, sends; /* a file under the root, or a socket */
+    loff_t in_at, out_at;
+    loff_t *in_place, *out_place; /* null where the descriptor's own place counts */
+    size_t length;
+};
+
+static bool read_place(const struct call *call, unsigned number, loff_t *at, loff_t **place) {
+    uint64_t where = argument(call, number);
+    *place = where ? at : NULL;
+    return !where || read_memory(call->thread, where, at, sizeof *at) == sizeof *at;
+}
+
+static void write_place(const struct call *call, unsigned number, const loff_t *place) {
+    if (place) write_memory(call->thread, argument(call, number), place, sizeof *place);
+}
+
+static bool is_stream(const struct opened *opened) {
+    mode_t mode = opened->facts.file.key.mode;
+    return opened->file >= 0 && (S_ISFIFO(mode) || S_ISSOCK(mode));
+}
+
+/* A pipe or socket may make it wait. */
+static bool is_ready(struct call *call, const struct opened *opened, short events) {
+    struct pollfd file = {opened->file, events, 0};
+    if (!is_stream(opened) || fcntl(opened->file, F_GETFL) & O_NONBLOCK || poll(&file, 1, 0) != 0) return true;
+    wait_for(call, opened->file, events);
+    return false;
+}
+
+/* The calls themselves. */
+typedef ssize_t copier(const struct copy *copy, unsigned flags);
+
+static ssize_t by_range(const struct copy *copy, unsigned flags) {
+    return copy_file_range(copy->in.file, copy->in_place, copy->out.file, copy->out_place, copy->length, flags);
+}
+static ssize_t by_splice(const struct copy *copy, unsigned flags) {
+    return splice(copy->in.file, copy->in_place, copy->out.file, copy->out_place, copy->length, flags);
+}
+static ssize_t by_sendfile(const struct copy *copy, unsigned flags) {
+    (void)flags;
+    return sendfile(copy->out.file, copy->in.file, copy->in_place, copy->length);
+}
+
+/* What was copied is read back for the note. */
+static long copy_noted(const struct call *call, const struct copy *what, copier *copies) {
+    char link[LINK_LENGTH];
+    const struct key *key = &what->out.facts.file.key;
+    bool notes = what->writes && S_ISREG(key->mode);
+    uint64_t place = (uint64_t)(what->out_place ? *what->out_place : lseek(what->out.file, 0, SEEK_CUR));
+    if (notes && is_kept) copy_later(key, link_of(what->out.file, link), place, UINT64_MAX);
+    hold_signals();
+    long result = result_of(copies(what, (unsigned)argument(call, call->row->flags)));
+    let_signals();
+    if (!notes || result <= 0) return result;
+    if (is_kept && !mapped_was_changed(key)) note_from_file(key, link_of(what->out.file, link), place, (uint64_t)result);
+    return result;
+}
+
+static bool open_both(struct call *call, struct copy *copy) {
+    const struct row *row = call->row;
+    *copy = (struct copy){.length = argument(call, row->length)};
+    copy->writes = open_of(call, row->other_file, &copy->out);
+    copy->reads = open_of(call, row->file, &copy->in);
+    copy->sends = !copy->writes && sees_sockets && is_socket(&copy->out);
+    return copy->writes || copy->reads || copy->sends;
+}
+
+static enum answer hit_copy(struct call *call, const struct copy *copy) {
+    if (copy->writes) return hit(call, WRITE, copy->out.path, NULL);
+    return copy->sends ? hit(call, SEND, "socket", NULL) : hit(call, READ, copy->in.path, NULL);
+}
+
+/* What goes to a stream may wait for who reads it, who may wait for the supervisor: it goes on by itself, and of a half no more is done
+   than fits. */
+static bool goes_by_itself(struct copy *copy, enum answer answer) {
+    if (answer == HALF) copy->length /= 2;
+    if (!is_stream(&copy->out)) return false;
+    if (copy->length > PIPE_BUF) copy->length = PIPE_BUF;
+    return answer == GO;
+}
+
+static void serve_by(struct call *call, copier *copies) {
+    struct copy copy;
+    const struct row *row = call->row;
+    if (!open_both(call, &copy)) return go_on(call);
+    enum answer answer = hit_copy(call, &copy);
+    if (answer == FAIL || answer == NOT_YET) return;
+    if (answer == DROP) return finish(call, (long)copy.length);
+    if (goes_by_itself(&copy, answer)) return go_on(call);
+    if (copy.in.file < 0 || copy.out.file < 0) return finish(call, -EBADF);
+    if (!read_place(call, row->at, &copy.in_at, &copy.in_place)) return finish(call, -EFAULT);
+    if (!read_place(call, row->other_at, &copy.out_at, &copy.out_place)) return finish(call, -EFAULT);
+    if (!is_ready(call, &copy.in, POLLIN) || !is_ready(call, &copy.out, POLLOUT)) return flush_hit(call);
+    long result = copy_noted(call, &copy, copies);
+    write_place(call, row->at, copy.in_place);
+    write_place(call, row->other_at, copy.out_place);
+    finish(call, result);
+}
+
+void serve_copy(struct call *call) { serve_by(call, by_range); }
+void serve_splice(struct call *call) { serve_by(call, by_splice); }
+void serve_sendfile(struct call *call) { serve_by(call, by_sendfile); }
+
+/* ---- files that come to share their blocks */
+
+static long clone_range(struct call *call, const struct opened *out) {
+    struct file_clone_range range;
+    uint64_t at = argument(call, call->row->file);
+    if (read_memory(call->thread, at, &range, sizeof range) != sizeof range) return -EFAULT;
+    int in = hold(call, fetch(call->thread, (int)range.src_fd));
+    if (in < 0) return -EBADF;
+    range.src_fd = in;
+    return result_of(ioctl(out->file, FICLONERANGE, &range));
+}
+
+void serve_clone(struct call *call) {
+    struct opened out;
+    struct facts after;
+    char link[LINK_LENGTH];
+    if (!open_of(call, call->row->other_file, &out)) return go_on(call);
+    enum answer answer = hit(call, WRITE, out.path, NULL);
+    if (answer == FAIL || answer == NOT_YET) return; /* blocks are shared whole, so half of it is all */
+    const struct key *key = &out.facts.file.key;
+    if (is_kept) copy_later(key, link_of(out.file, link), 0, UINT64_MAX);
+    bool is_whole = (unsigned)argument(call, call->row->flags) == (unsigned)FICLONE;
+    int in = is_whole ? hold(call, fetch(call->thread, (int)argument(call, call->row->file))) : -1;
+    hold_signals();
+    long result = is_whole ? in < 0 ? -EBADF : result_of(ioctl(out.file, FICLONE, in)) : clone_range(call, &out);
+    let_signals();
+    if (!result && is_kept && !mapped_was_changed(key) && look_at(out.file, "", AT_EMPTY_PATH, &after))
+        note_from_file(key, link_of(out.file, link), 0, after.file.length);
+    finish(call, result);
+}

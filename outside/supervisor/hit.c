@@ -1,0 +1,122 @@
+/* A hit: counted, traced, answered. */
+#define _GNU_SOURCE
+#include "../run/whole.h"
+#include "marks.h"
+#include "order.h"
+#include "supervisor.h"
+
+#include <errno.h>
+
+/* The line of the hit that is being served. It is written with what the call came to, by one write, where that is known at once. */
+static char line[LONGEST_LINE];
+static char *result_place;
+
+static int open_trace(int flags) {
+    char name[LONG_PATH];
+    *stpcpy(stpcpy(name, run_folder), "/trace") = 0;
+    int trace = open(name, O_WRONLY | O_CLOEXEC | flags);
+    if (trace < 0) refuse("no trace", strerror(errno));
+    return trace;
+}
+
+static void write_line(size_t length) {
+    static int trace = -1;
+    if (trace < 0) trace = open_trace(O_APPEND);
+    if (!write_whole(trace, line, length)) refuse("no trace", strerror(errno));
+}
+
+static void write_result(const char *text, long at) {
+    int trace = open_trace(0);
+    if (!write_whole_at(trace, text, RESULT_WIDTH, at)) refuse("no trace", strerror(errno));
+    close(trace);
+}
+
+static long end_of_trace(void) {
+    struct stat told;
+    int trace = open_trace(0);
+    long length = fstat(trace, &told) ? 0 : told.st_size;
+    close(trace);
+    return length;
+}
+
+static int locks;
+
+void lock_run(void) {
+    if (!locks++) lock_state(state);
+}
+
+void unlock_run(void) {
+    if (!--locks) pthread_mutex_unlock(&state->mutex);
+}
+
+/* The line as it is, without a result; the run is given back to others. */
+void flush_hit(struct call *call) {
+    if (!call->hit.seen || !result_place || call->hit.result_at >= 0) return;
+    call->hit.result_at = end_of_trace() + (result_place - line);
+    write_line((size_t)(result_place + RESULT_WIDTH + 1 - line));
+    result_place = NULL;
+    unlock_run();
+}
+
+void hit_result(struct call *call, long result) {
+    char text[RESULT_WIDTH];
+    if (!call->hit.seen) return;
+    if (call->hit.result_at >= 0) {
+        result_text(text, result, (int)-result);
+        write_result(text, call->hit.result_at);
+        return;
+    }
+    result_text(result_place, result, (int)-result);
+    write_line((size_t)(result_place + RESULT_WIDTH + 1 - line));
+    result_place = NULL;
+    unlock_run();
+}
+
+/* What a term does to the call. */
+static enum answer act(struct call *call, const struct term *term) {
+    switch (term->task) {
+    case RETURN:
+        if (term->error == HALF_DONE) return HALF;
+        if (term->error == DROPPED) return DROP;
+        call->hit.error = term->error;
+        return FAIL;
+    case PANIC:
+    case PAUSE:
+        flush_hit(call);
+        state->ended = term->task == PANIC ? PANICKED : PAUSED;
+        end_run(state->ended);
+    case SLEEP: case DELAY:
+        flush_hit(call);
+        call->hit.wakes = now() + term->millis * 1000000ull;
+        return GO;
+    default:
+        return GO;
+    }
+}
+
+/* The counts are those of all processes of the run, and of what ran in it before. */
+static void count(struct call *call, enum point point, const char *path, const char *flags) {
+    char text[MOST_POINT + 1];
+    const char *name = point_name(&scenario, point, path, text);
+    lock_run();
+    if (state->ended) end_run(state->ended);
+    struct counter *counter = counter_named(state, name);
+    if (!counter) refuse("too many points", name);
+    const struct term *term = acting_term(chain_named(&scenario, name), counter->used);
+    state->number++;
+    counter->hits++;
+    call->hit.seen = true;
+    call->hit.result_at = -1;
+    mark_hit(state->number);
+    result_place = trace_line(line, &(struct hit_line){.number = state->number, .counter = counter, .term = term, .path = path,
+        .process = call->thread->process, .flags = flags});
+    call->hit.answer = term ? act(call, term) : GO;
+}
+
+enum answer hit(struct call *call, enum point point, const char *path, const char *flags) {
+    if (!call->hit.seen && !may_go(call)) return NOT_YET;
+    if (!call->hit.seen) count(call, point, path, flags);
+    if (call->hit.wakes && call->hit.wakes > now()) return NOT_YET;
+    if (call->hit.answer == FAIL) finish(call, -call->hit.error);
+    return call->hit.answer;
+}

@@ -1,0 +1,217 @@
+#define _GNU_SOURCE
+#include "keeper.h"
+
+#include "../run/whole.h"
+#include "variables.h"
+
+#include <dirent.h>
+#include <errno.h>
+#include <fcntl.h>
+#include <linux/futex.h>
+#include <poll.h>
+#include <signal.h>
+#include <stdio.h>
+#include <stdlib.h>
+#include <string.h>
+#include <sys/mman.h>
+#include <sys/personality.h>
+#include <sys/prctl.h>
+#include <sys/syscall.h>
+#include <sys/uio.h>
+#include <sys/wait.h>
+#include <time.h>
+#include <unistd.h>
+
+/* What the supervisor, the keeper and the command's first process tell each other: messages would be calls that are looked at. */
+enum step { STARTED, LISTENS, FAILED };
+static struct {
+    int step;
+    int listener, error;
+    pid_t command;
+    int status, command_ended;
+} *shared;
+
+static int hearing[2]; /* a pipe to which the supervisor writes once it has the listener */
+static pid_t keeper;
+static sigset_t signals_before;
+
+pid_t command(void) { return shared->command; }
+
+bool command_runs(void) { return shared->command && !__atomic_load_n(&shared->command_ended, __ATOMIC_SEQ_CST); }
+
+/* ---- all processes of the run */
+
+static bool each_thread_of(pid_t process, int depth, bool (*sees)(pid_t process, pid_t thread));
+
+static bool each_child_of(pid_t process, pid_t thread, int depth, bool (*sees)(pid_t process, pid_t thread)) {
+    char path[64];
+    int child;
+    bool all = true;
+    snprintf(path, sizeof path, "/proc/%d/task/%d/children", process, thread);
+    FILE *children = fopen(path, "re");
+    while (children && all && fscanf(children, "%d", &child) == 1) all = each_thread_of(child, depth + 1, sees);
+    if (children) fclose(children);
+    return all;
+}
+
+static bool each_thread_of(pid_t process, int depth, bool (*sees)(pid_t process, pid_t thread)) {
+    char path[64];
+    bool all = true;
+    snprintf(path, sizeof path, "/proc/%d/task", process);
+    DIR *threads = depth < 1000 ? opendir(path) : NULL;
+    for (struct dirent *entry; threads && all && (entry = readdir(threads));) {
+        pid_t thread = atoi(entry->d_name);
+        if (!thread) continue;
+        if (process != keeper) all = sees(process, thread);
+        if (all) all = each_child_of(process, thread, depth, sees);
+    }
+    if (threads) closedir(threads);
+    return all;
+}
+
+bool each_thread(bool (*sees)(pid_t process, pid_t thread)) { return each_thread_of(keeper, 0, sees); }
+
+static bool end_one(pid_t process, pid_t thread) {
+    if (process == thread) kill(process, SIGKILL);
+    return true;
+}
+
+/* ---- the keeper */
+
+static bool reap(void) {
+    int status;
+    pid_t ended;
+    while ((ended = waitpid(-1, &status, WNOHANG)) > 0)
+        if (ended == shared->command) {
+            shared->status = status;
+            __atomic_store_n(&shared->command_ended, 1, __ATOMIC_SEQ_CST);
+        }
+    return ended == 0; /* some are left */
+}
+
+/* Until no process is left. Where the supervisor is gone, each that is there is ended, also one that starts others meanwhile. */
+static _Noreturn void keep(pid_t supervisor, const sigset_t *awaited) {
+    bool ends_all = getppid() != supervisor;
+    for (;;) {
+        struct timespec pause = {0, 1000000};
+        if (!reap()) _exit(0);
+        if (ends_all) each_thread(end_one);
+        if (sigtimedwait(awaited, NULL, ends_all ? &pause : NULL) == SIGUSR1) ends_all = getppid() != supervisor;
+    }
+}
+
+/* ---- the command's first process */
+
+static void say(enum step step) {
+    __atomic_store_n(&shared->step, step, __ATOMIC_SEQ_CST);
+    syscall(SYS_futex, &shared->step, FUTEX_WAKE, 1, NULL, NULL, 0);
+}
+
+static bool hears(enum step before, int milliseconds) {
+    struct timespec at_most = {milliseconds / 1000, milliseconds % 1000 * 1000000L};
+    while (__atomic_load_n(&shared->step, __ATOMIC_SEQ_CST) == (int)before)
+        if (syscall(SYS_futex, &shared->step, FUTEX_WAIT, before, &at_most, NULL, 0) && errno == ETIMEDOUT) return false;
+    return true;
+}
+
+/* False where the supervisor is gone. */
+static bool is_heard(void) {
+    struct pollfd heard = {hearing[0], POLLIN, 0};
+    while (poll(&heard, 1, -1) < 0 && errno == EINTR) continue;
+    return heard.revents & POLLIN;
+}
+
+/* In the keeper's memory, which waits meanwhile. */
+static _Noreturn void run_command(char **words, const struct looks *looks) {
+    shared->command = getpid();
+    if (looks->random) personality(ADDR_NO_RANDOMIZE); /* some draw from addresses too */
+    shared->listener = set_filter(looks);
+    shared->error = errno;
+    say(shared->listener < 0 ? FAILED : LISTENS);
+    if (shared->listener < 0 || !is_heard()) _exit(REFUSED);
+    close(shared->listener); /* so that calls fail, and don't wait, where the supervisor is killed now */
+    sigprocmask(SIG_SETMASK, &signals_before, NULL);
+    execvp(words[0], words);
+    char line[4 * PATH_MAX + 128], *end = escaped(stpcpy(line, "faults: "), strndupa(words[0], PATH_MAX));
+    end += sprintf(end, ": %s\n", strerror(errno));
+    write_whole(2, line, (size_t)(end - line));
+    _exit(127);
+}
+
+static _Noreturn void run_keeper(pid_t supervisor, char **words, const struct looks *looks) {
+    sigset_t all, awaited;
+    sigfillset(&all);
+    sigprocmask(SIG_SETMASK, &all, NULL);
+    sigemptyset(&awaited);
+    sigaddset(&awaited, SIGCHLD);
+    sigaddset(&awaited, SIGUSR1);
+    keeper = getpid();
+    close(hearing[1]);
+    prctl(PR_SET_CHILD_SUBREAPER, 1, 0, 0, 0);
+    prctl(PR_SET_PDEATHSIG, SIGUSR1, 0, 0, 0);
+    pid_t made = vfork();
+    if (!made) run_command(words, looks);
+    if (made < 0) say(FAILED);
+    close(hearing[0]);
+    keep(supervisor, &awaited);
+}
+
+/* ---- the supervisor's side */
+
+/* What the system has to have beside the filter. */
+static int hear_listener(void) {
+    char probe;
+    int handle = (int)syscall(SYS_pidfd_open, shared->command, 0);
+    int listener = handle < 0 ? -1 : (int)syscall(SYS_pidfd_getfd, handle, shared->listener, 0);
+    if (listener < 0) refuse("the system lacks pidfd_getfd, or forbids it", strerror(errno));
+    struct iovec here = {&probe, 1}, there = {shared, 1};
+    if (process_vm_readv(shared->command, &here, 1, &there, 1, 0) != 1)
+        refuse("the system forbids process_vm_readv", strerror(errno));
+    close(handle);
+    return listener;
+}
+
+static void check_children(void) {
+    if (access("/proc/thread-self/children", R_OK)) refuse("the system lacks /proc/PID/task/TID/children", strerror(errno));
+}
+
+int start_command(char **words, const struct looks *looks) {
+    pid_t supervisor = getpid();
+    check_children();
+    shared = mmap(NULL, sizeof *shared, PROT_READ | PROT_WRITE, MAP_SHARED | MAP_ANONYMOUS, -1, 0);
+    if (shared == MAP_FAILED || pipe2(hearing, O_CLOEXEC)) refuse("memory", strerror(errno));
+    sigprocmask(SIG_SETMASK, NULL, &signals_before);
+    keeper = fork();
+    if (keeper < 0) refuse("can't start a process", strerror(errno));
+    if (!keeper) run_keeper(supervisor, words, looks);
+    if (!hears(STARTED, 10000)) refuse("can't start a process", "nothing was heard of it");
+    if (shared->step == FAILED)
+        refuse("the system lacks seccomp with SECCOMP_FILTER_FLAG_WAIT_KILLABLE_RECV (Linux 5.19), or forbids it",
+            strerror(shared->error));
+    int listener = hear_listener();
+    if (write(hearing[1], "", 1) != 1) refuse("can't start the command", strerror(errno));
+    close(hearing[0]);
+    close(hearing[1]);
+    return listener;
+}
+
+bool has_ended(int *status) {
+    if (!keeper || waitpid(keeper, NULL, WNOHANG) != keeper) return false;
+    keeper = 0;
+    *status = shared->status;
+    return true;
+}
+
+void wait_for_end(void) {
+    siginfo_t ended;
+    while (waitid(P_PID, (id_t)keeper, &ended, WEXITED | WNOWAIT) && errno == EINTR) continue;
+}
+
+void end_all(void) {
+    struct timespec pause = {0, 200000};
+    int status;
+    while (keeper && !has_ended(&status)) {
+        each_thread(end_one);
+        nanosleep(&pause, NULL);
+    }
+}

@@ -1,0 +1,331 @@
+/* faults [--] COMMAND..: runs a command, and all that it starts, under the scenario in FAILPOINTS. It stands outside of them: the
+   system asks it about each call of table.c, by seccomp's user notification, and it does those that are under FAULTS_ROOT itself,
+   or lets them fail. What it shares with a power cut is the run's folder, FAULTS_RUN. README.md says what is seen. */
+#define _GNU_SOURCE
+#include "../run/whole.h"
+#include "keeper.h"
+#include "order.h"
+#include "pin.h"
+#include "supervisor.h"
+#include "waiting.h"
+
+#include <errno.h>
+#include <poll.h>
+#include <signal.h>
+#include <stdio.h>
+#include <stdlib.h>
+#include <sys/ioctl.h>
+#include <sys/resource.h>
+#include <sys/time.h>
+#include <sys/wait.h>
+#include <time.h>
+
+#ifndef SECCOMP_IOCTL_NOTIF_SET_FLAGS
+#define SECCOMP_IOCTL_NOTIF_SET_FLAGS SECCOMP_IOW(4, __u64)
+#define SECCOMP_USER_NOTIF_FD_SYNC_WAKE_UP 1ul
+#endif
+
+enum { TICK = 50000 }; /* microseconds: a signal just before the wait for a call isn't slept over for longer */
+
+static int listener = -1;
+
+uint64_t now(void) {
+    struct timespec time;
+    clock_gettime(CLOCK_MONOTONIC, &time);
+    return (uint64_t)time.tv_sec * 1000000000u + (uint64_t)time.tv_nsec;
+}
+
+/* ---- ends */
+
+static void tell(const char *what, const char *name) {
+    char line[4 * PATH_MAX + 512], *end = stpcpy(stpcpy(stpcpy(line, "faults: "), what), ": ");
+    end = escaped(end, strndupa(name, PATH_MAX));
+    *end++ = '\n';
+    write_whole(2, line, (size_t)(end - line));
+}
+
+_Noreturn void refuse(const char *what, const char *why) {
+    tell(what, why);
+    end_all();
+    _exit(REFUSED);
+}
+
+static void tell_unseen(void) {
+    char line[UNSEEN_LINE];
+    lock_run();
+    size_t length = unseen_line(state, line);
+    unlock_run();
+    if (length) write_whole(2, line, length);
+}
+
+_Noreturn void end_run(int status) {
+    end_all();
+    note_all_stores();
+    tell_unseen();
+    _exit(status);
+}
+
+_Noreturn void lose(const char *what, const char *name) {
+    tell(what, name);
+    end_run(REFUSED);
+}
+
+/* Ends as the command did, by a signal too. */
+static _Noreturn void end_as(int status) {
+    if (WIFEXITED(status)) _exit(WEXITSTATUS(status));
+    setrlimit(RLIMIT_CORE, &(struct rlimit){0, 0});
+    signal(WTERMSIG(status), SIG_DFL);
+    raise(WTERMSIG(status));
+    _exit(128 + WTERMSIG(status));
+}
+
+static _Noreturn void end_with(int status, const char *name) {
+    lock_run();
+    note_all_stores();
+    bool nothing = state->number == state->started;
+    if (nothing) {
+        add_unseen(state, "any call under FAULTS_ROOT of", name);
+        state->others++;
+    }
+    tell_unseen();
+    unlock_run();
+    if (nothing) _exit(REFUSED);
+    end_as(status);
+}
+
+void unseen(const char *what, const char *name) {
+    int before = errno;
+    lock_run();
+    add_unseen(state, what, name);
+    unlock_run();
+    errno = before;
+}
+
+/* ---- answers */
+
+/* A signal for the supervisor may cut short what it asks of the listener. */
+static int ask(unsigned long request, void *with) {
+    int answered;
+    do answered = ioctl(listener, request, with);
+    while (answered < 0 && errno == EINTR);
+    return answered;
+}
+
+/* Before the thread goes on: it may want a file that nobody has open, or a lock that goes with the last descriptor. */
+static void let_go(struct call *call) {
+    while (call->held_count > 0) {
+        int file = call->held[--call->held_count];
+        if (file != call->waits_for) close(file);
+    }
+}
+
+static void send_answer(struct call *call, long result, unsigned flags) {
+    let_go(call);
+    struct seccomp_notif_resp answer = {.id = call->told.id, .flags = flags};
+    if (result < 0) answer.error = (int)result;
+    else answer.val = result;
+    ask(SECCOMP_IOCTL_NOTIF_SEND, &answer); /* whose thread is gone needs none */
+    call->is_answered = true;
+}
+
+long result_of(long answered) { return answered < 0 ? -errno : answered; }
+
+void finish(struct call *call, long result) {
+    hit_result(call, result);
+    send_answer(call, result, 0);
+}
+
+void go_on(struct call *call) {
+    flush_hit(call);
+    send_answer(call, 0, SECCOMP_USER_NOTIF_FLAG_CONTINUE);
+}
+
+void go_on_with(struct call *call, long result) {
+    hit_result(call, result);
+    send_answer(call, 0, SECCOMP_USER_NOTIF_FLAG_CONTINUE);
+}
+
+void give(struct call *call, int file, bool closes_at_exec) {
+    struct seccomp_notif_addfd given = {.id = call->told.id, .srcfd = (unsigned)file, .newfd_flags = closes_at_exec ? O_CLOEXEC : 0};
+    finish(call, result_of(ask(SECCOMP_IOCTL_NOTIF_ADDFD, &given)));
+}
+
+enum { MADE_AGAIN = 512 }; /* the system's own ERESTARTSYS */
+
+void interrupt(struct call *call) {
+    struct thread *thread = call->thread;
+    if (call->moved) return finish(call, (long)call->moved);
+    hit_result(call, -EINTR);
+    thread->interrupted.is_there = true;
+    thread->interrupted.data = call->told.data;
+    thread->interrupted.hit = call->hit;
+    thread->interrupted.gives_up = call->gives_up;
+    send_answer(call, -MADE_AGAIN, 0);
+}
+
+/* A call that is made again after a signal has had its hit. */
+static void resume(struct call *call) {
+    struct thread *thread = call->thread;
+    if (!thread->interrupted.is_there || memcmp(&call->told.data, &thread->interrupted.data, sizeof call->told.data)) return;
+    call->hit = thread->interrupted.hit;
+    call->gives_up = thread->interrupted.gives_up;
+    thread->interrupted.is_there = false;
+}
+
+int hold(struct call *call, int file) {
+    if (file < 0) return file;
+    if (call->held_count == MOST_HELD) lose("too many descriptors of a call", "");
+    return call->held[call->held_count++] = file;
+}
+
+bool still_waits(struct call *call) {
+    if (!ask(SECCOMP_IOCTL_NOTIF_ID_VALID, &call->told.id)) return true;
+    call->is_answered = true;
+    return false;
+}
+
+/* ---- calls, as they come */
+
+static void begin_program(struct thread *thread) {
+    char link[64], program[PATH_MAX];
+    struct stat told;
+    snprintf(link, sizeof link, "/proc/%d/exe", thread->process);
+    if (stat(link, &told) || told.st_ino == thread->program) return;
+    ssize_t length = readlink(link, program, sizeof program - 1);
+    program[length < 0 ? 0 : length] = 0;
+    say_loaded(thread->process, program);
+    thread->program = told.st_ino;
+}
+
+void serve(struct call *call) {
+    call->row->serve(call);
+    let_go(call);
+    if (!call->is_answered) keep_waiting(call);
+}
+
+static void begin_call(const struct seccomp_notif *told) {
+    struct call call = {.told = *told, .row = row_of(told->data.nr), .waits_for = -1};
+    if (!told->pid) lose("not followed, a process of another namespace", "");
+    call.thread = thread_of((int)told->pid);
+    if (is_foreign(told->data.arch, told->data.nr)) lose("not followed, calls of 32 bits", program_of(call.thread));
+    bool begins_another = call.row && call.row->serve == serve_program;
+    if (call.thread->number == call.thread->process && !call.thread->program && !begins_another) begin_program(call.thread);
+    if (call.row && call.thread->interrupted.is_there) resume(&call);
+    if (call.row) serve(&call);
+    else go_on(&call);
+}
+
+static bool receive(void) {
+    static union {
+        struct seccomp_notif told;
+        char room[1024]; /* a newer system may tell more */
+    } next;
+    memset(&next, 0, sizeof next);
+    if (ioctl(listener, SECCOMP_IOCTL_NOTIF_RECV, &next.told)) {
+        if (errno != EINTR && errno != ENOENT && errno != ENOTCONN) refuse("no calls", strerror(errno));
+        return false;
+    }
+    begin_call(&next.told);
+    return true;
+}
+
+/* ---- the beginning */
+
+static volatile sig_atomic_t ended_by;
+
+/* A signal that somebody sent goes to the command, and where that has ended, ends what it left; one of the terminal has come to all. */
+static void on_signal(int number, siginfo_t *told, void *unused) {
+    int before = errno;
+    (void)unused;
+    bool was_sent = number != SIGCHLD && number != SIGALRM && told->si_code <= 0;
+    if (was_sent && command_runs()) kill(command(), number);
+    else if (was_sent) ended_by = number;
+    errno = before;
+}
+
+static const int handled[] = {SIGCHLD, SIGALRM, SIGTERM, SIGHUP, SIGINT, SIGQUIT, SIGUSR1, SIGUSR2};
+
+static void mask_signals(int how) {
+    sigset_t signals;
+    sigemptyset(&signals);
+    for (size_t i = 0; i < sizeof handled / sizeof *handled; i++) sigaddset(&signals, handled[i]);
+    sigprocmask(how, &signals, NULL);
+}
+
+void hold_signals(void) { mask_signals(SIG_BLOCK); }
+
+void let_signals(void) {
+    int before = errno;
+    mask_signals(SIG_UNBLOCK);
+    errno = before;
+}
+
+/* The state is a file without all of its room: where the disk is full, a new part of it can't be had. */
+static void on_full(int unused) {
+    (void)unused;
+    refuse("can't keep", strerror(ENOSPC));
+}
+
+static void set_signals(void) {
+    struct sigaction action = {.sa_sigaction = on_signal, .sa_flags = SA_SIGINFO};
+    struct itimerval tick = {{0, TICK}, {0, TICK}};
+    for (size_t i = 0; i < sizeof handled / sizeof *handled; i++) sigaction(handled[i], &action, NULL);
+    signal(SIGBUS, on_full);
+    signal(SIGPIPE, SIG_IGN);
+    signal(SIGXFSZ, SIG_IGN);
+    setitimer(ITIMER_REAL, &tick, NULL);
+}
+
+static void take_more_descriptors(void) {
+    struct rlimit limit;
+    if (!getrlimit(RLIMIT_NOFILE, &limit)) setrlimit(RLIMIT_NOFILE, &(struct rlimit){limit.rlim_max, limit.rlim_max});
+}
+
+/* Whether a call comes before a wait is over; it has to be asked for only where others wait meanwhile. */
+static bool has_come(void) { return !waits_at_all() || poll(&(struct pollfd){listener, POLLIN, 0}, 1, 0) > 0; }
+
+/* Whether no thread of the run is left. */
+static bool is_deserted(void) {
+    struct pollfd calls = {listener, POLLIN, 0};
+    return poll(&calls, 1, 0) > 0 && calls.revents & POLLHUP;
+}
+
+static _Noreturn void watch(const char *name) {
+    int status;
+    for (;;) {
+        if (waits_at_all()) wait_for_any(listener);
+        if (has_come() && receive()) continue;
+        if (is_deserted()) wait_for_end();
+        if (has_ended(&status)) end_with(status, name);
+        if (ended_by) end_run(128 + ended_by);
+    }
+}
+
+static const char usage[] = "faults [--order settled|next] [--pin] [--] COMMAND..";
+
+/* Answers the number of the command's first word. */
+static int read_options(int count, char **words) {
+    int at = 1;
+    for (; at < count && words[at][0] == '-'; at++) {
+        const char *order = !strcmp(words[at], "--order") && at + 1 < count ? words[at + 1] : "";
+        if (!strcmp(words[at], "--")) return at + 1;
+        if (!strcmp(words[at], "--pin")) is_pinned = true;
+        else if (!strcmp(order, "settled") || !strcmp(order, "next")) set_order(*order == 's' ? SETTLED : ASKED), at++;
+        else refuse("usage", usage);
+    }
+    return at;
+}
+
+int main(int count, char **words) {
+    int first = read_options(count, words);
+    if (first >= count) refuse("usage", usage);
+    read_variables();
+    struct looks looks = {.sockets = sees_sockets, .random = is_pinned, .forks = is_ordered()};
+    know_root();
+    listener = start_command(words + first, &looks);
+    set_signals();
+    take_more_descriptors();
+    unsigned long wakes_at_once = SECCOMP_USER_NOTIF_FD_SYNC_WAKE_UP;
+    ioctl(listener, SECCOMP_IOCTL_NOTIF_SET_FLAGS, wakes_at_once); /* quicker, since Linux 6.6 */
+    watch(words[first]);
+}

@@ -1,0 +1,71 @@
+/* Where notes go: a part of the file of notes in memory, so that a short record costs no call. Its room on the disk is taken before, so
+   that a disk without any is told. */
+#define _GNU_SOURCE
+#include "notes_file.h"
+
+#include "supervisor.h"
+
+#include <errno.h>
+#include <stdio.h>
+#include <sys/mman.h>
+
+enum { WINDOW = 1 << 18, LONGEST = WINDOW / 4 };
+
+static char *window;
+static uint64_t window_from;
+static bool has_windows = true;
+
+int open_notes(void) {
+    char name[LONG_PATH];
+    snprintf(name, sizeof name, "%s/changes", run_folder);
+    int notes = open(name, O_RDWR | O_CLOEXEC);
+    if (notes < 0) refuse("can't keep", strerror(errno));
+    return notes;
+}
+
+/* False where the file system takes no room beforehand: then each record is a call. */
+static bool move_window(void) {
+    uint64_t from = state->noted / WINDOW * WINDOW;
+    if (window && from == window_from) return true;
+    if (window) munmap(window, 2 * WINDOW);
+    window = NULL;
+    int notes = open_notes();
+    hold_signals();
+    has_windows = !fallocate(notes, 0, (off_t)from, 2 * WINDOW);
+    let_signals();
+    if (!has_windows && errno != EOPNOTSUPP) refuse("can't keep", strerror(errno));
+    char *memory = has_windows ? mmap(NULL, 2 * WINDOW, PROT_READ | PROT_WRITE, MAP_SHARED, notes, (off_t)from) : MAP_FAILED;
+    close(notes);
+    if (memory == MAP_FAILED) return false;
+    window = memory;
+    window_from = from;
+    return true;
+}
+
+bool write_parts_at(int file, struct iovec *parts, int count, uint64_t at) {
+    while (count > 0) {
+        ssize_t length = pwritev(file, parts, count < IOV_MAX ? count : IOV_MAX, (off_t)at);
+        if (length < 0) return false;
+        at += (uint64_t)length;
+        for (; count > 0 && (size_t)length >= parts->iov_len; count--) length -= (ssize_t)parts++->iov_len;
+        if (count > 0) {
+            parts->iov_base = (char *)parts->iov_base + length;
+            parts->iov_len -= (size_t)length;
+        }
+    }
+    return true;
+}
+
+static bool write_in_file(struct iovec *parts, int count) {
+    int notes = open_notes();
+    bool written = write_parts_at(notes, parts, count, state->noted);
+    close(notes);
+    return written;
+}
+
+bool append_note(struct iovec *parts, int count, uint64_t size) {
+    if (size > LONGEST || !has_windows || !move_window()) return write_in_file(parts, count);
+    char *to = window + (state->noted - window_from);
+    for (int i = 0; i < count; i++) to = mempcpy(to, parts[i].iov_base, parts[i].iov_len);
+    return true;
+}

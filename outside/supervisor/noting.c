@@ -1,0 +1,140 @@
+/* Notes of what is done to the files: records of the file `changes`, each under the lock and after the call that it tells of. */
+#define _GNU_SOURCE
+#include "noting.h"
+
+#include "notes_file.h"
+
+#include <errno.h>
+#include <fcntl.h>
+#include <unistd.h>
+
+enum { MOST_PARTS = IOV_MAX + 8 };
+
+/* ---- a record */
+
+/* A record and what follows it. What a killed supervisor left behind the last whole record is written over. */
+static void write_note(struct note *note, const char *name, const char *other_name, const struct iovec *first, int count,
+    uint64_t length) {
+    struct iovec parts[MOST_PARTS];
+    int used = 1, before = errno;
+    parts[0] = (struct iovec){note, sizeof *note};
+    note->name = name ? (uint32_t)strlen(name) + 1 : 0;
+    note->other_name = other_name ? (uint32_t)strlen(other_name) + 1 : 0;
+    note->size = sizeof *note + note->name + note->other_name + length;
+    if (name) parts[used++] = (struct iovec){(void *)name, note->name};
+    if (other_name) parts[used++] = (struct iovec){(void *)other_name, note->other_name};
+    for (int i = 0; i < count && length > 0; i++, used++) {
+        parts[used] = first[i];
+        if (parts[used].iov_len > length) parts[used].iov_len = length;
+        length -= parts[used].iov_len;
+    }
+    if (!append_note(parts, used, note->size)) refuse("can't keep", strerror(errno));
+    state->noted += note->size;
+    errno = before;
+}
+
+/* ---- bytes that come later */
+
+static struct later *later_of(const struct key *file) {
+    struct later *free = NULL;
+    uint64_t first = file->number * 0x9e3779b97f4a7c15u >> 32;
+    for (unsigned tries = 0; tries < 32; tries++) {
+        struct later *later = &state->later[(first + tries) % MOST_LATER];
+        if (same_key(&later->file, file)) return later;
+        if (!free && later->from == later->to && !later->never) free = later;
+    }
+    if (free) *free = (struct later){.file = *file};
+    return free;
+}
+
+bool may_come_later(const struct file_facts *before, uint64_t at, uint64_t length) {
+    if (!before->links || at < before->length) return false;
+    struct later *later = later_of(&before->key);
+    if (!later || later->never) return false;
+    if (later->from == later->to) later->from = at;
+    later->to = at + length;
+    return true;
+}
+
+static void copy_bytes(enum kind kind, const struct key *file, int in, uint64_t at, uint64_t length) {
+    static char bytes[65536];
+    struct note note = {.kind = kind, .file = *file, .at = at, .length = length, .size = sizeof note + length};
+    int out = open_notes();
+    uint64_t place = state->noted, copied = 0;
+    struct iovec head = {&note, sizeof note};
+    bool written = in >= 0 && write_parts_at(out, &head, 1, place);
+    while (written && copied < length) {
+        uint64_t left = length - copied;
+        ssize_t got = pread(in, bytes, left < sizeof bytes ? left : sizeof bytes, (off_t)(at + copied));
+        if (got <= 0) { /* cut short meanwhile */
+            got = left < sizeof bytes ? (ssize_t)left : (ssize_t)sizeof bytes;
+            memset(bytes, 0, (size_t)got);
+        }
+        struct iovec part = {bytes, (size_t)got};
+        written = write_parts_at(out, &part, 1, place + sizeof note + copied);
+        copied += (uint64_t)got;
+    }
+    if (!written) refuse("can't keep", strerror(errno));
+    close(out);
+    state->noted += note.size;
+}
+
+void note_from_file(const struct key *file, const char *path, uint64_t at, uint64_t length) {
+    int before = errno, in = open(path, O_RDONLY | O_CLOEXEC | O_NONBLOCK);
+    copy_bytes(WRITTEN, file, in, at, length);
+    close(in);
+    errno = before;
+}
+
+static void copy_all_later(struct later *later, const char *path) {
+    int before = errno, in = open(path, O_RDONLY | O_CLOEXEC | O_NONBLOCK);
+    copy_bytes(COPIED, &later->file, in, later->from, later->to - later->from);
+    close(in);
+    later->from = later->to = 0;
+    errno = before;
+}
+
+void copy_later(const struct key *file, const char *path, uint64_t from, uint64_t to) {
+    struct later *later = later_of(file);
+    if (later && later->from < to && from < later->to) copy_all_later(later, path);
+}
+
+void copy_later_always(const struct key *file, const char *path) {
+    copy_later(file, path, 0, UINT64_MAX);
+    struct later *later = later_of(file);
+    if (later) later->never = true;
+}
+
+/* ---- each kind */
+
+void note_names(enum kind kind, const struct key *file, const struct place *place, const char *target) {
+    struct note note = {.kind = kind, .file = *file, .folder = place->folder};
+    write_note(&note, place->name, target, NULL, 0, 0);
+}
+
+void note_moved(enum kind kind, const struct key *file, const struct key *other_file, const struct place *place,
+    const struct place *other) {
+    struct note note = {.kind = kind, .file = *file, .folder = place->folder, .other_folder = other->folder};
+    if (other_file) note.other_file = *other_file;
+    write_note(&note, place->name, other->name, NULL, 0, 0);
+}
+
+void note_bytes(enum kind kind, const struct key *file, uint64_t at, const struct iovec *first, int count, uint64_t length) {
+    struct note note = {.kind = kind, .file = *file, .at = at, .length = length, .flags = first ? 0 : LATER};
+    write_note(&note, NULL, NULL, first, count, first ? length : 0);
+}
+
+void note_length(const struct key *file, uint64_t length) {
+    struct note note = {.kind = RESIZED, .file = *file, .at = length};
+    write_note(&note, NULL, NULL, NULL, 0, 0);
+}
+
+void note_cleared(const struct key *file, uint64_t at, uint64_t length) {
+    struct note note = {.kind = CLEARED, .file = *file, .at = at, .length = length};
+    write_note(&note, NULL, NULL, NULL, 0, 0);
+}
+
+void note_sync(enum kind kind, const struct key *file, uint64_t noted, uint64_t from, uint64_t length) {
+    struct note note = {.kind = kind, .file = *file, .at = noted, .from = from, .length = length};
+    write_note(&note, NULL, NULL, NULL, 0, 0);
+}

@@ -1,0 +1,37 @@
+/* What is noted of a run: records of the file `changes`. Each under the lock, and each keeps errno. */
+#ifndef NOTING_H
+#define NOTING_H
+
+#include "trace.h"
+#include "variables.h"
+
+#include <sys/uio.h>
+
+/* One name of a call: whether it is under the root, its folder and its last part. */
+struct place {
+    bool seen;
+    char path[PATH_MAX];
+    const char *name;
+    struct key folder;
+};
+
+void note_names(enum kind kind, const struct key *file, const struct place *place, const char *target);
+void note_moved(enum kind kind, const struct key *file, const struct key *other_file, const struct place *place,
+    const struct place *other);
+void note_bytes(enum kind kind, const struct key *file, uint64_t at, const struct iovec *first, int count, uint64_t length);
+void note_length(const struct key *file, uint64_t length);
+void note_cleared(const struct key *file, uint64_t at, uint64_t length);
+void note_sync(enum kind kind, const struct key *file, uint64_t noted, uint64_t from, uint64_t length);
+
+/* Notes bytes that are in the file already, as a copy inside the system left them. */
+void note_from_file(const struct key *file, const char *path, uint64_t at, uint64_t length);
+
+/* Whether a write, of a file that was so, needs no copy now: what is written behind a file's end stays there until something is
+   written over it. */
+bool may_come_later(const struct file_facts *before, uint64_t at, uint64_t length);
+
+/* Copies what was noted without its bytes, before something changes them or takes the file away. */
+void copy_later(const struct key *file, const char *path, uint64_t from, uint64_t to);
+void copy_later_always(const struct key *file, const char *path);
+
+#endif

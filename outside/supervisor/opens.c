@@ -1,0 +1,116 @@
+/* Calls that open or make a file. */
+#define _GNU_SOURCE
+#include "supervisor.h"
+
+#include <errno.h>
+#include <linux/openat2.h>
+#include <stdio.h>
+
+/* What is asked, as openat2 has it, where the call's row has bytes; creat has no flags. */
+static bool read_how(const struct call *call, struct open_how *how) {
+    const struct row *row = call->row;
+    uint64_t size = argument(call, row->length);
+    *how = (struct open_how){.flags = (uint32_t)argument(call, row->flags), .mode = argument(call, row->mode)};
+    if (!row->flags) how->flags = O_CREAT | O_WRONLY | O_TRUNC;
+    if (!row->bytes) return true;
+    if (size > sizeof *how) size = sizeof *how;
+    return size >= sizeof *how && read_memory(call->thread, argument(call, row->bytes), how, size) == size;
+}
+
+static bool is_nameless(uint64_t flags) { return (flags & O_TMPFILE) == O_TMPFILE; }
+
+/* The name as the call's own way of looking for it has it. */
+static bool find_asked(struct call *call, const struct open_how *how, struct found *found) {
+    char text[PATH_MAX];
+    const char *name = text;
+    bool follows = !(how->flags & O_NOFOLLOW) && (how->flags & (O_CREAT | O_EXCL)) != (O_CREAT | O_EXCL);
+    int folder = call->row->folder ? (int)argument(call, call->row->folder) : AT_FDCWD;
+    found->error = EFAULT;
+    if (!read_text(call->thread, argument(call, call->row->path), text, sizeof text)) return false;
+    found->error = ENOENT;
+    while (how->resolve & RESOLVE_IN_ROOT && *name == '/') name++;
+    return *name && find_text(call, folder, name, follows, found);
+}
+
+/* An open with rules for its way is done by its own words, so that they are kept. */
+static int open_by_rules(struct call *call, const struct open_how *how) {
+    char text[PATH_MAX];
+    int folder = (int)argument(call, call->row->folder);
+    if (!read_text(call->thread, argument(call, call->row->path), text, sizeof text)) return errno = EFAULT, -1;
+    int from = folder == AT_FDCWD ? folder_of(call->thread) : hold(call, fetch(call->thread, folder));
+    return (int)syscall(SYS_openat2, from, text, how, sizeof *how);
+}
+
+static int open_found(struct call *call, const struct open_how *how, const struct found *found) {
+    char name[NAME_MAX + 3];
+    struct open_how own = *how;
+    own.flags |= O_CLOEXEC | O_NOCTTY;
+    snprintf(name, sizeof name, "%s%s", found->name, found->ends_in_slash ? "/" : "");
+    make_as(call->thread);
+    int file = how->resolve ? open_by_rules(call, &own)
+                            : openat(found->folder, name, (int)own.flags, (mode_t)own.mode & 07777);
+    int error = errno;
+    act_as_self();
+    errno = error;
+    return hold(call, file);
+}
+
+/* A file that was made, or cut short. */
+static void note_opened(int file, const struct found *found, uint64_t flags) {
+    struct facts facts;
+    struct place place;
+    if (!look_at(file, "", AT_EMPTY_PATH, &facts)) return;
+    if (is_nameless(flags)) return set_inside(&facts.file.key, true);
+    if (!found->exists) {
+        set_inside(&facts.file.key, true);
+        know_path(&facts, found->path);
+        place_of(found, &place);
+        if (is_kept && place.seen) note_names(CREATED, &facts.file.key, &place, NULL);
+    } else if (flags & O_TRUNC && found->facts.file.length && S_ISREG(facts.file.key.mode)) {
+        if (is_kept) note_length(&facts.file.key, 0);
+        mapped_was_resized(&facts.file.key);
+    }
+}
+
+/* An open of a pipe or a device may wait: it goes on, and what it comes to isn't known. */
+static bool may_wait(const struct found *found) {
+    mode_t mode = found->facts.file.key.mode;
+    return found->exists && !S_ISREG(mode) && !S_ISDIR(mode) && !S_ISLNK(mode);
+}
+
+void serve_open(struct call *call) {
+    struct open_how how;
+    struct found found;
+    char flags[256], path[FOUND_PATH];
+    if (!read_how(call, &how)) return go_on(call);
+    if (!find_asked(call, &how, &found) || !found.is_inside) return pass_by(call, &found);
+    if (hit(call, OPEN, found.path, flag_names((int)how.flags, flags)) != GO) return;
+    if (may_wait(&found)) return go_on(call);
+    if (is_kept && found.exists && how.flags & O_TRUNC && S_ISREG(found.facts.file.key.mode))
+        copy_later(&found.facts.file.key, path_to(&found, path), 0, UINT64_MAX);
+    int file = open_found(call, &how, &found);
+    if (file < 0) return finish(call, -errno);
+    if (how.flags & O_PATH) return go_on(call); /* such a descriptor can't be given; it changes nothing */
+    note_opened(file, &found, how.flags);
+    give(call, file, how.flags & O_CLOEXEC);
+}
+
+void serve_node(struct call *call) {
+    struct found found;
+    struct facts facts;
+    struct place place;
+    mode_t mode = (mode_t)argument(call, call->row->mode);
+    bool is_file = !(mode & S_IFMT) || S_ISREG(mode);
+    if (!is_file) return go_on(call);
+    if (!find_name(call, false, &found) || !found.folder_is_inside) return pass_by(call, &found);
+    if (hit(call, OPEN, found.path, NULL) != GO) return;
+    make_as(call->thread);
+    long result = result_of(mknodat(found.folder, found.name, mode, (dev_t)argument(call, call->row->at)));
+    act_as_self();
+    if (!result && look_at(found.folder, found.name, AT_SYMLINK_NOFOLLOW, &facts)) {
+        set_inside(&facts.file.key, true);
+        place_of(&found, &place);
+        if (is_kept) note_names(CREATED, &facts.file.key, &place, NULL);
+    }
+    finish(call, result);
+}

@@ -1,0 +1,171 @@
+#define _GNU_SOURCE
+#include "order.h"
+
+#include "keeper.h"
+#include "supervisor.h"
+
+#include <errno.h>
+#include <stdio.h>
+#include <stdlib.h>
+#include <time.h>
+
+enum { MOST_THREADS = 4096, MOST_PIDS = 4194304, TRIES_AT_ONCE = 4 };
+
+static const uint64_t LONGEST = 2000000000; /* nanoseconds, until a thread that doesn't rest is given up */
+
+static enum order how;
+static uint64_t forks, listed_forks; /* threads that were begun, and how many of those when they were listed */
+
+void set_order(enum order order) { how = order; }
+bool is_ordered(void) { return how != AS_THEY_COME; }
+
+bool may_go(struct call *call) {
+    if (!is_ordered() || call->chosen) return true;
+    call->waits_turn = true;
+    return false;
+}
+
+void serve_fork(struct call *call) {
+    forks++;
+    go_on(call);
+}
+
+/* ---- the threads, whose files of /proc are kept open */
+
+static struct looked {
+    int number, stat, turns;
+    bool is_restless; /* it was given up */
+} all[MOST_THREADS];
+static int count;
+
+static int open_proc(int thread, const char *name) {
+    char path[64];
+    snprintf(path, sizeof path, "/proc/%d/%s", thread, name);
+    return open(path, O_RDONLY | O_CLOEXEC);
+}
+
+static bool was_restless(int thread) {
+    for (int i = 0; i < count; i++)
+        if (all[i].number == thread) return all[i].is_restless;
+    return false;
+}
+
+static struct looked listed[MOST_THREADS];
+static int listed_count;
+
+static bool list(pid_t process, pid_t thread) {
+    (void)process;
+    if (listed_count < MOST_THREADS)
+        listed[listed_count++] = (struct looked){thread, open_proc(thread, "stat"), open_proc(thread, "schedstat"), was_restless(thread)};
+    return true;
+}
+
+static void list_all(void) {
+    listed_count = 0;
+    each_thread(list);
+    for (int i = 0; i < count; i++) close(all[i].stat), close(all[i].turns);
+    memcpy(all, listed, (size_t)listed_count * sizeof *all);
+    count = listed_count;
+}
+
+/* ---- at rest */
+
+static bool (*has_call)(int thread);
+static struct looked *unsettled; /* the first that isn't at rest */
+
+static bool read_text_of(int file, char *text, size_t room) {
+    ssize_t length = pread(file, text, room - 1, 0);
+    text[length < 0 ? 0 : length] = 0;
+    return length > 0;
+}
+
+/* Who waits for a child that has its memory sleeps as one that waits for a disk does. */
+static bool waits_for_child(int thread) {
+    char text[128];
+    int file = open_proc(thread, "syscall"), number = read_text_of(file, text, sizeof text) ? atoi(text) : -1;
+    close(file);
+    const struct row *row = row_of(number);
+    return row && row->serve == serve_fork;
+}
+
+/* Mixes in how often it had a turn on a processor. False where it isn't at rest. */
+static bool look(struct looked *thread, uint64_t *turns) {
+    char text[512];
+    unsigned long long times = 0;
+    if (has_call(thread->number) || thread->is_restless || !read_text_of(thread->stat, text, sizeof text)) return true;
+    const char *name_end = strrchr(text, ')');
+    bool moves = name_end && (name_end[2] == 'R' || (name_end[2] == 'D' && !waits_for_child(thread->number)));
+    if (moves) unsettled = thread;
+    if (moves) return false;
+    if (read_text_of(thread->turns, text, sizeof text)) sscanf(text, "%*u %*u %llu", &times);
+    *turns = *turns * 31 + times * 131 + (unsigned)thread->number;
+    return true;
+}
+
+/* Who waits, in two looks, and had no turn between them. What a thread began is there once it rests. */
+static bool all_rest(void) {
+    uint64_t turns[2] = {0};
+    uint64_t begun = forks;
+    if (listed_forks != forks) list_all();
+    unsettled = NULL;
+    for (int look_number = 0; look_number < 2; look_number++)
+        for (int i = 0; i < count; i++)
+            if (!look(&all[i], &turns[look_number])) return false;
+    if (turns[0] != turns[1]) return false;
+    if (listed_forks == begun) return true;
+    list_all();
+    listed_forks = begun;
+    return false;
+}
+
+static uint64_t since;
+static int tries;
+
+static void give_up(void) {
+    char text[512] = "";
+    const char *name = unsettled && read_text_of(unsettled->stat, text, sizeof text) ? strchr(text, '(') : NULL;
+    if (name) text[strcspn(text, ")")] = 0;
+    unseen("late, the order of calls while a thread never rests:", name ? name + 1 : "");
+    if (unsettled) unsettled->is_restless = true;
+}
+
+bool is_settled(bool (*waits)(int thread)) {
+    has_call = waits;
+    if (!tries++) since = now();
+    bool is_late = now() - since > LONGEST;
+    if (forks && !is_late && !all_rest()) {
+        if (tries > TRIES_AT_ONCE) nanosleep(&(struct timespec){0, 20000}, NULL);
+        return false;
+    }
+    if (is_late) give_up();
+    tries = 0;
+    return true;
+}
+
+/* ---- the next */
+
+/* Numbers are given in turn, and begin again. */
+static int age_of(const struct call *call) { return ((int)call->told.pid - command() + MOST_PIDS) % MOST_PIDS; }
+
+static int by_age(const void *one, const void *other) {
+    return age_of(*(struct call *const *)one) - age_of(*(struct call *const *)other);
+}
+
+/* Whether the scenario lets a call go that is first of several. */
+static bool goes_first(const struct call *call) {
+    struct call asked = {.told = call->told, .thread = thread_of((int)call->told.pid), .chosen = true};
+    enum answer answer = hit(&asked, NEXT, point_names[call->row->point], NULL);
+    if (asked.hit.seen && answer != FAIL) hit_result(&asked, answer == GO ? 0 : 1);
+    return answer == GO || answer == NOT_YET;
+}
+
+size_t next_of(struct call *const *calls, size_t calls_count) {
+    struct call *sorted[MOST_THREADS];
+    size_t first = 0, which = 0;
+    if (calls_count > MOST_THREADS) calls_count = MOST_THREADS;
+    memcpy(sorted, calls, calls_count * sizeof *sorted);
+    qsort(sorted, calls_count, sizeof *sorted, by_age);
+    while (how == ASKED && first + 1 < calls_count && !goes_first(sorted[first])) first++;
+    while (calls[which] != sorted[first]) which++;
+    return which;
+}

@@ -1,0 +1,57 @@
+/* Syncs. What was noted as one begins is what it promises. Nothing is asked of the disk: a power cut goes by the notes. */
+#define _GNU_SOURCE
+#include "supervisor.h"
+
+#include <errno.h>
+
+static bool can_be_synced(const struct opened *opened) {
+    mode_t mode = opened->facts.file.key.mode;
+    return S_ISREG(mode) || S_ISDIR(mode);
+}
+
+/* A sync that fails by the scenario. */
+static void note_failed(const struct key *file) {
+    if (!is_kept || !forgets) return;
+    lock_run();
+    note_stores(file);
+    note_sync(SYNC_FAILED, file, state->noted, 0, 0);
+    unlock_run();
+}
+
+void serve_sync(struct call *call) {
+    struct opened opened;
+    if (!open_of(call, call->row->file, &opened)) return go_on(call);
+    const struct key *key = &opened.facts.file.key;
+    enum answer answer = hit(call, FSYNC, opened.path, NULL);
+    if (answer == FAIL) note_failed(key);
+    if (answer != GO) return;
+    if (!can_be_synced(&opened)) return go_on(call);
+    note_stores(key);
+    if (is_kept) note_sync(SYNCED, key, state->noted, 0, 0);
+    finish(call, 0);
+}
+
+/* Its manual promises nothing of what is on the disk then, so nothing lasts by it. */
+void serve_sync_range(struct call *call) {
+    struct opened opened;
+    if (!open_of(call, call->row->file, &opened)) return go_on(call);
+    if (hit(call, FSYNC, opened.path, NULL) != GO) return;
+    finish(call, result_of(sync_file_range(opened.file, (off_t)argument(call, call->row->at), (off_t)argument(call, call->row->length),
+        (unsigned)argument(call, call->row->flags))));
+}
+
+/* All files of the run; a point of the root itself. One of another file system than the root's is no point. */
+void serve_sync_all(struct call *call) {
+    struct opened opened;
+    struct stat of_root;
+    if (call->row->file) {
+        opened.file = hold(call, fetch(call->thread, (int)argument(call, call->row->file)));
+        if (opened.file < 0 || !look_at(opened.file, "", AT_EMPTY_PATH, &opened.facts)) return go_on(call);
+        if (stat(root, &of_root) || opened.facts.device != of_root.st_dev) return go_on(call);
+    }
+    enum answer answer = hit(call, FSYNC, ".", NULL);
+    if (answer != GO) return;
+    note_all_stores();
+    if (is_kept) note_sync(SYNCED_ALL, &(struct key){0}, state->noted, 0, 0);
+    finish(call, 0);
+}

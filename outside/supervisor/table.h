@@ -1,0 +1,77 @@
+/* The system calls that are looked at: what each argument is, which point it is, and who serves it. */
+#ifndef TABLE_H
+#define TABLE_H
+
+#include "../run/scenario.h"
+
+#include <stddef.h>
+
+struct call;
+
+/* Where a call is looked at. */
+enum where {
+    ALWAYS,
+    SHARED_FILES,  /* a mapping of a file that others see */
+    WRITABLE,      /* memory that becomes writable */
+    NEW_LIMITS,    /* limits that are set, and not only asked for */
+    CLONED_FILES,  /* of an ioctl */
+    ON_SOCKETS,    /* where sockets are points */
+    PINNED,        /* where random bytes are the same each time */
+    ORDERED,       /* where calls have an order */
+};
+
+/* Numbers of arguments, from 1; 0 where the call has no such argument. */
+struct row {
+    int number;
+    enum point point; /* POINTS where it is none */
+    void (*serve)(struct call *call);
+    enum where where;
+    unsigned char folder, path, other_folder, other_path, file, other_file, bytes, length, at, other_at, flags, mode, parts;
+};
+
+/* In no order. `parts`: the bytes are in parts, of which this is the count. */
+extern const struct row table[];
+extern const size_t table_length;
+
+const struct row *row_of(int number);
+
+void serve_open(struct call *call);
+void serve_node(struct call *call);
+void serve_read(struct call *call);
+void serve_write(struct call *call);
+void serve_copy(struct call *call);
+void serve_splice(struct call *call);
+void serve_sendfile(struct call *call);
+void serve_clone(struct call *call);
+void serve_resize(struct call *call);
+void serve_allocate(struct call *call);
+void serve_sync(struct call *call);
+void serve_sync_range(struct call *call);
+void serve_sync_all(struct call *call);
+void serve_map_sync(struct call *call);
+void serve_rename(struct call *call);
+void serve_link(struct call *call);
+void serve_unlink(struct call *call);
+void serve_folder(struct call *call);
+void serve_symlink(struct call *call);
+void serve_map(struct call *call);
+void serve_protect(struct call *call);
+void serve_unmap(struct call *call);
+void serve_program(struct call *call);
+void serve_ids(struct call *call);
+void serve_mask(struct call *call);
+void serve_move(struct call *call);
+void serve_limits(struct call *call);
+void serve_root(struct call *call);
+void serve_ring(struct call *call);
+void serve_requests(struct call *call);
+void serve_connect(struct call *call);
+void serve_accept(struct call *call);
+void serve_send(struct call *call);
+void serve_receive(struct call *call);
+void serve_one_message(struct call *call);
+void serve_all_messages(struct call *call);
+void serve_random(struct call *call);
+void serve_fork(struct call *call);
+
+#endif

@@ -1,0 +1,272 @@
+/* Threads of the run: their descriptors, memory, umask and user. */
+#define _GNU_SOURCE
+#include "supervisor.h"
+
+#include <errno.h>
+#include <grp.h>
+#include <signal.h>
+#include <stdio.h>
+#include <stdlib.h>
+#include <sys/fsuid.h>
+#include <sys/resource.h>
+
+/* A number isn't used again in so short a time. */
+static const uint64_t RECENT = 50000000;
+
+enum { SLOTS = 1024, MOST_STATUS = 8192, PAGE = 4096, SHORT_TEXT = 128 };
+
+#ifndef PIDFD_THREAD
+#define PIDFD_THREAD O_EXCL /* since Linux 6.9 */
+#endif
+
+static struct thread threads[SLOTS];
+
+/* ---- what /proc says */
+
+static char status[MOST_STATUS];
+
+static void read_status(const struct thread *thread) {
+    char path[64];
+    snprintf(path, sizeof path, "/proc/%d/status", thread->number);
+    int file = open(path, O_RDONLY | O_CLOEXEC);
+    ssize_t length = file < 0 ? -1 : read(file, status, sizeof status - 1);
+    if (file >= 0) close(file);
+    status[length < 0 ? 0 : length] = 0;
+}
+
+/* Of what was read last. */
+static const char *line_of_status(const char *line) {
+    const char *found = strstr(status, line);
+    return found ? found + strlen(line) : NULL;
+}
+
+const char *status_of(const struct thread *thread, const char *line) {
+    read_status(thread);
+    return line_of_status(line);
+}
+
+static uint64_t signals_of(const struct thread *thread, const char *line) {
+    const char *text = status_of(thread, line);
+    return text ? strtoull(text, NULL, 16) : 0;
+}
+
+bool has_signal(const struct thread *thread) {
+    uint64_t come = signals_of(thread, "SigPnd:") | signals_of(thread, "ShdPnd:");
+    return come & ~signals_of(thread, "SigBlk:");
+}
+
+/* The supervisor's own stay the same. */
+static bool is_same_by(const struct thread *thread, const char *what, const char *ours, struct stat *own) {
+    char path[64];
+    struct stat its;
+    snprintf(path, sizeof path, "/proc/%d/%s", thread->number, what);
+    if (!own->st_ino && stat(ours, own)) return false;
+    return !stat(path, &its) && its.st_ino == own->st_ino && its.st_dev == own->st_dev;
+}
+
+static bool roots_change;
+
+static bool looks_elsewhere(const struct thread *thread) {
+    static struct stat own_root, own_mounts;
+    return !is_same_by(thread, "root", "/", &own_root) || !is_same_by(thread, "ns/mnt", "/proc/self/ns/mnt", &own_mounts);
+}
+
+void root_changed(void) { roots_change = true; }
+
+/* ---- the folder of names */
+
+/* A call that changes it goes on by itself, and is over when its thread makes another: until then nothing is remembered. */
+static uint64_t moves = 1;
+static int mover;
+
+void folder_changes(struct thread *thread) {
+    moves++;
+    mover = mover && mover != thread->number ? -1 : thread->number;
+}
+
+static void has_moved(const struct thread *thread) {
+    if (mover != thread->number) return;
+    mover = 0;
+    moves++;
+}
+
+int folder_of(struct thread *thread) {
+    char path[64];
+    if (thread->folder >= 0 && thread->moves == moves && !mover) return thread->folder;
+    if (thread->folder >= 0) close(thread->folder);
+    snprintf(path, sizeof path, "/proc/%d/cwd", thread->number);
+    thread->folder = open(path, O_PATH | O_DIRECTORY | O_CLOEXEC);
+    thread->moves = moves;
+    if (thread->folder < 0 || look_at(thread->folder, "", AT_EMPTY_PATH, &thread->of_folder)) return thread->folder;
+    close(thread->folder);
+    return thread->folder = -1;
+}
+
+/* ---- the threads that are known */
+
+static bool knows_threads = true;
+
+/* A handle is that of one thread, so that a number which is used again is found out; where the system knows no such handles
+   nothing is remembered. */
+static bool is_alive(struct thread *thread) {
+    uint64_t time = now();
+    if (!knows_threads) return false;
+    if (time - thread->seen < RECENT) return true;
+    thread->seen = time;
+    return !syscall(SYS_pidfd_send_signal, thread->handle, 0, NULL, 0);
+}
+
+static int handle_of(const struct thread *thread) {
+    int handle = knows_threads ? (int)syscall(SYS_pidfd_open, thread->number, PIDFD_THREAD) : -1;
+    if (handle >= 0) return handle;
+    if (errno == EINVAL) knows_threads = false;
+    return (int)syscall(SYS_pidfd_open, thread->process, 0);
+}
+
+struct thread *thread_of(int number) {
+    struct thread *thread = &threads[number % SLOTS];
+    if (thread->number == number && is_alive(thread)) {
+        if (roots_change) thread->is_elsewhere = looks_elsewhere(thread);
+        if (mover) has_moved(thread);
+        return thread;
+    }
+    uint64_t program = thread->number == number && !knows_threads ? thread->program : 0;
+    if (thread->number) close(thread->handle);
+    if (thread->number && thread->folder >= 0) close(thread->folder);
+    *thread = (struct thread){.number = number, .folder = -1, .seen = now()};
+    read_status(thread);
+    const char *process = line_of_status("Tgid:"), *mask = line_of_status("Umask:");
+    thread->process = process ? atoi(process) : number;
+    thread->mask = mask ? (int)strtol(mask, NULL, 8) : -1;
+    thread->handle = handle_of(thread);
+    thread->is_elsewhere = looks_elsewhere(thread);
+    thread->program = program;
+    return thread;
+}
+
+/* Of one that may not be looked into its short name. */
+const char *program_of(const struct thread *thread) {
+    static char program[PATH_MAX];
+    char link[64];
+    snprintf(link, sizeof link, "/proc/%d/exe", thread->process);
+    ssize_t length = readlink(link, program, sizeof program - 1);
+    program[length < 0 ? 0 : length] = 0;
+    if (length > 0) return program;
+    const char *name = status_of(thread, "Name:\t");
+    return name ? strcpy(program, strndupa(name, strcspn(name, "\n"))) : "";
+}
+
+/* What the system forbids to look into would go on unseen. */
+static void must_be_allowed(const struct thread *thread) {
+    if (errno == EPERM) lose("not followed, the system lets nobody look into", program_of(thread));
+}
+
+int fetch(const struct thread *thread, int file) {
+    int fetched = (int)syscall(SYS_pidfd_getfd, thread->handle, file, 0);
+    if (fetched < 0) must_be_allowed(thread);
+    return fetched;
+}
+
+/* ---- memory */
+
+size_t read_memory(const struct thread *thread, uint64_t at, void *to, size_t length) {
+    struct iovec here = {to, length}, there = {(void *)at, length};
+    ssize_t done = process_vm_readv(thread->number, &here, 1, &there, 1, 0);
+    if (done < 0) must_be_allowed(thread);
+    return done < 0 ? 0 : (size_t)done;
+}
+
+size_t write_memory(const struct thread *thread, uint64_t at, const void *from, size_t length) {
+    struct iovec here = {(void *)from, length}, there = {(void *)at, length};
+    ssize_t done = process_vm_writev(thread->number, &here, 1, &there, 1, 0);
+    return done < 0 ? 0 : (size_t)done;
+}
+
+bool read_text(const struct thread *thread, uint64_t at, char *text, size_t room) {
+    for (size_t done = 0; done < room;) {
+        size_t left = PAGE - (at + done) % PAGE;
+        if (!done && left > SHORT_TEXT) left = SHORT_TEXT;
+        if (left > room - done) left = room - done;
+        size_t got = read_memory(thread, at + done, text + done, left);
+        if (memchr(text + done, 0, got)) return true;
+        if (got < left) return false;
+        done += got;
+    }
+    return false;
+}
+
+/* ---- whose files are made */
+
+static bool masks_change, ids_change, is_other;
+static mode_t own_mask = (mode_t)-1;
+
+void mask_changed(const struct thread *thread) {
+    (void)thread;
+    masks_change = true;
+}
+
+void ids_changed(void) { ids_change = true; }
+
+/* Threads have the supervisor's own limits until one sets others. */
+static bool limits_change;
+
+void limits_changed(void) { limits_change = true; }
+
+bool has_limits(void) {
+    static int own_limit = -1;
+    struct rlimit limit;
+    if (own_limit < 0) own_limit = getrlimit(RLIMIT_FSIZE, &limit) || limit.rlim_cur != RLIM_INFINITY;
+    return own_limit || limits_change;
+}
+
+static void take_mask(struct thread *thread) {
+    if (thread->mask < 0 || masks_change) {
+        const char *text = status_of(thread, "Umask:");
+        thread->mask = text ? (int)strtol(text, NULL, 8) : 0;
+    }
+    if (own_mask != (mode_t)thread->mask) umask(own_mask = (mode_t)thread->mask);
+}
+
+/* The last of the four numbers of a line is the one by which files are looked for. */
+static unsigned file_id(const struct thread *thread, const char *line) {
+    unsigned ids[4] = {0};
+    const char *text = status_of(thread, line);
+    if (text) sscanf(text, "%u %u %u %u", &ids[0], &ids[1], &ids[2], &ids[3]);
+    return ids[3];
+}
+
+static void take_groups(const struct thread *thread) {
+    gid_t groups[256];
+    size_t count = 0;
+    char *end;
+    const char *text = status_of(thread, "Groups:");
+    for (; text && count < sizeof groups / sizeof *groups; text = end) {
+        groups[count] = (gid_t)strtoul(text, &end, 10);
+        if (end == text || memchr(text, '\n', (size_t)(end - text))) break;
+        count++;
+    }
+    setgroups(count, groups);
+}
+
+void make_as(struct thread *thread) {
+    take_mask(thread);
+    act_as(thread);
+}
+
+void act_as(const struct thread *thread) {
+    if (!ids_change || geteuid()) return;
+    unsigned user = file_id(thread, "Uid:"), group = file_id(thread, "Gid:");
+    if (!user && !group) return;
+    take_groups(thread);
+    setfsgid(group);
+    setfsuid(user);
+    is_other = true;
+}
+
+void act_as_self(void) {
+    if (!is_other) return;
+    setfsuid(0);
+    setfsgid(0);
+    setgroups(0, NULL);
+    is_other = false;
+}

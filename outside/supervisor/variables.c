@@ -1,0 +1,112 @@
+/* The scenario and the run that the variables name. */
+#define _GNU_SOURCE
+#include "variables.h"
+
+#include "../run/whole.h"
+
+#include <errno.h>
+#include <fcntl.h>
+#include <stdio.h>
+#include <stdlib.h>
+#include <string.h>
+#include <sys/mman.h>
+#include <sys/stat.h>
+
+struct scenario scenario;
+struct state *state;
+char root[PATH_MAX], run_folder[PATH_MAX];
+bool is_kept, forgets, sees_sockets;
+
+static void read_failpoints(void) {
+    const char *text = getenv("FAILPOINTS");
+    if (!text || !strcmp(text, "none")) return; /* as the empty scenario is written in lists */
+    char *copy = strdup(text), what[64];
+    if (!copy) refuse("FAILPOINTS", "no memory");
+    if (!read_scenario(&scenario, copy)) {
+        snprintf(what, sizeof what, "%s entry %u term %u", scenario.bad.kind, scenario.bad.entry, scenario.bad.term);
+        refuse("scenario", what);
+    }
+    for (unsigned i = 0; !sees_sockets && i < scenario.length; i++) {
+        struct chain *chain = &scenario.chains[i];
+        if (chain->point >= CONNECT && chain->point < KEEP) scenario.stranger = chain->name;
+    }
+}
+
+/* Whether a variable has its one word; it may be left out. */
+static bool is_word(const char *name, const char *word) {
+    char what[64];
+    const char *value = getenv(name);
+    snprintf(what, sizeof what, "%s is %s or isn't set", name, word);
+    if (value && strcmp(value, word)) refuse(what, value);
+    return value;
+}
+
+static uint64_t read_block(void) {
+    const char *text = getenv("FAULTS_BLOCK");
+    char *end;
+    if (!text) return 4096;
+    unsigned long value = strtoul(text, &end, 10);
+    if (*text < '1' || *text > '9' || *end || value > 1 << 30) refuse("FAULTS_BLOCK is a number of bytes up to 1073741824", text);
+    return value;
+}
+
+/* Once in a run, by the first of its processes. */
+static void tell_stranger(void) {
+    if (scenario.stranger && !__atomic_exchange_n(&state->told, 1, __ATOMIC_SEQ_CST))
+        dprintf(2, "faults: never acts: %s\n", scenario.stranger);
+}
+
+static void map_state(void) {
+    char name[LONG_PATH];
+    struct stat told;
+    snprintf(name, sizeof name, "%s/state", run_folder);
+    int file = open(name, O_RDWR | O_CLOEXEC);
+    if (file < 0 || fstat(file, &told) || told.st_size != sizeof *state) refuse("FAULTS_RUN isn't a run's folder", run_folder);
+    state = mmap(NULL, sizeof *state, PROT_READ | PROT_WRITE, MAP_SHARED, file, 0);
+    if (state == MAP_FAILED) refuse("FAULTS_RUN", strerror(errno));
+    close(file);
+}
+
+/* Whether `begin` noted another folder: of that one the notes would say nothing. */
+static bool is_other_root(void) {
+    char name[LONG_PATH], noted[PATH_MAX];
+    snprintf(name, sizeof name, "%s/root", run_folder);
+    ssize_t length = readlink(name, noted, sizeof noted);
+    return length >= 0 && (strlen(root) != (size_t)length || memcmp(noted, root, (size_t)length));
+}
+
+static void set_root(const char *where) {
+    if (!realpath(where, root)) refuse("FAULTS_ROOT isn't a folder", where);
+    if (!root[1]) refuse("FAULTS_ROOT is too much", root);
+    if (is_other_root()) refuse("FAULTS_ROOT isn't the folder that begin noted", root);
+}
+
+void read_variables(void) {
+    const char *where = getenv("FAULTS_ROOT"), *in = getenv("FAULTS_RUN");
+    char notes[LONG_PATH];
+    scenario.by_file = is_word("FAULTS_POINTS", "file");
+    sees_sockets = is_word("FAULTS_SOCKETS", "1");
+    read_failpoints();
+    if (!where || !in) refuse("isn't set", where ? "FAULTS_RUN" : "FAULTS_ROOT");
+    forgets = is_word("FAULTS_FSYNC", "once");
+    if (!realpath(in, run_folder)) refuse("FAULTS_RUN isn't a run's folder", in);
+    bool sync_names = is_word("FAULTS_SYNC", "names");
+    uint64_t block = read_block();
+    map_state();
+    tell_stranger();
+    state->block = block;
+    state->sync_names = sync_names;
+    snprintf(notes, sizeof notes, "%s/changes", run_folder);
+    is_kept = !access(notes, F_OK);
+    set_root(where);
+}
+
+void say_loaded(int process, const char *program) {
+    char name[LONG_PATH], line[PATH_MAX + 32];
+    snprintf(name, sizeof name, "%s/loaded", run_folder);
+    int file = open(name, O_WRONLY | O_CREAT | O_APPEND | O_CLOEXEC, 0600);
+    int length = snprintf(line, sizeof line, "%d\t%s\n", process, program);
+    if (file < 0 || !write_whole(file, line, (size_t)length)) refuse("FAULTS_RUN", strerror(errno));
+    close(file);
+    __atomic_add_fetch(&state->loaded, 1, __ATOMIC_SEQ_CST);
+}

@@ -1,0 +1,86 @@
+"""Which flaw is found by the settings that the loop makes, and at which depth: that of table.tsv, and no lower one."""
+
+import os
+import subprocess
+import unittest
+
+from .base import LOG, NOTE, OUTSIDE, Campaigns
+
+C = {"note": str(OUTSIDE / "out" / "note"), "log": str(OUTSIDE / "out" / "log")}
+PYTHON = {"note": f"python3 {OUTSIDE}/flaws/note.py", "log": f"python3 {OUTSIDE}/flaws/log.py"}
+
+
+class Flaws(Campaigns):
+    def found(self, harness, flaw, *options, programs=C):
+        """What the first line of a failure says, or an empty text where all pass."""
+        done = self.loop("-j", 2, "-x", *options, "--into", self.here / "into", harness, FLAW=flaw, PROGRAM=programs[harness.name])
+        self.assertIn(done.status, (0, 1), done.told)
+        fails = [line for line in done.told.splitlines() if line.startswith("fail ")]
+        self.assertEqual(done.status == 1, bool(fails), done.told)
+        for kept in (self.here / "into").iterdir():
+            kept.unlink()
+        return fails[0] if fails else ""
+
+    def both(self, expected, *words):
+        for programs in (C, PYTHON):
+            self.assertRegex(self.found(*words, programs=programs), f"^{expected}$")
+
+    def test_a_sync_that_is_not_looked_at(self):
+        self.both(r"fail lost: the 1st sys::fsync \(new\) fails", NOTE, "unchecked_sync")
+
+    def test_rename_before_the_sync(self):
+        self.assertEqual(self.found(NOTE, "rename_first"), "")
+        found = r"fail lost: the 1st sys::fsync \(note\) (fails|ends the run), of what is pending 3 \(rename new -> note\) is kept"
+        self.both(found, NOTE, "rename_first", "--depth", 2)
+
+    def test_a_folder_that_is_never_synced(self):
+        self.both("fail lost: without any fault", NOTE, "no_folder_sync")
+
+    def test_a_torn_record(self):
+        for flaw in ("torn_taken", "torn_appended"):
+            self.assertEqual(self.found(LOG, flaw), "")
+            self.assertRegex(self.found(LOG, flaw, "--depth", 2, "--kinds"), "^fail (lost|torn): .*write log")
+
+    def test_a_sync_that_is_tried_again(self):
+        self.both(r"fail lost: the 1st sys::fsync \(new\) fails", NOTE, "retry_sync")
+
+    def test_a_full_disk_in_a_snapshot(self):
+        self.both(r"fail lost: the 2nd sys::write \(new\) .*", LOG, "full_disk")
+
+    def test_a_short_write(self):
+        self.both(r"fail lost: the 1st sys::write \(new\) does half", NOTE, "short_write")
+        self.assertEqual(self.found(NOTE, "short_write", "--no-kinds"), "")
+
+    def test_a_clean_up_that_loses_the_old_file(self):
+        self.assertEqual(self.found(NOTE, "clean_up"), "")
+        self.assertRegex(self.found(NOTE, "clean_up", "--depth", 2), r"^fail lost: .*the 2nd sys::link \(note\) fails")
+
+    def test_recovery_that_deletes(self):
+        self.both(r"fail lost: the 4th sys::read \(log\) .*", LOG, "recovery_deletes")
+
+    def test_sound_ones(self):
+        self.both("", NOTE, "sound")
+        self.both("", NOTE, "sound", "--depth", 2, "--kinds")
+        self.both("", LOG, "sound")
+
+    def test_a_sound_log_two_faults_deep(self):
+        self.assertEqual(self.found(LOG, "sound", "--depth", 2), "")
+
+
+class Languages(unittest.TestCase):
+    def test_both_do_the_same(self):
+        """Each language writes the same lines and files."""
+        for name, words in {"note": ["sound", "one", "two"], "log": ["sound", "add", "one", "sync", "snapshot", "add", "two", "list"]}.items():
+            left = []
+            for program in (C, PYTHON):
+                folder = OUTSIDE / "out" / f"trial-{name}"
+                subprocess.run(["rm", "-rf", folder], check=True)
+                folder.mkdir()
+                said = subprocess.run([*program[name].split(), *words], cwd=folder, stdout=subprocess.PIPE, check=True).stdout
+                left.append((said, {file: (folder / file).read_bytes() for file in sorted(os.listdir(folder))}))
+                subprocess.run(["rm", "-rf", folder], check=True)
+            self.assertEqual(left[0], left[1])
+
+
+if __name__ == "__main__":
+    unittest.main()

@@ -1,0 +1,69 @@
+"""What `new` writes runs as it is."""
+
+import shutil
+import subprocess
+import unittest
+
+from .base import OUTSIDE, Campaigns
+
+UNSAFE = "#!/bin/sh\necho new > note\n"
+SAFE = "#!/bin/sh\necho new > new && sync new && mv new note && sync .\n"
+SERVER = """#!/bin/sh
+[ -e state ] && ! grep -qx whole state && {{ echo broken; exit 1; }}
+{write}
+echo ready
+sleep 30
+"""
+DELIVERS = "#!/bin/sh\nmkdir -p tmp new && cat > tmp/1 && {syncs} mv tmp/1 new/1 && sync new . \n"
+
+
+class New(Campaigns):
+    def made(self, text, *options):
+        """The harness of such a program, and its campaign."""
+        program = self.here / "program"
+        program.write_text(text)
+        program.chmod(0o755)
+        made = subprocess.run([OUTSIDE / "new", *options, self.here / "made", program], capture_output=True, text=True, check=True)
+        self.assertEqual(made.stdout, f"{OUTSIDE}/loop {self.here}/made\n")
+        return self.loop("-j", 2, "--seconds", 10, self.here / "made")
+
+    def test_a_command(self):
+        done = self.made(SAFE)
+        self.assertEqual(done.status, 0, done.told)
+
+    def test_a_command_that_syncs_nothing(self):
+        done = self.made(UNSAFE)
+        self.assertEqual(done.status, 1)
+        self.assertIn("fail lost: without any fault\n", done.told)
+        self.assertIn("pending: 1 create note -\n", done.told)
+
+    def test_a_server(self):
+        done = self.made(SERVER.format(write="echo whole > new && sync new && mv new state && sync ."), "--server", "ready")
+        self.assertEqual(done.status, 0, done.told)
+
+    def test_a_server_that_does_not_start_again(self):
+        done = self.made(SERVER.format(write=": > state && sync state . && echo whole > state"), "--server", "ready")
+        self.assertEqual(done.status, 1)
+        self.assertIn("fail unopenable: ", done.told)
+
+    def test_a_delivery(self):
+        done = self.made(DELIVERS.format(syncs="sync tmp/1 &&"), "--mail")
+        self.assertEqual(done.status, 0, done.told)
+
+    def test_a_delivery_that_is_not_synced(self):
+        done = self.made(DELIVERS.format(syncs=""), "--mail")
+        self.assertEqual(done.status, 1)
+        self.assertRegex(done.told, "fail (lost|torn): ")
+
+    def test_a_folder_that_is_there(self):
+        made = subprocess.run([OUTSIDE / "new", self.here, "true"], capture_output=True, text=True, check=False)
+        self.assertEqual((made.returncode, made.stderr), (1, f"new: {self.here} is there\n"))
+
+    def test_a_program_that_is_not(self):
+        made = subprocess.run([OUTSIDE / "new", self.here / "made", self.here / "none"], capture_output=True, text=True, check=False)
+        self.assertEqual((made.returncode, made.stderr), (1, f"new: no such program: {self.here}/none\n"))
+        self.assertFalse((self.here / "made").exists())
+
+
+if __name__ == "__main__":
+    unittest.main()

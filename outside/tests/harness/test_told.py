@@ -1,0 +1,195 @@
+"""What has to be told, and never passes."""
+
+import os
+import signal
+import time
+import unittest
+
+from .base import JUDGES, NOTE, SAVES, Campaigns
+
+SETTINGS = """target = "outside"
+depth = 1
+[outside]
+label = "x"
+codes = ["lost"]
+points = [{}]
+"""
+
+
+class Refused(Campaigns):
+    def refused(self, expected, *words, status=2, **variables):
+        done = self.loop("-j", 2, *words, **variables)
+        self.assertIn(expected, done.told)
+        self.assertEqual(done.status, status, done.told)
+        self.assertEqual(done.out, "")
+        return done
+
+    def test_a_harness_without_judge(self):
+        folder = self.harness(run=SAVES)
+        self.refused("a harness without `judge` says nothing", folder)
+
+    def test_a_step_that_can_not_be_run(self):
+        folder = self.harness(run=SAVES, judge=JUDGES)
+        (folder / "judge").chmod(0o644)
+        self.refused("judge can't be run: chmod +x", folder)
+
+    def test_a_program_that_is_not_seen(self):
+        folder = self.harness(run="#!/bin/sh\ntrue\n", judge=JUDGES)
+        self.refused("the run without faults says nothing", folder)
+
+    def test_a_file_that_changes_unseen(self):
+        folder = self.harness(run="#!/bin/sh\n: > here; sleep 1\n", judge=JUDGES)
+        with self.start(folder) as process:
+            while not (made := list(self.here.glob("paklour-*/*/data/here"))):
+                time.sleep(0.01)
+            made[0].write_text("by another")
+            _, told = process.communicate()
+        self.assertEqual(process.returncode, 2)
+        self.assertIn("here", told)
+
+    def test_answers_of_another_harness(self):
+        folder = self.harness(run=SAVES, judge=JUDGES)
+        self.assertEqual(self.loop("-j", 2, folder).status, 0)
+        (folder / "judge").write_text(JUDGES + "# changed\n")
+        self.refused("are those of another harness", folder)
+
+    def test_two_campaigns_in_one_folder(self):
+        folder = self.harness(run="#!/bin/sh\nsleep 1; : > here\n", judge="#!/bin/sh\ntrue\n")
+        with self.start(folder) as first:
+            while not (folder / "answers").exists():
+                time.sleep(0.01)
+            self.refused("another loop writes to", folder)
+            first.terminate()
+            first.communicate()
+
+    def test_a_point_that_no_program_has(self):
+        folder = self.harness(run=SAVES, judge=JUDGES)
+        (folder / "settings.toml").write_text(SETTINGS.format('"sys::open", "libc::write"'))
+        self.refused("no program hits libc::write", folder)
+
+    def test_a_code_that_settings_lack(self):
+        folder = self.harness(run=SAVES, judge="#!/bin/sh\necho torn\nexit 1\n")
+        (folder / "settings.toml").write_text(SETTINGS.format('"sys::open"'))
+        self.refused("judge says torn: add it to the codes of", folder)
+
+
+class Unresolved(Campaigns):
+    def first_line(self, **steps):
+        """Behind that which says what settings were made."""
+        done = self.loop("-j", 1, "--seconds", 1, "--bytes", "1M", self.harness(**steps))
+        self.assertEqual(done.status, 2, done.told)
+        return done.told.splitlines()[1]
+
+    def test_a_judge_that_ends_otherwise(self):
+        self.assertIn("unresolved: judge ended with 3: why not: none", self.first_line(run=SAVES, judge="#!/bin/sh\necho why not >&2\nexit 3\n"))
+
+    def test_a_run_that_takes_too_long(self):
+        self.assertEqual("unresolved: ended after 1 seconds: none", self.first_line(run="#!/bin/sh\n: > here; sleep 30\n", judge=JUDGES))
+
+    def test_a_run_that_writes_too_much(self):
+        line = self.first_line(run="#!/bin/sh\nhead -c 3000000 /dev/zero > here\n", judge=JUDGES)
+        self.assertEqual("unresolved: it wrote more than 1048576 bytes: none", line)
+
+    def test_a_run_that_says_too_much(self):
+        line = self.first_line(run="#!/bin/sh\n: > here; yes | head -c 3000000\n", judge=JUDGES)
+        self.assertEqual("unresolved: it wrote more than 1048576 bytes: none", line)
+
+    def test_what_it_began_is_ended(self):
+        folder = self.harness(run=f"#!/bin/sh\n: > here; setsid sleep 77 & echo $! > {self.here}/pid; sleep 30\n", judge=JUDGES)
+        self.assertEqual(self.loop("--seconds", 1, folder).status, 2)
+        self.assertFalse(os.path.exists(f"/proc/{(self.here / 'pid').read_text().strip()}"))
+
+
+class NotTheSame(Campaigns):
+    def test_a_judge_that_looks_at_something_else(self):
+        """Every second judgement says otherwise."""
+        count = '#!/bin/sh\necho >> "$HARNESS/count"\n[ $(($(wc -l < "$HARNESS/count") % 2)) -eq 1 ] || { echo even; exit 1; }\n'
+        done = self.loop("-j", 1, self.harness(run=SAVES, judge=count))
+        self.assertEqual(done.status, 5, done.told)
+        self.assertRegex(done.told, "loop: told otherwise: (pass, then fail even|fail even, then pass): ")
+        self.assertIn("--every-run", done.told)
+
+    def test_what_follows_is_tried(self):
+        """A judge that says otherwise the second time that it sees the same: told before the campaign ends."""
+        judge = '''#!/bin/sh
+what=$(cat "$SAID" $(ls) | cksum; ls)
+grep -qxF "$(echo $what)" "$HARNESS/seen" 2> "$TMPDIR/said" && { echo again; exit 1; }
+echo $what >> "$HARNESS/seen"
+'''
+        folder = self.harness(run=SAVES, judge=judge)
+        done = self.loop("-j", 1, "--depth", 2, folder)
+        self.assertEqual(done.status, 5, done.told)
+        self.assertIn("loop: told otherwise: pass, then fail again: ", done.told)
+        self.assertFalse((folder / "report").exists())
+
+    def test_a_judge_by_the_clock(self):
+        """It says otherwise from a second after its first judgement on."""
+        judge = '''#!/bin/sh
+[ -e "$HARNESS/moment" ] || echo $(($(date +%s%N) + 1000000000)) > "$HARNESS/moment"
+sleep 0.3
+[ "$(date +%s%N)" -lt "$(cat "$HARNESS/moment")" ] || { echo late; exit 1; }
+'''
+        done = self.loop("-j", 1, "--depth", 2, self.harness(run=SAVES, judge=judge))
+        self.assertEqual(done.status, 5, done.told)
+        self.assertIn("told otherwise: ", done.told)
+
+    def test_a_program_that_does_more_each_time(self):
+        run = '#!/bin/sh\necho >> "$HARNESS/count"\nfor each in $(seq $(wc -l < "$HARNESS/count")); do : > "file$each"; done\n'
+        done = self.loop("-j", 1, self.harness(run=run, judge=JUDGES))
+        self.assertIn(done.status, (2, 5), done.told)
+        self.assertRegex(done.told, "hits differ|other hits|told otherwise|not met")
+
+
+class Shown(Campaigns):
+    def test_names_with_control_bytes(self):
+        run = "#!/bin/sh\nname=$(printf 'a\\033[2J\\nb\"')\nprintf x > \"$name\"; sync \"$name\"; echo done\n"
+        done = self.loop("-j", 1, self.harness(run=run, judge="#!/bin/sh\nprintf 'co\\033de\"\\n'\nexit 1\n"))
+        self.assertEqual(done.status, 1)
+        self.assertNotIn("\033", done.told)
+        self.assertIn('fail co?de"', done.told)
+
+    def test_what_a_judge_says_with_control_bytes(self):
+        done = self.loop("-j", 1, self.harness(run=SAVES, judge="#!/bin/sh\nprintf 'why\\033[2J' >&2\nexit 3\n"))
+        self.assertIn("unresolved: judge ended with 3: why\\x1b[2J: none\n", done.told)
+
+    def test_what_a_person_reads(self):
+        done = self.loop("-j", 2, "--into", self.here, NOTE, FLAW="unchecked_sync")
+        lines = done.told.splitlines()
+        self.assertIn("fail lost: the 1st sys::fsync (new) fails", lines)
+        self.assertIn("1 of: lost: sys::fsync (new) fails", lines)
+        again = next(line for line in lines if line.startswith("again: "))
+        self.assertTrue(again.endswith(f"{NOTE} --into {self.here} --try 'sys::fsync=1*return'"), again)
+        self.assertEqual((self.here / "report").read_text().splitlines()[-1], "cause 9 lost sys::fsync=1*return")
+        self.assertIn("<html", (self.here / "page.html").read_text())
+
+    def test_one_scenario_hit_by_hit(self):
+        done = self.loop("--into", self.here, NOTE, "--try", "sys::fsync=1*return", FLAW="unchecked_sync")
+        self.assertEqual(done.status, 1)
+        self.assertEqual([line.split(maxsplit=1)[1] if line[:5].strip().isdigit() else line.strip() for line in done.out.splitlines()], [
+            "sys::open 1 (.) 3", "sys::open 2 (new) 4", "sys::write 1 (new) 5", "sys::fsync 1 (new) fails [return]", "sys::rename 1 (note) 0",
+            "sys::fsync 2 (.) 0", "said: saved young", "power::keep 1 (new) -", "pending: 1 write new 5 at 0", "fail lost: the 1st sys::fsync (new) fails"])
+        self.assertFalse((self.here / "report").exists())
+
+    def test_it_stops_at_the_first(self):
+        done = self.loop("-j", 1, "-x", "--into", self.here, NOTE, FLAW="unchecked_sync")
+        self.assertEqual(done.status, 1)
+        self.assertFalse((self.here / "report").exists())
+        self.assertIn("--try 'sys::fsync=1*return'", done.told)
+
+
+class Stopped(Campaigns):
+    def test_by_a_signal(self):
+        """All that runs is ended, and no folder of a run is left."""
+        folder = self.harness(run=f"#!/bin/sh\n: > here; echo $$ > {self.here}/pid; sleep 30\n", judge=JUDGES)
+        with self.start(folder) as process:
+            while not (self.here / "pid").exists() or not (self.here / "pid").read_text():
+                time.sleep(0.01)
+            process.send_signal(signal.SIGTERM)
+            process.communicate()
+        self.assertEqual(process.returncode, 2)
+        self.assertFalse(os.path.exists(f"/proc/{(self.here / 'pid').read_text().strip()}"))
+        self.assertEqual(list(self.here.glob("paklour-*")), [])
+
+
+if __name__ == "__main__":
+    unittest.main()

@@ -1,0 +1,392 @@
+/* odd CASE [WORD..]: what a program may do that a library inside of it doesn't see, or falls over. In a folder with the file `old`, ten
+   digits, and the folder `sub` with the file `in`. */
+#define _GNU_SOURCE
+#include <errno.h>
+#include <fcntl.h>
+#include <grp.h>
+#include <linux/filter.h>
+#include <linux/openat2.h>
+#include <linux/seccomp.h>
+#include <pthread.h>
+#include <signal.h>
+#include <spawn.h>
+#include <stdio.h>
+#include <stdlib.h>
+#include <string.h>
+#include <sys/file.h>
+#include <sys/ioctl.h>
+#include <sys/mman.h>
+#include <sys/prctl.h>
+#include <sys/resource.h>
+#include <sys/sendfile.h>
+#include <sys/socket.h>
+#include <sys/stat.h>
+#include <sys/syscall.h>
+#include <sys/time.h>
+#include <sys/uio.h>
+#include <sys/wait.h>
+#include <unistd.h>
+
+enum { PAGE = 4096 };
+extern char **environ;
+
+static int old(int flags) { return open("old", flags); }
+static int wrong(const char *what) { return fprintf(stderr, "odd: %s: %s\n", what, strerror(errno)), 1; }
+static char *mapped(int file, size_t length, int protection) { return mmap(NULL, length, protection, MAP_SHARED, file, 0); }
+
+/* ---- calls by the system's own interface */
+
+static int raw(char **words) {
+    (void)words;
+    long file = syscall(SYS_open, "a", O_CREAT | O_RDWR, 0644);
+    return syscall(SYS_write, file, "hello", 5) != 5 || syscall(SYS_fsync, file);
+}
+
+static int bad_parts(char **words) {
+    (void)words;
+    void *volatile nowhere = (void *)1;
+    int file = old(O_RDWR);
+    if (syscall(SYS_writev, file, NULL, 1) != -1 || errno != EFAULT) return wrong("writev of nothing");
+    if (write(file, nowhere, 4) != -1 || errno != EFAULT) return wrong("write of nothing");
+    if (read(file, nowhere, 4) != -1 || errno != EFAULT) return wrong("read to nothing");
+    if (lseek(file, 0, SEEK_CUR) != 0) return wrong("where the file is");
+    return pwrite(file, "x", 1, -1) != -1 || errno != EINVAL ? wrong("pwrite before the file") : 0;
+}
+
+static int read_only(char **words) {
+    (void)words;
+    return write(old(O_RDONLY), "x", 1) != -1 || errno != EBADF ? wrong("write of a file that is read") : 0;
+}
+
+static int direct(char **words) {
+    (void)words;
+    void *bytes;
+    int file = old(O_RDWR | O_DIRECT);
+    if (file < 0) return errno == EINVAL ? 0 : wrong("open"); /* a file system in memory of an older system */
+    if (posix_memalign(&bytes, PAGE, PAGE)) return 1;
+    memset(bytes, 'D', PAGE);
+    return pwrite(file, bytes, PAGE, 0) != PAGE ? wrong("pwrite") : 0;
+}
+
+static int as_output(char **words) {
+    (void)words;
+    if (dup2(old(O_RDWR | O_TRUNC), 1) < 0) return 1;
+    return printf("through it\n") < 0 || fflush(stdout) || fsync(1);
+}
+
+static int own_folder(char **words) {
+    char path[64];
+    int file = old(O_RDWR);
+    sprintf(path, words[0], file);
+    int other = open(path, O_WRONLY | O_TRUNC);
+    return other < 0 || write(other, "by proc", 7) != 7 ? wrong(path) : 0;
+}
+
+static int beneath(char **words) {
+    struct open_how how = {.flags = O_CREAT | O_RDWR, .mode = 0644, .resolve = RESOLVE_BENEATH};
+    int folder = open("sub", O_RDONLY | O_DIRECTORY);
+    (void)words;
+    if (syscall(SYS_openat2, folder, "../old", &how, sizeof how) != -1 || errno != EXDEV) return wrong("a way out of the folder");
+    long file = syscall(SYS_openat2, folder, "a", &how, sizeof how);
+    how.resolve = RESOLVE_IN_ROOT;
+    if (file < 0 || write((int)file, "beneath", 7) != 7) return wrong("a file of the folder");
+    return syscall(SYS_openat2, folder, "/in", &how, sizeof how) < 0 ? wrong("a file of a folder that is a root") : 0;
+}
+
+static int limited(char **words) {
+    (void)words;
+    signal(SIGXFSZ, SIG_IGN);
+    setrlimit(RLIMIT_FSIZE, &(struct rlimit){12, 12});
+    int file = old(O_RDWR | O_APPEND);
+    if (write(file, "abcd", 4) != 2) return wrong("a write up to the limit");
+    return write(file, "ef", 2) != -1 || errno != EFBIG ? wrong("a write behind the limit") : 0;
+}
+
+static int by_path(char **words) {
+    struct stat told;
+    int folder = open(words[0], O_PATH | O_DIRECTORY), file = openat(folder, "old", O_PATH);
+    if (folder < 0 || file < 0 || fstat(file, &told) || told.st_size != 10) return wrong("a descriptor of a path");
+    if (fsync(file) != -1 || errno != EBADF) return wrong("its sync");
+    return openat(folder, "nothing", O_PATH) != -1 || errno != ENOENT ? wrong("no file") : 0;
+}
+
+static int opened_often(char **words) {
+    for (int i = atoi(words[0]); i > 0; i--) {
+        int file = old(O_RDWR);
+        if (file < 0 || close(file)) return wrong("open");
+    }
+    return 0;
+}
+
+static int few_files(char **words) {
+    (void)words;
+    setrlimit(RLIMIT_NOFILE, &(struct rlimit){8, 8});
+    while (old(O_RDONLY) >= 0) continue;
+    return errno != EMFILE;
+}
+
+static int written_at(char **words) {
+    int file = open(words[0], O_CREAT | O_RDWR, 0644);
+    return file < 0 || write(file, "at", 2) != 2 ? wrong(words[0]) : 0;
+}
+
+static int masked(char **words) {
+    struct stat told;
+    umask((mode_t)strtol(words[0], NULL, 8));
+    if (mkdir("made", 0777) || close(open("a", O_CREAT | O_RDWR, 0666)) || mknod("node", S_IFREG | 0666, 0)) return wrong("made");
+    return printf("%o ", stat("made", &told) ? 0 : told.st_mode & 0777) < 0 || printf("%o ", stat("a", &told) ? 0 : told.st_mode & 0777) < 0
+        || printf("%o\n", stat("node", &told) ? 0 : told.st_mode & 0777) < 0;
+}
+
+static int as_other(char **words) {
+    struct stat told;
+    gid_t groups[] = {4321};
+    (void)words;
+    if (setgroups(1, groups) || setgid(1234) || setuid(2345)) return wrong("another user");
+    if (open("closed", O_RDONLY) >= 0 || errno != EACCES) return wrong("a file of somebody else");
+    if (close(open("open/a", O_CREAT | O_RDWR, 0644)) || stat("open/a", &told)) return wrong("a file of its own");
+    return printf("%d %d\n", told.st_uid, told.st_gid) < 0;
+}
+
+/* What is let go must be free at once: a program that was just written is started, a lock goes with its last descriptor. */
+static int at_once(char **words) {
+    for (int i = 0; i < 200; i++) {
+        int from = open(words[0], O_RDONLY), to = open("program", O_CREAT | O_TRUNC | O_WRONLY, 0755), status;
+        struct stat told;
+        if (fstat(from, &told) || sendfile(to, from, NULL, (size_t)told.st_size) != told.st_size) return wrong("a copy");
+        close(from), close(to);
+        pid_t made = vfork();
+        if (!made) execl("program", "program", "nothing", NULL), _exit(126);
+        if (waitpid(made, &status, 0) < 0 || WEXITSTATUS(status)) return wrong("a program that was just written");
+        int file = old(O_RDWR);
+        if (flock(file, LOCK_EX | LOCK_NB)) return wrong("a lock that nobody has");
+        close(file);
+    }
+    return 0;
+}
+
+/* ---- memory */
+
+static int made_writable(char **words) {
+    (void)words;
+    int file = old(O_RDWR);
+    char *memory = mapped(file, 10, PROT_READ);
+    if (mprotect(memory, PAGE, PROT_READ | PROT_WRITE)) return wrong("mprotect");
+    memory[0] = 'N';
+    return msync(memory, 10, MS_SYNC);
+}
+
+static int closed_memory(char **words) {
+    (void)words;
+    int file = old(O_RDWR);
+    char *memory = mapped(file, 10, PROT_READ | PROT_WRITE);
+    memory[0] = 'N';
+    return mprotect(memory, PAGE, PROT_NONE) || fsync(file);
+}
+
+static int mapped_over(char **words) {
+    (void)words;
+    int file = old(O_RDWR);
+    char *memory = mapped(file, 10, PROT_READ | PROT_WRITE);
+    if (mmap(memory, PAGE, PROT_READ | PROT_WRITE, MAP_PRIVATE | MAP_ANONYMOUS | MAP_FIXED, -1, 0) != memory) return 1;
+    memset(memory, 'Z', PAGE);
+    return fsync(file);
+}
+
+static int middle_unmapped(char **words) {
+    (void)words;
+    int file = open("a", O_CREAT | O_RDWR, 0644);
+    if (ftruncate(file, 3 * PAGE)) return 1;
+    char *memory = mapped(file, 3 * PAGE, PROT_READ | PROT_WRITE);
+    if (munmap(memory + PAGE, PAGE)) return 1;
+    memory[2 * PAGE] = 'T';
+    return msync(memory + 2 * PAGE, PAGE, MS_SYNC);
+}
+
+static int killed(char **words) {
+    (void)words;
+    mapped(old(O_RDWR), 10, PROT_READ | PROT_WRITE)[0] = 'N';
+    return kill(getpid(), SIGKILL);
+}
+
+static int left_quickly(char **words) {
+    (void)words;
+    mapped(old(O_RDWR), 10, PROT_READ | PROT_WRITE)[0] = 'N';
+    quick_exit(0);
+}
+
+/* ---- threads, signals and programs */
+
+static int pipes[2];
+static void *waits(void *unused) {
+    char byte;
+    return (void)unused, read(pipes[0], &byte, 1) ? NULL : pipes;
+}
+static int cancelled(char **words) {
+    pthread_t thread;
+    void *answer;
+    (void)words;
+    if (old(O_RDONLY) < 0 || pipe(pipes) || pthread_create(&thread, NULL, waits, NULL)) return 1;
+    usleep(20000);
+    return pthread_cancel(thread) || pthread_join(thread, &answer) || answer != PTHREAD_CANCELED;
+}
+
+static void nothing(int unused) { (void)unused; }
+static pthread_t writer;
+static volatile int is_over;
+static void *storm(void *unused) {
+    while (!is_over) pthread_kill(writer, SIGURG), usleep(50);
+    return unused;
+}
+static int stormy(char **words) {
+    pthread_t thread;
+    int file = open("a", O_CREAT | O_RDWR | O_APPEND, 0644), count = atoi(words[0]);
+    sigaction(SIGURG, &(struct sigaction){.sa_handler = nothing, .sa_flags = SA_RESTART}, NULL);
+    writer = pthread_self();
+    if (pthread_create(&thread, NULL, storm, NULL)) return 1;
+    for (int i = 0; i < count; i++)
+        if (write(file, "1234", 4) != 4) return wrong("write");
+    is_over = 1;
+    return pthread_join(thread, NULL);
+}
+
+static int in_vfork(char **words) {
+    int file = old(O_RDWR), status;
+    (void)words;
+    pid_t made = vfork();
+    if (!made) {
+        if (write(file, "V", 1) != 1) _exit(1);
+        _exit(0);
+    }
+    return waitpid(made, &status, 0) < 0 || status || fsync(file);
+}
+
+static int spawns(char **words) {
+    pid_t made;
+    int status;
+    if (posix_spawn(&made, words[0], NULL, NULL, words, (char *[]){NULL})) return 1;
+    return waitpid(made, &status, 0) < 0 || WEXITSTATUS(status);
+}
+
+static int by_descriptor(char **words) {
+    fexecve(open(words[0], O_RDONLY | O_CLOEXEC), words, environ);
+    return 126;
+}
+
+/* A process that nobody waits for, in a session of its own, as daemons do it. */
+static int leaves(char **words) {
+    (void)words;
+    if (fork()) return 0;
+    setsid();
+    if (fork()) _exit(0);
+    usleep(100000);
+    int file = old(O_RDWR | O_APPEND);
+    return write(file, "late", 4) != 4 || fsync(file);
+}
+
+static int sleeps(char **words) {
+    if (fork()) sleep((unsigned)atoi(words[0]));
+    else setsid(), sleep((unsigned)atoi(words[0]));
+    return 0;
+}
+
+static int rings(char **words) {
+    (void)words;
+    if (syscall(SYS_io_uring_setup, 8, (char[120]){0}) != -1 || errno != ENOSYS) return wrong("io_uring_setup");
+    return syscall(SYS_io_uring_setup, 8, (char[120]){0}) != -1 || old(O_RDONLY) < 0;
+}
+
+static int short_call(char **words) {
+    long result;
+    (void)words;
+    if (old(O_RDONLY) < 0) return 1;
+    __asm__ volatile("int $0x80" : "=a"(result) : "a"(20) : "memory"); /* getpid of the interface of 32 bits */
+    return result < 0;
+}
+
+static int closed_process(char **words) {
+    (void)words;
+    return prctl(PR_SET_DUMPABLE, 0) || old(O_RDONLY) < 0;
+}
+
+static int ends[2], alarms;
+static void on_alarm(int unused) {
+    (void)unused;
+    if (++alarms == 2 && write(ends[1], "abc", 3) != 3) _exit(1);
+}
+
+/* Waits that end: by what comes, by a handler of a signal, by a limit, and by a signal whose handler doesn't let it go on. */
+static int waits_often(char **words) {
+    char bytes[9], *many = calloc(1, 1000000);
+    struct itimerval soon = {{0, 30000}, {0, 30000}}, never = {{0, 0}, {0, 0}};
+    (void)words;
+    if (!many || old(O_RDONLY) < 0 || socketpair(AF_UNIX, SOCK_STREAM, 0, ends)) return 1;
+    if (!fork()) usleep(30000), _exit(write(ends[1], "late", 4) != 4);
+    if (read(ends[0], bytes, 9) != 4) return wrong("a read that waits");
+    sigaction(SIGALRM, &(struct sigaction){.sa_handler = on_alarm, .sa_flags = SA_RESTART}, NULL);
+    setitimer(ITIMER_REAL, &soon, NULL);
+    if (recv(ends[0], bytes, 9, 0) != 3 || alarms < 2) return wrong("a wait that goes on after a handler");
+    sigaction(SIGALRM, &(struct sigaction){.sa_handler = on_alarm}, NULL);
+    if (recv(ends[0], bytes, 9, 0) != -1 || errno != EINTR) return wrong("a wait that a handler ends");
+    setitimer(ITIMER_REAL, &never, NULL);
+    setsockopt(ends[0], SOL_SOCKET, SO_RCVTIMEO, &(struct timeval){0, 20000}, sizeof(struct timeval));
+    if (recv(ends[0], bytes, 8, 0) != -1 || errno != EAGAIN) return wrong("a wait with a limit");
+    if (!fork()) {
+        ssize_t got = 0;
+        for (ssize_t some; got < 1000000 && (some = read(ends[0], many, 70000)) > 0;) got += some;
+        _exit(got != 1000000);
+    }
+    return write(ends[1], many, 1000000) != 1000000 ? wrong("a write that waits") : 0;
+}
+
+/* A pipe with a name, of which who writes comes later. */
+static int pipes_by_name(char **words) {
+    char bytes[9];
+    (void)words;
+    if (mkfifo("pipe", 0600)) return 1;
+    if (!fork()) usleep(30000), _exit(write(open("pipe", O_WRONLY), "through", 7) != 7);
+    int file = open("pipe", O_RDONLY);
+    return read(file, bytes, 9) != 7 || read(file, bytes, 9) != 0 ? wrong("a pipe") : 0;
+}
+
+/* A command for which the system forbids one call, as a container may. */
+static int denied(char **words) {
+    struct sock_filter steps[] = {
+        BPF_STMT(BPF_LD | BPF_W | BPF_ABS, 0),
+        BPF_JUMP(BPF_JMP | BPF_JEQ | BPF_K, (unsigned)atoi(words[0]), 0, 1),
+        BPF_STMT(BPF_RET | BPF_K, SECCOMP_RET_ERRNO | EPERM),
+        BPF_STMT(BPF_RET | BPF_K, SECCOMP_RET_ALLOW),
+    };
+    struct sock_fprog filter = {sizeof steps / sizeof *steps, steps};
+    if (prctl(PR_SET_NO_NEW_PRIVS, 1, 0, 0, 0) || prctl(PR_SET_SECCOMP, SECCOMP_MODE_FILTER, &filter)) return wrong("a filter");
+    execvp(words[1], words + 1);
+    return 126;
+}
+
+static int moves(char **words) {
+    (void)words;
+    if (mkdir("here", 0755) || chdir("here") || close(open("a", O_CREAT | O_RDWR, 0644)) || chdir("..")) return wrong("chdir");
+    int folder = open("here", O_RDONLY | O_DIRECTORY);
+    if (close(open("b", O_CREAT | O_RDWR, 0644)) || fchdir(folder) || close(open("c", O_CREAT | O_RDWR, 0644))) return wrong("fchdir");
+    return 0;
+}
+
+static const struct {
+    const char *name;
+    int (*does)(char **words);
+} cases[] = {
+    {"raw", raw}, {"bad_parts", bad_parts}, {"read_only", read_only}, {"direct", direct}, {"as_output", as_output},
+    {"own_folder", own_folder}, {"beneath", beneath}, {"limited", limited}, {"few_files", few_files},
+    {"opened_often", opened_often},    {"by_path", by_path},    {"written_at", written_at}, {"masked", masked}, {"as_other", as_other}, {"at_once", at_once},
+    {"made_writable", made_writable}, {"closed_memory", closed_memory}, {"mapped_over", mapped_over},
+    {"middle_unmapped", middle_unmapped}, {"killed", killed}, {"left_quickly", left_quickly}, {"cancelled", cancelled},
+    {"stormy", stormy}, {"in_vfork", in_vfork}, {"spawns", spawns}, {"by_descriptor", by_descriptor}, {"leaves", leaves},
+    {"sleeps", sleeps}, {"rings", rings}, {"short_call", short_call}, {"denied", denied}, {"moves", moves}, {"waits_often", waits_often},
+    {"pipes_by_name", pipes_by_name},    {"closed_process", closed_process},
+};
+
+int main(int count, char **words) {
+    for (size_t i = 0; count > 1 && i < sizeof cases / sizeof *cases; i++)
+        if (!strcmp(words[1], cases[i].name)) return cases[i].does(words + 2);
+    return count > 1 && !strcmp(words[1], "nothing") ? 0 : 64;
+}

@@ -1,0 +1,299 @@
+# What a program may do beside the component's steps, and in which language; waits, ends, orders. Sourced by `test`, last.
+oddities=$here/odd
+gcc -std=gnu11 -O1 -U_FORTIFY_SOURCE -Wall -Wextra -Werror -o "$oddities" tests/odd.c -pthread
+gcc -std=gnu11 -O1 -Wall -Wextra -Werror -o "$here/random_files" tests/random_files.c -pthread
+
+# oddly CASE..: what a program may do, on new files; `hits` what of it was hit
+oddly() {
+    new
+    run none "$oddities" "$@"
+}
+hits() { ./census --hits "$here/run/trace" | sed 's/sys:://g'; }
+
+# Every way to make a call.
+oddly raw
+is 'calls by the system itself' '0 open;write;fsync' "$status $(hits)"
+oddly as_output
+is 'standard output that is a file of the root' '0 old=through it ' "$status $(left lasting | sed 's|sub/.*||')"
+for link in /proc/self/fd/%d /dev/fd/%d /proc/thread-self/fd/%d "/proc/self/root$here/data/old" "/proc/self/cwd/../data/old"; do
+    oddly own_folder "$link"
+    is "by ${link#*self/root}" '0 old old,1 resize old to 0,2 write old 7 at 0 by proc' \
+        "$status $(grep open "$here/run/trace" | cut -f 5 | paste -s -d ' '),$(pending) $(cat "$here/data/old")"
+done
+oddly bad_parts
+is 'memory that is not there' '0 EFAULT EFAULT EFAULT EINVAL' "$status $(cut -f 8 "$here/run/trace" | sed 1d | tr -d ' ' | paste -s -d ' ')"
+oddly read_only
+is 'a write of a file that is read' '0 EBADF' "$status $(sed -n 2p "$here/run/trace" | cut -f 8 | tr -d ' ')"
+oddly direct
+is 'a write past the cache' 0 "$status"
+oddly beneath
+is 'opens with rules for their way' '0 sub old EXDEV,sub/a 4,sub/in 5' \
+    "$status $(sed -n 1p "$here/run/trace" | cut -f 5) $(sed -n '2p;3p;5p' "$here/run/trace" | cut -f 5,8 | tr -d ' ' | tr '\t' ' ' | paste -s -d ,)"
+oddly by_path "$here/data"
+is 'descriptors of a path alone' '0 . -,old -,nothing ENOENT' "$status $(cut -f 5,8 "$here/run/trace" | tr -d ' ' | tr '\t' ' ' | paste -s -d ,)"
+oddly limited
+is 'a limit on lengths' '0 1 write old 2 at 10' "$status $(pending)"
+oddly few_files
+is 'no descriptor left' '0 EMFILE' "$status $(tail -n 1 "$here/run/trace" | cut -f 8 | tr -d ' ')"
+oddly masked 027
+is 'a umask' '0 750 640 640' "$status $said"
+oddly moves
+is 'folders that it moves to' '0 here here/a here b here/c' "$status $(cut -f 5 "$here/run/trace" | paste -s -d ' ')"
+oddly at_once "$oddities"
+is 'what it lets go is free at once' 0 "$status$faults"
+oddly cancelled
+is 'a thread that is cancelled' '0 open' "$status $(hits)"
+oddly stormy 2000
+is 'a storm of signals' '0 8000' "$status $(stat -c %s "$here/data/a")"
+oddly in_vfork
+is 'a child that shares the memory' '0 open;write;fsync V123456789' "$status $(hits) $(cat "$here/data/old")"
+oddly spawns "$oddities" raw
+is 'a program that is spawned without any environment' '0 open;write;fsync' "$status $(hits)"
+oddly by_descriptor "$oddities" raw
+is 'a program by its descriptor' '0 open;write;fsync' "$status $(hits)"
+oddly leaves
+is 'what goes on when the command has ended' '0 open;write;fsync 0123456789late' "$status $(hits) $(cat "$here/data/old")"
+oddly rings
+is 'rings of requests' '0 faults: not seen: requests in rings, answered as by a system without them: io_uring_setup' "$status $faults"
+oddly short_call
+is 'calls of 32 bits' "98 faults: not followed, calls of 32 bits: $oddities" "$status $faults"
+new
+run none "$here/nowhere"
+is 'a command that is not there' "98 faults: $here/nowhere: No such file or directory,faults: not seen: any call under FAULTS_ROOT of $here/nowhere" \
+    "$status $(paste -s -d , "$here/faults")"
+is 'and the cut is refused' "powercut: no call was seen: any call under FAULTS_ROOT of $here/nowhere" \
+    "$(out/powercut cut "$here/run" "$here/data" 2>&1)"
+new
+run none "$(printf 'no\033[2Jway')"
+is 'what it is named stays in its line' 'faults: no\033[2Jway: No such file or directory' "$(head -n 1 "$here/faults")"
+new
+run none "$supervisor" "$oddities" raw
+is 'a system that forbids its filter' 1 "$(grep -c '^faults: the system lacks seccomp .*, or forbids it: Device or resource busy$' "$here/faults")"
+for call in 'SYS_seccomp the system lacks seccomp with SECCOMP_FILTER_FLAG_WAIT_KILLABLE_RECV (Linux 5.19), or forbids it' \
+    'SYS_pidfd_getfd the system lacks pidfd_getfd, or forbids it' 'SYS_process_vm_readv the system forbids process_vm_readv'; do
+    new
+    under timeout 20 "$oddities" denied "$(printf '#include <sys/syscall.h>\n%s' "${call%% *}" | gcc -E -P - | tail -n 1)" \
+        "$supervisor" "$oddities" raw > "$here/said" 2>&1
+    is "a system without ${call%% *}" "98 faults: ${call#* }: Operation not permitted" "$? $(cat "$here/said")"
+done
+new
+run none sh -c 'echo sh > a; kill -SEGV $$'
+is 'a command that ends by a signal' '139 open;write' "$status $(hits)"
+
+# Waits.
+FAULTS_SOCKETS=1
+export FAULTS_SOCKETS
+oddly waits_often
+is 'calls that wait' 0 "$status$faults"
+is 'of which one that goes on after a signal is one hit' '4 3 EINTR EAGAIN' \
+    "$(awk -F '\t' -v me="$(cut -f 6 "$here/run/trace" | head -n 1)" '$2 == "sys::recv" && $6 == me { print $8 }' "$here/run/trace" | tr -d ' ' | paste -s -d ' ')"
+unset FAULTS_SOCKETS
+oddly pipes_by_name
+is 'a pipe under the root' '0 7 7 0' "$status $(grep -E 'read|write' "$here/run/trace" | cut -f 8 | tr -d ' ' | paste -s -d ' ')"
+new
+run 'sys::read=1*return(HALF);sys::write=1*return(HALF)' "$oddities" pipes_by_name
+is 'half of a write of it' 3 "$(grep write "$here/run/trace" | cut -f 8 | tr -d ' ')"
+
+# Shared mappings.
+for case in made_writable closed_memory; do
+    oddly "$case"
+    is "$case: what was stored lasts" '0 N123456789' "$status $(left lasting > "$here/said"; cat "$here/data/old")"
+done
+oddly mapped_over
+is 'memory mapped over a mapping is none of it' '0 0123456789' "$status $(left lasting > "$here/said"; cat "$here/data/old")"
+oddly middle_unmapped
+is 'the rest of a mapping of which a part went' '0 T' "$status $(left contents > "$here/said"; left live > "$here/said"; tr -d '\0' < "$here/data/a")"
+is 'lasts' '1 create a -' "$(pending)"
+oddly killed
+is 'what was stored by a process that was killed' '137 1 store old 4096 at 0' "$status $(pending)"
+oddly left_quickly
+is 'and by one that leaves quickly' '0 1 store old 4096 at 0' "$status $(pending)"
+
+# By the file, not by its name.
+mkdir -p "$here/other"
+new
+ln "$here/data/old" "$here/other/hard"
+ln -s "$here/data/old" "$here/other/soft"
+run none sh -c 'echo x >> ../other/hard; : > ../other/soft'
+is 'names elsewhere' '0 old old old 1 write old 2 at 10,2 resize old to 0' "$status $(cut -f 5 "$here/run/trace" | paste -s -d ' ') $(pending)"
+rm -f "$here/other/hard" "$here/other/soft"
+try none rename ../data/old ../data/sub/old exchange sub/old sub/in
+is 'exchanged under the root' '1 rename old -> sub/old -,2 exchange sub/old -> sub/in -' "$(pending)"
+printf foreign > "$here/other/f"
+try none exchange old ../other/f
+is 'exchanged with a file of elsewhere' '1 link old -,2 write old 7 at 0:old=foreign ' "$(pending):$(kept power::keep=return)"
+try none rename old ../other/o truncate ../other/o 3 rename ../other/o old
+is 'a file that was elsewhere for a while' 'old=012 ' "$(kept power::keep=return)"
+
+# Ends.
+new
+(cd "$here/data" && exec env FAULTS_ROOT="$here/data" FAULTS_RUN="$here/run" "$supervisor" "$oddities" sleeps 76543) > "$here/said" 2>&1 &
+for _ in $(seq 200); do
+    [ "$(pgrep -c -f '/odd sleeps 76543')" -ge 3 ] && break
+    sleep 0.01
+done
+kill -KILL $!
+wait $! 2> "$here/said"
+for _ in $(seq 200); do
+    pgrep -f '/odd sleeps 76543' > "$here/said" || break
+    sleep 0.01
+done
+is 'where the supervisor is killed nothing of the run goes on' '' "$(cat "$here/said")"
+new
+(cd "$here/data" && exec env FAULTS_ROOT="$here/data" FAULTS_RUN="$here/run" "$supervisor" \
+    sh -c 'trap "echo ended > a; exit 3" TERM; : > begun; while :; do sleep 0.01; done') > "$here/said" 2>&1 &
+for _ in $(seq 200); do
+    [ -e "$here/data/begun" ] && break
+    sleep 0.01
+done
+kill -TERM $!
+wait $!
+is 'a signal for the supervisor goes to the command' '3 ended' "$? $(cat "$here/data/a")"
+new
+(cd "$here/data" && exec env FAULTS_ROOT="$here/data" FAULTS_RUN="$here/run" "$supervisor" "$oddities" opened_often 20000) > "$here/said" 2>&1 &
+stormed=$!
+for _ in $(seq 200); do
+    [ -s "$here/run/trace" ] && break
+    sleep 0.01
+done
+while kill -ALRM "$stormed" 2> "$here/faults"; do :; done
+wait "$stormed"
+is 'a storm of signals for the supervisor itself' '0 20000' "$? $(grep -c 'sys::open' "$here/run/trace")"
+new
+run 'sys::write=1*off->panic' sh -c 'setsid sh -c "while :; do echo x; done" > a & setsid sleep 76542 & sleep 0.1; echo y > b; echo z > b'
+is 'a panic ends what has left its session too' '99 ' "$status $(pgrep -f 'sleep 76542')"
+
+# A disk that is full under the run's folder, programs with rights of their own, and another root.
+if [ "$(id -u)" = 0 ] && unshare -m true 2> "$here/faults"; then
+    new
+    mkdir -p "$here/small"
+    full=$(unshare -m sh -c 'mount -t tmpfs -o size=400k none "$1/small" && "$2" begin "$1/small/run" "$1/data" && cd "$1/data" &&
+        FAULTS_ROOT="$1/data" FAULTS_RUN="$1/small/run" "$3" dd if=/dev/zero of=big bs=100 count=5000 status=none; echo $?' \
+        full "$here" "$outside/out/powercut" "$supervisor" 2>&1)
+    is 'a disk that is full under the run' 98 "$(printf '%s' "$full" | tail -n 1)"
+    is 'is told' 1 "$(printf '%s' "$full" | grep -c '^faults: .*No space left on device')"
+    full=$(unshare -m sh -c 'mount -t tmpfs -o size=400k none "$1/small" && "$2" begin "$1/small/run" "$1/data" && cd "$1/data"
+        head -c 500000 /dev/zero > "$1/small/filling" 2> "$1/said"
+        truncate -s -4096 "$1/small/filling" # room for one page: that of the programs, and none for the counts
+        FAULTS_ROOT="$1/data" FAULTS_RUN="$1/small/run" "$3" cat old; echo $?' full "$here" "$outside/out/powercut" "$supervisor" 2>&1)
+    is 'also one that was full before' "faults: can't keep: No space left on device 98" "$(printf '%s' "$full" | paste -s -d ' ')"
+
+    unshare -m sh -c 'mkdir -p "$1/upper" "$1/work" && mount -t overlay overlay -o "lowerdir=$1/data,upperdir=$1/upper,workdir=$1/work" \
+        "$1/other" || { echo none; exit; }; "$2" begin "$1/over" "$1/other"; FAULTS_ROOT="$1/other" FAULTS_RUN="$1/over" "$3" ls "$1/other"; echo $?' \
+        overlay "$here" "$outside/out/powercut" "$supervisor" > "$here/said" 2>&1
+    if [ "$(tail -n 1 "$here/said")" = none ]; then
+        echo 'skipped a root on an overlay: none can be had'
+    else
+        is 'a root on an overlay' "faults: FAULTS_ROOT is on an overlay, whose files don't stay the same: $here/other 98" "$(paste -s -d ' ' "$here/said")"
+    fi
+
+    new
+    mkdir -m 700 "$here/data/mine" && mkdir -m 777 "$here/data/open" && printf x > "$here/data/closed" && chmod 600 "$here/data/closed"
+    chmod 755 "$here"
+    run none "$oddities" as_other
+    is 'as another user' '0 2345 1234' "$status $said"
+
+    oddly closed_process
+    is 'a process that nobody may look into, but root' '0 open' "$status $(hits)"
+    new
+    cp "$supervisor" "$here/faults_of_all" && chown -R 65534 "$here/data" "$here/run"
+    is 'and not by another' "98 faults: not followed, the system lets nobody look into: odd" "$(cd "$here/data" && setpriv --reuid 65534 --regid 65534 \
+        --clear-groups env FAULTS_ROOT="$here/data" FAULTS_RUN="$here/run" "$here/faults_of_all" "$oddities" closed_process 2> "$here/faults"; echo "$? $(cat "$here/faults")")"
+    new
+    cp "$oddities" "$here/set_id" && chown 65534 "$here/set_id" && chmod 4755 "$here/set_id"
+    run none "$here/set_id" raw
+    is 'a set-id program' "0 open;write;fsync faults: not seen: the set-id bits, which don't count here, of $here/set_id" "$status $(hits) $faults"
+
+    new
+    gcc -static -std=gnu11 -O1 -U_FORTIFY_SOURCE -Wall -Wextra -Werror -o "$here/static" tests/odd.c -pthread
+    run none chroot "$here" /static written_at /data/sub/a
+    is 'another root' '0 sub/a sub/a at' "$status $(cut -f 5 "$here/run/trace" | paste -s -d ' ') $(cat "$here/data/sub/a")"
+    mkdir -p "$here/mounted"
+    run none unshare -m sh -c 'mount --bind . "$1/mounted" && echo x > "$1/mounted/b"' mounts "$here"
+    is 'a folder that a mount shows elsewhere' 'b b' "$(tail -n 2 "$here/run/trace" | cut -f 5 | paste -s -d ' ')"
+else
+    echo 'skipped full disks, other users, set-id programs and other roots: not root'
+fi
+
+# Languages: the same calls each, the same failure, the same end.
+store='open;write;truncate;fsync;rename;open;fsync;open;read;link;symlink;unlink;mkdir;rmdir'
+
+# speaks NAME COMMAND..: what each store hits from its first file on (Java looks at its folder first), and where its first sync fails
+speaks() {
+    name=$1
+    shift
+    new
+    run none "$@"
+    awk -F '\t' -v OFS='\t' '$5 == "new" { begun = 1 } begun { $1 = ++number; print }' "$here/run/trace" > "$here/since"
+    is "$name" "0 $store" "$status $(./census --hits "$here/since" | sed 's/sys:://g')"
+    is "$name: all kept" 'other=valu sub/ sub/in=inside value=valu way->value ' "$(left keep power::keep=return)"
+    new
+    run 'sys::fsync=1*return' "$@"
+    is "$name: a sync fails" 'yes new= old=0123456789 ' "$([ "$status" -gt 0 ] && echo yes) $(left names | sed 's|sub/.*||')"
+    new
+    run 'sys::rename=1*panic' "$@"
+    is "$name: a panic" 99 "$status"
+}
+languages=$outside/tests/languages
+gcc -o "$here/store" "$languages/store.c" && speaks C "$here/store"
+gcc -static -o "$here/store" "$languages/store.c" && speaks 'C, static' "$here/store"
+g++ -x c++ -o "$here/store" "$languages/store.c" && speaks 'C++' "$here/store"
+speaks Python python3 "$languages/store.py"
+has() { command -v "$1" > "$here/said" 2>&1 || { echo "skipped a store in ${2:-$1}: not installed"; false; }; }
+has perl && speaks Perl perl "$languages/store.pl"
+has rustc Rust && rustc -o "$here/store" "$languages/store.rs" && speaks Rust "$here/store"
+has node && speaks Node node "$languages/store.mjs"
+has javac Java && javac -d "$here" "$languages/Store.java" && speaks Java java -cp "$here" Store
+has go && (cp "$languages/store.go" "$here" && cd "$here" && GOCACHE="$here/go" CGO_ENABLED=0 go build -o store store.go) && speaks Go "$here/store"
+
+# An order of calls: the same each time, and by the scenario. The two shells are two threads; the second goes first where a return says so,
+# and the two opens and the two writes of each are asked for while both wait.
+both='(echo a1 >> log; echo a2 >> log) & (echo b1 >> log; echo b2 >> log) & wait'
+# in_order ORDER SCENARIO: what the shells wrote, in order
+in_order() {
+    new
+    under FAILPOINTS="$2" timeout -s KILL 60 "$supervisor" --order "$1" sh -c "$both" 2> "$here/faults"
+    paste -s -d ' ' "$here/data/log"
+}
+is 'in order' 'a1 a2 b1 b2' "$(in_order settled none)"
+is 'no point of the order where none is asked for' '4*open;4*write' "$(hits | tr ';' '\n' | sort | uniq -c | awk '{ print $1 "*" $2 }' | paste -s -d ';')"
+is 'the order is asked' 'a1 a2 b1 b2 order::next;open;order::next;write;order::next;open;order::next;write;open;write;open;write' \
+    "$(in_order next none) $(hits)"
+is 'the other goes first' 'b1 b2 a1 a2' "$(in_order next order::next=return)"
+is 'once both have opened the other writes first' 'b1 a1 a2 b2' "$(in_order next 'order::next=2*return')"
+gcc -std=gnu11 -O1 -Wall -Wextra -Werror -o "$here/writers" tests/writers.c -pthread
+alike() {
+    for _ in $(seq "$1"); do
+        new
+        run none --order settled "$here/writers"
+        cut -f 2,4,5,7,8 "$here/run/trace" | cksum
+    done | sort -u | wc -l
+}
+is 'four threads and a process go alike' 1 "$(alike 10)"
+draws='import os, tempfile; tempfile.mkstemp(dir="."); print(hash("a"), os.urandom(4), open("/dev/urandom", "rb").read(4), id(os))'
+new
+run none --order settled sh -c 'while :; do :; done & p=$!; echo x > a; echo y >> a; kill $p'
+is 'a thread that never rests is given up once, and told' '0 xy faults: not seen: late, the order of calls while a thread never rests: sh' \
+    "$status $(tr -d '\n' < "$here/data/a") $faults"
+# random_twice [--pin]: how many different answers two runs give
+random_twice() {
+    for _ in 1 2; do
+        new
+        run none "$@" python3 -c "$draws"
+        printf '%s\n' "$status $said $(ls "$here/data" | paste -s -d ' ')"
+    done | sort -u | wc -l
+}
+is 'random bytes differ' 2 "$(random_twice)"
+is 'pinned, they and addresses are the same each time' 1 "$(random_twice --pin)"
+for wrong in '--order' '--order any' '--pinned' '--'; do
+    new
+    # shellcheck disable=SC2086
+    run none $wrong
+    is "a word it has no meaning for: $wrong" '98 faults: usage: faults [--order settled|next] [--pin] [--] COMMAND..' "$status $faults"
+done
+
+# Random files: what was noted is what there is.
+mkdir -p "$here/random"
+is 'random files' '80 trees equal' "$(tests/random_files.py "$here/random" "$outside/out" "$supervisor" "$here/random_files" 0 30)"
+is 'killed at some moment' '20 kills, nothing torn or silent' \
+    "$(tests/random_files.py "$here/random" "$outside/out" "$supervisor" "$here/random_files" 0 20 killed)"
